@@ -1,0 +1,69 @@
+// A word, borrowed or owned.
+ghost use Rattle.std.specs.Prelude.{◌≡◌, IfOk, OnErr, OnOk, ◌++◌};
+ghost use Rattle.mr_value.specs.Words.{fits};
+
+use crate::bytes::Bytes;
+use std::alloc::{AllocError, Global};
+use std::borrow::CowSlice;
+use std::marker::Model;
+
+/// A word of a request or an effect, borrowed or owned, seen as a list.
+#[derive(Drop)]
+pub struct Word<'a> {
+    text: CowSlice<'a, u8>,
+}
+
+impl<'a> Model for Word<'a> {
+    ghost use Rattle.std.specs.Prelude.{List, ℕ};
+    ghost use Rattle.std.specs.Cow.{cow_slice_items};
+
+    ghost Value = { List ℕ };
+
+    ghost view = { λ a. cow_slice_items a.text };
+}
+
+impl<'a> Word<'a> {
+    /// A word that lies elsewhere.
+    pub fn borrowed(bytes: &'a [u8]) -> Word<'a>
+        ensures { result ≡ bytes.now }
+    {
+        Word {
+            text: CowSlice::Borrowed(bytes),
+        }
+    }
+
+    /// A word that owns a copy of the bytes.
+    pub fn copied(alloc: Global, bytes: &[u8]) -> Result<Word<'a>, AllocError>
+        ensures { IfOk result (λ w. w ≡ bytes.now) }
+    {
+        Ok(Word {
+            text: CowSlice::Owned(Vec::from_slice(alloc, bytes)?),
+        })
+    }
+
+    pub fn as_slice(&self) -> &[u8]
+        ensures { result.now ≡ self.now }
+    {
+        match &self.text {
+            CowSlice::Borrowed(bytes) => bytes,
+            CowSlice::Owned(bytes) => bytes.as_slice(),
+        }
+    }
+
+    /// The word's bytes with memory of their own: moved where the word owns them, copied where it borrows them.
+    pub fn into_bytes(self, alloc: Global) -> Result<Bytes, AllocError>
+        ensures { IfOk result (λ b. b ≡ self.entry) }
+    {
+        match self.text {
+            CowSlice::Borrowed(bytes) => Bytes::from_slice(alloc, bytes),
+            CowSlice::Owned(bytes) => Ok(Bytes::from_vec(bytes)),
+        }
+    }
+}
+
+/// Whether a word is within the limit.
+pub fn fits(word: &[u8]) -> bool
+    ensures { result ≡ fits word.now }
+{
+    word.len() <= 16_777_216
+}
