@@ -1,0 +1,35 @@
+-- The limits of a server.
+use Rattle.std.specs.Prelude.{◌≡◌, ◌+◌, ◌*◌, ◌≤◌, length}
+use Rattle.std.specs.Fmt.{decimal}
+use Rattle.std.proofs.Common.{refl, lit<, arith}
+use Rattle.std.proofs.lemmas.Fmt.{length-decimal-le}
+use Rattle.mr_resp.specs.declared.limits.Limits.{Limits}
+
+-- so many empty words fit the text
+pub usual-room : 3 + length (decimal 1048576) + 6 * 1048576 ≤ 33554432
+usual-room = omega (arith, length-decimal-le 7 1048576 (lit< tt) (lit< tt) (lit< tt))
+
+-- words of 16 MiB, 1,048,576 of them, and a text of 32 MiB
+unfoldable pub usual : Limits
+usual = record {
+  word = 16777216;
+  words = 1048576;
+  text = 33554432;
+  some_word = lit< tt;
+  some_words = lit< tt;
+  room = usual-room;
+  small = lit< tt;
+  small_word = lit< tt;
+}
+
+pub usual-word : usual.word ≡ 16777216
+unfolding usual
+usual-word = refl
+
+pub usual-words : usual.words ≡ 1048576
+unfolding usual
+usual-words = refl
+
+pub usual-text : usual.text ≡ 33554432
+unfolding usual
+usual-text = refl
