@@ -1,0 +1,3 @@
+pub mod Backlog
+pub mod Pieces
+pub mod ReplId

@@ -1,0 +1,20 @@
+//! Laws about the definitions that the contracts cite. No function here does anything.
+ghost use Rattle.std.specs.Prelude.{◌≡◌, ℕ, List};
+ghost use Rattle.mr_repl.specs.Pieces.{HeldIsTheEnd, CutsDoNotMatter};
+ghost use Rattle.mr_repl.specs.ReplId.{IsId, digits_of};
+
+/// After a piece of the stream a backlog holds the last bytes of what it held followed by the piece: all of
+/// them, or as many as the capacity.
+pub fn held_is_the_end()
+    ensures { HeldIsTheEnd }
+{}
+
+/// However a stream is cut into pieces, a backlog that took them all is the same.
+pub fn cuts_do_not_matter()
+    ensures { CutsDoNotMatter }
+{}
+
+/// No two ids have the same text.
+pub fn texts_are_of_one_id()
+    ensures { (one other : List ℕ) → IsId one → IsId other → digits_of one ≡ digits_of other → one ≡ other }
+{}
