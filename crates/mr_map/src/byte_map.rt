@@ -1,0 +1,116 @@
+// A map from byte strings, as a tree in byte order.
+ghost use Rattle.std.specs.Prelude.{◌≡◌, ◌==◌, OnOk, OnErr, IfOk, is_some, option_copied};
+ghost use Rattle.std.specs.FinMap as map;
+ghost use Rattle.std.specs.Option.{option_copied_mut};
+
+use crate::keys::Keys;
+use crate::pairs::Pairs;
+use std::alloc::{AllocError, Global};
+use std::collections::BTreeMap;
+use std::marker::Model;
+
+/// A finite map from byte strings: an ordered tree. A look-up compares about log2 of the number of keys.
+#[derive(Drop)]
+pub struct ByteMap<V> {
+    tree: BTreeMap<Vec<u8>, V>,
+}
+
+impl<V> Model for ByteMap<V> {
+    ghost use Rattle.std.specs.FinMap as map;
+    ghost use Rattle.std.specs.Coded.{coded_ℕ, coded_list};
+    ghost use Rattle.mr_map.specs.Bytes.{bytes_cmp, map_of};
+
+    ghost Value = { map.FinMap bytes_cmp V };
+
+    ghost coded = { map.code (coded_list coded_ℕ) V.code };
+
+    ghost view = { λ a. map_of a.tree.entries };
+}
+
+impl<V> ByteMap<V> {
+    /// An empty map. It takes no memory.
+    pub fn new(alloc: Global) -> Self
+        ensures { result ≡ map.empty }
+    {
+        ByteMap {
+            tree: BTreeMap::new(alloc),
+        }
+    }
+
+    /// How many keys there are.
+    pub fn len(&self) -> usize
+        ensures { result ≡ map.len self.now }
+    {
+        self.tree.len()
+    }
+
+    /// Whether there is no key.
+    pub fn is_empty(&self) -> bool
+        ensures { result ≡ (map.len self.now == 0) }
+    {
+        self.len() == 0
+    }
+
+    /// The keys, in byte order. It takes no memory.
+    pub fn keys(&self) -> Keys<'_, V>
+        ensures { result ≡ map.keys self.now }
+    {
+        Keys::new(self.tree.keys())
+    }
+
+    /// The keys with their values, in byte order. It takes no memory.
+    pub fn iter(&self) -> Pairs<'_, V>
+        ensures { result ≡ map.entries self.now }
+    {
+        Pairs::new(self.tree.iter())
+    }
+
+    /// The value of a key.
+    pub fn get(&self, key: &[u8]) -> Option<&V>
+        ensures { option_copied result ≡ map.get self.now key.now }
+    {
+        self.tree.get(key)
+    }
+
+    /// Whether a key has a value.
+    pub fn contains_key(&self, key: &[u8]) -> bool
+        ensures { result ≡ map.contains_key self.now key.now }
+    {
+        self.get(key).is_some()
+    }
+}
+
+impl<V> ByteMap<V> {
+    ghost use Rattle.std.specs.Borrow.{sem};
+    ghost use Rattle.mr_map.specs.Lends.{lends_value};
+
+    /// The value of a key, to be changed in place.
+    pub fn get_mut(&mut self, key: &[u8]) -> Option<&mut V>
+        ensures* writes_back { sem 𝓛 (lends_value V.row self.entry key.now result) }
+        ensures value { option_copied_mut result ≡ map.get self.old key.now }
+    {
+        match self.tree.get_mut(key) {
+            Some(value) => Some(value),
+            None => None,
+        }
+    }
+}
+
+impl<V: Drop> ByteMap<V> {
+    /// Sets the value of a key, and answers the one before. The map is as it was where memory runs out.
+    pub fn insert(&mut self, key: Vec<u8>, value: V) -> Result<Option<V>, AllocError>
+        ensures before { IfOk result (λ before. before ≡ map.get self.old key.items) }
+        ensures ok { OnOk result (self.new ≡ map.insert self.old key.items value) }
+        ensures err { OnErr result (self.new ≡ self.old) }
+    {
+        Ok(self.tree.insert(key, value)?)
+    }
+
+    /// Removes a key, and answers its value.
+    pub fn remove(&mut self, key: &[u8]) -> Option<V>
+        ensures before { result ≡ map.get self.old key.now }
+        ensures removed { self.new ≡ map.remove self.old key.now }
+    {
+        self.tree.remove(key)
+    }
+}

@@ -1,0 +1,131 @@
+// A map from byte strings by a seeded hash, with its keys in byte order beside it.
+ghost use Rattle.std.specs.Prelude.{◌≡◌, ◌==◌, OnOk, OnErr, IfOk, option_copied};
+ghost use Rattle.std.specs.FinMap as map;
+ghost use Rattle.std.specs.Option.{option_copied_mut};
+
+use crate::byte_map::ByteMap;
+use crate::keys::Keys;
+use std::alloc::{AllocError, Global};
+use std::collections::HashMap;
+use std::hash::RandomState;
+use std::marker::Model;
+use std::mem::replace;
+
+/// A finite map from byte strings: looked up by a seeded hash, and gone over in byte order. Each key is kept twice.
+#[derive(Drop)]
+pub struct KeyedMap<V> {
+    alloc: Global,
+    table: HashMap<Vec<u8>, V, RandomState>,
+    order: ByteMap<()>,
+}
+
+impl<V> Model for KeyedMap<V> {
+    ghost use Rattle.std.specs.Prelude.{◌≡◌, ℕ, List};
+    ghost use Rattle.std.specs.FinMap as map;
+    ghost use Rattle.std.specs.Coded.{coded_ℕ, coded_list};
+    ghost use Rattle.mr_map.specs.Bytes.{bytes_cmp, map_of, HaveSameKeys};
+
+    ghost Value = { map.FinMap bytes_cmp V };
+
+    ghost coded = { map.code (coded_list coded_ℕ) V.code };
+
+    ghost view = { λ a. map_of a.table.entries };
+
+    ghost invariant = { λ a. HaveSameKeys a.order (map_of a.table.entries) };
+}
+
+impl<V> KeyedMap<V> {
+    /// An empty map, whose hash has this seed. It takes no memory.
+    pub fn new(alloc: Global, seed: RandomState) -> Self
+        ensures { result ≡ map.empty }
+    {
+        KeyedMap {
+            alloc,
+            table: HashMap::with_hasher(alloc, seed),
+            order: ByteMap::new(alloc),
+        }
+    }
+
+    /// How many keys there are.
+    pub fn len(&self) -> usize
+        ensures { result ≡ map.len self.now }
+    {
+        self.order.len()
+    }
+
+    /// Whether there is no key.
+    pub fn is_empty(&self) -> bool
+        ensures { result ≡ (map.len self.now == 0) }
+    {
+        self.len() == 0
+    }
+
+    /// The keys, in byte order. It takes no memory.
+    pub fn keys(&self) -> Keys<'_, ()>
+        ensures { result ≡ map.keys self.now }
+    {
+        self.order.keys()
+    }
+
+    /// The value of a key.
+    pub fn get(&self, key: &[u8]) -> Option<&V>
+        ensures { option_copied result ≡ map.get self.now key.now }
+    {
+        self.table.get(key)
+    }
+
+    /// Whether a key has a value.
+    pub fn contains_key(&self, key: &[u8]) -> bool
+        ensures { result ≡ map.contains_key self.now key.now }
+    {
+        self.get(key).is_some()
+    }
+}
+
+impl<V> KeyedMap<V> {
+    ghost use Rattle.std.specs.Borrow.{sem};
+    ghost use Rattle.mr_map.specs.Lends.{lends_keyed};
+
+    /// The value of a key, to be changed in place.
+    pub fn get_mut(&mut self, key: &[u8]) -> Option<&mut V>
+        ensures* writes_back { sem 𝓛 (lends_keyed V.row self.entry key.now result) }
+        ensures value { option_copied_mut result ≡ map.get self.old key.now }
+    {
+        match self.table.get_mut(key) {
+            Some(value) => Some(value),
+            None => None,
+        }
+    }
+}
+
+impl<V: Drop> KeyedMap<V> {
+    /// Sets the value of a key, and answers the one before. All memory is taken before the first change: where it runs
+    /// out, the map is as it was.
+    pub fn insert(&mut self, key: Vec<u8>, value: V) -> Result<Option<V>, AllocError>
+        ensures before { IfOk result (λ before. before ≡ map.get self.old key.items) }
+        ensures ok { OnOk result (self.new ≡ map.insert self.old key.items value) }
+        ensures err { OnErr result (self.new ≡ self.old) }
+    {
+        if let Some(place) = self.table.get_mut(key.as_slice()) {
+            return Ok(Some(replace(place, value)));
+        }
+        let name = Vec::from_slice(self.alloc, key.as_slice())?;
+        self.table.reserve(1)?;
+        self.order.insert(name, ())?;
+        match self.table.insert(key, value) {
+            Ok(before) => Ok(before),
+            // Room is reserved.
+            Err(_) => unreachable!(),
+        }
+    }
+
+    /// Removes a key, and answers its value.
+    pub fn remove(&mut self, key: &[u8]) -> Option<V>
+        ensures before { result ≡ map.get self.old key.now }
+        ensures removed { self.new ≡ map.remove self.old key.now }
+    {
+        let before = self.table.remove(key)?;
+        self.order.remove(key);
+        Some(before)
+    }
+}
