@@ -1,0 +1,5 @@
+pub mod Datasets
+pub mod Folding
+pub mod Readings
+pub mod Seeing
+pub mod Texts

@@ -1,0 +1,43 @@
+-- The dataset: a finite map from keys to entries, and what is seen of it at a moment.
+use Rattle.std.specs.Prelude.{◌≡◌, ℤ, int_le, Bool, false, if◌then◌else◌, IsTrue, Option, Some, None, is_some}
+use Rattle.std.specs.FinMap.{FinMap, get, insert, remove, retain_keys}
+use Rattle.mr_map.specs.Bytes.{bytes_cmp, Bytes}
+use Rattle.mr_value.specs.Words.{fits}
+use Rattle.mr_data.specs.declared.value.Value.{Value}
+use Rattle.mr_data.specs.declared.value.Value.TheVariants as value
+use Rattle.mr_data.specs.declared.value.Entry.{Entry}
+
+abbrev pub Dataset : Type 0
+Dataset = FinMap bytes_cmp Entry
+
+-- the value's byte strings are within the word limit
+abbrev pub IsValue : Value → Type 0
+IsValue (value.Text bytes) = IsTrue (fits bytes)
+
+-- what each entry keeps, under its key
+pub record IsEntry (k : Bytes) (e : Entry) : Type 0 where
+  pub key : IsTrue (fits k)
+  pub value : IsValue e.value
+
+-- what each dataset keeps
+pub record IsDataset (m : Dataset) : Type 0 where
+  pub entries : (k : Bytes) (e : Entry) → get m k ≡ Some e → IsEntry k e
+
+-- the key with this entry, or without one
+abbrev pub put_at : Dataset → Bytes → Option Entry → Dataset
+put_at m k None = remove m k
+put_at m k (Some e) = insert m k e
+
+-- a key with this deadline is past at this moment
+abbrev pub is_past : ℤ → Option ℤ → Bool
+is_past now None = false
+is_past now (Some deadline) = int_le deadline now
+
+-- the entry, unless it is past
+abbrev pub live : ℤ → Option Entry → Option Entry
+live now None = None
+live now (Some e) = if is_past now e.deadline then None else Some e
+
+-- the dataset without the keys that are past
+unfoldable pub seen : ℤ → Dataset → Dataset
+seen now m = retain_keys m (λ k. is_some (live now (get m k)))

@@ -1,0 +1,17 @@
+// Values, and entries of a dataset.
+use mr_value::Bytes;
+
+/// What a key holds.
+#[derive(Drop)]
+pub enum Value {
+    /// A byte string.
+    Text(Bytes),
+}
+
+/// A value with its deadline.
+#[derive(Drop)]
+pub struct Entry {
+    pub value: Value,
+    /// The moment from which the key is past, in milliseconds, or none.
+    pub deadline: Option<i64>,
+}
