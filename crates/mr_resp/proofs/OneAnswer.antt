@@ -178,8 +178,7 @@ module _ (limits : Limits) where
 
   pub one_fault : (input : List ℕ) (f g : Fault) (p : Fails (IsText limits) (HasFault limits f) input) (q : Fails (IsText limits) (HasFault limits g) input) → (p.front ≡ q.front) × (p.byte ≡ q.byte) × (f ≡ g)
   one_fault input f g p q =
-      let same = same_front (IsText limits) (HasFault limits f) (HasFault limits g) input p q in
-      (
+      let same = same_front (IsText limits) (HasFault limits f) (HasFault limits g) input p q in (
         same.0,
         same.1,
         one_fault_at f g q.front q.byte (subst (λ (x : List ℕ). HasFault limits f x q.byte) same.0 (subst (λ (n : ℕ). HasFault limits f p.front n) same.1 p.fault)) q.fault,

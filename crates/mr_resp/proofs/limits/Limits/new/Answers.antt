@@ -16,12 +16,14 @@ returns-in_err-least-clause-possible c =
 
 pub returns-then-word-eq0-clause-possible : goal.returns-then-word-eq0-clause-possible
 returns-then-word-eq0-clause-possible c =
-    let digits = ap length c.format.ensures.text in
-    (λ e. absurd (cc e), λ p. elim c.then-word-eq0.branch [
-      | then-word-eq0-via-then-word-eq0 w ↦ absurd (omega (arith, w.if-word-eq0, p.0))
-      | then-word-eq0-via-else-word-eq0+then-words-eq0 w ↦ absurd (omega (arith, w.if-words-eq0, p.1))
-      | then-word-eq0-via-else-word-eq0+else-words-eq0+then-text-least w ↦ absurd (omega (arith, w.if-text-least, p.2, least_text c.args.words, c.in_ok-checked_mul.ensures, c.in_ok-least.ensures, digits))
-    ])
+    let digits = ap length c.format.ensures.text in (
+      λ e. absurd (cc e),
+      λ p. elim c.then-word-eq0.branch [
+        | then-word-eq0-via-then-word-eq0 w ↦ absurd (omega (arith, w.if-word-eq0, p.0))
+        | then-word-eq0-via-else-word-eq0+then-words-eq0 w ↦ absurd (omega (arith, w.if-words-eq0, p.1))
+        | then-word-eq0-via-else-word-eq0+else-words-eq0+then-text-least w ↦ absurd (omega (arith, w.if-text-least, p.2, least_text c.args.words, c.in_ok-checked_mul.ensures, c.in_ok-least.ensures, digits))
+      ],
+    )
 
 pub returns-clause-possible : goal.returns-clause-possible
 returns-clause-possible c =
