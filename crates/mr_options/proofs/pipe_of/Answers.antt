@@ -1,0 +1,16 @@
+use Rattle.std.proofs.Common.{◌≡◌, ◌∙◌, ℕ, List, Option, Some, None, sym, ap, codes, arith}
+use Rattle.std.specs.Prelude.{IfSome, IfNone}
+use Rattle.clap.specs.Words.{Row, Text, found_of, rows_of}
+use Rattle.mr_options.proofs.Numbers.{one_number}
+use Rattle.mr_options.specs.declared.line.PipeOptions.{PipeOptions}
+use Rattle.mr_options.proofs.pipe_of.Goals as goal
+
+whatever : {P : Type 0} (r : Option PipeOptions) → P → IfNone r P
+whatever None p = p
+whatever (Some x) p = tt
+
+pub returns-in_err-now-clause-none : goal.returns-in_err-now-clause-none
+returns-in_err-now-clause-none c = whatever c.from_residual-in_err-now.result (λ options h. c.in_err-now.ensures.none h.now.0 h.now.1.1.1)
+
+pub returns-in_err-word-clause-none : goal.returns-in_err-word-clause-none
+returns-in_err-word-clause-none c = whatever c.from_residual-in_err-word.result (λ options h. c.in_err-word.ensures.none options.word h.word.1)

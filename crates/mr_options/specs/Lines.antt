@@ -1,0 +1,40 @@
+-- The command line as a command of clap, which says what each line names.
+use Rattle.std.specs.Prelude.{ℕ, Some, codes, true, [], ◌∷◌, ◌^◌, ◌-◌}
+use Rattle.clap.specs.Words.{App, Rule, Text, new_app, new_rule, with_rule, with_subcommand}
+use Rattle.clap.specs.declared.builder.value_parser.ValueParser.TheVariants as vp
+
+-- an option that is a text, with its usual value
+abbrev pub text_rule : Text → Text → Rule
+text_rule name usual = record (new_rule name) { long = Some name; defaults = usual ∷ [] }
+
+-- an option that is a number from 0 to this one, with its usual value
+abbrev pub number_rule : Text → ℕ → Text → Rule
+number_rule name most usual =
+    record (new_rule name) { long = Some name; parser = Some (vp.Unsigned 0 most); defaults = usual ∷ [] }
+
+-- the usual replication id, forty digits a
+abbrev pub usual_id : Text
+usual_id = codes "aaaaaaaaaaaaaaaaaaaaaaaaaaaaaaaaaaaaaaaa"
+
+-- `pipe [--id H] [--now N] [--word N]`
+abbrev pub pipe_line : App
+pipe_line =
+    with_rule
+    (with_rule (with_rule (new_app (codes "pipe")) (text_rule (codes "id") usual_id))
+    (number_rule (codes "now") (2 ^ 61) (codes "0")))
+    (number_rule (codes "word") (2 ^ 64 - 1) (codes "0"))
+
+-- the program: one of its subcommands is named, and nothing answers with a help text
+abbrev pub bare : App
+bare = record (new_app (codes "minired")) {
+  top = record (new_app (codes "minired")).top {
+    no_binary_name = true;
+    disable_help_flag = true;
+    disable_help_subcommand = true;
+    subcommand_required = true;
+  };
+}
+
+-- the program's words, its name left out
+abbrev pub line : App
+line = with_subcommand bare pipe_line.top

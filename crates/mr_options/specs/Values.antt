@@ -1,0 +1,62 @@
+-- What options say, and why a line is refused.
+use Rattle.std.specs.Prelude.{◌≡◌, ◌≢◌, ℕ, ◌≤◌, ◌<◌, ◌^◌, List, [], ◌∷◌, pos, Some, Ok, codes, replicate}
+use Rattle.std.specs.Str.Parse.{ParsesUnsigned}
+use Rattle.std.specs.declared.num.ParseIntError.{ParseIntError}
+use Rattle.clap.specs.Words.{Row, Text, fault_of, first_of, kind_of, one_of, subcommand_of}
+use Rattle.clap.specs.declared.error.Error.{Error}
+use Rattle.clap.specs.declared.error.kind.ErrorKind.TheVariants.{OutOfMemory}
+use Rattle.mr_repl.specs.ReplId.{IsId, digits_of}
+use Rattle.mr_options.specs.Lines.{line}
+use Rattle.mr_options.specs.declared.line.Options.{Options}
+use Rattle.mr_options.specs.declared.line.Options.TheVariants.{Pipe}
+use Rattle.mr_options.specs.declared.line.PipeOptions.{PipeOptions}
+use Rattle.mr_options.specs.declared.fault.UsageFault.{UsageFault}
+use Rattle.mr_options.specs.declared.fault.UsageFault.TheVariants.{Line, BadValue, Memory}
+
+-- `pipe` with its usual values: the id of forty digits a, time 0, word 0
+abbrev pub usual_pipe : PipeOptions
+usual_pipe = record { id = replicate 20 170; now = pos 0; word = 0 }
+
+-- the value of this option, named on the line or usual, is a text of this number
+abbrev pub HasNumber : List Row → Text → ℕ → Type 0
+HasNumber rows name n =
+    (t : Text) × ((one_of name rows ≡ Some t) × ParsesUnsigned {E = ParseIntError} 64 10 t (Ok n))
+
+-- the value of the option `id` is the text of this id
+abbrev pub IsIdOf : List Row → List ℕ → Type 0
+IsIdOf rows id = IsId id × (first_of (codes "id") rows ≡ Some (digits_of id))
+
+-- the values of the options of `pipe`, each within its range
+pub record ArePipeOf (rows : List Row) (options : PipeOptions) : Type 0 where
+  pub id : IsIdOf rows options.id
+  pub now : (n : ℕ) × ((options.now ≡ pos n) × ((n ≤ 2 ^ 61) × HasNumber rows (codes "now") n))
+  pub word : (options.word < 2 ^ 64) × HasNumber rows (codes "word") options.word
+
+-- the parser finds no fault in the line, which names `pipe` with these rows
+abbrev pub IsPipeLine : List Text → List Row → Type 0
+IsPipeLine words rows =
+    (fault_of line words ≡ []) × (subcommand_of line words ≡ Some (codes "pipe", rows))
+
+-- a line that is not empty says these options: its subcommand, and for each option the line's value
+-- or the usual one
+abbrev pub SaysOptions : List Text → Options → Type 0
+SaysOptions words (Pipe options) = (rows : List Row) × (IsPipeLine words rows × ArePipeOf rows options)
+
+-- the options of a line
+abbrev pub AreOptionsOf : List Text → Options → Type 0
+AreOptionsOf [] options = options ≡ Pipe usual_pipe
+AreOptionsOf (w ∷ ws) options = SaysOptions (w ∷ ws) options
+
+-- the fault that an error of the parser comes to
+abbrev pub IsFaultOf : Error → UsageFault → Type 0
+IsFaultOf error (Line text) = kind_of error ≢ OutOfMemory
+IsFaultOf error BadValue = ⊥
+IsFaultOf error Memory = Unit {0}
+
+-- why a line is refused: the parser finds fault with it; or it does not, and a value that it takes
+-- is none, so that no options have the values of the line
+abbrev pub ExplainsFault : List Text → UsageFault → Type 0
+ExplainsFault words (Line text) = fault_of line words ≢ []
+ExplainsFault words BadValue =
+    (rows : List Row) × (IsPipeLine words rows × ((options : PipeOptions) → ArePipeOf rows options → ⊥))
+ExplainsFault words Memory = Unit {0}

@@ -1,0 +1,28 @@
+//! Why a command line is refused.
+use std::alloc::AllocError;
+use thiserror::Error;
+
+/// Why the program's words were refused. Its text is one line.
+#[derive(Debug, Drop, Error)]
+pub enum UsageFault {
+    /// What the parser says: an unknown word, a number outside its range, an option given twice.
+    #[error("{0}")]
+    Line(String),
+    /// A value that the parser takes, and that is none: an id not of 40 lower-case hexadecimal digits.
+    #[error("bad value")]
+    BadValue,
+    /// There was no memory to read the words.
+    #[error("out of memory")]
+    Memory,
+}
+
+impl From<AllocError> for UsageFault {
+    ghost use Rattle.std.specs.Prelude.{◌≡◌};
+    ghost use Rattle.mr_options.specs.declared.fault.UsageFault.TheVariants.{Memory};
+
+    ghost from_gives = { λ _ fault. fault ≡ Memory };
+
+    fn from(_error: AllocError) -> UsageFault {
+        UsageFault::Memory
+    }
+}

@@ -1,0 +1,35 @@
+//! What a command line says.
+use mr_repl::ReplId;
+
+/// The options of `pipe`: one node, asked by one client on standard input.
+#[derive(Clone, Copy, Debug, PartialEq, Eq)]
+pub struct PipeOptions {
+    /// The node's replication id.
+    pub id: ReplId,
+    /// The time that every command sees, in milliseconds.
+    pub now: i64,
+    /// The random word that every command sees.
+    pub word: u64,
+}
+
+impl PipeOptions {
+    ghost use Rattle.std.specs.Prelude.{◌≡◌};
+    ghost use Rattle.mr_options.specs.Values.{usual_pipe};
+
+    /// The usual values: the id of forty digits `a`, time 0 and word 0.
+    pub fn usual() -> PipeOptions
+        ensures { result ≡ usual_pipe }
+    {
+        PipeOptions {
+            id: ReplId::new([0xaa; 20]),
+            now: 0,
+            word: 0,
+        }
+    }
+}
+
+/// A subcommand with the values of its options.
+#[derive(Clone, Copy, Debug, PartialEq, Eq)]
+pub enum Options {
+    Pipe(PipeOptions),
+}
