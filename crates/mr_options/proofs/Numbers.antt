@@ -17,9 +17,9 @@ some_of x y e = cc
 pub number_read : (f : Found) (name : Text) (r : Option ℕ) → (one_text f name ≡ None → r ≡ None) → ((t : Text) → one_text f name ≡ Some t → ReadsOne Gives t r) → IfSome r (HasNumber (rows_of f) name)
 number_read f name None none value = tt
 number_read f name (Some n) none value = elim (one_text f name) as (λ o. one_text f name ≡ o → HasNumber (rows_of f) name n) [
-    | None ↦ λ e. absurd (let wrong : ◌≡◌ {A = Option ℕ} (Some n) None = none e in cc)
-    | Some t ↦ λ e. (t, (sym (one_text-rows f name) ∙ e, (value t e).0))
-  ] refl
+  | None ↦ λ e. absurd (let wrong : ◌≡◌ {A = Option ℕ} (Some n) None = none e in cc)
+  | Some t ↦ λ e. (t, (sym (one_text-rows f name) ∙ e, (value t e).0))
+] refl
 
 pub number_unread : (f : Found) (name : Text) (r : Option ℕ) → ((t : Text) → one_text f name ≡ Some t → ReadsOne Gives t r) → IfNone r ((n : ℕ) → HasNumber (rows_of f) name n → ⊥)
 number_unread f name (Some n) value = tt

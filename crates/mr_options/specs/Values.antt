@@ -1,6 +1,8 @@
 -- What options say, and why a line is refused.
-use Rattle.std.specs.Prelude.{◌≡◌, ◌≢◌, ℕ, ◌≤◌, ◌<◌, ◌^◌, List, [], ◌∷◌, pos, Some, Ok, codes, replicate}
+use Rattle.std.specs.Prelude.{◌≡◌, ◌≢◌, ℕ, ◌≤◌, ◌<◌, ◌^◌, List, [], ◌∷◌, pos, Some, Ok, codes, replicate, string_bytes}
 use Rattle.std.specs.Str.Parse.{ParsesUnsigned}
+use Rattle.std.specs.Char.{is_control}
+use Rattle.std.specs.Str.{NoCharPasses}
 use Rattle.std.specs.declared.num.ParseIntError.{ParseIntError}
 use Rattle.clap.specs.Words.{Row, Text, fault_of, first_of, kind_of, one_of, subcommand_of}
 use Rattle.clap.specs.declared.error.Error.{Error}
@@ -47,16 +49,20 @@ abbrev pub AreOptionsOf : List Text → Options → Type 0
 AreOptionsOf [] options = options ≡ Pipe usual_pipe
 AreOptionsOf (w ∷ ws) options = SaysOptions (w ∷ ws) options
 
+-- no character of the text is a control character
+abbrev pub IsOneLine : Text → Type 0
+IsOneLine text = NoCharPasses is_control text
+
 -- the fault that an error of the parser comes to
 abbrev pub IsFaultOf : Error → UsageFault → Type 0
-IsFaultOf error (Line text) = kind_of error ≢ OutOfMemory
+IsFaultOf error (Line text) = (kind_of error ≢ OutOfMemory) × IsOneLine (string_bytes text)
 IsFaultOf error BadValue = ⊥
 IsFaultOf error Memory = Unit {0}
 
 -- why a line is refused: the parser finds fault with it; or it does not, and a value that it takes
 -- is none, so that no options have the values of the line
 abbrev pub ExplainsFault : List Text → UsageFault → Type 0
-ExplainsFault words (Line text) = fault_of line words ≢ []
+ExplainsFault words (Line text) = (fault_of line words ≢ []) × IsOneLine (string_bytes text)
 ExplainsFault words BadValue =
     (rows : List Row) × (IsPipeLine words rows × ((options : PipeOptions) → ArePipeOf rows options → ⊥))
 ExplainsFault words Memory = Unit {0}

@@ -5,7 +5,7 @@ use Rattle.clap.specs.declared.parser.matches.Found.{Found}
 use Rattle.clap.proofs.WalkLemmas.{first_value-rows}
 use Rattle.mr_repl.specs.ReplId.{IsId, digits_of}
 use Rattle.mr_options.specs.Values.{IsIdOf}
-use Rattle.mr_options.proofs.id_of.Goals as goal
+use Rattle.mr_options.proofs.values.id_of.Goals as goal
 
 whatever : {P : Type 0} (r : Option (List ℕ)) → P → IfNone r P
 whatever None p = p

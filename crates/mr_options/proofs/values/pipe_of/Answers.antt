@@ -3,7 +3,7 @@ use Rattle.std.specs.Prelude.{IfSome, IfNone}
 use Rattle.clap.specs.Words.{Row, Text, found_of, rows_of}
 use Rattle.mr_options.proofs.Numbers.{one_number}
 use Rattle.mr_options.specs.declared.line.PipeOptions.{PipeOptions}
-use Rattle.mr_options.proofs.pipe_of.Goals as goal
+use Rattle.mr_options.proofs.values.pipe_of.Goals as goal
 
 whatever : {P : Type 0} (r : Option PipeOptions) → P → IfNone r P
 whatever None p = p

@@ -1,6 +1,6 @@
 use Rattle.std.proofs.Common.{◌≡◌, ◌∙◌, ap₂, ◌||◌}
 use Rattle.clap.specs.Words.{with_rule}
-use Rattle.mr_options.proofs.pipe_command.Goals as goal
+use Rattle.mr_options.proofs.command.pipe_command.Goals as goal
 
 pub returns-clause-shape : goal.returns-clause-shape
 returns-clause-shape c =
