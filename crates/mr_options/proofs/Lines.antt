@@ -1,5 +1,5 @@
 -- What a line that the parser takes names.
-use Rattle.std.proofs.Common.{◌≡◌, ◌∙◌, ℕ, List, [], ◌∷◌, Option, Some, None, Bool, true, false, sym, ap, refl, codes, cond, length, ◌==◌, map}
+use Rattle.std.proofs.Common.{◌≡◌, ◌∙◌, List, [], ◌∷◌, Option, Some, None, Bool, true, false, sym, ap, refl, codes, cond, length, ◌==◌, map}
 use Rattle.std.specs.Box.{box_value}
 use Rattle.std.specs.Option.{option_map, unwrap_or}
 use Rattle.clap.specs.Words.{Row, Shape, Text, subcommand_name_of, subcommand_of, subcommand_rows, subcommand_rows_of}

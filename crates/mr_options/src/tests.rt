@@ -74,7 +74,7 @@ fn says_in_one_line_why_a_line_is_refused(rt: HostRuntime) -> Result<(), Fail> {
         ("pipe --id", "'--id <id>'"),
         ("pipe --nwo 1", "'--nwo'"),
         ("pipe extra", "'extra'"),
-        ("pipe two\n\nlines", "'two'"),
+        ("pipe two\n\nlines", "'two"),
         ("pipe -n 1", "'-n'"),
         ("pipe -- 1", "'1'"),
         ("pipe --help", "'--help'"),

@@ -1,4 +1,4 @@
-use Rattle.std.proofs.Common.{◌≡◌, ◌∙◌, Some, sym, ap, codes, map, string_bytes}
+use Rattle.std.proofs.Common.{◌∙◌, Some, sym, ap, codes, map, string_bytes}
 use Rattle.clap.specs.Words.{found_of, rows_of, is_simple, subcommand_of, fault_of, is_simple_and_free}
 use Rattle.mr_options.specs.declared.line.Options.TheVariants.{Pipe}
 use Rattle.mr_options.proofs.Lines.{of_some, pipe_alone, subcommand_is}

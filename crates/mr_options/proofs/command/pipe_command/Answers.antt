@@ -1,4 +1,4 @@
-use Rattle.std.proofs.Common.{◌≡◌, ◌∙◌, ap₂, ◌||◌}
+use Rattle.std.proofs.Common.{◌∙◌, ap₂, ◌||◌}
 use Rattle.clap.specs.Words.{with_rule}
 use Rattle.mr_options.proofs.command.pipe_command.Goals as goal
 

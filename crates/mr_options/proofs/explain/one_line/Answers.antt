@@ -1,4 +1,4 @@
-use Rattle.std.proofs.Common.{◌≡◌, ◌∙◌, ◌++◌, ℕ, false, [], ◌∷◌, sym, ap, refl, append-nil, string_bytes}
+use Rattle.std.proofs.Common.{◌≡◌, ◌++◌, ℕ, false, [], ◌∷◌, append-nil, string_bytes}
 use Rattle.std.specs.Char.{encode_utf8, is_control}
 use Rattle.std.proofs.lemmas.Str.{NoCharPasses-append}
 use Rattle.clap.specs.Words.{Text}

@@ -1,9 +1,9 @@
 use Rattle.std.proofs.Common.{rules, ◌≡◌, ◌∙◌, ℕ, List, Option, Some, None, sym, ap, codes}
-use Rattle.std.specs.Prelude.{IfSome, IfNone}
-use Rattle.clap.specs.Words.{Row, Text, found_of, first_of, first_value, rows_of}
+use Rattle.std.specs.Prelude.{IfNone}
+use Rattle.clap.specs.Words.{Text, found_of, first_value, rows_of}
 use Rattle.clap.specs.declared.parser.matches.Found.{Found}
 use Rattle.clap.proofs.WalkLemmas.{first_value-rows}
-use Rattle.mr_repl.specs.ReplId.{IsId, digits_of}
+use Rattle.mr_repl.specs.ReplId.{digits_of}
 use Rattle.mr_options.specs.Values.{IsIdOf}
 use Rattle.mr_options.proofs.values.id_of.Goals as goal
 

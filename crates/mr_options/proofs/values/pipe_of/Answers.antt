@@ -1,7 +1,5 @@
-use Rattle.std.proofs.Common.{◌≡◌, ◌∙◌, ℕ, List, Option, Some, None, sym, ap, codes, arith}
-use Rattle.std.specs.Prelude.{IfSome, IfNone}
-use Rattle.clap.specs.Words.{Row, Text, found_of, rows_of}
-use Rattle.mr_options.proofs.Numbers.{one_number}
+use Rattle.std.proofs.Common.{Option, Some, None}
+use Rattle.std.specs.Prelude.{IfNone}
 use Rattle.mr_options.specs.declared.line.PipeOptions.{PipeOptions}
 use Rattle.mr_options.proofs.values.pipe_of.Goals as goal
 
