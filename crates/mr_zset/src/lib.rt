@@ -1,0 +1,20 @@
+//! Sorted sets: each member once, with a whole number as its score. A set is a finite map from member to score, and its
+//! pairs stand in order of score and then of the members' bytes.
+#![tactic(auto)]
+
+mod bound;
+mod laws;
+mod pair;
+mod ranges;
+mod score;
+mod sorted_set;
+
+pub use bound::Bound;
+pub use laws::all_pairs_in_order;
+pub use pair::Pair;
+pub use score::is_score;
+pub use sorted_set::ZSet;
+
+
+#[cfg(test)]
+mod tests;
