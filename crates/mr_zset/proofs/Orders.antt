@@ -1,12 +1,12 @@
 -- Lists in an order: what is placed, sorted or filtered, and that a list in order is known by its elements.
-use Rattle.std.proofs.Common.{◌≡◌, Option, Some, ℕ, zero, suc, ◌+◌, ◌<◌, ◌≤◌, length, get_or, map, List, [], ◌∷◌, Bool, true, false, cond, refl, sym, ◌∙◌, ap, subst, arith}
+use Rattle.std.proofs.Common.{◌≡◌, Some, ℕ, zero, suc, ◌+◌, ◌<◌, length, get_or, map, List, [], ◌∷◌, Bool, true, false, cond, refl, sym, ◌∙◌, ap, subst, arith}
 use Rattle.std.specs.Prelude.{filter, sum_by, count_by, slice_get}
 use Rattle.std.specs.declared.cmp.Ordering.{Ordering}
 use Rattle.std.specs.Ordering.{is_lt, is_gt, is_eq, ordering_reverse}
 use Rattle.std.specs.declared.cmp.Ordering.TheVariants.{Less, Equal, Greater}
 use Rattle.std.specs.Cmp.{IsTotalOrder}
 use Rattle.std.specs.List.Sorted.{IsPermutation, IsSorted, IsSortedBy}
-use Rattle.std.proofs.lemmas.Cmp.{upto, tied_itself, tied_back}
+use Rattle.std.proofs.lemmas.Cmp.{upto, tied_itself}
 use Rattle.std.proofs.lemmas.List.Sorted.{IsPermutation-refl, IsPermutation-cons, IsPermutation-trans, IsPermutation-middle, sum_by-IsPermutation, sorted_far, ranks_by}
 use Rattle.std.proofs.lemmas.List.Sums.{sum_by-cons}
 use Rattle.mr_zset.specs.Order.{placed, in_order}
@@ -43,16 +43,16 @@ module _ {X : Type 0} {R : X → X → Ordering} (total : IsTotalOrder R) where
   Above-placed : (x a : X) (ys : List X) → is_gt (R x a) ≡ false → Above R x ys → Above R x (placed R a ys)
   Above-placed x a [] le h = (le, tt)
   Above-placed x a (y ∷ ys) le h = elim (is_lt (R y a)) as (λ b. Above R x (cond b (y ∷ placed R a ys) (a ∷ y ∷ ys))) [
-      | true ↦ (h.0, Above-placed x a ys le h.1)
-      | false ↦ (le, h)
-    ]
+    | true ↦ (h.0, Above-placed x a ys le h.1)
+    | false ↦ (le, h)
+  ]
 
   Ascends-placed : (a : X) (ys : List X) → Ascends R ys → Ascends R (placed R a ys)
   Ascends-placed a [] h = (tt, tt)
   Ascends-placed a (y ∷ ys) h = elim (is_lt (R y a)) as (λ b. is_lt (R y a) ≡ b → Ascends R (cond b (y ∷ placed R a ys) (a ∷ y ∷ ys))) [
-      | true ↦ λ e. (Above-placed y a ys (less_not_more _ e) h.0, Ascends-placed a ys h.1)
-      | false ↦ λ e. let le = not_less_back (R a y) (R y a) (total.antisymm a y) e in ((le, Above-trans a y ys le h.0), h)
-    ] refl
+    | true ↦ λ e. (Above-placed y a ys (less_not_more _ e) h.0, Ascends-placed a ys h.1)
+    | false ↦ λ e. let le = not_less_back (R a y) (R y a) (total.antisymm a y) e in ((le, Above-trans a y ys le h.0), h)
+  ] refl
 
   pub Ascends-in_order : (xs : List X) → Ascends R (in_order R xs)
   Ascends-in_order [] = tt
@@ -61,16 +61,16 @@ module _ {X : Type 0} {R : X → X → Ordering} (total : IsTotalOrder R) where
   Above-filter : (p : X → Bool) (x : X) (ys : List X) → Above R x ys → Above R x (filter p ys)
   Above-filter p x [] h = tt
   Above-filter p x (y ∷ ys) h = elim (p y) as (λ b. Above R x (cond b (y ∷ filter p ys) (filter p ys))) [
-      | true ↦ (h.0, Above-filter p x ys h.1)
-      | false ↦ Above-filter p x ys h.1
-    ]
+    | true ↦ (h.0, Above-filter p x ys h.1)
+    | false ↦ Above-filter p x ys h.1
+  ]
 
   pub Ascends-filter : (p : X → Bool) (ys : List X) → Ascends R ys → Ascends R (filter p ys)
   Ascends-filter p [] h = tt
   Ascends-filter p (y ∷ ys) h = elim (p y) as (λ b. Ascends R (cond b (y ∷ filter p ys) (filter p ys))) [
-      | true ↦ (Above-filter p y ys h.0, Ascends-filter p ys h.1)
-      | false ↦ Ascends-filter p ys h.1
-    ]
+    | true ↦ (Above-filter p y ys h.0, Ascends-filter p ys h.1)
+    | false ↦ Ascends-filter p ys h.1
+  ]
 
 -- what is placed, and a list in order, have the same elements
 
@@ -78,9 +78,9 @@ module _ {X : Type 0} (R : X → X → Ordering) where
   IsPermutation-placed : (a : X) (ys : List X) → IsPermutation (a ∷ ys) (placed R a ys)
   IsPermutation-placed a [] = IsPermutation-refl (a ∷ [])
   IsPermutation-placed a (y ∷ ys) = elim (is_lt (R y a)) as (λ b. IsPermutation (a ∷ y ∷ ys) (cond b (y ∷ placed R a ys) (a ∷ y ∷ ys))) [
-      | true ↦ IsPermutation-trans (a ∷ y ∷ ys) (y ∷ a ∷ ys) (y ∷ placed R a ys) (IsPermutation-middle (a ∷ []) y ys) (IsPermutation-cons y (a ∷ ys) (placed R a ys) (IsPermutation-placed a ys))
-      | false ↦ IsPermutation-refl (a ∷ y ∷ ys)
-    ]
+    | true ↦ IsPermutation-trans (a ∷ y ∷ ys) (y ∷ a ∷ ys) (y ∷ placed R a ys) (IsPermutation-middle (a ∷ []) y ys) (IsPermutation-cons y (a ∷ ys) (placed R a ys) (IsPermutation-placed a ys))
+    | false ↦ IsPermutation-refl (a ∷ y ∷ ys)
+  ]
 
   pub IsPermutation-in_order : (xs : List X) → IsPermutation xs (in_order R xs)
   IsPermutation-in_order [] = IsPermutation-refl []
@@ -129,10 +129,10 @@ module _ {X : Type 0} {R : X → X → Ordering} (total : IsTotalOrder R) where
   -- what is less than x is not tied with what x is not above
   apart : (q x y : X) → R q x ≡ Less → is_gt (R x y) ≡ false → is_eq (R q y) ≡ false
   apart q x y lt le = elim (R q y) as (λ r. R q y ≡ r → is_eq r ≡ false) [
-      | Less ↦ λ e. refl
-      | Equal ↦ λ e. sym (ap is_gt (total.antisymm x y ∙ ap ordering_reverse (sym (total.congr q y x e) ∙ lt))) ∙ le
-      | Greater ↦ λ e. refl
-    ] refl
+    | Less ↦ λ e. refl
+    | Equal ↦ λ e. sym (ap is_gt (total.antisymm x y ∙ ap ordering_reverse (sym (total.congr q y x e) ∙ lt))) ∙ le
+    | Greater ↦ λ e. refl
+  ] refl
 
   times-below : (q x : X) (xs : List X) → R q x ≡ Less → Above R x xs → times R q xs ≡ 0
   times-below q x [] lt h = times-nil R q
@@ -145,63 +145,63 @@ module _ {X : Type 0} {R : X → X → Ordering} (total : IsTotalOrder R) where
     one_order [] (y ∷ ys) up vp h = let none : times R y [] ≡ 0 = times-nil R y in let some : times R y (y ∷ ys) ≡ suc (times R y ys) = times-itself y ys in let same : times R y [] ≡ times R y (y ∷ ys) = h y in absurd (omega arith)
     one_order (x ∷ xs) [] up vp h = let none : times R x [] ≡ 0 = times-nil R x in let some : times R x (x ∷ xs) ≡ suc (times R x xs) = times-itself x xs in let same : times R x (x ∷ xs) ≡ times R x [] = h x in absurd (omega arith)
     one_order (x ∷ xs) (y ∷ ys) up vp h = elim (R x y) as (λ r. R x y ≡ r → x ∷ xs ≡ y ∷ ys) [
-        | Less ↦ λ e.
-            let none : times R x (y ∷ ys) ≡ 0 = times-no R x y ys (ap is_eq e) ∙ times-below x y ys e vp.0 in
-            let some : times R x (x ∷ xs) ≡ suc (times R x xs) = times-itself x xs in
-            let same : times R x (x ∷ xs) ≡ times R x (y ∷ ys) = h x in
-            absurd (omega arith)
-        | Equal ↦ λ e.
-            let head : x ≡ y = exact x y e in
-            let rest : (q : X) → times R q xs ≡ times R q ys =
-                λ q. let left : times R q (x ∷ xs) ≡ one (is_eq (R q x)) + times R q xs = times-cons R q x xs in
-                let right : times R q (y ∷ ys) ≡ one (is_eq (R q y)) + times R q ys = times-cons R q y ys in
-                let tie : one (is_eq (R q x)) ≡ one (is_eq (R q y)) = ap (λ z. one (is_eq (R q z))) head in
-                let same : times R q (x ∷ xs) ≡ times R q (y ∷ ys) = h q in
-                omega arith in
-            let tail : xs ≡ ys = one_order xs ys up.1 vp.1 rest in
-            λ i. head i ∷ tail i
-        | Greater ↦ λ e.
-            let less : R y x ≡ Less = total.antisymm y x ∙ ap ordering_reverse e in
-            let none : times R y (x ∷ xs) ≡ 0 = times-no R y x xs (ap is_eq less) ∙ times-below y x xs less up.0 in
-            let some : times R y (y ∷ ys) ≡ suc (times R y ys) = times-itself y ys in
-            let same : times R y (x ∷ xs) ≡ times R y (y ∷ ys) = h y in
-            absurd (omega arith)
-      ] refl
+      | Less ↦ λ e.
+          let none : times R x (y ∷ ys) ≡ 0 = times-no R x y ys (ap is_eq e) ∙ times-below x y ys e vp.0 in
+          let some : times R x (x ∷ xs) ≡ suc (times R x xs) = times-itself x xs in
+          let same : times R x (x ∷ xs) ≡ times R x (y ∷ ys) = h x in
+          absurd (omega arith)
+      | Equal ↦ λ e.
+          let head : x ≡ y = exact x y e in
+          let rest : (q : X) → times R q xs ≡ times R q ys =
+          λ q. let left : times R q (x ∷ xs) ≡ one (is_eq (R q x)) + times R q xs = times-cons R q x xs in
+          let right : times R q (y ∷ ys) ≡ one (is_eq (R q y)) + times R q ys = times-cons R q y ys in
+          let tie : one (is_eq (R q x)) ≡ one (is_eq (R q y)) = ap (λ z. one (is_eq (R q z))) head in
+          let same : times R q (x ∷ xs) ≡ times R q (y ∷ ys) = h q in
+          omega arith in
+          let tail : xs ≡ ys = one_order xs ys up.1 vp.1 rest in
+          λ i. head i ∷ tail i
+      | Greater ↦ λ e.
+          let less : R y x ≡ Less = total.antisymm y x ∙ ap ordering_reverse e in
+          let none : times R y (x ∷ xs) ≡ 0 = times-no R y x xs (ap is_eq less) ∙ times-below y x xs less up.0 in
+          let some : times R y (y ∷ ys) ≡ suc (times R y ys) = times-itself y ys in
+          let same : times R y (x ∷ xs) ≡ times R y (y ∷ ys) = h y in
+          absurd (omega arith)
+    ] refl
 
     differ_yes : (p : X → Bool) (q x : X) → p q ≡ true → p x ≡ false → is_eq (R q x) ≡ false
     differ_yes p q x hq hx = elim (R q x) as (λ r. R q x ≡ r → is_eq r ≡ false) [
-        | Less ↦ λ e. refl
-        | Equal ↦ λ e. sym hq ∙ ap p (exact q x e) ∙ hx
-        | Greater ↦ λ e. refl
-      ] refl
+      | Less ↦ λ e. refl
+      | Equal ↦ λ e. sym hq ∙ ap p (exact q x e) ∙ hx
+      | Greater ↦ λ e. refl
+    ] refl
 
     differ_no : (p : X → Bool) (q x : X) → p q ≡ false → p x ≡ true → is_eq (R q x) ≡ false
     differ_no p q x hq hx = elim (R q x) as (λ r. R q x ≡ r → is_eq r ≡ false) [
-        | Less ↦ λ e. refl
-        | Equal ↦ λ e. sym (sym hq ∙ ap p (exact q x e) ∙ hx)
-        | Greater ↦ λ e. refl
-      ] refl
+      | Less ↦ λ e. refl
+      | Equal ↦ λ e. sym (sym hq ∙ ap p (exact q x e) ∙ hx)
+      | Greater ↦ λ e. refl
+    ] refl
 
     filtered_yes : (p : X → Bool) (q : X) → p q ≡ true → (xs : List X) → times R q (filter p xs) ≡ times R q xs
     filtered_yes p q hq [] = refl
     filtered_yes p q hq (x ∷ xs) = elim (p x) as (λ b. p x ≡ b → times R q (cond b (x ∷ filter p xs) (filter p xs)) ≡ times R q (x ∷ xs)) [
-        | true ↦ λ e. times-cons R q x (filter p xs) ∙ ap (λ n. one (is_eq (R q x)) + n) (filtered_yes p q hq xs) ∙ sym (times-cons R q x xs)
-        | false ↦ λ e. filtered_yes p q hq xs ∙ sym (times-no R q x xs (differ_yes p q x hq e))
-      ] refl
+      | true ↦ λ e. times-cons R q x (filter p xs) ∙ ap (λ n. one (is_eq (R q x)) + n) (filtered_yes p q hq xs) ∙ sym (times-cons R q x xs)
+      | false ↦ λ e. filtered_yes p q hq xs ∙ sym (times-no R q x xs (differ_yes p q x hq e))
+    ] refl
 
     filtered_no : (p : X → Bool) (q : X) → p q ≡ false → (xs : List X) → times R q (filter p xs) ≡ 0
     filtered_no p q hq [] = times-nil R q
     filtered_no p q hq (x ∷ xs) = elim (p x) as (λ b. p x ≡ b → times R q (cond b (x ∷ filter p xs) (filter p xs)) ≡ 0) [
-        | true ↦ λ e. times-no R q x (filter p xs) (differ_no p q x hq e) ∙ filtered_no p q hq xs
-        | false ↦ λ e. filtered_no p q hq xs
-      ] refl
+      | true ↦ λ e. times-no R q x (filter p xs) (differ_no p q x hq e) ∙ filtered_no p q hq xs
+      | false ↦ λ e. filtered_no p q hq xs
+    ] refl
 
     -- a filter leaves as many of each element of two lists that have as many of each
     filtered : (p : X → Bool) (q : X) (xs ys : List X) → times R q xs ≡ times R q ys → times R q (filter p xs) ≡ times R q (filter p ys)
     filtered p q xs ys h = elim (p q) as (λ b. p q ≡ b → times R q (filter p xs) ≡ times R q (filter p ys)) [
-        | true ↦ λ e. filtered_yes p q e xs ∙ h ∙ sym (filtered_yes p q e ys)
-        | false ↦ λ e. filtered_no p q e xs ∙ sym (filtered_no p q e ys)
-      ] refl
+      | true ↦ λ e. filtered_yes p q e xs ∙ h ∙ sym (filtered_yes p q e ys)
+      | false ↦ λ e. filtered_no p q e xs ∙ sym (filtered_no p q e ys)
+    ] refl
 
     -- what a filter leaves, sorted, is the filter of all in order
     pub sorted_filter : (es ls : List X) (p : X → Bool) → Ascends R ls → IsPermutation (filter p es) ls → ls ≡ filter p (in_order R es)
@@ -219,10 +219,11 @@ module _ {X A : Type 0} {R : X → X → Ordering} (total : IsTotalOrder R) (key
   Ascends-sorted [] h = tt
   Ascends-sorted (x ∷ xs) h = (
     Above-sorted x xs (λ j d lt. not_less_back (R (key x) (key (get_or xs j d))) (R (key (get_or xs j d)) (key x)) (total.antisymm (key x) (key (get_or xs j d)))
-      (sorted_far (λ a b. is_lt (R (key a) (key b))) (ranks_by total key) (x ∷ xs) h 0 (suc j) d (omega arith) (omega arith))),
+        (sorted_far (λ a b. is_lt (R (key a) (key b))) (ranks_by total key) (x ∷ xs) h 0 (suc j) d (omega arith) (omega arith))),
     Ascends-sorted xs (λ k d low high.
-      let e : suc k + 1 ≡ suc (k + 1) = omega arith in
-      subst (λ (n : ℕ). is_lt (R (key (get_or (x ∷ xs) n d)) (key (get_or xs k d))) ≡ false) e (h (suc k) d (omega arith) (omega arith))))
+        let e : suc k + 1 ≡ suc (k + 1) = omega arith in
+        subst (λ (n : ℕ). is_lt (R (key (get_or (x ∷ xs) n d)) (key (get_or xs k d))) ≡ false) e (h (suc k) d (omega arith) (omega arith))),
+  )
 
 -- the place of an element in a list in order is the number of lesser ones
 
@@ -255,21 +256,21 @@ module _ {X : Type 0} {R : X → X → Ordering} (total : IsTotalOrder R) (exact
   place : (q : X) (xs : List X) → Ascends R xs → 0 < times R q xs → slice_get xs (lesser q xs) ≡ Some q
   place q [] up has = let none : times R q [] ≡ 0 = times-nil R q in absurd (omega arith)
   place q (x ∷ xs) up has = elim (R x q) as (λ r. R x q ≡ r → slice_get (x ∷ xs) (lesser q (x ∷ xs)) ≡ Some q) [
-      | Less ↦ λ e.
-          let more : R q x ≡ Greater = total.antisymm q x ∙ ap ordering_reverse e in
-          let same : times R q (x ∷ xs) ≡ times R q xs = times-no R q x xs (ap is_eq more) in
-          let one_more : lesser q (x ∷ xs) ≡ suc (lesser q xs) = lesser-cons q x xs ∙ ap (λ r. cond {A = ℕ} (is_lt r) 1 0 + lesser q xs) e ∙ omega arith in
-          at_suc x xs (lesser q (x ∷ xs)) (lesser q xs) one_more ∙ place q xs up.1 (omega arith)
-      | Equal ↦ λ e.
-          let head : x ≡ q = exact x q e in
-          let le : is_gt (R q x) ≡ false = ap is_gt (total.antisymm q x ∙ ap ordering_reverse e) in
-          let none : lesser q (x ∷ xs) ≡ 0 = lesser-cons q x xs ∙ ap (λ r. cond {A = ℕ} (is_lt r) 1 0 + lesser q xs) e ∙ (let rest : lesser q xs ≡ 0 = lesser-above q x xs le up.0 in omega arith) in
-          at_start x xs (lesser q (x ∷ xs)) none ∙ ap Some head
-      | Greater ↦ λ e.
-          let less : R q x ≡ Less = total.antisymm q x ∙ ap ordering_reverse e in
-          let none : times R q (x ∷ xs) ≡ 0 = times-no R q x xs (ap is_eq less) ∙ times-below total q x xs less up.0 in
-          absurd (omega arith)
-    ] refl
+    | Less ↦ λ e.
+        let more : R q x ≡ Greater = total.antisymm q x ∙ ap ordering_reverse e in
+        let same : times R q (x ∷ xs) ≡ times R q xs = times-no R q x xs (ap is_eq more) in
+        let one_more : lesser q (x ∷ xs) ≡ suc (lesser q xs) = lesser-cons q x xs ∙ ap (λ r. cond {A = ℕ} (is_lt r) 1 0 + lesser q xs) e ∙ omega arith in
+        at_suc x xs (lesser q (x ∷ xs)) (lesser q xs) one_more ∙ place q xs up.1 (omega arith)
+    | Equal ↦ λ e.
+        let head : x ≡ q = exact x q e in
+        let le : is_gt (R q x) ≡ false = ap is_gt (total.antisymm q x ∙ ap ordering_reverse e) in
+        let none : lesser q (x ∷ xs) ≡ 0 = lesser-cons q x xs ∙ ap (λ r. cond {A = ℕ} (is_lt r) 1 0 + lesser q xs) e ∙ (let rest : lesser q xs ≡ 0 = lesser-above q x xs le up.0 in omega arith) in
+        at_start x xs (lesser q (x ∷ xs)) none ∙ ap Some head
+    | Greater ↦ λ e.
+        let less : R q x ≡ Less = total.antisymm q x ∙ ap ordering_reverse e in
+        let none : times R q (x ∷ xs) ≡ 0 = times-no R q x xs (ap is_eq less) ∙ times-below total q x xs less up.0 in
+        absurd (omega arith)
+  ] refl
 
   -- the number of lesser elements of a list is the place in the list in order
   pub place-in_order : (q : X) (es : List X) → 0 < times R q es → slice_get (in_order R es) (count_by (λ x. is_lt (R x q)) es) ≡ Some q
@@ -284,8 +285,8 @@ module _ {X : Type 0} {R : X → X → Ordering} (total : IsTotalOrder R) (exact
   IsSorted-ascends [] up = λ k d low high. absurd (omega arith)
   IsSorted-ascends (x ∷ []) up = λ k d low high. absurd (omega arith)
   IsSorted-ascends (x ∷ y ∷ ys) up = λ k d low high. elim k as (λ (n : ℕ). n + 1 < length (x ∷ y ∷ ys) → is_lt (R (get_or (x ∷ y ∷ ys) (n + 1) d) (get_or (x ∷ y ∷ ys) n d)) ≡ false) [
-      | zero ↦ λ h. not_more_back (R x y) (R y x) (total.antisymm x y) up.0.0
-      | suc n ↦ λ h.
-          let e : suc (n + 1) ≡ suc n + 1 = omega arith in
-          subst (λ (m : ℕ). is_lt (R (get_or (x ∷ y ∷ ys) m d) (get_or (y ∷ ys) n d)) ≡ false) e (IsSorted-ascends (y ∷ ys) up.1 n d (omega arith) (omega arith))
-    ] high
+    | zero ↦ λ h. not_more_back (R x y) (R y x) (total.antisymm x y) up.0.0
+    | suc n ↦ λ h.
+        let e : suc (n + 1) ≡ suc n + 1 = omega arith in
+        subst (λ (m : ℕ). is_lt (R (get_or (x ∷ y ∷ ys) m d) (get_or (y ∷ ys) n d)) ≡ false) e (IsSorted-ascends (y ∷ ys) up.1 n d (omega arith) (omega arith))
+  ] high

@@ -4,7 +4,6 @@ use Rattle.std.specs.Prelude.{ℤ, IsTrue, IfSome, IfOk, OnOk, OnErr, filter, sl
 use Rattle.std.specs.declared.result.Result.{Result}
 use Rattle.std.specs.declared.result.Result.TheVariants.{Ok, Err}
 use Rattle.std.specs.Ordering.{int_cmp, is_lt, is_eq, eq_by_cmp}
-use Rattle.std.specs.declared.cmp.Ordering.{Ordering}
 use Rattle.std.specs.declared.cmp.Ordering.TheVariants.{Less, Equal, Greater}
 use Rattle.std.specs.Cmp.{IsTotalOrder}
 use Rattle.std.specs.FinMap.{get, insert, remove, find, empty, entries, len, len-entries, get-empty, get-entries, get-insert, get-remove}
@@ -70,10 +69,10 @@ found_here p ps k z e g =
 found : (es : List (List ℕ × ℤ)) (k : List ℕ) (z : ℤ) → find bytes_cmp k es ≡ Some z → 0 < times pair_cmp (k, z) es
 found [] k z e = cc
 found (p ∷ ps) k z e = elim (bytes_cmp k p.0) as (λ r. bytes_cmp k p.0 ≡ r → cond (is_eq r) (Some p.1) (find bytes_cmp k ps) ≡ Some z → 0 < times pair_cmp (k, z) (p ∷ ps)) [
-    | Less ↦ λ h g. later p ps k z (found ps k z g)
-    | Equal ↦ λ h g. found_here p ps k z h g
-    | Greater ↦ λ h g. later p ps k z (found ps k z g)
-  ] refl e
+  | Less ↦ λ h g. later p ps k z (found ps k z g)
+  | Equal ↦ λ h g. found_here p ps k z h g
+  | Greater ↦ λ h g. later p ps k z (found ps k z g)
+] refl e
 
 -- the number of lesser pairs is the member's place
 
@@ -97,9 +96,9 @@ count-in_order test es = sym (length-filter test (in_order pair_cmp es) ∙ sum_
 
 pub place-rank_of : (m : ByteMap ℤ) (k : List ℕ) (r : ℕ) → Some r ≡ rank_of m k → IfSome (slice_get (pairs_of m) r) (λ p. p.0 ≡ k)
 place-rank_of m k r e = elim (get m k) as (λ o. get m k ≡ o → Some r ≡ option_map (λ s. count_by (λ p. is_lt (pair_cmp p (k, s))) (entries m)) o → IfSome (slice_get (pairs_of m) r) (λ p. p.0 ≡ k)) [
-    | None ↦ λ g h. cc
-    | Some z ↦ λ g h. IfSome-key (slice_get (pairs_of m) r) k z (ap (slice_get (pairs_of m)) (some_inj h) ∙ place-rank m k z g)
-  ] refl e
+  | None ↦ λ g h. cc
+  | Some z ↦ λ g h. IfSome-key (slice_get (pairs_of m) r) k z (ap (slice_get (pairs_of m)) (some_inj h) ∙ place-rank m k z g)
+] refl e
 
 -- one more entry passes the test
 

@@ -1,6 +1,5 @@
 -- The pairs of a sorted set: their order, ranks and ranges.
 use Rattle.std.specs.Prelude.{ℕ, ℤ, List, Bool, Option, Some, None, count_by, filter, option_map}
-use Rattle.std.specs.Borrow.{Bor}
 use Rattle.std.specs.declared.cmp.Ordering.{Ordering}
 use Rattle.std.specs.Ordering.{int_cmp, ordering_then, is_lt}
 use Rattle.std.specs.FinMap.{entries, get, remove}

@@ -9,5 +9,4 @@ use crate::sorted_set::ZSet;
 pub fn all_pairs_in_order(_set: &ZSet)
     ensures same_pairs { IsPermutation (entries _set.now) (pairs_of _set.now) }
     ensures ascending { IsSorted pair_cmp (pairs_of _set.now) }
-{
-}
+{}

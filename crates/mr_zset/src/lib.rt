@@ -15,6 +15,5 @@ pub use pair::Pair;
 pub use score::is_score;
 pub use sorted_set::ZSet;
 
-
 #[cfg(test)]
 mod tests;

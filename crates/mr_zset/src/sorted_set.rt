@@ -82,7 +82,8 @@ impl ZSet {
             *place = score;
             return Ok(Some(before));
         }
-        self.scores.insert(Vec::from_slice(self.alloc, member)?, score)
+        self.scores
+            .insert(Vec::from_slice(self.alloc, member)?, score)
     }
 
     /// Removes a member, and answers its score.

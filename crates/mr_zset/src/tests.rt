@@ -16,17 +16,27 @@ fn set_of(alloc: Global, pairs: &[Pair<'_>]) -> Result<ZSet, AllocError> {
 
 fn is_same(pairs: &[Pair<'_>], wanted: &[(&[u8], i64)]) -> bool {
     pairs.len() == wanted.len()
-        && pairs
-            .iter()
-            .zip(wanted.iter())
-            .all(|(pair, want)| pair.member == want.0 && pair.score == want.1)
+        && pairs.iter().zip(wanted.iter()).all(|(pair, want)| pair.member == want.0
+            && pair.score == want.1)
 }
 
 const GIVEN: [Pair<'static>; 4] = [
-    Pair { score: 7, member: b"b" },
-    Pair { score: 1, member: b"b" },
-    Pair { score: 1, member: b"a" },
-    Pair { score: 2, member: b"c" },
+    Pair {
+        score: 7,
+        member: b"b",
+    },
+    Pair {
+        score: 1,
+        member: b"b",
+    },
+    Pair {
+        score: 1,
+        member: b"a",
+    },
+    Pair {
+        score: 2,
+        member: b"c",
+    },
 ];
 
 #[test]
@@ -59,9 +69,18 @@ fn ranges(rt: HostRuntime) -> Result<(), Fail> {
     let set = set_of(
         alloc,
         &[
-            Pair { score: 3, member: b"c" },
-            Pair { score: 1, member: b"a" },
-            Pair { score: 2, member: b"b" },
+            Pair {
+                score: 3,
+                member: b"c",
+            },
+            Pair {
+                score: 1,
+                member: b"a",
+            },
+            Pair {
+                score: 2,
+                member: b"b",
+            },
         ],
     )?;
     let above = set.by_score(Bound::Excluded(1), Bound::PositiveInfinity)?;
@@ -70,8 +89,14 @@ fn ranges(rt: HostRuntime) -> Result<(), Fail> {
     assert!(rt; is_same(&from_one, &[(b"a", 1), (b"b", 2), (b"c", 3)]));
     let below = set.by_score(Bound::NegativeInfinity, Bound::Excluded(3))?;
     assert!(rt; is_same(&below, &[(b"a", 1), (b"b", 2)]));
-    assert!(rt; set.by_score(Bound::PositiveInfinity, Bound::PositiveInfinity)?.is_empty());
-    assert!(rt; set.by_score(Bound::NegativeInfinity, Bound::NegativeInfinity)?.is_empty());
+    assert!(rt;
+        set.by_score(Bound::PositiveInfinity, Bound::PositiveInfinity)?
+            .is_empty()
+    );
+    assert!(rt;
+        set.by_score(Bound::NegativeInfinity, Bound::NegativeInfinity)?
+            .is_empty()
+    );
     assert_eq!(rt; set.count(Bound::Included(2), Bound::Included(3)), 2);
     assert_eq!(rt; set.count(Bound::Excluded(1), Bound::Excluded(3)), 1);
     Ok(())
