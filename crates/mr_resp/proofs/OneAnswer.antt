@@ -1,13 +1,13 @@
 -- Each input has one answer.
-use Rattle.std.proofs.Common.{◌≡◌, ℕ, suc, ◌<◌, ◌≤◌, ◌+◌, ◌-◌, ◌⊎◌, inl, inr, List, [], ◌∷◌, ◌++◌, length, take, drop, map, All, refl, sym, ap, ◌∙◌, subst, append_assoc, arith}
+use Rattle.std.proofs.Common.{◌≡◌, ℕ, ◌<◌, ◌≤◌, ◌⊎◌, inl, inr, List, [], ◌∷◌, ◌++◌, length, take, drop, map, refl, sym, ap, ◌∙◌, subst, append_assoc, arith}
 use Rattle.std.specs.List.{flat_map}
 use Rattle.std.specs.Cow.{cow_slice_items}
 use Rattle.std.proofs.lemmas.Bool.{cases_lt}
 use Rattle.std.proofs.lemmas.List.{append-nil, length-append, length-drop, length_push, take-append-drop}
 use Rattle.mr_resp.specs.Language.{Continues, IsDoomed, Fails}
-use Rattle.mr_resp.specs.Request.{IsNumber, IsWordFault, IsCountFault, IsCountLine, IsBulk, IsInWord, IsRequest, IsEmptyRequest, IsText, HasFault}
-use Rattle.mr_resp.specs.Spelling.{number_line, bulk, array, minus_one}
-use Rattle.mr_resp.specs.Scans.{Reads, Outcome, request, nothing, unfinished, faulty, outcome_of, IsBad}
+use Rattle.mr_resp.specs.Request.{IsNumber, IsWordFault, IsCountFault, IsCountLine, IsBulk, IsInWord, IsRequest, IsText, HasFault}
+use Rattle.mr_resp.specs.Spelling.{number_line, bulk, array}
+use Rattle.mr_resp.specs.Scans.{Reads, request, nothing, faulty, outcome_of, IsBad}
 use Rattle.mr_resp.specs.declared.limits.Limits.{Limits}
 use Rattle.mr_resp.specs.declared.fault.Fault.{Fault}
 use Rattle.mr_resp.specs.declared.fault.Fault.TheVariants.{MultibulkLength, BulkLength, ExpectedDollar, UnbalancedQuotes, TooBigInline, WordTooBig, TooManyWords}

@@ -1,4 +1,4 @@
-use Rattle.std.proofs.Common.{◌≡◌, ◌≤◌, ◌+◌, ◌↔◌, Option, None, IsSome, length, ap, arith, refl}
+use Rattle.std.proofs.Common.{◌≡◌, ◌↔◌, Option, None, IsSome, length, ap, arith, refl}
 use Rattle.mr_resp.proofs.LimitsLemmas.{least_text}
 use Rattle.mr_resp.proofs.limits.Limits.new.Goals as goal
 use Rattle.mr_resp.proofs.limits.Limits.new.Goals.{then-word-eq0-via-then-word-eq0, then-word-eq0-via-else-word-eq0+then-words-eq0, then-word-eq0-via-else-word-eq0+else-words-eq0+then-text-least}
