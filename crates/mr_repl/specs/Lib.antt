@@ -1,3 +1,4 @@
 pub mod Backlog
 pub mod Pieces
 pub mod ReplId
+pub mod Standing

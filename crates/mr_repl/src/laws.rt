@@ -1,7 +1,7 @@
 //! Laws about the definitions that the contracts cite. No function here does anything.
 ghost use Rattle.std.specs.Prelude.{◌≡◌, ℕ, List};
 ghost use Rattle.mr_repl.specs.Pieces.{HeldIsTheEnd, CutsDoNotMatter};
-ghost use Rattle.mr_repl.specs.ReplId.{IsId, digits_of};
+ghost use Rattle.mr_repl.specs.ReplId.{IsId, TextsAreForty, digits_of};
 
 /// After a piece of the stream a backlog holds the last bytes of what it held followed by the piece: all of
 /// them, or as many as the capacity.
@@ -17,4 +17,9 @@ pub fn cuts_do_not_matter()
 /// No two ids have the same text.
 pub fn texts_are_of_one_id()
     ensures { (one other : List ℕ) → IsId one → IsId other → digits_of one ≡ digits_of other → one ≡ other }
+{}
+
+/// The texts of ids are those of forty lower-case hexadecimal digits.
+pub fn texts_are_forty_digits()
+    ensures { TextsAreForty }
 {}

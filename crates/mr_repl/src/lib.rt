@@ -1,13 +1,17 @@
-//! Replication: the ids of streams, and the last bytes of one.
+//! Replication: the ids of streams, the last bytes of one, and who may go on from them.
 #![tactic(auto)]
 
 mod backlog;
+mod decision;
 mod laws;
 mod replication_id;
+mod standing;
 
 pub use backlog::Backlog;
-pub use laws::{cuts_do_not_matter, held_is_the_end, texts_are_of_one_id};
+pub use decision::{Answer, decide};
+pub use laws::{cuts_do_not_matter, held_is_the_end, texts_are_forty_digits, texts_are_of_one_id};
 pub use replication_id::ReplId;
+pub use standing::Standing;
 
 #[cfg(test)]
 mod plain_backlog;

@@ -114,3 +114,41 @@ fn the_ring_agrees_with_a_plain_vector(rt: HostRuntime) -> Result<(), Fail> {
     }
     Ok(())
 }
+
+#[test]
+fn a_replica_goes_on_where_its_bytes_are_held(rt: HostRuntime) {
+    let a = ReplId::new([0xaa; 20]);
+    let text = a.digits();
+    let held = Standing {
+        id: a,
+        offset: 54,
+        second: None,
+        first: 28,
+    };
+    let lost = Standing {
+        offset: 81,
+        first: 55,
+        ..held
+    };
+    assert_eq!(rt; decide(&text, 28, &held), Answer::Continue(28));
+    assert_eq!(rt; decide(&text, 55, &held), Answer::Continue(55));
+    assert_eq!(rt; decide(&text, 56, &held), Answer::Full);
+    assert_eq!(rt; decide(&text, 28, &lost), Answer::Full);
+    assert_eq!(rt; decide(&text, -1, &held), Answer::Full);
+    assert_eq!(rt; decide(b"?", -1, &held), Answer::Full);
+}
+
+#[test]
+fn a_replica_goes_on_under_the_id_before(rt: HostRuntime) {
+    let a = ReplId::new([0xaa; 20]).digits();
+    let promoted = Standing {
+        id: ReplId::new([0xbb; 20]),
+        offset: 54,
+        second: Some((ReplId::new([0xaa; 20]), 28)),
+        first: 28,
+    };
+    assert_eq!(rt; decide(&a, 28, &promoted), Answer::Continue(28));
+    assert_eq!(rt; decide(&a, 29, &promoted), Answer::Full);
+    assert_eq!(rt; decide(&a, 55, &promoted), Answer::Full);
+    assert_eq!(rt; decide(b"cc", 28, &promoted), Answer::Full);
+}
