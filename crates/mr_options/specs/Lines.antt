@@ -3,26 +3,20 @@ use Rattle.std.specs.Prelude.{ℕ, Some, codes, true, [], ◌∷◌, ◌^◌, �
 use Rattle.clap.specs.Words.{App, Rule, Text, new_app, new_rule, with_rule, with_subcommand}
 use Rattle.clap.specs.declared.builder.value_parser.ValueParser.TheVariants as vp
 
--- an option that is a text, with its usual value
-abbrev pub text_rule : Text → Text → Rule
-text_rule name usual = record (new_rule name) { long = Some name; defaults = usual ∷ [] }
+-- an option that is a text
+abbrev pub text_rule : Text → Rule
+text_rule name = record (new_rule name) { long = Some name }
 
--- an option that is a number from 0 to this one, with its usual value
-abbrev pub number_rule : Text → ℕ → Text → Rule
-number_rule name most usual =
-    record (new_rule name) { long = Some name; parser = Some (vp.Unsigned 0 most); defaults = usual ∷ [] }
-
--- the usual replication id, forty digits a
-abbrev pub usual_id : Text
-usual_id = codes "aaaaaaaaaaaaaaaaaaaaaaaaaaaaaaaaaaaaaaaa"
+-- an option that is a number from 0 to this one
+abbrev pub number_rule : Text → ℕ → Rule
+number_rule name most = record (new_rule name) { long = Some name; parser = Some (vp.Unsigned 0 most) }
 
 -- `pipe [--id H] [--now N] [--word N]`
 abbrev pub pipe_line : App
 pipe_line =
     with_rule
-    (with_rule (with_rule (new_app (codes "pipe")) (text_rule (codes "id") usual_id))
-    (number_rule (codes "now") (2 ^ 61) (codes "0")))
-    (number_rule (codes "word") (2 ^ 64 - 1) (codes "0"))
+    (with_rule (with_rule (new_app (codes "pipe")) (text_rule (codes "id"))) (number_rule (codes "now") (2 ^ 61)))
+    (number_rule (codes "word") (2 ^ 64 - 1))
 
 -- the program: one of its subcommands is named, and nothing answers with a help text
 abbrev pub bare : App

@@ -1,5 +1,5 @@
 -- What options say, and why a line is refused.
-use Rattle.std.specs.Prelude.{◌≡◌, ◌≢◌, ℕ, ◌≤◌, ◌<◌, ◌^◌, List, [], ◌∷◌, pos, Some, Ok, codes, replicate, string_bytes}
+use Rattle.std.specs.Prelude.{◌≡◌, ◌≢◌, ℕ, ◌≤◌, ◌≤ℤ◌, ◌<◌, ◌^◌, List, Option, None, [], ◌∷◌, pos, Some, Ok, codes, replicate, string_bytes}
 use Rattle.std.specs.Str.Parse.{ParsesUnsigned}
 use Rattle.std.specs.Char.{is_control}
 use Rattle.std.specs.Str.{NoCharPasses}
@@ -19,20 +19,42 @@ use Rattle.mr_options.specs.declared.fault.UsageFault.TheVariants.{Line, BadValu
 abbrev pub usual_pipe : PipeOptions
 usual_pipe = record { id = replicate 20 170; now = pos 0; word = 0 }
 
--- the value of this option, named on the line or usual, is a text of this number
-abbrev pub HasNumber : List Row → Text → ℕ → Type 0
-HasNumber rows name n =
-    (t : Text) × ((one_of name rows ≡ Some t) × ParsesUnsigned {E = ParseIntError} 64 10 t (Ok n))
+-- the number whose text this is, or the usual one where there is none
+abbrev pub IsNumber : Option Text → ℕ → ℕ → Type 0
+IsNumber None usual n = n ≡ usual
+IsNumber (Some text) usual n = ParsesUnsigned {E = ParseIntError} 64 10 text (Ok n)
 
--- the value of the option `id` is the text of this id
-abbrev pub IsIdOf : List Row → List ℕ → Type 0
-IsIdOf rows id = IsId id × (first_of (codes "id") rows ≡ Some (digits_of id))
+-- the value of a number's option, where these rows say what the line names
+abbrev pub HasNumber : List Row → Text → ℕ → ℕ → Type 0
+HasNumber rows name usual n = IsNumber (one_of name rows) usual n
 
--- the values of the options of `pipe`, each within its range
+-- the id whose text this is, or the usual one where there is none
+abbrev pub IsIdText : Option Text → List ℕ → Type 0
+IsIdText None id = id ≡ usual_pipe.id
+IsIdText (Some text) id = IsId id × (digits_of id ≡ text)
+
+-- the value of the option `id`
+abbrev pub HasId : List Row → List ℕ → Type 0
+HasId rows id = IsIdText (first_of (codes "id") rows) id
+
+-- the values of the options of `pipe`: those that the line names, and else the usual ones
 pub record ArePipeOf (rows : List Row) (options : PipeOptions) : Type 0 where
-  pub id : IsIdOf rows options.id
-  pub now : (n : ℕ) × ((options.now ≡ pos n) × ((n ≤ 2 ^ 61) × HasNumber rows (codes "now") n))
-  pub word : (options.word < 2 ^ 64) × HasNumber rows (codes "word") options.word
+  pub id : HasId rows options.id
+  pub now : (n : ℕ) × ((options.now ≡ pos n) × HasNumber rows (codes "now") 0 n)
+  pub word : HasNumber rows (codes "word") 0 options.word
+
+-- the parser lets through a number that is within its range, or none
+pub record NumbersPass (rows : List Row) : Type 0 where
+  pub now : (n : ℕ) × ((n ≤ 2 ^ 61) × HasNumber rows (codes "now") 0 n)
+  pub word : (n : ℕ) × HasNumber rows (codes "word") 0 n
+
+-- each number is within its range
+abbrev pub IsInRange : Options → Type 0
+IsInRange (Pipe options) = (pos 0 ≤ℤ options.now) × (options.now ≤ℤ pos (2 ^ 61)) × (options.word < 2 ^ 64)
+
+-- the line names an id, which is none
+abbrev pub NamesNoId : List Row → Type 0
+NamesNoId rows = (text : Text) × ((first_of (codes "id") rows ≡ Some text) × ((id : List ℕ) → IsId id → digits_of id ≢ text))
 
 -- the parser finds no fault in the line, which names `pipe` with these rows
 abbrev pub IsPipeLine : List Text → List Row → Type 0
@@ -59,10 +81,9 @@ IsFaultOf error (Line text) = (kind_of error ≢ OutOfMemory) × IsOneLine (stri
 IsFaultOf error BadValue = ⊥
 IsFaultOf error Memory = Unit {0}
 
--- why a line is refused: the parser finds fault with it; or it does not, and a value that it takes
--- is none, so that no options have the values of the line
+-- why a line is refused: the parser finds fault with it; or it does not, and the line names an id
+-- that is none
 abbrev pub ExplainsFault : List Text → UsageFault → Type 0
 ExplainsFault words (Line text) = (fault_of line words ≢ []) × IsOneLine (string_bytes text)
-ExplainsFault words BadValue =
-    (rows : List Row) × (IsPipeLine words rows × ((options : PipeOptions) → ArePipeOf rows options → ⊥))
+ExplainsFault words BadValue = (rows : List Row) × (IsPipeLine words rows × NamesNoId rows)
 ExplainsFault words Memory = Unit {0}

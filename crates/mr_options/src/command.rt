@@ -9,34 +9,31 @@ use clap::{Arg, Command};
 use std::alloc::{AllocError, Global};
 
 /// The greatest time, in milliseconds.
-pub(crate) const MOST_NOW: u64 = 1 << 61;
+const MOST_NOW: u64 = 1 << 61;
 
-const USUAL_ID: &str = "aaaaaaaaaaaaaaaaaaaaaaaaaaaaaaaaaaaaaaaa";
-
-fn text_option<'a>(alloc: Global, name: &'a str, usual: &'a str) -> Arg<'a>
-    ensures rule { rule_of result ≡ text_rule name.entry.now usual.entry.now }
+fn text_option<'a>(alloc: Global, name: &'a str) -> Arg<'a>
+    ensures rule { rule_of result ≡ text_rule name.entry.now }
     ensures local { result.global ≡ false }
 {
-    Arg::new(alloc, name).long(name).default_value(usual)
+    Arg::new(alloc, name).long(name)
 }
 
-fn number_option<'a>(alloc: Global, name: &'a str, most: u64, usual: &'a str) -> Arg<'a>
-    ensures rule { rule_of result ≡ number_rule name.entry.now most usual.entry.now }
+fn number_option<'a>(alloc: Global, name: &'a str, most: u64) -> Arg<'a>
+    ensures rule { rule_of result ≡ number_rule name.entry.now most }
     ensures local { result.global ≡ false }
 {
     Arg::new(alloc, name)
         .long(name)
         .value_parser(ValueParser::unsigned(0, most))
-        .default_value(usual)
 }
 
 fn pipe_command<'a>(alloc: Global) -> Result<Command<'a>, AllocError>
     ensures shape { IfOk result (λ c. app_of c ≡ pipe_line) }
     ensures local { IfOk result (λ c. (out-Command c).has_globals ≡ false) }
 {
-    let id = text_option(alloc, "id", USUAL_ID);
-    let now = number_option(alloc, "now", MOST_NOW, "0");
-    let word = number_option(alloc, "word", u64::MAX, "0");
+    let id = text_option(alloc, "id");
+    let now = number_option(alloc, "now", MOST_NOW);
+    let word = number_option(alloc, "word", u64::MAX);
     let first = Command::new(alloc, "pipe").arg(id)?;
     let second = first.arg(now)?;
     let third = second.arg(word)?;

@@ -2,7 +2,7 @@
 #![tactic(auto)]
 
 ghost use Rattle.std.specs.Prelude.{◌≡◌, IfOk, IfErr, map, string_bytes, []};
-ghost use Rattle.mr_options.specs.Values.{AreOptionsOf, ExplainsFault, usual_pipe};
+ghost use Rattle.mr_options.specs.Values.{AreOptionsOf, ExplainsFault, IsInRange, usual_pipe};
 
 use crate::command::whole_command;
 use crate::explain::fault_from;
@@ -24,6 +24,7 @@ pub use line::{Options, PipeOptions};
 pub fn options(alloc: Global, words: &[String]) -> Result<Options, UsageFault>
     ensures usual { words.now ≡ [] → result ≡ Ok (Options.Pipe usual_pipe) }
     ensures ok { IfOk result (AreOptionsOf (map string_bytes words.now)) }
+    ensures range { IfOk result IsInRange }
     ensures err { IfErr result (ExplainsFault (map string_bytes words.now)) }
 {
     if words.is_empty() {

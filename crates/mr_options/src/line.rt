@@ -6,7 +6,7 @@ use mr_repl::ReplId;
 pub struct PipeOptions {
     /// The node's replication id.
     pub id: ReplId,
-    /// The time that every command sees, in milliseconds.
+    /// The time that every command sees, in milliseconds from 0 to 2^61.
     pub now: i64,
     /// The random word that every command sees.
     pub word: u64,

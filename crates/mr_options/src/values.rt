@@ -1,41 +1,45 @@
 //! The values of a subcommand's options.
-ghost use Rattle.std.specs.Prelude.{◌≡◌, ℕ, List, IfSome, IfNone};
+ghost use Rattle.std.specs.Prelude.{ℕ, IfSome, IfNone};
 ghost use Rattle.clap.specs.Words.{found_of, rows_of};
-ghost use Rattle.mr_options.specs.declared.line.PipeOptions.{PipeOptions as PipeValues};
-ghost use Rattle.mr_options.specs.Values.{ArePipeOf, HasNumber, IsIdOf};
+ghost use Rattle.mr_options.specs.Values.{ArePipeOf, HasId, HasNumber, IsInRange, NamesNoId, NumbersPass};
+ghost use Rattle.mr_options.specs.declared.line.Options.TheVariants.{Pipe};
 
-use crate::command::MOST_NOW;
 use crate::line::PipeOptions;
 use clap::ArgMatches;
 use mr_repl::ReplId;
 
-fn number_of(matches: &ArgMatches<'_>, name: &str) -> Option<u64>
-    ensures some { IfSome result (λ n. HasNumber (rows_of (found_of matches.now)) name.now n) }
-    ensures none { IfNone result ((n : ℕ) → HasNumber (rows_of (found_of matches.now)) name.now n → ⊥) }
+/// The value of a number's option, or the usual one.
+fn number_of(matches: &ArgMatches<'_>, name: &str, usual: u64) -> u64
+    requires { (n : ℕ) × HasNumber (rows_of (found_of matches.now)) name.now usual n }
+    ensures { HasNumber (rows_of (found_of matches.now)) name.now usual result }
 {
-    matches.get_one::<u64>(name)
+    matches.get_one::<u64>(name).unwrap_or(usual)
 }
 
+/// The replication id, or None where the line names an id that is none.
 fn id_of(matches: &ArgMatches<'_>) -> Option<ReplId>
-    ensures some { IfSome result (IsIdOf (rows_of (found_of matches.now))) }
-    ensures none { IfNone result ((id : List ℕ) → IsIdOf (rows_of (found_of matches.now)) id → ⊥) }
+    ensures some { IfSome result (HasId (rows_of (found_of matches.now))) }
+    ensures none { IfNone result (NamesNoId (rows_of (found_of matches.now))) }
 {
-    let text = matches.get_str("id")?;
-    let id = ReplId::read(text.as_bytes())?;
-    Some(id)
+    match matches.get_str("id") {
+        None => Some(PipeOptions::usual().id),
+        Some(text) => {
+            let id = ReplId::read(text.as_bytes())?;
+            Some(id)
+        }
+    }
 }
 
-/// The values of `pipe`, or `None` where what the line names is no such value.
+/// The values of `pipe`, or None where the line names an id that is none.
 pub(crate) fn pipe_of(matches: &ArgMatches<'_>) -> Option<PipeOptions>
+    requires { NumbersPass (rows_of (found_of matches.now)) }
     ensures some { IfSome result (ArePipeOf (rows_of (found_of matches.now))) }
-    ensures none { IfNone result ((options : PipeValues) → ArePipeOf (rows_of (found_of matches.now)) options → ⊥) }
+    ensures range { IfSome result (λ options. IsInRange (Pipe options)) }
+    ensures none { IfNone result (NamesNoId (rows_of (found_of matches.now))) }
 {
     let id = id_of(matches)?;
-    let now = number_of(matches, "now")?;
-    if now > MOST_NOW {
-        return None;
-    }
-    let word = number_of(matches, "word")?;
+    let now = number_of(matches, "now", 0);
+    let word = number_of(matches, "word", 0);
     Some(PipeOptions {
         id,
         now: now as i64,

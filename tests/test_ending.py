@@ -1,0 +1,93 @@
+"""How the program ends: its status, and what it writes on standard error."""
+
+import contextlib
+import os
+import signal
+import subprocess
+import unittest
+
+from program import LATE, LAUNCHER, PROGRAM, request, run
+
+PING = request("PING")
+
+
+class Options(unittest.TestCase):
+    def test_values_within_their_range(self):
+        for words in (
+            ["--now", "0"],
+            ["--now", "2305843009213693952"],
+            ["--word", "18446744073709551615"],
+            ["--id", "0123456789abcdef0123456789abcdef01234567"],
+            ["--word=4", "--id=" + 40 * "b", "--now=7"],
+        ):
+            with self.subTest(words=words):
+                ran = run(PING, "pipe", *words)
+                self.assertEqual((ran.returncode, ran.stdout, ran.stderr), (0, b"+PONG\r\n", b""))
+
+    def test_a_bad_line_is_refused_in_one_line(self):
+        for words in (
+            ["nothing"],
+            ["pipe", "more"],
+            ["pipe", "--now"],
+            ["pipe", "--now", "-1"],
+            ["pipe", "--now", "2305843009213693953"],
+            ["pipe", "--now", "1", "--now", "1"],
+            ["pipe", "--word", "18446744073709551616"],
+            ["pipe", "--nothing", "1"],
+            ["--now", "1"],
+            ["pipe", "two\n\nlines"],
+            [""],
+        ):
+            with self.subTest(words=words):
+                ran = run(PING, *words)
+                self.assertEqual((ran.returncode, ran.stdout), (1, b""))
+                self.assertRegex(ran.stderr, rb"\Aminired: [^\x00-\x1f]*[^\x00-\x20]\n\Z")
+
+    def test_an_id_that_is_none_is_a_bad_value(self):
+        for name in ("", 39 * "a", 41 * "a", 39 * "a" + "A", 39 * "a" + "g"):
+            with self.subTest(name=name):
+                ran = run(PING, "pipe", "--id=" + name)
+                self.assertEqual((ran.returncode, ran.stdout, ran.stderr), (1, b"", b"minired: bad value\n"))
+
+
+class Streams(unittest.TestCase):
+    def fails(self, ran):
+        self.assertEqual((ran.returncode, ran.stderr), (3, b"minired: file failed\n"))
+
+    def test_an_input_that_cannot_be_read(self):
+        with open(os.devnull, "wb") as unreadable:
+            self.fails(subprocess.run([LAUNCHER, "pipe"], stdin=unreadable, capture_output=True, timeout=LATE))
+
+    def test_an_output_that_cannot_be_written(self):
+        with open("/dev/full", "wb") as full:
+            self.fails(subprocess.run([LAUNCHER, "pipe"], input=PING, stdout=full, stderr=subprocess.PIPE, timeout=LATE))
+
+    def test_an_output_that_is_closed(self):
+        for count in (1, 100_000):
+            with self.subTest(count=count):
+                reader, writer = os.pipe()
+                os.close(reader)
+                ran = subprocess.run([LAUNCHER, "pipe"], input=count * PING, stdout=writer, stderr=subprocess.PIPE, timeout=LATE)
+                os.close(writer)
+                self.fails(ran)
+
+    def test_an_output_whose_reader_goes_away(self):
+        pipe = subprocess.PIPE
+        started = subprocess.Popen([LAUNCHER, "pipe"], stdin=pipe, stdout=pipe, stderr=pipe, bufsize=0)
+        started.stdout.close()
+        with started.stdin, contextlib.suppress(BrokenPipeError):
+            started.stdin.write(1_000_000 * PING)
+        with started.stderr:
+            err = started.stderr.read()
+        self.fails(subprocess.CompletedProcess([], started.wait(timeout=LATE), None, err))
+
+    def test_without_the_launcher_a_closed_output_ends_the_program(self):
+        reader, writer = os.pipe()
+        os.close(reader)
+        ran = subprocess.run([PROGRAM, "pipe"], input=PING, stdout=writer, stderr=subprocess.PIPE, timeout=LATE)
+        os.close(writer)
+        self.assertIn(ran.returncode, (3, -signal.SIGPIPE))
+
+
+if __name__ == "__main__":
+    unittest.main()

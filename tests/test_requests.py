@@ -1,0 +1,102 @@
+"""Requests on standard input, and the replies on standard output."""
+
+import unittest
+
+from program import request, run, run_in_pieces
+
+SET_THEN_GET = b"*3\r\n$3\r\nSET\r\n$1\r\nk\r\n$1\r\nv\r\n*2\r\n$3\r\nGET\r\n$1\r\nk\r\n"
+OK_THEN_VALUE = b"+OK\r\n$1\r\nv\r\n"
+PING = b"*1\r\n$4\r\nPING\r\n"
+BULK_LENGTH = b"-ERR Protocol error: invalid bulk length\r\n"
+
+
+class Requests(unittest.TestCase):
+    def answers(self, ran, wanted):
+        self.assertEqual((ran.returncode, ran.stdout, ran.stderr), (0, wanted, b""))
+
+    def test_a_key_is_set_and_got(self):
+        self.answers(run(SET_THEN_GET, "pipe"), OK_THEN_VALUE)
+
+    def test_no_words_are_pipe(self):
+        self.answers(run(SET_THEN_GET), OK_THEN_VALUE)
+
+    def test_one_byte_at_a_time(self):
+        self.answers(run_in_pieces([bytes([byte]) for byte in SET_THEN_GET], "pipe"), OK_THEN_VALUE)
+
+    def test_each_cut_in_two_pieces(self):
+        for cut in range(len(SET_THEN_GET) + 1):
+            with self.subTest(cut=cut):
+                pieces = [SET_THEN_GET[:cut], SET_THEN_GET[cut:]]
+                self.answers(run_in_pieces([it for it in pieces if it], "pipe"), OK_THEN_VALUE)
+
+    def test_each_cut_of_a_fault_in_two_pieces(self):
+        text = PING + b"*1\r\n$-5\r\n" + PING
+        for cut in range(1, len(text)):
+            with self.subTest(cut=cut):
+                self.answers(run_in_pieces([text[:cut], text[cut:]], "pipe"), b"+PONG\r\n" + BULK_LENGTH)
+
+    def test_a_key_is_deleted_once(self):
+        asked = request("SET", "k", "v") + 2 * request("DEL", "k") + request("GET", "k")
+        self.answers(run(asked, "pipe"), b"+OK\r\n:1\r\n:0\r\n$-1\r\n")
+
+    def test_values_are_bytes(self):
+        value = bytes(range(256)) + b"\r\n"
+        asked = request("SET", "k", value) + request("GET", "k") + request("SET", "", "") + request("GET", "")
+        self.answers(run(asked, "pipe"), b"+OK\r\n$258\r\n" + value + b"\r\n+OK\r\n$0\r\n\r\n")
+
+    def test_command_names_in_any_case(self):
+        asked = request("set", "k", "v") + request("gEt", "k") + request("Ping")
+        self.answers(run(asked, "pipe"), b"+OK\r\n$1\r\nv\r\n+PONG\r\n")
+
+    def test_empty_requests_have_no_reply(self):
+        self.answers(run(b"*0\r\n*-1\r\n" + PING, "pipe"), b"+PONG\r\n")
+
+    def test_no_input_has_no_reply(self):
+        self.answers(run(b"", "pipe"), b"")
+
+    def test_an_unread_rest_is_dropped(self):
+        for cut in range(1, len(PING)):
+            with self.subTest(cut=cut):
+                self.answers(run(PING + PING[:cut], "pipe"), b"+PONG\r\n")
+
+    def test_many_requests_in_one_stream(self):
+        asked = b"".join(request("SET", f"k{n}", f"v{n}") + request("GET", f"k{n}") for n in range(3000))
+        wanted = b"".join(b"+OK\r\n$%d\r\nv%d\r\n" % (len(f"v{n}"), n) for n in range(3000))
+        self.answers(run(asked, "pipe"), wanted)
+
+    def test_a_value_longer_than_a_piece(self):
+        value = bytes(n * n % 251 for n in range(300_000))
+        asked = request("SET", "k", value) + request("GET", "k") + PING
+        self.answers(run(asked, "pipe"), b"+OK\r\n$300000\r\n" + value + b"\r\n+PONG\r\n")
+
+
+class Faults(unittest.TestCase):
+    """A text that no bytes can make a request is answered once, and what follows is never read."""
+
+    def refuses(self, asked, wanted):
+        for rest in (b"", PING, 100_000 * PING):
+            ran = run(asked + rest, "pipe")
+            self.assertEqual((ran.returncode, ran.stdout, ran.stderr), (0, wanted, b""))
+
+    def test_a_bulk_length_below_zero(self):
+        self.refuses(b"*1\r\n$-5\r\n", BULK_LENGTH)
+
+    def test_a_word_that_does_not_end_where_it_should(self):
+        self.refuses(b"*2\r\n$3\r\nGET\r\n$1\r\nkXY", BULK_LENGTH)
+
+    def test_another_byte_in_the_place_of_a_dollar(self):
+        self.refuses(b"*1\r\n:3\r\n", b"-ERR Protocol error: expected '$', got ':'\r\n")
+        self.refuses(b"*1\r\n\x07", b"-ERR Protocol error: expected '$', got '?'\r\n")
+
+    def test_a_count_of_words_that_is_none(self):
+        wanted = b"-ERR Protocol error: invalid multibulk length\r\n"
+        for count in (b"*-2\r\n", b"*x\r\n", b"*01\r\n", b"*\r\n", b"*1048577\r\n"):
+            with self.subTest(count=count):
+                self.refuses(count, wanted)
+
+    def test_a_word_past_the_limit(self):
+        self.refuses(b"*2\r\n$3\r\nGET\r\n$16777217\r\n", BULK_LENGTH)
+
+
+if __name__ == "__main__":
+    unittest.main()
