@@ -22,7 +22,7 @@ pub returns-in-None-clause-some : goal.returns-in-None-clause-some
 returns-in-None-clause-some c = has_id (found_of c.args.matches.now) None c.usual.result.id c.in-None.ensures (ap (λ (o : PipeOptions). o.id) c.usual.ensures)
 
 pub returns-in_err-id-in-Some-clause-none : goal.returns-in_err-id-in-Some-clause-none
-returns-in_err-id-in-Some-clause-none c = whatever c.from_residual.result (no_id (found_of c.args.matches.now) c.in-Some.text.now c.as_bytes.result.now c.in-Some.ensures c.as_bytes.ensures.value c.in_err-id.ensures.none)
+returns-in_err-id-in-Some-clause-none c = whatever c.from_residual.result (no_id (found_of c.args.matches.now) c.in-Some.text.now c.as_bytes.result.now c.in-Some.ensures c.as_bytes.ensures.value c.in_err-id-in-Some.ensures.none)
 
 pub returns-in_ok-id-in-Some-clause-some : goal.returns-in_ok-id-in-Some-clause-some
-returns-in_ok-id-in-Some-clause-some c = has_id (found_of c.args.matches.now) (Some c.in-Some.text.now) c.in_ok-id.id c.in-Some.ensures (search rules, c.in_ok-id.ensures.some ∙ c.as_bytes.ensures.value)
+returns-in_ok-id-in-Some-clause-some c = has_id (found_of c.args.matches.now) (Some c.in-Some.text.now) c.in_ok-id-in-Some.id c.in-Some.ensures (search rules, c.in_ok-id-in-Some.ensures.some ∙ c.as_bytes.ensures.value)
