@@ -1,5 +1,6 @@
 // Effects whose words are moved into the dataset.
 ghost use Rattle.std.specs.Prelude.{◌≡◌, ◌≢◌, ◌↔◌, [], Some, None, Err, IsOk, OnOk};
+ghost use Rattle.std.specs.List.{AllByRecursion};
 ghost use Rattle.mr_data.specs.Meaning.{apply, apply_all, NeedsNoMemory};
 
 use crate::dataset::Dataset;
@@ -32,6 +33,7 @@ impl Dataset {
     pub fn apply_all(&mut self, effects: Vec<Effect<'_>>) -> Result<(), ApplyFault>
         ensures ok { OnOk result (apply_all effects.entry.items self.old ≡ Some self.new) }
         ensures refused { result ≡ Err ApplyFault.Refused → apply_all effects.entry.items self.old ≡ None }
+        ensures memory { AllByRecursion NeedsNoMemory effects.entry.items → result ≢ Err ApplyFault.Memory }
         ensures none { effects.entry.items ≡ [] → IsOk result }
     {
         for effect in effects {
