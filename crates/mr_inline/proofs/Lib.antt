@@ -1,0 +1,4 @@
+pub mod ByteKinds
+pub mod Runs
+pub mod ParseTrees
+pub mod LineTexts

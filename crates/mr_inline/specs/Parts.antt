@@ -1,0 +1,62 @@
+-- What the parts of the reader find.
+use Rattle.std.specs.Prelude.{◌≡◌, ℕ, ◌+◌, ◌<◌, ◌≤◌, List, ◌∷◌, ◌++◌, length, take, drop, slice_range, slice_index}
+use Rattle.mr_inline.specs.Language.{Continues, Fails}
+use Rattle.mr_inline.specs.Line.{IsLineText, HasLineFault}
+use Rattle.mr_inline.specs.Places.{kind_of, turn_of, word_from, words_from}
+use Rattle.mr_inline.specs.declared.measure.Measured.{Measured}
+use Rattle.mr_inline.specs.declared.measure.Measured.TheVariants.{Whole, More, Bad}
+use Rattle.mr_inline.specs.declared.place.Kind.{Kind}
+use Rattle.mr_inline.specs.declared.place.Kind.TheVariants.{LineFeed, Separator, DoubleQuote, SingleQuote, Backslash, Other}
+use Rattle.mr_inline.specs.declared.place.Place.{Place}
+use Rattle.mr_inline.specs.declared.place.Place.TheVariants.{Plain, Closed}
+use Rattle.mr_inline.specs.declared.place.Turn.TheVariants.{Ends}
+
+-- a byte of this kind doesn't go on with the plain bytes of a word
+abbrev pub StopsPlain : Kind → Type 0
+StopsPlain LineFeed = ⊥
+StopsPlain Separator = Unit {0}
+StopsPlain DoubleQuote = Unit {0}
+StopsPlain SingleQuote = Unit {0}
+StopsPlain Backslash = ⊥
+StopsPlain Other = ⊥
+
+-- the first so many bytes are a whole line
+pub record EndsAt (limit : ℕ) (input : List ℕ) (used : ℕ) : Type 0 where
+  pub some : 0 < used
+  pub inside : used ≤ length input
+  pub size : used ≤ limit + 1
+  pub ends : turn_of (take used input) ≡ Ends
+
+abbrev pub Measures : ℕ → List ℕ → Measured → Type 0
+Measures limit input (Whole used) = EndsAt limit input used
+Measures limit input More = Continues (IsLineText limit) input
+Measures limit input (Bad fault) = Fails (IsLineText limit) (HasLineFault limit fault) input
+
+-- At `at` the line goes on with the spelling of a byte, which ends at `end`; the places in the word are before and after it.
+pub record Spells (before after : Place) (line : List ℕ) (at byte end : ℕ) : Type 0 where
+  pub forward : at < end
+  pub inside : end ≤ length line
+  pub word : word_from before (drop at line) ≡ byte ∷ word_from after (drop end line)
+  pub words : words_from before (drop at line) ≡ words_from after (drop end line)
+
+-- The rest of a quoted part, from `start` to behind its closing quote at `end`, was put behind `old`.
+pub record Unquotes (place : Place) (line : List ℕ) (start end : ℕ) (old new : List ℕ) : Type 0 where
+  pub inside : end ≤ length line
+  pub forward : start ≤ end
+  pub word : new ≡ old ++ word_from place (drop start line)
+  pub words : words_from place (drop start line) ≡ words_from Closed (drop end line)
+
+-- The word that begins at `start` ends at `end`.
+pub record IsCut (line : List ℕ) (start end : ℕ) (word : List ℕ) : Type 0 where
+  pub inside : end ≤ length line
+  pub forward : start < end
+  pub value : word ≡ word_from Plain (drop start line)
+  pub words : words_from Plain (drop start line) ≡ words_from Closed (drop end line)
+
+-- The plain bytes from `start` end at `end`, at a byte of another kind or with the line.
+pub record IsPlainUpTo (line : List ℕ) (start end : ℕ) : Type 0 where
+  pub inside : end ≤ length line
+  pub forward : start ≤ end
+  pub value : word_from Plain (drop start line) ≡ slice_range line start end ++ word_from Plain (drop end line)
+  pub words : words_from Plain (drop start line) ≡ words_from Plain (drop end line)
+  pub stops : end < length line → StopsPlain (kind_of (slice_index line end))

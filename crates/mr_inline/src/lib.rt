@@ -1,0 +1,19 @@
+//! Requests in inline form: a line of words.
+#![tactic(auto)]
+
+mod fault;
+mod laws;
+mod measure;
+mod place;
+mod progress;
+mod quoted;
+mod scan;
+mod words;
+
+pub use fault::LineFault;
+pub use laws::{lines_are_apart, one_fault, quoted_words_are_read};
+pub use progress::LineProgress;
+pub use scan::{LineScan, next_line, next_line_from};
+
+#[cfg(test)]
+mod tests;
