@@ -94,7 +94,7 @@ slash_steps : Steps Double (kind_of backslash) DoubleEscape
 slash_steps = steps_at Double DoubleEscape Backslash backslash kind-backslash (record { turn = refl; next = refl; none = λ w ws. refl })
 
 -- a hexadecimal digit is none of the marks
-hex_not : (b c : ℕ) → is_ascii_hexdigit b ≡ true → is_ascii_hexdigit c ≡ false → b ≢ c
+pub hex_not : (b c : ℕ) → is_ascii_hexdigit b ≡ true → is_ascii_hexdigit c ≡ false → b ≢ c
 hex_not b c h n e = true≢false (sym h ∙ ap is_ascii_hexdigit e ∙ n)
 
 hex_steps : (b : ℕ) → is_ascii_hexdigit b ≡ true → Steps Double (kind_of b) Double
@@ -226,7 +226,7 @@ double_itself b r d s = itself_spelled (kind_of b) b r (of_kind b) d s
 pub double_slash : (c : ℕ) (r : List ℕ) → word_from Double (backslash ∷ c ∷ r) ≡ word_from DoubleEscape (c ∷ r)
 double_slash c r = ap (λ k. spelled Double k backslash (c ∷ r) (word_from (next_place Double k) (c ∷ r))) kind-backslash
 
-double_close : (r : List ℕ) → word_from Double (double_quote ∷ r) ≡ []
+pub double_close : (r : List ℕ) → word_from Double (double_quote ∷ r) ≡ []
 double_close r = ap (λ k. spelled Double k double_quote r (word_from (next_place Double k) r)) kind-double_quote
 
 pub escape_plain : (c : ℕ) (r : List ℕ) → (c == letter_x && begins_hex r) ≡ false → word_from DoubleEscape (c ∷ r) ≡ escape_value c ∷ word_from Double r
@@ -271,10 +271,10 @@ sign_spelled Other b r f d s = refl
 pub single_sign : (b : ℕ) (r : List ℕ) → b ≢ single_quote → b ≢ backslash → word_from Single (b ∷ r) ≡ b ∷ word_from Single r
 single_sign b r d s = sign_spelled (kind_of b) b r (of_kind b) d s
 
-single_close : (r : List ℕ) → word_from Single (single_quote ∷ r) ≡ []
+pub single_close : (r : List ℕ) → word_from Single (single_quote ∷ r) ≡ []
 single_close r = ap (λ k. spelled Single k single_quote r (word_from (next_place Single k) r)) kind-single_quote
 
-single_slash : (r : List ℕ) → word_from Single (backslash ∷ r) ≡ word_from SingleEscape r
+pub single_slash : (r : List ℕ) → word_from Single (backslash ∷ r) ≡ word_from SingleEscape r
 single_slash r = ap (λ k. spelled Single k backslash r (word_from (next_place Single k) r)) kind-backslash
 
 pub single_quoted : (r : List ℕ) → word_from Single (backslash ∷ single_quote ∷ r) ≡ single_quote ∷ word_from Single r
@@ -308,10 +308,10 @@ value_marks [] r h = single_close r
 value_marks (sign b ∷ marks) r h = value_sign (b == backslash) b marks r refl h ∙ ap (λ (x : List ℕ). b ∷ x) (value_marks marks r h.3)
 value_marks (quote ∷ marks) r h = single_quoted ((flat_map mark_text marks ++ single_quote ∷ []) ++ r) ∙ ap (λ (x : List ℕ). single_quote ∷ x) (value_marks marks r h)
 
-plain_opens_double : (r : List ℕ) → word_from Plain (double_quote ∷ r) ≡ word_from Double r
+pub plain_opens_double : (r : List ℕ) → word_from Plain (double_quote ∷ r) ≡ word_from Double r
 plain_opens_double r = ap (λ k. spelled Plain k double_quote r (word_from (next_place Plain k) r)) kind-double_quote
 
-plain_opens_single : (r : List ℕ) → word_from Plain (single_quote ∷ r) ≡ word_from Single r
+pub plain_opens_single : (r : List ℕ) → word_from Plain (single_quote ∷ r) ≡ word_from Single r
 plain_opens_single r = ap (λ k. spelled Plain k single_quote r (word_from (next_place Plain k) r)) kind-single_quote
 
 value_ending : (plain : List ℕ) (ending : Ending) (r : List ℕ) → IsEnding plain ending → IsBoundary r → word_from Plain (ending_text ending ++ r) ≡ ending_value ending

@@ -1,4 +1,4 @@
-ghost use Rattle.std.specs.Prelude.{◌≢◌, slice_index};
+ghost use Rattle.std.specs.Prelude.{◌≡◌, ◌≢◌, ◌==◌, if◌then◌else◌, slice_index};
 ghost use Rattle.mr_inline.specs.Bytes.{star};
 ghost use Rattle.mr_inline.specs.Parts.{Measures};
 ghost use Rattle.mr_inline.specs.Resumed.{Agrees};
@@ -17,7 +17,9 @@ pub(crate) enum Measured {
 }
 
 /// The fault of a byte that can't be followed to a line.
-fn fault_at(limit: usize, at: usize) -> LineFault {
+fn fault_at(limit: usize, at: usize) -> LineFault
+    ensures { result ≡ (if at == limit then LineFault.TooBig else LineFault.UnbalancedQuotes) }
+{
     if at == limit {
         LineFault::TooBig
     } else {

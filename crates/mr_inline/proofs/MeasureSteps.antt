@@ -1,0 +1,57 @@
+-- One step of the reader that finds the end of a line.
+use Rattle.std.proofs.Common.{◌≡◌, ◌≢◌, ℕ, zero, suc, ◌+◌, ◌-◌, ◌<◌, ◌≤◌, List, [], ◌∷◌, ◌++◌, length, get_or, take, drop, refl, sym, ap, ◌∙◌, subst, arith, take-append-drop, length-take-le}
+use Rattle.std.proofs.lemmas.List.{take_more, take_all, drop_more, take-append-le, length-append, append_cancel_right}
+use Rattle.mr_inline.specs.Bytes.{line_feed, star}
+use Rattle.mr_inline.specs.Language.{Continues, Fails}
+use Rattle.mr_inline.specs.Line.{IsNext, IsLineText, IsLineOf, HasLineFault}
+use Rattle.mr_inline.specs.Parts.{EndsAt}
+use Rattle.mr_inline.specs.Places.{kind_of, turn_at, turn_of, need_of, words_from}
+use Rattle.mr_inline.specs.Resumed.{Agrees, IsFresh}
+use Rattle.mr_inline.specs.declared.fault.LineFault.{LineFault}
+use Rattle.mr_inline.specs.declared.place.Place.{Place}
+use Rattle.mr_inline.specs.declared.place.Place.TheVariants.{Between}
+use Rattle.mr_inline.specs.declared.place.Turn.{Turn}
+use Rattle.mr_inline.specs.declared.place.Turn.TheVariants.{Goes, Ends, Breaks}
+use Rattle.mr_inline.specs.declared.progress.LineProgress.{LineProgress}
+use Rattle.mr_inline.proofs.Runs.{run, run-append, ended}
+use Rattle.mr_inline.proofs.LinesByRuns.{IsOpen, continues, Dead, fault_of, fails, line_of_run}
+
+star_front : (n : ℕ) (input : List ℕ) → get_or input 0 0 ≢ star → IsNext star (take n input) → ⊥
+star_front zero input h n = n
+star_front (suc m) [] h n = n
+star_front (suc m) (x ∷ input) h n = h n
+
+open_at : (limit : ℕ) (input : List ℕ) (p : LineProgress) → get_or input 0 0 ≢ star → Agrees limit p input → IsOpen limit p.place (take p.at input)
+open_at limit input p h a = record { leads = a.leads; room = omega (arith, length-take-le p.at input a.inside, a.room); no_array = star_front p.at input h }
+
+pub turn_more : (input : List ℕ) (at : ℕ) (place : Place) → at < length input → turn_of (take at input) ≡ Goes place → turn_of (take (at + 1) input) ≡ turn_at place (kind_of (get_or input at 0))
+turn_more input at place lt leads =
+    ap turn_of (take_more input at 0 lt) ∙ run-append (Goes Between) (take at input) (get_or input at 0 ∷ []) ∙ ap (λ t. run t (get_or input at 0 ∷ [])) leads
+
+pub ends_at : (limit : ℕ) (input : List ℕ) (p : LineProgress) → Agrees limit p input → p.at < length input → turn_at p.place (kind_of (get_or input p.at 0)) ≡ Ends → EndsAt limit input (p.at + 1)
+ends_at limit input p a lt e = record { some = omega arith; inside = omega arith; size = omega (arith, a.room); ends = turn_more input p.at p.place lt a.leads ∙ e }
+
+pub agrees_more : (limit : ℕ) (input : List ℕ) (p q : LineProgress) → Agrees limit p input → p.at < length input → turn_at p.place (kind_of (get_or input p.at 0)) ≡ Goes q.place → need_of q.place < limit - p.at → q.at ≡ p.at + 1 → Agrees limit q input
+agrees_more limit input p q a lt e fits at_is = record { inside = omega (arith, at_is); leads = ap (λ (n : ℕ). turn_of (take n input)) at_is ∙ turn_more input p.at p.place lt a.leads ∙ e; room = omega (arith, a.room, fits, at_is) }
+
+pub fails_at : (limit : ℕ) (input : List ℕ) (p : LineProgress) (turn : Turn) → get_or input 0 0 ≢ star → Agrees limit p input → p.at < length input → turn_at p.place (kind_of (get_or input p.at 0)) ≡ turn → Dead limit p.at turn → Fails (IsLineText limit) (HasLineFault limit (fault_of limit p.at)) input
+fails_at limit input p turn h a lt e d =
+    let front : List ℕ = take p.at input in
+    let len : length front ≡ p.at = length-take-le p.at input a.inside in
+    let is : input ≡ front ++ get_or input p.at 0 ∷ drop (p.at + 1) input = sym (take-append-drop p.at input) ∙ ap (λ (r : List ℕ). front ++ r) (drop_more input p.at 0 lt) in
+    let dead : Dead limit (length front) (turn_at p.place (kind_of (get_or input p.at 0))) = subst (λ (n : ℕ). Dead limit n (turn_at p.place (kind_of (get_or input p.at 0)))) (sym len) (subst (Dead limit p.at) (sym e) d) in
+    subst (λ (n : ℕ). Fails (IsLineText limit) (HasLineFault limit (fault_of limit n)) input) len (fails limit p.place input front (drop (p.at + 1) input) (get_or input p.at 0) (open_at limit input p h a) is dead)
+
+pub continues_at : (limit : ℕ) (input : List ℕ) (p : LineProgress) → get_or input 0 0 ≢ star → Agrees limit p input → length input ≤ p.at → Continues (IsLineText limit) input
+continues_at limit input p h a le = subst (Continues (IsLineText limit)) (take_all p.at input le) (continues limit p.place (take p.at input) (open_at limit input p h a))
+
+pub agrees-append : (limit : ℕ) (input more : List ℕ) (p : LineProgress) → Agrees limit p input → Agrees limit p (input ++ more)
+agrees-append limit input more p a = record {
+  inside = omega (arith, length-append input more, a.inside);
+  leads = ap turn_of (take-append-le p.at input more a.inside) ∙ a.leads;
+  room = a.room;
+}
+
+-- the line without its line feed, and the line feed
+last_byte : (xs : List ℕ) (b : ℕ) (turn : Turn) → run turn (xs ++ b ∷ []) ≡ Ends → (x : Turn) → run turn xs ≡ x → run x (b ∷ []) ≡ Ends
+last_byte xs b turn e x is = ap (λ t. run t (b ∷ [])) (sym is) ∙ sym (run-append turn xs (b ∷ [])) ∙ e
