@@ -1,5 +1,5 @@
 -- One step of the reader that cuts the words of a line.
-use Rattle.std.proofs.Common.{◌≡◌, ◌≢◌, ℕ, zero, suc, ◌+◌, ◌-◌, ◌*◌, ◌<◌, ◌≤◌, Bool, true, false, cond, ◌==◌, ◌&&◌, List, [], ◌∷◌, ◌++◌, length, get_or, take, drop, map, refl, sym, ap, ◌∙◌, subst, append_assoc, add-zero, arith}
+use Rattle.std.proofs.Common.{◌≡◌, ◌≢◌, ℕ, zero, suc, ◌+◌, ◌-◌, ◌*◌, ◌<◌, ◌≤◌, ◌⊎◌, inl, inr, Bool, true, false, cond, ◌==◌, ◌&&◌, List, [], ◌∷◌, ◌++◌, length, get_or, take, drop, map, refl, sym, ap, ◌∙◌, subst, append_assoc, add-zero, arith}
 use Rattle.std.specs.Char.{is_ascii_hexdigit}
 use Rattle.std.specs.List.{slice_range, All}
 use Rattle.std.proofs.lemmas.Bool.{true≢false, eqb-true, eqb-false, ne_eqb, and_left, and_right}
@@ -8,6 +8,7 @@ use Rattle.mr_inline.specs.Bytes.{line_feed, double_quote, single_quote, backsla
 use Rattle.mr_inline.specs.Line.{hex_value, escape_value, begins_hex, IsNext}
 use Rattle.mr_inline.specs.Parts.{StopsPlain, Spells, Unquotes, IsCut, IsPlainUpTo}
 use Rattle.mr_inline.specs.Places.{kind_of, next_place, hex_of, spelled, word_from, begun, words_from}
+use Rattle.mr_inline.specs.Scans.{HasNoQuote}
 use Rattle.mr_inline.specs.declared.place.Kind.{Kind}
 use Rattle.mr_inline.specs.declared.place.Kind.TheVariants.{LineFeed, Separator, DoubleQuote, SingleQuote, Backslash, Other}
 use Rattle.mr_inline.specs.declared.place.Place.{Place}
@@ -55,8 +56,20 @@ no_digits line at le = short (drop at line) (omega (arith, length-drop at line))
 two_more : (line : List ℕ) (at : ℕ) → at + 1 < length line → drop at line ≡ get_or line at 0 ∷ get_or line (at + 1) 0 ∷ drop (at + 1 + 1) line
 two_more line at lt = drop_more line at 0 (omega arith) ∙ ap (λ (r : List ℕ). get_or line at 0 ∷ r) (drop_more line (at + 1) 0 lt)
 
-pub digits_at : (line : List ℕ) (at : ℕ) (s t : Bool) → at + 1 < length line → s ≡ is_ascii_hexdigit (get_or line at 0) → t ≡ is_ascii_hexdigit (get_or line (at + 1) 0) → begins_hex (drop at line) ≡ (s && t)
-digits_at line at s t lt hs ht = ap begins_hex (two_more line at lt) ∙ ap (λ (x : Bool). x && is_ascii_hexdigit (get_or line (at + 1) 0)) (sym hs) ∙ ap (λ (x : Bool). s && x) (sym ht)
+pub digits_at : (line : List ℕ) (at next : ℕ) (s t : Bool) → at + 1 < length line → next ≡ at + 1 → s ≡ is_ascii_hexdigit (get_or line at 0) → t ≡ is_ascii_hexdigit (get_or line next 0) → begins_hex (drop at line) ≡ (s && t)
+digits_at line at next s t lt e hs ht = ap begins_hex (two_more line at lt) ∙ ap (λ (x : Bool). x && is_ascii_hexdigit (get_or line (at + 1) 0)) (sym hs) ∙ ap (λ (x : Bool). s && x) (ap (λ (n : ℕ). is_ascii_hexdigit (get_or line n 0)) (sym e) ∙ sym ht)
+
+pub value_n : (c : ℕ) → c ≡ 110 → 10 ≡ escape_value c
+value_n c e = sym (ap escape_value e)
+
+pub value_r : (c : ℕ) → c ≡ 114 → 13 ≡ escape_value c
+value_r c e = sym (ap escape_value e)
+
+pub value_t : (c : ℕ) → c ≡ 116 → 9 ≡ escape_value c
+value_t c e = sym (ap escape_value e)
+
+pub value_other : (c : ℕ) → c ≢ 110 → c ≢ 114 → c ≢ 116 → c ≡ escape_value c
+value_other c n r t = sym (ap (λ (x : Bool). cond x 10 (cond (c == 114) 13 (cond (c == 116) 9 c))) (ne_eqb c 110 n) ∙ ap (λ (x : Bool). cond x 13 (cond (c == 116) 9 c)) (ne_eqb c 114 r) ∙ ap (λ (x : Bool). cond x 9 c) (ne_eqb c 116 t))
 
 pub hex_spells : (line : List ℕ) (at a b : ℕ) → at + 2 < length line → get_or line at 0 ≡ letter_x → get_or line (at + 1) 0 ≡ a → get_or line (at + 2) 0 ≡ b → is_ascii_hexdigit a ≡ true → is_ascii_hexdigit b ≡ true → Spells DoubleEscape Double line at (16 * hex_value a + hex_value b) (at + 3)
 hex_spells line at a b lt x_is a_is b_is ha hb =
@@ -253,6 +266,11 @@ plain_more line start at k h lt is go =
       words = h.words ∙ ap (words_from Plain) first ∙ ap (λ p. words_from p r) s.next;
     }
 
+pub goes_on : (k : Kind) → (k ≡ LineFeed) ⊎ ((k ≡ Backslash) ⊎ (k ≡ Other)) → StopsPlain k → ⊥
+goes_on k (inl e) s = subst StopsPlain e s
+goes_on k (inr (inl e)) s = subst StopsPlain e s
+goes_on k (inr (inr e)) s = subst StopsPlain e s
+
 pub plain_stops : (line : List ℕ) (start at : ℕ) → IsPlainSoFar line start at → (at < length line → StopsPlain (kind_of (get_or line at 0))) → IsPlainUpTo line start at
 plain_stops line start at h stop = record { inside = h.inside; forward = h.forward; value = h.value; words = h.words; stops = stop }
 
@@ -374,3 +392,9 @@ has_cut_word line at end words newer word h lt not c e = record {
 
 pub has_cut_all : (line : List ℕ) (at : ℕ) (words : List (List ℕ)) → HasCut line at words → length line ≤ at → words ≡ words_from Between line
 has_cut_all line at words h le = sym (append-nil words) ∙ ap (λ (ws : List (List ℕ)). words ++ ws) (sym (ap (words_from Between) (drop_all at line le))) ∙ h.words_are
+
+pub no_double : (line : List ℕ) (at : ℕ) → HasNoQuote line → at < length line → DoubleQuote ≡ kind_of (get_or line at 0) → ⊥
+no_double line at h lt e = (h at 0 lt).0 (double_is (get_or line at 0) (sym e))
+
+pub no_single : (line : List ℕ) (at : ℕ) → HasNoQuote line → at < length line → SingleQuote ≡ kind_of (get_or line at 0) → ⊥
+no_single line at h lt e = (h at 0 lt).1 (single_is (get_or line at 0) (sym e))

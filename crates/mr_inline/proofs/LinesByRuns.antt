@@ -2,7 +2,7 @@
 use Rattle.std.proofs.Common.{◌≡◌, ◌≢◌, ℕ, zero, suc, ◌+◌, ◌<◌, ◌≤◌, ◌⊎◌, inl, inr, Bool, true, false, cond, ◌==◌, List, [], ◌∷◌, ◌++◌, length, get_or, take, drop, map, refl, sym, ap, ◌∙◌, subst, append_assoc, arith}
 use Rattle.std.specs.List.{flat_map}
 use Rattle.std.proofs.lemmas.Bool.{eqb-true, eqb-false}
-use Rattle.std.proofs.lemmas.List.{append-nil, length-append, append_cancel_left, append_cancel_right}
+use Rattle.std.proofs.lemmas.List.{append-nil, length-append, append_cancel_right, same_from_push}
 use Rattle.mr_inline.specs.Bytes.{line_feed, star}
 use Rattle.mr_inline.specs.Language.{Continues, IsDoomed, Fails}
 use Rattle.mr_inline.specs.Line.{IsNext, part_text, part_value, IsLineOf, IsLine, IsBlank, IsLineText, IsTooBig, HasLineFault}
@@ -40,10 +40,12 @@ some_line limit text e size none =
     record { words = map part_value t.parts; line = record { parts = t.parts; after = t.after; spelled = t.spelled; are_parts = t.are_parts; separators = t.separators; means = refl; size = size; no_array = none } }
 
 -- what leads to the end of a line is the line of the words that begin in it
-pub line_of_run : (limit : ℕ) (text line : List ℕ) → turn_of text ≡ Ends → length text ≤ limit + 1 → (IsNext star text → ⊥) → text ≡ line ++ line_feed ∷ [] → IsLineOf limit text (words_from Between line)
-line_of_run limit text line e size none is =
+pub line_of_run : (limit : ℕ) (text line : List ℕ) (last : ℕ) → turn_of text ≡ Ends → length text ≤ limit + 1 → (IsNext star text → ⊥) → text ≡ line ++ last ∷ [] → IsLineOf limit text (words_from Between line)
+line_of_run limit text line last e size none is =
     let l = some_line limit text e size none in
-    subst (IsLineOf limit text) (words_of_line limit text line l.words l.line is) l.line
+    let body : List ℕ = flat_map part_text l.line.parts ++ l.line.after in
+    let same = same_from_push line body last line_feed (sym is ∙ l.line.spelled) in
+    subst (IsLineOf limit text) (words_of_line limit text line l.words l.line (l.line.spelled ∙ ap (λ (x : List ℕ). x ++ line_feed ∷ []) (sym same.0))) l.line
 
 to_text : (limit : ℕ) (text : List ℕ) (words : List (List ℕ)) → IsLineOf limit text words → IsLineText limit text
 to_text limit text [] l = inr l

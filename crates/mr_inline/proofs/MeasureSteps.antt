@@ -1,7 +1,11 @@
 -- One step of the reader that finds the end of a line.
-use Rattle.std.proofs.Common.{◌≡◌, ◌≢◌, ℕ, zero, suc, ◌+◌, ◌-◌, ◌<◌, ◌≤◌, List, [], ◌∷◌, ◌++◌, length, get_or, take, drop, refl, sym, ap, ◌∙◌, subst, arith, take-append-drop, length-take-le}
-use Rattle.std.proofs.lemmas.List.{take_more, take_all, drop_more, take-append-le, length-append, append_cancel_right}
-use Rattle.mr_inline.specs.Bytes.{line_feed, star}
+use Rattle.std.proofs.Common.{◌≡◌, ◌≢◌, ℕ, zero, suc, ◌+◌, ◌-◌, ◌<◌, ◌≤◌, List, [], ◌∷◌, ◌++◌, length, get_or, take, drop, map, Global, refl, sym, ap, ◌∙◌, subst, arith, take-append-drop, length-take-le}
+use Rattle.std.proofs.lemmas.List.{take_more, take_all, take-take, drop_more, take-append-le, length-append}
+use Rattle.std.proofs.lemmas.List.Elements.{All-take}
+use Rattle.std.specs.Cow.{cow_slice_items}
+use Rattle.std.specs.declared.borrow.CowSlice.{CowSlice}
+use Rattle.mr_inline.specs.Scans.{HasNoQuote}
+use Rattle.mr_inline.specs.Bytes.{double_quote, single_quote, star}
 use Rattle.mr_inline.specs.Language.{Continues, Fails}
 use Rattle.mr_inline.specs.Line.{IsNext, IsLineText, IsLineOf, HasLineFault}
 use Rattle.mr_inline.specs.Parts.{EndsAt}
@@ -52,6 +56,15 @@ agrees-append limit input more p a = record {
   room = a.room;
 }
 
--- the line without its line feed, and the line feed
-last_byte : (xs : List ℕ) (b : ℕ) (turn : Turn) → run turn (xs ++ b ∷ []) ≡ Ends → (x : Turn) → run turn xs ≡ x → run x (b ∷ []) ≡ Ends
-last_byte xs b turn e x is = ap (λ t. run t (b ∷ [])) (sym is) ∙ sym (run-append turn xs (b ∷ [])) ∙ e
+-- what was measured is the line of the words that begin in it before its line feed
+pub whole_line : (limit : ℕ) (input : List ℕ) (used n : ℕ) (words : List (List ℕ)) → get_or input 0 0 ≢ star → EndsAt limit input used → used ≡ n + 1 → words ≡ words_from Between (take n input) → IsLineOf limit (take used input) words
+whole_line limit input used n words h e last is =
+    let split : take used input ≡ take n input ++ get_or input n 0 ∷ [] = ap (λ (k : ℕ). take k input) last ∙ take_more input n 0 (omega (arith, e.inside)) in
+    subst (IsLineOf limit (take used input)) (sym is) (line_of_run limit (take used input) (take n input) (get_or input n 0) e.ends (omega (arith, length-take-le used input e.inside, e.size)) (star_front used input h) split)
+
+pub some_words : (v : List (CowSlice ℕ Global)) → v ≢ [] → 0 < length (map cow_slice_items v)
+some_words [] h = absurd (h refl)
+some_words (x ∷ v) h = omega arith
+
+pub no_quote_before : (input : List ℕ) (used n : ℕ) → n ≤ used → HasNoQuote (take used input) → HasNoQuote (take n input)
+no_quote_before input used n le h = subst HasNoQuote (take-take n used input le) (All-take (λ b. (b ≢ double_quote) × (b ≢ single_quote)) n (take used input) h)

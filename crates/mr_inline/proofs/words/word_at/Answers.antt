@@ -1,0 +1,9 @@
+use Rattle.std.proofs.Common.{◌<◌, length, arith}
+use Rattle.mr_inline.proofs.CutSteps.{no_double, no_single}
+use Rattle.mr_inline.proofs.words.word_at.Goals as goal
+
+pub returns-in_ok-end-in-DoubleQuote-clause-borrowed : goal.returns-in_ok-end-in-DoubleQuote-clause-borrowed
+returns-in_ok-end-in-DoubleQuote-clause-borrowed c = λ h. no_double c.args.line.now c.plain_end-end.result h (omega (arith, c.plain_end-end.ensures.inside, c.if-end-line.false)) c.in-DoubleQuote.ensures
+
+pub returns-in_ok-end-in-SingleQuote-clause-borrowed : goal.returns-in_ok-end-in-SingleQuote-clause-borrowed
+returns-in_ok-end-in-SingleQuote-clause-borrowed c = λ h. no_single c.args.line.now c.plain_end-end.result h (omega (arith, c.plain_end-end.ensures.inside, c.if-end-line.false)) c.in-SingleQuote.ensures
