@@ -11,7 +11,7 @@ returns-then-is_empty-clause-found c =
     let words = c.in_ok-words-in-Whole.words in
     let none = eqb-true (vec_len words) 0 (sym c.is_empty.ensures ∙ c.if-is_empty.true) in
     let nil : words.items ≡ [] = nil_from_length words.items (omega (arith, words.ok.0, none)) in
-    (line.inside, whole_line c.args.limit c.args.input.now c.in-Whole.used (c.in-Whole.used - 1 - 0) [] c.requires.no_array line (omega (arith, line.some)) (sym (ap (map cow_slice_items) nil) ∙ c.in_ok-words-in-Whole.ensures.words))
+    (line.inside, whole_line c.args.limit c.args.input.now c.in-Whole.used (c.in-Whole.used - 1) [] c.requires.no_array line (omega (arith, line.some)) (sym (ap (map cow_slice_items) nil) ∙ c.in_ok-words-in-Whole.ensures.words))
 
 pub returns-then-is_empty-clause-more : goal.returns-then-is_empty-clause-more
 returns-then-is_empty-clause-more c = λ more. c.new.ensures c.args.limit (c.args.input.now ++ more)
@@ -23,11 +23,11 @@ returns-in-Whole-clause-found c =
     let some = eqb-false (vec_len words) 0 (sym c.is_empty.ensures ∙ c.if-is_empty.false) in
     (
       line.inside,
-      (some_words words.items (λ nil. some (omega (arith, words.ok.0, ap length nil))), whole_line c.args.limit c.args.input.now c.in-Whole.used (c.in-Whole.used - 1 - 0) (map cow_slice_items words.items) c.requires.no_array line (omega (arith, line.some)) c.in_ok-words-in-Whole.ensures.words),
+      (some_words words.items (λ nil. some (omega (arith, words.ok.0, ap length nil))), whole_line c.args.limit c.args.input.now c.in-Whole.used (c.in-Whole.used - 1) (map cow_slice_items words.items) c.requires.no_array line (omega (arith, line.some)) c.in_ok-words-in-Whole.ensures.words),
     )
 
 pub returns-in-Whole-clause-borrowed : goal.returns-in-Whole-clause-borrowed
-returns-in-Whole-clause-borrowed c = λ h. c.in_ok-words-in-Whole.ensures.borrowed (no_quote_before c.args.input.now c.in-Whole.used (c.in-Whole.used - 1 - 0) (omega arith) h)
+returns-in-Whole-clause-borrowed c = λ h. c.in_ok-words-in-Whole.ensures.borrowed (no_quote_before c.args.input.now c.in-Whole.used (c.in-Whole.used - 1) (omega arith) h)
 
 pub returns-in-Whole-clause-more : goal.returns-in-Whole-clause-more
 returns-in-Whole-clause-more c = λ more. c.new.ensures c.args.limit (c.args.input.now ++ more)
