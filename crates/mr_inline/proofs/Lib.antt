@@ -6,3 +6,4 @@ pub mod LinesByRuns
 pub mod QuotedLines
 pub mod CutSteps
 pub mod MeasureSteps
+pub mod SkipSteps

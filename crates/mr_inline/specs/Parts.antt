@@ -1,5 +1,6 @@
 -- What the parts of the reader find.
-use Rattle.std.specs.Prelude.{◌≡◌, ℕ, ◌+◌, ◌<◌, ◌≤◌, List, ◌∷◌, ◌++◌, length, take, drop, slice_range, slice_index}
+use Rattle.std.specs.Prelude.{◌≡◌, ◌≢◌, ℕ, ◌+◌, ◌<◌, ◌≤◌, List, ◌∷◌, ◌++◌, length, take, drop, slice_range, slice_index}
+use Rattle.mr_inline.specs.Bytes.{line_feed, double_quote, single_quote}
 use Rattle.mr_inline.specs.Language.{Continues, Fails}
 use Rattle.mr_inline.specs.Line.{IsLineText, HasLineFault}
 use Rattle.mr_inline.specs.Places.{kind_of, turn_of, word_from, words_from}
@@ -10,6 +11,12 @@ use Rattle.mr_inline.specs.declared.place.Kind.TheVariants.{LineFeed, Separator,
 use Rattle.mr_inline.specs.declared.place.Place.{Place}
 use Rattle.mr_inline.specs.declared.place.Place.TheVariants.{Plain, Closed}
 use Rattle.mr_inline.specs.declared.place.Turn.TheVariants.{Ends}
+
+-- a byte that is no quote and doesn't end a line
+pub record IsUnmarked (b : ℕ) : Type 0 where
+  pub no_double : b ≢ double_quote
+  pub no_single : b ≢ single_quote
+  pub no_line_feed : b ≢ line_feed
 
 -- a byte of this kind doesn't go on with the plain bytes of a word
 abbrev pub StopsPlain : Kind → Type 0

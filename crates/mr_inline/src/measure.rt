@@ -1,11 +1,12 @@
-ghost use Rattle.std.specs.Prelude.{◌≡◌, ◌≢◌, ◌==◌, if◌then◌else◌, slice_index};
+ghost use Rattle.std.specs.Prelude.{◌≡◌, ◌≢◌, ◌≤◌, ◌==◌, if◌then◌else◌, slice_index, slice_range, length, All};
 ghost use Rattle.mr_inline.specs.Bytes.{star};
-ghost use Rattle.mr_inline.specs.Parts.{Measures};
+ghost use Rattle.mr_inline.specs.Parts.{Measures, IsUnmarked};
 ghost use Rattle.mr_inline.specs.Resumed.{Agrees};
 
 use crate::fault::LineFault;
-use crate::place::{Kind, Turn};
+use crate::place::{Kind, Place, Turn};
 use crate::progress::LineProgress;
+use memchr::memchr3;
 
 /// What stands at the front of the input, before its words are listed.
 #[derive(Clone, Copy)]
@@ -27,6 +28,41 @@ fn fault_at(limit: usize, at: usize) -> LineFault
     }
 }
 
+/// Where the first quote or line feed from `at` up to `stop` stands, or else `stop`.
+fn unmarked_end(input: &[u8], at: usize, stop: usize) -> usize
+    requires order { at ≤ stop }
+    requires inside { stop ≤ length input.now }
+    ensures forward { at ≤ result }
+    ensures within { result ≤ stop }
+    ensures none { All IsUnmarked (slice_range input.now at result) }
+{
+    match memchr3(b'"', b'\'', b'\n', &input[at..stop]) {
+        Some(count) => at + count,
+        None => stop,
+    }
+}
+
+/// Goes on over bytes that stand outside quotes and aren't the line's end.
+fn skip_unquoted(limit: usize, input: &[u8], progress: LineProgress) -> LineProgress
+    requires { Agrees limit progress input.now }
+    ensures { Agrees limit result input.now }
+{
+    match progress.place {
+        Place::Between | Place::Plain => {
+            let end = unmarked_end(input, progress.at, input.len().min(limit));
+            if end == progress.at {
+                return progress;
+            }
+            let place = match Kind::of(input[end - 1]) {
+                Kind::Separator => Place::Between,
+                _ => Place::Plain,
+            };
+            LineProgress { at: end, place }
+        }
+        _ => progress,
+    }
+}
+
 /// Reads the line at the front of the input up to its line feed, from where `progress` stands.
 pub(crate) fn measure(limit: usize, input: &[u8], progress: &mut LineProgress) -> Measured
     requires agrees { Agrees limit progress.old input.now }
@@ -34,8 +70,9 @@ pub(crate) fn measure(limit: usize, input: &[u8], progress: &mut LineProgress) -
     ensures found { Measures limit input.now result }
     ensures kept { Agrees limit progress.new input.now }
 {
-    let mut at = progress.at;
-    let mut place = progress.place;
+    let start = skip_unquoted(limit, input, *progress);
+    let mut at = start.at;
+    let mut place = start.place;
     while at < input.len() {
         let next = match place.turn(Kind::of(input[at])) {
             Turn::Ends => return Measured::Whole(at + 1),

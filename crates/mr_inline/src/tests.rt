@@ -1,5 +1,6 @@
-ghost use Rattle.std.specs.Prelude.{◌≡◌, ◌↔◌, IsTrue, slice_index};
+ghost use Rattle.std.specs.Prelude.{◌≡◌, ℕ, ◌↔◌, ◌++◌, List, IsTrue, slice_index};
 ghost use Rattle.mr_inline.specs.Bytes.{star};
+ghost use Rattle.mr_inline.specs.Resumed.{Agrees};
 
 use super::*;
 use std::alloc::{AllocError, Global};
@@ -126,6 +127,21 @@ fn outcomes(rt: HostRuntime) -> Result<(), Fail> {
     Ok(())
 }
 
+/// The answer for a longer front of an input.
+fn resumed_outcome(
+    alloc: Global,
+    progress: &mut LineProgress,
+    input: &[u8],
+) -> Result<Seen, AllocError>
+    requires { Agrees 65536 progress.old input.now }
+    ensures { (more : List ℕ) → Agrees 65536 progress.new (input.now ++ more) }
+{
+    if begins_array(input) {
+        return Ok(Seen::Array);
+    }
+    Ok(seen_in(next_line_from(alloc, LIMIT, progress, input)?))
+}
+
 #[test]
 fn cuts(rt: HostRuntime) -> Result<(), Fail> {
     let alloc = rt.alloc();
@@ -134,9 +150,7 @@ fn cuts(rt: HostRuntime) -> Result<(), Fail> {
     for end in 0..line.len() {
         let front = &line[..end];
         assert_eq!(rt; outcome_of(alloc, front)?, Seen::More);
-        if !begins_array(front) {
-            assert_eq!(rt; seen_in(next_line_from(alloc, LIMIT, &mut progress, front)?), Seen::More);
-        }
+        assert_eq!(rt; resumed_outcome(alloc, &mut progress, front)?, Seen::More);
     }
     assert_eq!(rt; outcome_of(alloc, line)?, Seen::Whole(4, 23));
     assert_eq!(rt; outcome_of(alloc, b"SET \"a \\x41\" 'b\\'c' d\r\nPING")?, Seen::Whole(4, 23));
