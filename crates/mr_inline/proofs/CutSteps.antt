@@ -1,20 +1,20 @@
 -- One step of the reader that cuts the words of a line.
-use Rattle.std.proofs.Common.{◌≡◌, ◌≢◌, ℕ, zero, suc, ◌+◌, ◌-◌, ◌*◌, ◌<◌, ◌≤◌, ◌⊎◌, inl, inr, Bool, true, false, cond, ◌==◌, ◌&&◌, List, [], ◌∷◌, ◌++◌, length, get_or, take, drop, map, refl, sym, ap, ◌∙◌, subst, append_assoc, add-zero, arith}
+use Rattle.std.proofs.Common.{◌≡◌, ◌≢◌, ℕ, ◌+◌, ◌-◌, ◌*◌, ◌<◌, ◌≤◌, ◌⊎◌, inl, inr, Bool, true, false, cond, ◌==◌, ◌&&◌, List, [], ◌∷◌, ◌++◌, length, get_or, take, drop, refl, sym, ap, ◌∙◌, subst, append_assoc, arith}
 use Rattle.std.specs.Char.{is_ascii_hexdigit}
-use Rattle.std.specs.List.{slice_range, All}
-use Rattle.std.proofs.lemmas.Bool.{true≢false, eqb-true, eqb-false, ne_eqb, and_left, and_right}
-use Rattle.std.proofs.lemmas.List.{append-nil, drop_more, drop_all, length_push, length-drop, take_more, get_or-drop, drop-drop}
-use Rattle.mr_inline.specs.Bytes.{line_feed, double_quote, single_quote, backslash, letter_x, is_separator}
+use Rattle.std.specs.List.{slice_range}
+use Rattle.std.proofs.lemmas.Bool.{ne_eqb}
+use Rattle.std.proofs.lemmas.List.{append-nil, drop_more, drop_all, length-drop, take_more, get_or-drop}
+use Rattle.mr_inline.specs.Bytes.{double_quote, single_quote, backslash, letter_x}
 use Rattle.mr_inline.specs.Line.{hex_value, escape_value, begins_hex, IsNext}
 use Rattle.mr_inline.specs.Parts.{StopsPlain, Spells, Unquotes, IsCut, IsPlainUpTo}
-use Rattle.mr_inline.specs.Places.{kind_of, next_place, hex_of, spelled, word_from, begun, words_from}
+use Rattle.mr_inline.specs.Places.{kind_of, next_place, spelled, word_from, begun, words_from}
 use Rattle.mr_inline.specs.Scans.{HasNoQuote}
 use Rattle.mr_inline.specs.declared.place.Kind.{Kind}
 use Rattle.mr_inline.specs.declared.place.Kind.TheVariants.{LineFeed, Separator, DoubleQuote, SingleQuote, Backslash, Other}
 use Rattle.mr_inline.specs.declared.place.Place.{Place}
 use Rattle.mr_inline.specs.declared.place.Place.TheVariants.{Between, Plain, Double, DoubleEscape, Single, SingleEscape, Closed}
 use Rattle.mr_inline.proofs.ByteKinds.{IsOfKind, of_kind, kind-double_quote, kind-single_quote, kind-backslash}
-use Rattle.mr_inline.proofs.LineTexts.{double_itself, double_slash, double_close, escape_plain, escape_hex, hex_not, single_sign, single_close, single_slash, single_quoted, single_backslash, plain_opens_double, plain_opens_single}
+use Rattle.mr_inline.proofs.LineTexts.{double_itself, double_slash, double_close, escape_plain, escape_hex, hex_not, single_sign, single_close, single_quoted, single_backslash, plain_opens_double, plain_opens_single}
 
 -- in double quotes
 itself_next : (k : Kind) (b : ℕ) → IsOfKind k b → b ≢ double_quote → b ≢ backslash → next_place Double k ≡ Double

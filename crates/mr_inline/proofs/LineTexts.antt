@@ -1,9 +1,8 @@
 -- A line of the grammar, read byte by byte: it ends at its line feed, and its words are found.
-use Rattle.std.proofs.Common.{◌≡◌, ◌≢◌, ℕ, ◌+◌, ◌*◌, ◌<◌, Bool, true, false, cond, ◌==◌, ◌&&◌, IsTrue, List, [], ◌∷◌, ◌++◌, length, map, drop, All, refl, sym, ap, ◌∙◌, subst, append_assoc, arith}
+use Rattle.std.proofs.Common.{◌≡◌, ◌≢◌, ℕ, ◌+◌, ◌*◌, ◌<◌, Bool, true, false, cond, ◌==◌, ◌&&◌, List, [], ◌∷◌, ◌++◌, length, map, drop, All, refl, sym, ap, ◌∙◌, subst, append_assoc, arith}
 use Rattle.std.specs.Char.{is_ascii_hexdigit}
 use Rattle.std.specs.List.{flat_map}
 use Rattle.std.proofs.lemmas.Bool.{true≢false, eqb-true, eqb-false, and_right}
-use Rattle.std.proofs.lemmas.Bool.Decides.{nat_tests}
 use Rattle.std.proofs.lemmas.List.{append-nil}
 use Rattle.std.proofs.lemmas.List.Elements.{All-head, All-tail}
 use Rattle.mr_inline.specs.Bytes.{line_feed, double_quote, single_quote, backslash, letter_x, is_separator}
@@ -13,10 +12,9 @@ use Rattle.mr_inline.specs.declared.place.Kind.{Kind}
 use Rattle.mr_inline.specs.declared.place.Kind.TheVariants.{LineFeed, Separator, DoubleQuote, SingleQuote, Backslash, Other}
 use Rattle.mr_inline.specs.declared.place.Place.{Place}
 use Rattle.mr_inline.specs.declared.place.Place.TheVariants.{Between, Plain, Double, DoubleEscape, Single, SingleEscape, Closed}
-use Rattle.mr_inline.specs.declared.place.Turn.{Turn}
-use Rattle.mr_inline.specs.declared.place.Turn.TheVariants.{Goes, Ends, Breaks}
+use Rattle.mr_inline.specs.declared.place.Turn.TheVariants.{Goes, Ends}
 use Rattle.mr_inline.proofs.ByteKinds.{IsOfKind, of_kind, IsInWord, slash, other, plain_in_word, kind-line_feed, kind-double_quote, kind-single_quote, kind-backslash, kind-letter_x, kind-separator}
-use Rattle.mr_inline.proofs.Runs.{run, run-append}
+use Rattle.mr_inline.proofs.Runs.{run}
 
 -- The bytes lead from a place to another, and no word begins among them.
 record Leads (xs : List ℕ) (p q : Place) : Type 0 where
@@ -157,6 +155,7 @@ leads_sign true b marks e h k =
     let is = eqb-true b backslash e in
     subst (λ (c : ℕ). Leads (c ∷ (flat_map mark_text marks ++ single_quote ∷ [])) Single Closed) (sym is) (slash_leads (flat_map mark_text marks ++ single_quote ∷ []) Closed (some_marks marks) (h.2 is) k)
 leads_sign false b marks e h k = leads_cons b (flat_map mark_text marks ++ single_quote ∷ []) Single Single Closed (sign_steps (kind_of b) b (of_kind b) h.0 h.1 (eqb-false b backslash e)) k
+
 leads_single : (marks : List Mark) → AreMarks marks → Leads (flat_map mark_text marks ++ single_quote ∷ []) Single Closed
 leads_single [] h = leads_byte single_quote Single Closed (steps_at Single Closed SingleQuote single_quote kind-single_quote (record { turn = refl; next = refl; none = λ w ws. refl }))
 leads_single (sign b ∷ marks) h = leads_sign (b == backslash) b marks refl h (leads_single marks h.3)
@@ -303,6 +302,7 @@ value_sign true b marks r e h =
     let rest : List ℕ = (flat_map mark_text marks ++ single_quote ∷ []) ++ r in
     subst (λ (c : ℕ). word_from Single (c ∷ rest) ≡ c ∷ word_from Single rest) (sym is) (single_backslash rest (next_front single_quote (flat_map mark_text marks) (single_quote ∷ []) r (h.2 is) (some_marks marks)))
 value_sign false b marks r e h = single_sign b ((flat_map mark_text marks ++ single_quote ∷ []) ++ r) h.0 (eqb-false b backslash e)
+
 value_marks : (marks : List Mark) (r : List ℕ) → AreMarks marks → word_from Single ((flat_map mark_text marks ++ single_quote ∷ []) ++ r) ≡ map mark_value marks
 value_marks [] r h = single_close r
 value_marks (sign b ∷ marks) r h = value_sign (b == backslash) b marks r refl h ∙ ap (λ (x : List ℕ). b ∷ x) (value_marks marks r h.3)
@@ -341,7 +341,7 @@ begins_at : (b : ℕ) (r : List ℕ) → Begins (kind_of b) → BeginsWord (b �
 begins_at b r s = record {
   run_is = ap (λ t. run t r) s.turn;
   words_are = s.one (word_from Plain (b ∷ r)) (words_from (next_place Between (kind_of b)) r) ∙ ap (λ (p : Place). word_from Plain (b ∷ r) ∷ words_from p r) s.next
-  ∙ ap (λ (ws : List (List ℕ)). word_from Plain (b ∷ r) ∷ ws) (sym (s.none (word_from Plain (b ∷ r)) (words_from (next_place Plain (kind_of b)) r)));
+      ∙ ap (λ (ws : List (List ℕ)). word_from Plain (b ∷ r) ∷ ws) (sym (s.none (word_from Plain (b ∷ r)) (words_from (next_place Plain (kind_of b)) r)));
 }
 
 begins_word : (plain : List ℕ) (ending : Ending) (r : List ℕ) → All IsPlain plain → IsEnding plain ending → BeginsWord ((plain ++ ending_text ending) ++ r)
@@ -374,6 +374,7 @@ ends_separators (b ∷ after) p m h = subst (λ (x : List ℕ). EndsLine p x [])
 boundary_gap : (gap rest : List ℕ) → 0 < length gap → All IsSeparator gap → IsBoundary (gap ++ rest)
 boundary_gap [] rest some h = absurd (omega arith)
 boundary_gap (b ∷ gap) rest some h = All-head IsSeparator b gap h
+
 boundary : (parts : List Part) (after : List ℕ) → All IsLaterPart parts → All IsSeparator after → IsBoundary (tail_text parts after)
 boundary [] [] h k = tt
 boundary [] (b ∷ after) h k = All-head IsSeparator b after k

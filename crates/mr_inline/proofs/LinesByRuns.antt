@@ -1,11 +1,11 @@
 -- Lines, their beginnings and what begins none, by where the bytes lead.
-use Rattle.std.proofs.Common.{◌≡◌, ◌≢◌, ℕ, zero, suc, ◌+◌, ◌<◌, ◌≤◌, ◌⊎◌, inl, inr, Bool, true, false, cond, ◌==◌, List, [], ◌∷◌, ◌++◌, length, get_or, take, drop, map, refl, sym, ap, ◌∙◌, subst, append_assoc, arith}
+use Rattle.std.proofs.Common.{◌≡◌, ◌≢◌, ℕ, ◌+◌, ◌<◌, ◌≤◌, ◌⊎◌, inl, inr, Bool, true, false, cond, ◌==◌, List, [], ◌∷◌, ◌++◌, length, map, refl, sym, ap, ◌∙◌, subst, append_assoc, arith}
 use Rattle.std.specs.List.{flat_map}
 use Rattle.std.proofs.lemmas.Bool.{eqb-true, eqb-false}
 use Rattle.std.proofs.lemmas.List.{append-nil, length-append, append_cancel_right, same_from_push}
 use Rattle.mr_inline.specs.Bytes.{line_feed, star}
 use Rattle.mr_inline.specs.Language.{Continues, IsDoomed, Fails}
-use Rattle.mr_inline.specs.Line.{IsNext, part_text, part_value, IsLineOf, IsLine, IsBlank, IsLineText, IsTooBig, HasLineFault}
+use Rattle.mr_inline.specs.Line.{IsNext, part_text, part_value, IsLineOf, IsLineText, HasLineFault}
 use Rattle.mr_inline.specs.Places.{kind_of, turn_at, turn_of, need_of, words_from}
 use Rattle.mr_inline.specs.declared.fault.LineFault.{LineFault}
 use Rattle.mr_inline.specs.declared.fault.LineFault.TheVariants.{UnbalancedQuotes, TooBig}
@@ -90,7 +90,7 @@ split (x ∷ xs) ys (a ∷ cs) bs e =
     let head : x ≡ a = cc in
     let tails : xs ++ ys ≡ cs ++ bs = cc in
     elim (split xs ys cs bs tails) [
-      inl p ↦ (let front : cs ≡ xs ++ p.0 = p.1 in inl (p.0, (cc), p.2))
+      | inl p ↦ (let front : cs ≡ xs ++ p.0 = p.1 in inl (p.0, (cc), p.2))
       | inr p ↦ (let front : xs ≡ cs ++ p.0 = p.1 in inr (p.0, (cc), p.2))
     ]
 
@@ -125,7 +125,7 @@ doomed limit place front b o d = record {
       let ends = turn_of-line limit text l.words l.line in
       let both : front ++ b ∷ more ≡ text ++ rest = sym (append_assoc front (b ∷ []) more) ∙ e in
       elim (split front (b ∷ more) text rest both) [
-        inl p ↦ doomed_more limit place front b o d more text rest p.0 ends l.line.size p.1 p.2
+        | inl p ↦ doomed_more limit place front b o d more text rest p.0 ends l.line.size p.1 p.2
         | inr p ↦ goes_no_more p.0 place (sym (run_front (Goes Between) text p.0 front p.1 ∙ ap (λ t. run t p.0) ends) ∙ o.leads)
       ];
 }
@@ -174,7 +174,7 @@ ended_same a b z ea eb e = ended z (sym (run_front (Goes Between) a z b e ∙ ap
 same_line : (a b x y : List ℕ) → turn_of a ≡ Ends → turn_of b ≡ Ends → a ++ x ≡ b ++ y → Same a b x y
 same_line a b x y ea eb e =
     elim (split a x b y e) [
-      inl p ↦ (let nil = ended_same a b p.0 ea eb p.1 in record { text = sym (p.1 ∙ ap (λ (z : List ℕ). a ++ z) nil ∙ append-nil a); rest = p.2 ∙ ap (λ (z : List ℕ). z ++ y) nil })
+      | inl p ↦ (let nil = ended_same a b p.0 ea eb p.1 in record { text = sym (p.1 ∙ ap (λ (z : List ℕ). a ++ z) nil ∙ append-nil a); rest = p.2 ∙ ap (λ (z : List ℕ). z ++ y) nil })
       | inr p ↦ (let nil = ended_same b a p.0 eb ea p.1 in record { text = p.1 ∙ ap (λ (z : List ℕ). b ++ z) nil ∙ append-nil b; rest = sym (p.2 ∙ ap (λ (z : List ℕ). z ++ x) nil) })
     ]
 
@@ -224,6 +224,6 @@ same_fault limit x y b c f g e d h k = has_one_fault limit y c f g (subst (λ (n
 pub only_fault : (limit : ℕ) (f g : LineFault) (bytes : List ℕ) → Fails (IsLineText limit) (HasLineFault limit f) bytes → Fails (IsLineText limit) (HasLineFault limit g) bytes → f ≡ g
 only_fault limit f g bytes p q =
     elim (split p.front (p.byte ∷ p.rest) q.front (q.byte ∷ q.rest) (sym p.is ∙ q.is)) [
-      inl z ↦ (let s = same_place limit bytes f g p q z.0 z.1 z.2 in same_fault limit p.front q.front p.byte q.byte f g s.front s.byte p.fault q.fault)
+      | inl z ↦ (let s = same_place limit bytes f g p q z.0 z.1 z.2 in same_fault limit p.front q.front p.byte q.byte f g s.front s.byte p.fault q.fault)
       | inr z ↦ (let s = same_place limit bytes g f q p z.0 z.1 z.2 in sym (same_fault limit q.front p.front q.byte p.byte g f s.front s.byte q.fault p.fault))
     ]

@@ -10,14 +10,13 @@ use Rattle.mr_inline.specs.Language.{Continues, Fails}
 use Rattle.mr_inline.specs.Line.{IsNext, IsLineText, IsLineOf, HasLineFault}
 use Rattle.mr_inline.specs.Parts.{EndsAt}
 use Rattle.mr_inline.specs.Places.{kind_of, turn_at, turn_of, need_of, words_from}
-use Rattle.mr_inline.specs.Resumed.{Agrees, IsFresh}
-use Rattle.mr_inline.specs.declared.fault.LineFault.{LineFault}
+use Rattle.mr_inline.specs.Resumed.{Agrees}
 use Rattle.mr_inline.specs.declared.place.Place.{Place}
 use Rattle.mr_inline.specs.declared.place.Place.TheVariants.{Between}
 use Rattle.mr_inline.specs.declared.place.Turn.{Turn}
-use Rattle.mr_inline.specs.declared.place.Turn.TheVariants.{Goes, Ends, Breaks}
+use Rattle.mr_inline.specs.declared.place.Turn.TheVariants.{Goes, Ends}
 use Rattle.mr_inline.specs.declared.progress.LineProgress.{LineProgress}
-use Rattle.mr_inline.proofs.Runs.{run, run-append, ended}
+use Rattle.mr_inline.proofs.Runs.{run, run-append}
 use Rattle.mr_inline.proofs.LinesByRuns.{IsOpen, continues, Dead, fault_of, fails, line_of_run}
 
 star_front : (n : ℕ) (input : List ℕ) → get_or input 0 0 ≢ star → IsNext star (take n input) → ⊥

@@ -1,9 +1,8 @@
 -- What leads to the end of a line is a line: its words are found from the end on.
-use Rattle.std.proofs.Common.{◌≡◌, ◌≢◌, ℕ, ◌+◌, ◌<◌, Bool, true, false, ◌==◌, ◌&&◌, IsTrue, List, [], ◌∷◌, ◌++◌, length, All, lit<, refl, sym, ap, ◌∙◌, subst, append_assoc, arith}
+use Rattle.std.proofs.Common.{◌≡◌, ◌≢◌, ℕ, Bool, true, false, ◌==◌, List, [], ◌∷◌, ◌++◌, All, refl, sym, ap, ◌∙◌, subst, append_assoc, arith}
 use Rattle.std.specs.Char.{is_ascii_hexdigit}
 use Rattle.std.specs.List.{flat_map}
-use Rattle.std.proofs.lemmas.Bool.{true≢false, false≢true, and_parts, eqb-true, eqb-false}
-use Rattle.std.proofs.lemmas.List.{append-nil}
+use Rattle.std.proofs.lemmas.Bool.{false≢true, and_parts, eqb-true, eqb-false}
 use Rattle.std.proofs.lemmas.List.Elements.{All-nil, All-cons, All-head, All-tail}
 use Rattle.mr_inline.specs.Bytes.{line_feed, double_quote, single_quote, backslash, letter_x, is_separator}
 use Rattle.mr_inline.specs.Line.{IsSeparator, IsPlain, Item, itself, escape, hex, item_text, begins_hex, AreItems, Mark, sign, quote, mark_text, IsNext, AreMarks, Ending, bare, double, single, Word, ending_text, IsEnding, word_text, IsWord, Part, part_text, IsLaterPart, AreParts}
@@ -12,7 +11,7 @@ use Rattle.mr_inline.specs.declared.place.Kind.{Kind}
 use Rattle.mr_inline.specs.declared.place.Kind.TheVariants.{LineFeed, Separator, DoubleQuote, SingleQuote, Backslash, Other}
 use Rattle.mr_inline.specs.declared.place.Place.{Place}
 use Rattle.mr_inline.specs.declared.place.Place.TheVariants.{Between, Plain, Double, DoubleEscape, Single, SingleEscape, Closed}
-use Rattle.mr_inline.specs.declared.place.Turn.TheVariants.{Goes, Ends, Breaks}
+use Rattle.mr_inline.specs.declared.place.Turn.TheVariants.{Goes, Ends}
 use Rattle.mr_inline.proofs.ByteKinds.{IsOfKind, of_kind, plain_other, plain_backslash}
 use Rattle.mr_inline.proofs.Runs.{run, never_ends, ended}
 

@@ -1,11 +1,11 @@
 -- Words in double quotes are a line of the grammar.
-use Rattle.std.proofs.Common.{◌≡◌, ◌≢◌, ℕ, ◌+◌, ◌<◌, ◌≤◌, Bool, true, false, cond, ◌==◌, List, [], ◌∷◌, ◌++◌, length, map, refl, sym, ap, ◌∙◌, subst, append_assoc, arith}
+use Rattle.std.proofs.Common.{◌≡◌, ℕ, ◌+◌, ◌≤◌, Bool, true, false, cond, ◌==◌, List, [], ◌∷◌, ◌++◌, length, map, refl, sym, ap, ◌∙◌, arith}
 use Rattle.std.specs.List.{flat_map, All}
 use Rattle.std.proofs.lemmas.Bool.{eqb-true, eqb-false}
 use Rattle.std.proofs.lemmas.List.{append-nil}
 use Rattle.std.proofs.lemmas.List.Elements.{All-nil, All-cons}
-use Rattle.mr_inline.specs.Bytes.{line_feed, double_quote, backslash, star, letter_x, is_separator}
-use Rattle.mr_inline.specs.Line.{IsSeparator, IsPlain, Item, itself, escape, item_text, item_value, AreItems, begins_hex, double, Word, word_value, IsWord, IsNext, Part, part_text, part_value, IsLaterPart, IsLineOf}
+use Rattle.mr_inline.specs.Bytes.{line_feed, double_quote, backslash}
+use Rattle.mr_inline.specs.Line.{IsSeparator, IsPlain, Item, itself, escape, item_text, item_value, AreItems, double, IsWord, Part, part_text, part_value, IsLaterPart, IsLineOf}
 use Rattle.mr_inline.specs.Quoted.{quoted_byte, quoted, quoted_line}
 
 abbrev quoted_by : Bool → Bool → Bool → ℕ → List ℕ

@@ -1,11 +1,11 @@
 -- Where bytes lead, one after the other.
-use Rattle.std.proofs.Common.{◌≡◌, ℕ, zero, suc, ◌+◌, ◌<◌, ◌≤◌, List, [], ◌∷◌, ◌++◌, length, All, lit<, lit≤, refl, sym, ap, ◌∙◌, arith}
+use Rattle.std.proofs.Common.{◌≡◌, ℕ, ◌+◌, ◌<◌, ◌≤◌, List, [], ◌∷◌, ◌++◌, length, All, lit<, lit≤, refl, ap, arith}
 use Rattle.std.specs.List.{fold}
 use Rattle.std.proofs.lemmas.List.Elements.{All-nil, All-cons}
 use Rattle.mr_inline.specs.Bytes.{line_feed, double_quote, single_quote}
-use Rattle.mr_inline.specs.Places.{kind_of, next_place, turn_at, turn_after, need_of}
+use Rattle.mr_inline.specs.Places.{kind_of, turn_at, turn_after, need_of}
 use Rattle.mr_inline.specs.declared.place.Kind.{Kind}
-use Rattle.mr_inline.specs.declared.place.Kind.TheVariants.{LineFeed, Separator, DoubleQuote, SingleQuote, Backslash, Other}
+use Rattle.mr_inline.specs.declared.place.Kind.TheVariants.{LineFeed}
 use Rattle.mr_inline.specs.declared.place.Place.{Place}
 use Rattle.mr_inline.specs.declared.place.Place.TheVariants.{Between, Plain, Double, DoubleEscape, Single, SingleEscape, Closed}
 use Rattle.mr_inline.specs.declared.place.Turn.{Turn}

@@ -1,9 +1,8 @@
 -- Bytes outside quotes that don't end the line.
-use Rattle.std.proofs.Common.{◌≡◌, ◌≢◌, ℕ, zero, suc, ◌+◌, ◌-◌, ◌<◌, ◌≤◌, ◌⊎◌, inl, inr, List, [], ◌∷◌, ◌++◌, length, get_or, take, drop, All, refl, sym, ap, ◌∙◌, subst, arith, take-add}
+use Rattle.std.proofs.Common.{◌≡◌, ◌≢◌, ℕ, ◌+◌, ◌-◌, ◌<◌, ◌≤◌, ◌⊎◌, inl, inr, List, [], ◌∷◌, ◌++◌, length, get_or, take, drop, All, refl, sym, ap, ◌∙◌, subst, arith, take-add}
 use Rattle.std.specs.List.{slice_range}
 use Rattle.std.proofs.lemmas.List.{take_more, take-take, get_or-drop, get_or-take, length-drop, length-take-le}
 use Rattle.std.proofs.lemmas.List.Elements.{All-head, All-tail, All-take, All-get_or}
-use Rattle.mr_inline.specs.Bytes.{line_feed, double_quote, single_quote}
 use Rattle.mr_inline.specs.Parts.{IsUnmarked}
 use Rattle.mr_inline.specs.Places.{kind_of, turn_at, turn_of, need_of}
 use Rattle.mr_inline.specs.Resumed.{Agrees}
@@ -12,7 +11,7 @@ use Rattle.mr_inline.specs.declared.place.Kind.TheVariants.{LineFeed, Separator,
 use Rattle.mr_inline.specs.declared.place.Place.{Place}
 use Rattle.mr_inline.specs.declared.place.Place.TheVariants.{Between, Plain, Double, DoubleEscape, Single, SingleEscape, Closed}
 use Rattle.mr_inline.specs.declared.place.Turn.{Turn}
-use Rattle.mr_inline.specs.declared.place.Turn.TheVariants.{Goes, Ends, Breaks}
+use Rattle.mr_inline.specs.declared.place.Turn.TheVariants.{Goes}
 use Rattle.mr_inline.specs.declared.progress.LineProgress.{LineProgress}
 use Rattle.mr_inline.proofs.ByteKinds.{IsOfKind, of_kind}
 use Rattle.mr_inline.proofs.Runs.{run, run-append}

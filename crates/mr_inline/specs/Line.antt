@@ -1,5 +1,5 @@
 -- Requests on a line of their own: which bytes are a line of which words.
-use Rattle.std.specs.Prelude.{◌≡◌, ◌≢◌, ℕ, ◌+◌, ◌-◌, ◌*◌, ◌<◌, ◌≤◌, ◌⊎◌, nat_le, if◌then◌else◌, ◌==◌, ◌&&◌, Bool, true, false, IsTrue, List, [], ◌∷◌, ◌++◌, length, map, All}
+use Rattle.std.specs.Prelude.{◌≡◌, ◌≢◌, ℕ, ◌+◌, ◌-◌, ◌*◌, ◌<◌, ◌≤◌, ◌⊎◌, nat_le, if◌then◌else◌, ◌==◌, ◌&&◌, Bool, false, IsTrue, List, [], ◌∷◌, ◌++◌, length, map, All}
 use Rattle.std.specs.Char.{is_ascii_hexdigit}
 use Rattle.std.specs.List.{flat_map}
 use Rattle.mr_inline.specs.Bytes.{line_feed, double_quote, single_quote, star, backslash, letter_x, is_separator}

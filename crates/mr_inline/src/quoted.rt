@@ -86,7 +86,11 @@ fn single_quoted_at(line: &[u8], at: usize) -> Spelled
 }
 
 /// Puts what stands in double quotes from `start` on behind `word`. The result is the place behind the closing quote.
-pub(crate) fn push_double(line: &[u8], start: usize, word: &mut Vec<u8>) -> Result<usize, AllocError>
+pub(crate) fn push_double(
+    line: &[u8],
+    start: usize,
+    word: &mut Vec<u8>,
+) -> Result<usize, AllocError>
     requires { start ≤ length line.now }
     ensures { IfOk result (λ end. Unquotes Double line.now start end word.old.items word.new.items) }
 {
@@ -103,7 +107,11 @@ pub(crate) fn push_double(line: &[u8], start: usize, word: &mut Vec<u8>) -> Resu
 }
 
 /// Puts what stands in single quotes from `start` on behind `word`. The result is the place behind the closing quote.
-pub(crate) fn push_single(line: &[u8], start: usize, word: &mut Vec<u8>) -> Result<usize, AllocError>
+pub(crate) fn push_single(
+    line: &[u8],
+    start: usize,
+    word: &mut Vec<u8>,
+) -> Result<usize, AllocError>
     requires { start ≤ length line.now }
     ensures { IfOk result (λ end. Unquotes Single line.now start end word.old.items word.new.items) }
 {

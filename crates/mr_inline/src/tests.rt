@@ -153,6 +153,9 @@ fn cuts(rt: HostRuntime) -> Result<(), Fail> {
         assert_eq!(rt; resumed_outcome(alloc, &mut progress, front)?, Seen::More);
     }
     assert_eq!(rt; outcome_of(alloc, line)?, Seen::Whole(4, 23));
-    assert_eq!(rt; outcome_of(alloc, b"SET \"a \\x41\" 'b\\'c' d\r\nPING")?, Seen::Whole(4, 23));
+    assert_eq!(rt;
+        outcome_of(alloc, b"SET \"a \\x41\" 'b\\'c' d\r\nPING")?,
+        Seen::Whole(4, 23)
+    );
     Ok(())
 }

@@ -1,7 +1,7 @@
-use Rattle.std.proofs.Common.{◌≡◌, ap, sym, ◌∙◌, subst, arith}
+use Rattle.std.proofs.Common.{ap, sym, ◌∙◌, subst, arith}
 use Rattle.mr_inline.specs.Language.{Fails}
 use Rattle.mr_inline.specs.Line.{IsLineText, HasLineFault}
-use Rattle.mr_inline.specs.Places.{turn_at, kind_of}
+use Rattle.mr_inline.specs.Places.{turn_at}
 use Rattle.mr_inline.specs.declared.place.Turn.TheVariants.{Goes, Breaks}
 use Rattle.mr_inline.proofs.MeasureSteps.{fails_at, continues_at}
 use Rattle.mr_inline.proofs.measure.measure.Goals as goal

@@ -1,4 +1,4 @@
-use Rattle.std.proofs.Common.{◌≡◌, ap, sym, ◌∙◌, arith}
+use Rattle.std.proofs.Common.{ap, ◌∙◌, arith}
 use Rattle.mr_inline.specs.declared.place.Place.TheVariants.{Between, Plain}
 use Rattle.mr_inline.proofs.SkipSteps.{skips_to, is_unquoted, plain_place, unquoted_place}
 use Rattle.mr_inline.proofs.measure.skip_unquoted.Goals as goal

@@ -1,4 +1,4 @@
-use Rattle.std.proofs.Common.{◌≡◌, ◌≢◌, ◌==◌, ◌&&◌, ℕ, ◌+◌, Bool, true, false, get_or, drop, refl, sym, ap, ◌∙◌, subst, arith}
+use Rattle.std.proofs.Common.{◌≡◌, ◌==◌, ◌&&◌, ℕ, ◌+◌, false, get_or, drop, refl, sym, ◌∙◌, subst, arith}
 use Rattle.std.specs.Char.{is_ascii_hexdigit}
 use Rattle.std.proofs.lemmas.Bool.{ne_eqb, and_left, and_right}
 use Rattle.mr_inline.specs.Bytes.{letter_x}
@@ -24,18 +24,18 @@ returns c =
     let begins = begins_hex (drop (at + 1) line) in
     let test : (letter == letter_x && begins) ≡ false =
     elim c.else-letter-eq120.branch [
-      else-letter-eq120-via-then-letter-eq120+then-line-at-gt2+then-is_ascii_hexdigit+else-is_ascii_hexdigit-2 w ↦
-      and_right (letter == letter_x) begins (digits_at line (at + 1) (at + 2) w.is_ascii_hexdigit.result w.is_ascii_hexdigit-then-is_ascii_hexdigit.result (omega (arith, w.if-line-at-gt2.true)) (omega arith) w.is_ascii_hexdigit.ensures.value w.is_ascii_hexdigit-then-is_ascii_hexdigit.ensures.value
-      ∙ and_right w.is_ascii_hexdigit.result w.is_ascii_hexdigit-then-is_ascii_hexdigit.result w.if-is_ascii_hexdigit-2.false)
+      | else-letter-eq120-via-then-letter-eq120+then-line-at-gt2+then-is_ascii_hexdigit+else-is_ascii_hexdigit-2 w ↦
+          and_right (letter == letter_x) begins (digits_at line (at + 1) (at + 2) w.is_ascii_hexdigit.result w.is_ascii_hexdigit-then-is_ascii_hexdigit.result (omega (arith, w.if-line-at-gt2.true)) (omega arith) w.is_ascii_hexdigit.ensures.value w.is_ascii_hexdigit-then-is_ascii_hexdigit.ensures.value
+          ∙ and_right w.is_ascii_hexdigit.result w.is_ascii_hexdigit-then-is_ascii_hexdigit.result w.if-is_ascii_hexdigit-2.false)
       | else-letter-eq120-via-then-letter-eq120+then-line-at-gt2+else-is_ascii_hexdigit w ↦
-      and_right (letter == letter_x) begins (digits_at line (at + 1) (at + 2) w.is_ascii_hexdigit.result (is_ascii_hexdigit (get_or line (at + 2) 0)) (omega (arith, w.if-line-at-gt2.true)) (omega arith) w.is_ascii_hexdigit.ensures.value refl
-      ∙ and_left w.is_ascii_hexdigit.result (is_ascii_hexdigit (get_or line (at + 2) 0)) w.if-is_ascii_hexdigit.false)
+          and_right (letter == letter_x) begins (digits_at line (at + 1) (at + 2) w.is_ascii_hexdigit.result (is_ascii_hexdigit (get_or line (at + 2) 0)) (omega (arith, w.if-line-at-gt2.true)) (omega arith) w.is_ascii_hexdigit.ensures.value refl
+          ∙ and_left w.is_ascii_hexdigit.result (is_ascii_hexdigit (get_or line (at + 2) 0)) w.if-is_ascii_hexdigit.false)
       | else-letter-eq120-via-then-letter-eq120+else-line-at-gt2 w ↦ and_right (letter == letter_x) begins (no_digits line (at + 1) (omega (arith, w.if-line-at-gt2.false)))
       | else-letter-eq120-via-else-letter-eq120 w ↦ and_left (letter == letter_x) begins (ne_eqb letter letter_x w.if-letter-eq120.false)
     ] in
     let value : c.match-letter.byte ≡ escape_value letter =
     elim c.match-letter.branch [
-      in-110 w ↦ (w.byte-is ∙ value_n letter w.in-110.is)
+      | in-110 w ↦ (w.byte-is ∙ value_n letter w.in-110.is)
       | in-114 w ↦ (w.byte-is ∙ value_r letter w.in-114.is)
       | in-116 w ↦ (w.byte-is ∙ value_t letter w.in-116.is)
       | in_default w ↦ (w.byte-is ∙ value_other letter (λ e. omega (arith, e)) (λ e. omega (arith, e)) (λ e. omega (arith, e)))

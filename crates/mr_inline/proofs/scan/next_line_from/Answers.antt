@@ -1,4 +1,4 @@
-use Rattle.std.proofs.Common.{◌≡◌, ℕ, ◌+◌, ◌-◌, List, [], ◌++◌, length, map, vec_len, sym, ap, ◌∙◌, arith}
+use Rattle.std.proofs.Common.{◌≡◌, ◌-◌, [], ◌++◌, length, map, vec_len, sym, ap, ◌∙◌, arith}
 use Rattle.std.specs.Cow.{cow_slice_items}
 use Rattle.std.proofs.lemmas.Bool.{eqb-true, eqb-false}
 use Rattle.std.proofs.lemmas.List.{nil_from_length}
@@ -20,8 +20,7 @@ pub returns-in-Whole-clause-found : goal.returns-in-Whole-clause-found
 returns-in-Whole-clause-found c =
     let line = c.in-Whole.ensures.found in
     let words = c.in_ok-words-in-Whole.words in
-    let some = eqb-false (vec_len words) 0 (sym c.is_empty.ensures ∙ c.if-is_empty.false) in
-    (
+    let some = eqb-false (vec_len words) 0 (sym c.is_empty.ensures ∙ c.if-is_empty.false) in (
       line.inside,
       (some_words words.items (λ nil. some (omega (arith, words.ok.0, ap length nil))), whole_line c.args.limit c.args.input.now c.in-Whole.used (c.in-Whole.used - 1) (map cow_slice_items words.items) c.requires.no_array line (omega (arith, line.some)) c.in_ok-words-in-Whole.ensures.words),
     )

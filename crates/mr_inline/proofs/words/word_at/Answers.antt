@@ -1,4 +1,4 @@
-use Rattle.std.proofs.Common.{◌<◌, length, arith}
+use Rattle.std.proofs.Common.{arith}
 use Rattle.mr_inline.proofs.CutSteps.{no_double, no_single}
 use Rattle.mr_inline.proofs.words.word_at.Goals as goal
 

@@ -12,6 +12,6 @@ loop-at-preserved c =
     let kind = c.of.ensures in
     record {
       cut = has_cut_word c.args.line.now c.loop-at.at c.in_ok-cut.cut.end (map cow_slice_items c.loop-at.words.items) (map cow_slice_items c.push.new.self.items) (cow_slice_items c.in_ok-cut.cut.word)
-      c.loop-at.invariant.cut c.loop-at-test.true (λ e. none (kind ∙ e)) c.in_ok-cut.ensures.word (ap (map cow_slice_items) items ∙ map_push cow_slice_items c.loop-at.words.items c.in_ok-cut.cut.word);
+          c.loop-at.invariant.cut c.loop-at-test.true (λ e. none (kind ∙ e)) c.in_ok-cut.ensures.word (ap (map cow_slice_items) items ∙ map_push cow_slice_items c.loop-at.words.items c.in_ok-cut.cut.word);
       borrowed = λ h. subst (All IsBorrowedSlice) (sym items) (All-push IsBorrowedSlice c.loop-at.words.items c.in_ok-cut.cut.word (c.loop-at.invariant.borrowed h) (c.in_ok-cut.ensures.borrowed h));
     }
