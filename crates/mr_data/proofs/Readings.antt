@@ -1,11 +1,11 @@
 -- Reading and spelling undo one another.
-use Rattle.std.proofs.Common.{rules, ◌≡◌, ◌≢◌, ℕ, List, [], ◌∷◌, Bool, true, false, cond, Option, Some, None, refl, sym, ◌∙◌, ap, subst}
+use Rattle.std.proofs.Common.{rules, ◌≡◌, ℕ, List, [], ◌∷◌, true, false, Option, Some, None, refl, sym, ◌∙◌, ap, subst}
 use Rattle.std.specs.Prelude.{codes, if◌then◌else◌}
 use Rattle.std.specs.Str.{bytes_eq}
 use Rattle.std.proofs.lemmas.Slice.Eq.{bytes_eq-Decides}
 use Rattle.mr_map.specs.Bytes.{Bytes}
 use Rattle.mr_data.specs.Spelling.{words, Spells, FindsEach}
-use Rattle.mr_data.specs.Reading.{effect_of, effect_named, set_of, del_of}
+use Rattle.mr_data.specs.Reading.{effect_of, set_of, del_of}
 use Rattle.mr_data.specs.declared.effect.Effect.{Effect}
 use Rattle.mr_data.specs.declared.effect.Effect.TheVariants as effect
 
