@@ -33,3 +33,31 @@ usual-words = refl
 pub usual-text : usual.text ≡ 33554432
 unfolding usual
 usual-text = refl
+
+pub commands-room : 3 + length (decimal 1048576) + 6 * 1048576 ≤ 18446744073709551615
+commands-room = omega (arith, usual-room)
+
+-- The limits of command texts: words as for a server, and a text of any length that a slice may have.
+unfoldable pub commands : Limits
+commands = record {
+  word = 16777216;
+  words = 1048576;
+  text = 18446744073709551615;
+  some_word = lit< tt;
+  some_words = lit< tt;
+  room = commands-room;
+  small = lit< tt;
+  small_word = lit< tt;
+}
+
+pub commands-word : commands.word ≡ 16777216
+unfolding commands
+commands-word = refl
+
+pub commands-words : commands.words ≡ 1048576
+unfolding commands
+commands-words = refl
+
+pub commands-text : commands.text ≡ 18446744073709551615
+unfolding commands
+commands-text = refl
