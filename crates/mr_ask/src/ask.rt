@@ -1,16 +1,24 @@
 // Commands with their arguments.
-use crate::words::Words;
-use mr_value::Word;
+use crate::words::{Argument, Words};
 
 /// A command with its arguments, which are borrowed from the request.
 #[derive(Drop)]
-pub enum Ask<'a> {
+pub enum Ask<'a, 't> {
     /// `PING [message]`
-    Ping { message: Option<Word<'a>> },
+    Ping {
+        message: Option<Argument<'a>>,
+    },
     /// `GET key`
-    Get { key: Word<'a> },
+    Get {
+        key: Argument<'a>,
+    },
     /// `SET key value`
-    Set { key: Word<'a>, value: Word<'a> },
+    Set {
+        key: Argument<'a>,
+        value: Argument<'a>,
+    },
     /// `DEL key [key ..]`
-    Del { keys: Words<'a> },
+    Del {
+        keys: Words<'a, 't>,
+    },
 }

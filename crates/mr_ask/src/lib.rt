@@ -11,7 +11,7 @@ pub use ask::Ask;
 pub use fault::AskFault;
 pub use name::Name;
 pub use reading::read;
-pub use words::Words;
+pub use words::{Argument, Words};
 
 #[cfg(test)]
 mod tests;

@@ -8,12 +8,11 @@ ghost use Rattle.mr_ask.specs.Asks.{asked, ping, get, set, del, AskFits, Spells}
 use crate::ask::Ask;
 use crate::fault::AskFault;
 use crate::name::Name;
-use crate::words::Words;
-use mr_value::Word;
+use crate::words::{Argument, Words};
 use std::borrow::CowSlice;
 
 /// The command that the words of a request are. Nothing is copied.
-pub fn read<'a>(words: &'a [CowSlice<'a, u8>]) -> Result<Ask<'a>, AskFault>
+pub fn read<'a, 't>(words: &'a [CowSlice<'t, u8>]) -> Result<Ask<'a, 't>, AskFault>
     requires { 0 < length words.now }
     ensures asked { result ≡ asked (map cow_slice_items words.now) }
 
@@ -25,7 +24,7 @@ pub fn read<'a>(words: &'a [CowSlice<'a, u8>]) -> Result<Ask<'a>, AskFault>
 }
 
 // The name chooses how the arguments are read.
-fn command<'a>(words: &'a [CowSlice<'a, u8>]) -> Result<Ask<'a>, AskFault>
+fn command<'a, 't>(words: &'a [CowSlice<'t, u8>]) -> Result<Ask<'a, 't>, AskFault>
     requires { 0 < length words.now }
     ensures { result ≡ asked (map cow_slice_items words.now) }
 {
@@ -39,43 +38,43 @@ fn command<'a>(words: &'a [CowSlice<'a, u8>]) -> Result<Ask<'a>, AskFault>
     }
 }
 
-fn ping<'a>(arguments: &'a [CowSlice<'a, u8>]) -> Result<Ask<'a>, AskFault>
+fn ping<'a, 't>(arguments: &'a [CowSlice<'t, u8>]) -> Result<Ask<'a, 't>, AskFault>
     ensures { result ≡ ping (map cow_slice_items arguments.now) }
 {
     match arguments {
         [] => Ok(Ask::Ping { message: None }),
         [message] => Ok(Ask::Ping {
-            message: Some(Word::borrowed(message.as_slice())),
+            message: Some(Argument::new(message.as_slice())),
         }),
         _ => Err(AskFault::Arity(Name::Ping)),
     }
 }
 
-fn get<'a>(arguments: &'a [CowSlice<'a, u8>]) -> Result<Ask<'a>, AskFault>
+fn get<'a, 't>(arguments: &'a [CowSlice<'t, u8>]) -> Result<Ask<'a, 't>, AskFault>
     ensures { result ≡ get (map cow_slice_items arguments.now) }
 {
     match arguments {
         [key] => Ok(Ask::Get {
-            key: Word::borrowed(key.as_slice()),
+            key: Argument::new(key.as_slice()),
         }),
         _ => Err(AskFault::Arity(Name::Get)),
     }
 }
 
-fn set<'a>(arguments: &'a [CowSlice<'a, u8>]) -> Result<Ask<'a>, AskFault>
+fn set<'a, 't>(arguments: &'a [CowSlice<'t, u8>]) -> Result<Ask<'a, 't>, AskFault>
     ensures { result ≡ set (map cow_slice_items arguments.now) }
 {
     match arguments {
         [] | [_] => Err(AskFault::Arity(Name::Set)),
         [key, value] => Ok(Ask::Set {
-            key: Word::borrowed(key.as_slice()),
-            value: Word::borrowed(value.as_slice()),
+            key: Argument::new(key.as_slice()),
+            value: Argument::new(value.as_slice()),
         }),
         _ => Err(AskFault::Syntax),
     }
 }
 
-fn del<'a>(arguments: &'a [CowSlice<'a, u8>]) -> Result<Ask<'a>, AskFault>
+fn del<'a, 't>(arguments: &'a [CowSlice<'t, u8>]) -> Result<Ask<'a, 't>, AskFault>
     ensures { result ≡ del (map cow_slice_items arguments.now) }
 {
     match arguments {
