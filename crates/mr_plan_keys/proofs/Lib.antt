@@ -1,0 +1,5 @@
+pub mod Maps
+pub mod KeyLists
+pub mod TakenLemmas
+pub mod Laws
+pub mod PlanLemmas

@@ -1,0 +1,28 @@
+-- Some of the keys that a command names, each once, in order of naming.
+use Rattle.std.specs.Prelude.{ℤ, List, [], ◌∷◌, map, Bool, true, false, not, if◌then◌else◌, Option, Some, None, is_some}
+use Rattle.std.specs.FinMap.{get, remove}
+use Rattle.mr_map.specs.Bytes.{Bytes}
+use Rattle.mr_data.specs.Dataset.{Dataset, is_past}
+use Rattle.mr_data.specs.declared.value.Entry.{Entry}
+use Rattle.mr_data.specs.declared.effect.Effect.{Effect}
+use Rattle.mr_data.specs.declared.effect.Effect.TheVariants as effect
+
+-- those whose entries pass the test
+abbrev pub chosen : (Option Entry → Bool) → List Bytes → Dataset → List Bytes
+chosen test [] m = []
+chosen test (k ∷ ks) m = if test (get m k) then k ∷ chosen test ks (remove m k) else chosen test ks m
+
+-- the dataset without these keys
+abbrev pub without : List Bytes → Dataset → Dataset
+without [] m = m
+without (k ∷ ks) m = without ks (remove m k)
+
+-- one DEL for each
+abbrev pub dels : List Bytes → List Effect
+dels ks = map effect.Del ks
+
+-- a stored entry that is past, or one that isn't
+abbrev pub is_stored : ℤ → Bool → Option Entry → Bool
+is_stored now past None = false
+is_stored now true (Some e) = is_past now e.deadline
+is_stored now false (Some e) = not (is_past now e.deadline)

@@ -1,0 +1,53 @@
+// One function for each command on one key, over the entry that is seen there.
+ghost use Rattle.std.specs.Prelude.{◌≡◌, IfOk, option_copied};
+ghost use Rattle.mr_resp.specs.ReplyView.{view};
+ghost use Rattle.mr_plan_keys.specs.Turns.{get_reply, set_turn, is_plain, Takes};
+
+use crate::effects::Effects;
+use mr_ask::Argument;
+use mr_data::{Effect, Entry, Value};
+use mr_resp::Reply;
+use mr_value::Word;
+use std::alloc::{AllocError, Global};
+use std::borrow::CowSlice;
+
+pub fn get(alloc: Global, seen: Option<&Entry>) -> Result<Reply, AllocError>
+    ensures { IfOk result (λ r. view r ≡ get_reply (option_copied seen.entry)) }
+{
+    let Some(entry) = seen else {
+        return Ok(Reply::NullBulk);
+    };
+    match &entry.value {
+        Value::Text(text) => Ok(Reply::Bulk(Vec::from_slice(alloc, text.as_slice())?)),
+    }
+}
+
+pub fn set(
+    alloc: Global,
+    key: &Argument<'_>,
+    text: &Argument<'_>,
+    seen: Option<&Entry>,
+    effects: &mut Effects,
+) -> Result<Reply, AllocError>
+    ensures { IfOk result (λ r. Takes (set_turn key.now text.now (option_copied seen.entry)) (view r) effects.old effects.new) }
+{
+    if !is_plain(text.as_slice(), seen) {
+        effects.push(Effect::Set {
+            key: Word::copied(alloc, key.as_slice())?,
+            value: Word::copied(alloc, text.as_slice())?,
+        })?;
+    }
+    Ok(Reply::Simple(CowSlice::Borrowed(b"OK")))
+}
+
+// Whether the entry is this text already, without a deadline.
+fn is_plain(text: &[u8], seen: Option<&Entry>) -> bool
+    ensures { result ≡ is_plain text.now (option_copied seen.entry) }
+{
+    let Some(entry) = seen else {
+        return false;
+    };
+    match &entry.value {
+        Value::Text(held) => entry.deadline.is_none() && held.as_slice() == text,
+    }
+}
