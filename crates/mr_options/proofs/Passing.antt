@@ -1,11 +1,10 @@
 -- What the parser lets through of `pipe`.
-use Rattle.std.proofs.Common.{◌≡◌, ◌∙◌, ◌≤◌, ◌^◌, ◌-◌, ℕ, List, [], ◌∷◌, Option, Some, None, Bool, true, false, sym, ap, refl, subst, cond, codes, arith}
-use Rattle.std.specs.List.{find}
-use Rattle.std.specs.Option.{is_some, option_map, option_map_or, unwrap_or}
+use Rattle.std.proofs.Common.{◌≡◌, ◌∙◌, ◌^◌, ◌-◌, List, [], ◌∷◌, Option, Some, None, Bool, true, false, sym, ap, refl, subst, cond, codes, arith}
+use Rattle.std.specs.Option.{option_map, option_map_or, unwrap_or}
 use Rattle.clap.specs.Words.{Row, Rule, Shape, Text, fault_of, subcommand_of}
 use Rattle.clap.specs.Faults.{entered_fault, level_fault, walk_fault}
 use Rattle.clap.specs.Simple.{argument_words, built, built_leaf, entered, inherited, names_of, rows_at}
-use Rattle.clap.specs.Walk.{answers_to, finished, has_row, nothing_held, rows_after, settled, stop_after, walk, walk_from, with_default}
+use Rattle.clap.specs.Walk.{answers_to, has_row, nothing_held, rows_after, settled, stop_after, walk, walk_from, with_default}
 use Rattle.clap.specs.declared.builder.value_parser.ValueParser.{ValueParser}
 use Rattle.clap.specs.declared.builder.value_parser.ValueParser.TheVariants as vp
 use Rattle.mr_options.specs.Lines.{line, pipe_line}

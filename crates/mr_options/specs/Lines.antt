@@ -1,5 +1,5 @@
 -- The command line as a command of clap, which says what each line names.
-use Rattle.std.specs.Prelude.{ℕ, Some, codes, true, [], ◌∷◌, ◌^◌, ◌-◌}
+use Rattle.std.specs.Prelude.{ℕ, Some, codes, true, ◌^◌, ◌-◌}
 use Rattle.clap.specs.Words.{App, Rule, Text, new_app, new_rule, with_rule, with_subcommand}
 use Rattle.clap.specs.declared.builder.value_parser.ValueParser.TheVariants as vp
 

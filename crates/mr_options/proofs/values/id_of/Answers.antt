@@ -4,7 +4,7 @@ use Rattle.clap.specs.Words.{Text, found_of, first_value, rows_of}
 use Rattle.clap.specs.declared.parser.matches.Found.{Found}
 use Rattle.clap.proofs.WalkLemmas.{first_value-rows}
 use Rattle.mr_repl.specs.ReplId.{IsId, digits_of}
-use Rattle.mr_options.specs.Values.{HasId, IsIdText, NamesNoId, usual_pipe}
+use Rattle.mr_options.specs.Values.{HasId, IsIdText, NamesNoId}
 use Rattle.mr_options.specs.declared.line.PipeOptions.{PipeOptions}
 use Rattle.mr_options.proofs.values.id_of.Goals as goal
 
