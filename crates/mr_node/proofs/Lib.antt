@@ -1,0 +1,4 @@
+pub mod Ends
+pub mod Nodes
+pub mod Progressing
+pub mod Steps

@@ -1,0 +1,25 @@
+-- The progress over unread bytes, as bytes come behind them.
+use Rattle.std.proofs.Common.{◌≡◌, ◌≤◌, ◌+◌, ℕ, List, [], ◌∷◌, ◌++◌, length, drop, refl, sym, ap, subst, ◌∙◌, append_assoc, arith, length-append}
+use Rattle.std.proofs.lemmas.List.{drop-append-le}
+use Rattle.mr_resp.specs.Resumed.{Agrees}
+use Rattle.mr_resp.specs.Usual.{usual}
+use Rattle.mr_resp.specs.declared.scan.Progress.{Progress}
+use Rattle.mr_node.specs.Progresses.{AgreesAlong, Fits}
+
+pub append_nil : (xs : List ℕ) → xs ++ [] ≡ xs
+append_nil [] = refl
+append_nil (x ∷ xs) = ap (λ ys. x ∷ ys) (append_nil xs)
+
+pub along_more : (p : Progress) (u m : List ℕ) → AgreesAlong p u → AgreesAlong p (u ++ m)
+along_more p u m a = record { along = λ more. subst (λ z. Agrees usual p z) (sym (append_assoc u m more)) (a.along (m ++ more)) }
+
+pub agrees_now : (p : Progress) (u : List ℕ) → AgreesAlong p u → Agrees usual p u
+agrees_now p u a = subst (λ z. Agrees usual p z) (append_nil u) (a.along [])
+
+-- bytes that come behind
+pub fits_more : (input more now : List ℕ) (used : ℕ) (p : Progress) → now ≡ input ++ more → length input + length more ≤ used + 33554432 → Fits input used p → Fits now used p
+fits_more input more now used p e few f = subst (λ z. Fits z used p) (sym e) (record {
+    within = omega (arith, f.within, length-append input more);
+    few = omega (arith, few, length-append input more);
+    agrees = subst (λ z. AgreesAlong p z) (sym (drop-append-le used input more f.within)) (along_more p (drop used input) more f.agrees);
+  })

@@ -1,0 +1,65 @@
+-- From what the parts of a step do to the step's row.
+use Rattle.std.proofs.Common.{◌≡◌, ℕ, List, ◌≤◌, ◌<◌, ◌+◌, ◌^◌, [], length, drop, Bool, true, false, Option, Some, None, Ok, Err, Result, IfOk, OnOk, refl, sym, ap, subst, ◌∙◌}
+use Rattle.mr_repl.specs.Backlog.{after_bytes}
+use Rattle.mr_links.specs.declared.LinkId.{LinkId}
+use Rattle.mr_resp.specs.ReplyView.{view}
+use Rattle.mr_resp.specs.declared.fault.Fault.{Fault}
+use Rattle.mr_data.specs.Spelling.{texts}
+use Rattle.mr_data.specs.declared.given.Given.{Given}
+use Rattle.mr_data.specs.declared.plan.Plan.{Plan}
+use Rattle.mr_node.specs.State.{NodeState, EndState, end_of, put_end, open_end, shut_end, Agrees, IsShut, OthersStay}
+use Rattle.mr_node.specs.Outs.{no_outs}
+use Rattle.mr_node.specs.Requests.{IsDoomedBy}
+use Rattle.mr_node.specs.Rows.{ClientRow, StepRow, Leaves}
+use Rattle.mr_node.specs.Parts.{Uses, Ran, Commits, IsTooFar, fault_outs}
+use Rattle.mr_node.specs.Parts.Ran.{commits, too_far}
+use Rattle.mr_node.specs.Parts.{Passes, Runs}
+use Rattle.mr_node.specs.declared.step.Step.{Step}
+use Rattle.mr_node.specs.declared.step.Step.TheVariants.{Done}
+use Rattle.mr_node.proofs.Ends.{some_is, put_agrees, put_shut, put_others}
+
+pub ok_map : {A E : Type 0} (r : Result A E) (P Q : A → Type 0) → IfOk r P → ((x : A) → P x → Q x) → IfOk r Q
+ok_map (Ok x) P Q h f = f x h
+ok_map (Err e) P Q h f = h
+
+pub ok_is : {A E : Type 0} (r : Result A E) (d : A) (S : Type 0) (Q : A → Type 0) → IfOk r (λ x. x ≡ d) → OnOk r S → (S → Q d) → IfOk r Q
+ok_is (Ok x) d S Q h s f = subst Q (sym h) (f s)
+ok_is (Err e) d S Q h s f = h
+
+pub kept_is : (a : NodeState) (l : LinkId) (u : List ℕ) (e : EndState) → Agrees a l u → end_of a l ≡ Some e → e.kept ≡ u
+kept_is a l u e ag found = ap (λ (z : EndState). z.kept) (some_is e (open_end u) (sym found ∙ ag.is))
+
+-- the state behind a use
+used_end : (a b : NodeState) (l : LinkId) (u : List ℕ) (used : ℕ) → Agrees a l u → Uses a l used b → b ≡ put_end a l (open_end (drop used u))
+used_end a b l u used ag uses = uses (open_end u) ag.is
+
+leaves_of : (a b : NodeState) (l : LinkId) (rest : List ℕ) → b ≡ put_end a l (open_end rest) → Leaves a l b rest
+leaves_of a b l rest e = record { agrees = put_agrees a b l rest e; others = put_others a b l _ e }
+
+pub skip_row : (a b : NodeState) (l : LinkId) (given : Given) (u : List ℕ) (used : ℕ) → Passes u used → Uses a l used b → Agrees a l u → ClientRow a l u given b (no_outs l)
+skip_row a b l given u used p uses ag =
+    let e = used_end a b l u used ag uses in
+    ClientRow.skips (record { rest = drop used u; asks = p.asks; core = ap (λ (s : NodeState). s.core) e; leaves = leaves_of a b l (drop used u) e; outs_are = refl })
+
+pub fault_row : (a b : NodeState) (l : LinkId) (given : Given) (u : List ℕ) (fault : Fault) → IsDoomedBy u fault → b ≡ put_end a l (shut_end)
+    → ClientRow a l u given b (fault_outs l fault)
+fault_row a b l given u fault d e =
+    ClientRow.faults (record { fault = fault; doomed = d; core = ap (λ (s : NodeState). s.core) e; shut = put_shut a b l e; others = put_others a b l _ e; outs_are = refl })
+
+pub run_row : (a b : NodeState) (l : LinkId) (given : Given) (u : List ℕ) (used : ℕ) (p : Plan) (s : Step) → Runs u given a.core.held used p
+    → Ran a l used (view p.reply) p.effects.items b s → Agrees a l u → StepRow a l u given b s
+run_row a b l given u used p s r (commits within c) ag =
+    let es = p.effects.items in
+    let mid : NodeState = record a { core = record a.core { held = c.held; stream = after_bytes a.core.stream (texts es) } } in
+    let e : b ≡ put_end mid l (open_end (drop used u)) = c.state (open_end u) ag.is in
+    let o = put_others mid b l _ e in
+    subst (λ z. StepRow a l u given b z) (sym c.step) (ClientRow.replies (record {
+      words = r.words; rest = drop used u; asks = r.asks; reply = view p.reply; effects = es; planned = r.planned; within = within;
+      held = c.held; applied = c.applied; core = ap (λ (z : NodeState). z.core) e;
+      leaves = record { agrees = put_agrees mid b l (drop used u) e; others = record { stay = o.stay; opened = o.opened } };
+      outs_are = refl }))
+run_row a b l given u used p s r (too_far t) ag =
+    let e = used_end a b l u used ag t.state in
+    subst (λ z. StepRow a l u given b z) (sym t.step) (ClientRow.passes_limit (record {
+      words = r.words; rest = drop used u; asks = r.asks; reply = view p.reply; effects = p.effects.items; planned = r.planned; beyond = t.beyond;
+      core = ap (λ (z : NodeState). z.core) e; leaves = leaves_of a b l (drop used u) e; outs_are = refl }))

@@ -1,0 +1,50 @@
+use Rattle.std.proofs.Common.{rules, ◌≡◌, ◌≤◌, ℕ, List, ◌++◌, map, take, drop, length, subst, sym, ap, All}
+use Rattle.std.proofs.lemmas.List.{take-append-drop}
+use Rattle.std.specs.Cow.{cow_slice_items}
+use Rattle.mr_resp.specs.Scans.{Reads}
+use Rattle.mr_resp.specs.declared.request.Scan.TheVariants.{Whole, More, Bad}
+use Rattle.mr_resp.specs.Resumed.{Agrees}
+use Rattle.mr_resp.specs.ReplyView.{view}
+use Rattle.mr_resp.specs.Usual.{usual, usual-word}
+use Rattle.mr_plan_keys.specs.Requests.{IsPlanned, Leads, AllFit}
+use Rattle.mr_node.proofs.Progressing.{agrees_now}
+use Rattle.mr_node.proofs.todo.todo_of.Goals as goal
+
+pub next_request_from-requires : goal.next_request_from-requires
+next_request_from-requires c =
+    subst (λ limits. Agrees limits c.args.progress c.args.unread.now) (sym c.usual-limits.ensures.same) (agrees_now c.args.progress c.args.unread.now c.requires)
+
+pub returns-in_ok-plan-in-Whole : goal.returns-in_ok-plan-in-Whole
+returns-in_ok-plan-in-Whole c =
+    let input = c.args.unread.now in
+    let r = subst (λ limits. Reads limits input (Whole c.in-Whole.words c.in-Whole.used)) c.usual-limits.ensures.same (subst (λ s. Reads c.usual-limits.result input s) c.in-Whole.is c.in_ok-scan.ensures.found) in
+    let p = c.in_ok-plan-in-Whole.plan in
+    let ws = map cow_slice_items c.in-Whole.words.items in
+    let slices = c.as_slice.ensures.value in
+    record {
+      todo = record {
+        enough = r.0;
+        words = ws;
+        asks = record { text = take c.in-Whole.used input; begins = sym (take-append-drop c.in-Whole.used input); request = r.1 };
+        planned = subst (λ xs. IsPlanned (map cow_slice_items xs) c.args.given c.args.held.now (view p.reply) p.effects.items) slices c.in_ok-plan-in-Whole.ensures.plan;
+        leads = subst (λ xs. AllFit (map cow_slice_items xs) → Leads p.effects.items c.args.held.now) slices c.in_ok-plan-in-Whole.ensures.leads
+          (subst (λ n. All (λ w. length w ≤ n) ws) usual-word r.1.each);
+      };
+      along = tt;
+    }
+
+pub returns-in-More : goal.returns-in-More
+returns-in-More c =
+    let u = c.args.unread.now in
+    record {
+      todo = record { more = subst (λ limits. Reads limits u More) c.usual-limits.ensures.same (subst (λ s. Reads c.usual-limits.result u s) c.in-More.is c.in_ok-scan.ensures.found) };
+      along = record { along = λ more. subst (λ limits. Agrees limits c.next_request_from.new.progress (u ++ more)) c.usual-limits.ensures.same (c.in_ok-scan.ensures.more more) };
+    }
+
+pub returns-in-Bad : goal.returns-in-Bad
+returns-in-Bad c =
+    let u = c.args.unread.now in
+    record {
+      todo = record { fails = subst (λ limits. Reads limits u (Bad c.in-Bad.fault)) c.usual-limits.ensures.same (subst (λ s. Reads c.usual-limits.result u s) c.in-Bad.is c.in_ok-scan.ensures.found) };
+      along = tt;
+    }

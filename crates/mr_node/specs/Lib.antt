@@ -1,0 +1,6 @@
+pub mod State
+pub mod Progresses
+pub mod Outs
+pub mod Requests
+pub mod Rows
+pub mod Parts

@@ -1,0 +1,102 @@
+-- What the parts of a step do.
+use Rattle.std.specs.Prelude.{◌≡◌, ◌++◌, ◌≤◌, ◌<◌, ◌+◌, ℕ, List, [], Bool, true, false, Some, length, drop}
+use Rattle.mr_repl.specs.Backlog.{after_bytes}
+use Rattle.mr_links.specs.declared.LinkId.{LinkId}
+use Rattle.mr_resp.specs.Replies.{Tree, error, reply_text}
+use Rattle.mr_resp.specs.ReplyView.{view}
+use Rattle.mr_resp.specs.Faults.{fault_text}
+use Rattle.mr_resp.specs.declared.fault.Fault.{Fault}
+use Rattle.mr_resp.specs.declared.scan.Progress.{Progress}
+use Rattle.mr_data.specs.Dataset.{Dataset}
+use Rattle.mr_data.specs.Meaning.{apply_all}
+use Rattle.mr_data.specs.Spelling.{texts}
+use Rattle.mr_data.specs.declared.effect.Effect.{Effect}
+use Rattle.mr_data.specs.declared.given.Given.{Given}
+use Rattle.mr_data.specs.declared.plan.Plan.{Plan}
+use Rattle.mr_plan_keys.specs.Requests.{IsPlanned, Leads}
+use Rattle.mr_node.specs.State.{NodeState, EndState, end_of, put_end, full}
+use Rattle.mr_node.specs.Outs.{OutsState}
+use Rattle.mr_node.specs.Requests.{Asks, AsksNothing, Waits, IsDoomedBy}
+use Rattle.mr_node.specs.Progresses.{AgreesAlong}
+use Rattle.mr_node.specs.Rows.{offset_limit, limit_text}
+use Rattle.mr_node.specs.declared.step.Step.{Step}
+use Rattle.mr_node.specs.declared.step.Step.TheVariants.{Done}
+use Rattle.mr_node.specs.declared.todo.Todo.{Todo}
+use Rattle.mr_node.specs.declared.todo.Todo.TheVariants as todo
+
+-- The link is there, with so many unread bytes or more.
+pub record HasAhead (a : NodeState) (l : LinkId) (count : ℕ) : Type 0 where
+  pub old : EndState
+  pub found : end_of a l ≡ Some old
+  pub enough : count ≤ length old.kept
+
+-- The link is there, and so many bytes more may be kept.
+pub record HasRoom (a : NodeState) (l : LinkId) (count : ℕ) : Type 0 where
+  pub old : EndState
+  pub found : end_of a l ≡ Some old
+  pub enough : length old.kept + count ≤ full
+
+-- So many bytes are a request, of which this is the plan.
+pub record Runs (u : List ℕ) (given : Given) (m : Dataset) (used : ℕ) (p : Plan) : Type 0 where
+  pub enough : used ≤ length u
+  pub words : List (List ℕ)
+  pub asks : Asks u words (drop used u)
+  pub planned : IsPlanned words given m (view p.reply) p.effects.items
+  pub leads : Leads p.effects.items m
+
+-- So many bytes are an empty request.
+pub record Passes (u : List ℕ) (used : ℕ) : Type 0 where
+  pub enough : used ≤ length u
+  pub asks : AsksNothing u (drop used u)
+
+abbrev pub IsTodo : List ℕ → Given → Dataset → Todo → Type 0
+IsTodo u given m (todo.Wait progress) = Waits u
+IsTodo u given m (todo.Skip used) = Passes u used
+IsTodo u given m (todo.Refuse fault) = IsDoomedBy u fault
+IsTodo u given m (todo.Run used plan) = Runs u given m used plan
+
+-- where more is waited for, the progress is over the unread bytes
+abbrev pub KeepsAlong : Todo → List ℕ → Type 0
+KeepsAlong (todo.Wait progress) unread = AgreesAlong progress unread
+KeepsAlong (todo.Skip used) unread = Unit {0}
+KeepsAlong (todo.Refuse fault) unread = Unit {0}
+KeepsAlong (todo.Run used plan) unread = Unit {0}
+
+-- so many bytes of the link are used, and nothing else has changed
+abbrev pub Uses : NodeState → LinkId → ℕ → NodeState → Type 0
+Uses a l used b = (e : EndState) → end_of a l ≡ Some e → b ≡ put_end a l (record e { kept = drop used e.kept })
+
+-- bytes are put behind the unread ones of the link, and nothing else has changed
+abbrev pub Hears : NodeState → LinkId → List ℕ → NodeState → Type 0
+Hears a l bytes b = (e : EndState) → end_of a l ≡ Some e → b ≡ put_end a l (record e { kept = e.kept ++ bytes })
+
+abbrev pub fault_outs : LinkId → Fault → OutsState
+fault_outs l fault = record { link = l; grown = []; reply = reply_text (error (fault_text fault)); closes = true }
+
+-- The effects are done, and all is told.
+pub record Commits (a : NodeState) (l : LinkId) (used : ℕ) (reply : Tree) (effects : List Effect) (b : NodeState) (s : Step) : Type 0 where
+  pub held : Dataset
+  pub applied : apply_all effects a.core.held ≡ Some held
+  pub state : Uses (record a { core = record a.core { held = held; stream = after_bytes a.core.stream (texts effects) } }) l used b
+  pub step : s ≡ Done (record { link = l; grown = texts effects; reply = reply_text reply; closes = false })
+
+-- The effects would carry the offset past its limit.
+pub record IsTooFar (a : NodeState) (l : LinkId) (used : ℕ) (effects : List Effect) (b : NodeState) (s : Step) : Type 0 where
+  pub beyond : offset_limit < a.core.stream.offset + length (texts effects)
+  pub state : Uses a l used b
+  pub step : s ≡ Done (record { link = l; grown = []; reply = reply_text (error limit_text); closes = false })
+
+pub data Ran (a : NodeState) (l : LinkId) (used : ℕ) (reply : Tree) (effects : List Effect) (b : NodeState) (s : Step) : Type 0 where
+  commits : a.core.stream.offset + length (texts effects) ≤ offset_limit → Commits a l used reply effects b s → Ran a l used reply effects b s
+  too_far : IsTooFar a l used effects b s → Ran a l used reply effects b s
+
+-- what is written for a plan at an offset
+abbrev pub Tells : ℕ → Tree → List Effect → OutsState → Bool → OutsState → Type 0
+Tells offset reply effects old true new = (offset + length (texts effects) ≤ offset_limit) × (new ≡ record old { grown = texts effects; reply = reply_text reply })
+Tells offset reply effects old false new = (offset_limit < offset + length (texts effects)) × (new ≡ record old { grown = []; reply = reply_text (error limit_text) })
+
+-- The link is there, and the progress holds of its unread bytes.
+pub record KeepsOn (a : NodeState) (l : LinkId) (progress : Progress) : Type 0 where
+  pub old : EndState
+  pub found : end_of a l ≡ Some old
+  pub agrees : AgreesAlong progress old.kept

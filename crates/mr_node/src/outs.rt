@@ -1,0 +1,109 @@
+// What a step gives out.
+ghost use Rattle.std.specs.Prelude.{◌≡◌, ◌++◌, [], true, false, OnOk};
+ghost use Rattle.mr_resp.specs.Replies.{reply_text};
+ghost use Rattle.mr_resp.specs.ReplyView.{view};
+ghost use Rattle.mr_data.specs.Spelling.{texts};
+ghost use Rattle.mr_node.specs.Outs.{no_outs};
+
+use mr_data::{Effect, encode_all};
+use mr_links::LinkId;
+use mr_resp::{Reply, write_reply};
+use std::alloc::{AllocError, Global};
+use std::marker::Model;
+
+/// What a step gives out: the texts of its effects, what it sends on its link, and whether the link is closed behind that.
+/// A node uses its room again (`Node::reuse`).
+#[derive(Drop)]
+pub struct Outs {
+    link: LinkId,
+    grown: Vec<u8>,
+    reply: Vec<u8>,
+    closes: bool,
+}
+
+impl Model for Outs {
+    ghost use Rattle.mr_node.specs.Outs.{OutsState, outs_code};
+
+    ghost Value = { OutsState };
+
+    ghost coded = { outs_code };
+
+    ghost view = { λ o. record { link = o.link; grown = o.grown.items; reply = o.reply.items; closes = o.closes } };
+}
+
+impl Outs {
+    pub(crate) fn new(alloc: Global, link: LinkId) -> Outs
+        ensures { result ≡ no_outs link }
+    {
+        Outs {
+            link,
+            grown: Vec::new(alloc),
+            reply: Vec::new(alloc),
+            closes: false,
+        }
+    }
+
+    /// Empties it, for this link. It keeps its room.
+    pub(crate) fn reset(&mut self, link: LinkId)
+        ensures { self.new ≡ no_outs link }
+    {
+        self.link = link;
+        self.grown.clear();
+        self.reply.clear();
+        self.closes = false;
+    }
+
+    /// The link that the step was made on.
+    pub fn link(&self) -> LinkId
+        ensures { result ≡ self.now.link }
+    {
+        self.link
+    }
+
+    /// The texts of the effects, in order.
+    pub fn grown(&self) -> &[u8]
+        ensures { result.now ≡ self.now.grown }
+    {
+        self.grown.as_slice()
+    }
+
+    /// What is sent on the link.
+    pub fn reply(&self) -> &[u8]
+        ensures { result.now ≡ self.now.reply }
+    {
+        self.reply.as_slice()
+    }
+
+    /// Whether the node closed the link.
+    pub fn closes(&self) -> bool
+        ensures { result ≡ self.now.closes }
+    {
+        self.closes
+    }
+
+    /// Puts the texts of effects behind those that are there.
+    pub(crate) fn grow(&mut self, effects: &[Effect<'_>]) -> Result<(), AllocError>
+        ensures { OnOk result (self.new ≡ record self.old { grown = self.old.grown ++ texts effects.now }) }
+    {
+        encode_all(effects, &mut self.grown)
+    }
+
+    /// Puts a reply behind what is there.
+    pub(crate) fn say(&mut self, reply: &Reply) -> Result<(), AllocError>
+        ensures { OnOk result (self.new ≡ record self.old { reply = self.old.reply ++ reply_text (view reply.now) }) }
+    {
+        write_reply(reply, &mut self.reply)
+    }
+
+    pub(crate) fn drop_grown(&mut self)
+        ensures { self.new ≡ record self.old { grown = [] } }
+    {
+        self.grown.clear();
+    }
+
+    pub(crate) fn close(&mut self)
+        ensures { self.new ≡ record self.old { closes = true } }
+    {
+        self.closes = true;
+    }
+}

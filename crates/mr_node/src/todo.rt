@@ -1,0 +1,48 @@
+// What is to be done about unread bytes.
+ghost use Rattle.std.specs.Prelude.{◌≡◌, IfOk};
+ghost use Rattle.mr_node.specs.Parts.{IsTodo, KeepsAlong};
+ghost use Rattle.mr_node.specs.Progresses.{AgreesAlong};
+
+use mr_data::{Dataset, Given, Plan};
+use mr_plan_keys::plan_words;
+use mr_resp::{Fault, Limits, Progress, Scan, next_request_from};
+use std::alloc::{AllocError, Global};
+
+/// What is to be done about unread bytes.
+#[derive(Drop)]
+pub(crate) enum Todo {
+    /// Nothing yet. The reader has gone so far.
+    Wait(Progress),
+    /// An empty request is used.
+    Skip { used: usize },
+    /// The fault is told.
+    Refuse(Fault),
+    /// A request is used, and its plan carried out.
+    Run { used: usize, plan: Plan },
+}
+
+/// Reads and plans. Nothing changes.
+pub(crate) fn todo_of(
+    alloc: Global,
+    held: &Dataset,
+    unread: &[u8],
+    progress: Progress,
+    given: Given,
+) -> Result<Todo, AllocError>
+    requires { AgreesAlong progress unread.now }
+    ensures todo { IfOk result (λ t. IsTodo unread.now given held.now t) }
+    ensures along { IfOk result (λ t. KeepsAlong t unread.now) }
+{
+    let limits = Limits::usual();
+    let mut progress = progress;
+    let scan = next_request_from(alloc, &limits, &mut progress, unread)?;
+    match scan {
+        Scan::Whole { words, used } => {
+            let plan = plan_words(alloc, held, words.as_slice(), given)?;
+            Ok(Todo::Run { used, plan })
+        }
+        Scan::Skip { used } => Ok(Todo::Skip { used }),
+        Scan::More => Ok(Todo::Wait(progress)),
+        Scan::Bad(fault) => Ok(Todo::Refuse(fault)),
+    }
+}
