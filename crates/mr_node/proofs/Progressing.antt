@@ -1,5 +1,5 @@
 -- The progress over unread bytes, as bytes come behind them.
-use Rattle.std.proofs.Common.{◌≡◌, ◌≤◌, ◌+◌, ℕ, List, [], ◌∷◌, ◌++◌, length, drop, refl, sym, ap, subst, ◌∙◌, append_assoc, arith, length-append}
+use Rattle.std.proofs.Common.{◌≡◌, ◌≤◌, ◌<◌, ◌+◌, ℕ, List, [], ◌∷◌, ◌++◌, length, drop, refl, sym, ap, subst, ◌∙◌, append_assoc, arith, length-append}
 use Rattle.std.proofs.lemmas.List.{drop-append-le}
 use Rattle.mr_resp.specs.Resumed.{Agrees}
 use Rattle.mr_resp.specs.Usual.{usual}
@@ -23,3 +23,6 @@ fits_more input more now used p e few f = subst (λ z. Fits z used p) (sym e) (r
     few = omega (arith, few, length-append input more);
     agrees = subst (λ z. AgreesAlong p z) (sym (drop-append-le used input more f.within)) (along_more p (drop used input) more f.agrees);
   })
+
+pub not_le : (n m : ℕ) → (m ≤ n → ⊥) → n < m
+not_le n m h = omega (arith, h)

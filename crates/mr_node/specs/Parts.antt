@@ -50,7 +50,7 @@ pub record Passes (u : List ℕ) (used : ℕ) : Type 0 where
   pub asks : AsksNothing u (drop used u)
 
 abbrev pub IsTodo : List ℕ → Given → Dataset → Todo → Type 0
-IsTodo u given m (todo.Wait progress) = Waits u
+IsTodo u given m (todo.Wait progress) = Waits u × (length u < full)
 IsTodo u given m (todo.Skip used) = Passes u used
 IsTodo u given m (todo.Refuse fault) = IsDoomedBy u fault
 IsTodo u given m (todo.Run used plan) = Runs u given m used plan

@@ -11,7 +11,7 @@ use Rattle.mr_data.specs.Spelling.{texts}
 use Rattle.mr_data.specs.declared.effect.Effect.{Effect}
 use Rattle.mr_data.specs.declared.given.Given.{Given}
 use Rattle.mr_plan_keys.specs.Requests.{IsPlanned}
-use Rattle.mr_node.specs.State.{NodeState, Core, Agrees, IsShut, OthersStay}
+use Rattle.mr_node.specs.State.{NodeState, Core, Agrees, IsShut, OthersStay, full}
 use Rattle.mr_node.specs.Outs.{OutsState}
 use Rattle.mr_node.specs.Requests.{Asks, AsksNothing, Waits, IsDoomedBy}
 use Rattle.mr_node.specs.declared.step.Step.{Step}
@@ -80,8 +80,10 @@ pub data ClientRow (a : NodeState) (l : LinkId) (u : List ℕ) (given : Given) (
   skips : Skips a l u b outs → ClientRow a l u given b outs
   faults : Faults a l u b outs → ClientRow a l u given b outs
 
+-- Nothing whole is there, and nothing changes. A full input is never left so.
 pub record Idles (a : NodeState) (u : List ℕ) (b : NodeState) : Type 0 where
   pub waits : Waits u
+  pub few : length u < full
   pub same : b ≡ a
 
 -- what a step with this answer did, where the link agrees with u

@@ -99,8 +99,9 @@ pub record IsTooMuch (a : NodeState) (l : LinkId) (count : ℕ) : Type 0 where
   pub agrees : Agrees a l unread
   pub over : full < length unread + count
 
--- A new open end under a name that was never given before, and nothing else.
+-- A new open end, with nothing unread, under a name that was never given before; and nothing else.
 pub record Opens (a : NodeState) (l : LinkId) (b : NodeState) : Type 0 where
+  pub agrees : Agrees b l []
   pub generation : l.generation ≡ a.links.opened
   pub links : b.links.open_links ≡ map.insert a.links.open_links l (open_end [])
   pub opened : b.links.opened ≡ a.links.opened + 1

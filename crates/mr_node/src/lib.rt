@@ -5,6 +5,7 @@ mod config;
 mod end;
 mod fault;
 mod node;
+mod out;
 mod outs;
 mod step;
 mod todo;
@@ -12,5 +13,9 @@ mod todo;
 pub use config::Config;
 pub use fault::NodeFault;
 pub use node::Node;
+pub use out::{Out, OutsIter};
 pub use outs::Outs;
 pub use step::Step;
+
+#[cfg(test)]
+mod tests;

@@ -3,8 +3,9 @@ ghost use Rattle.std.specs.Prelude.{◌≡◌, ◌++◌, [], true, false, OnOk};
 ghost use Rattle.mr_resp.specs.Replies.{reply_text};
 ghost use Rattle.mr_resp.specs.ReplyView.{view};
 ghost use Rattle.mr_data.specs.Spelling.{texts};
-ghost use Rattle.mr_node.specs.Outs.{no_outs};
+ghost use Rattle.mr_node.specs.Outs.{no_outs, outs_of};
 
+use crate::out::OutsIter;
 use mr_data::{Effect, encode_all};
 use mr_links::LinkId;
 use mr_resp::{Reply, write_reply};
@@ -51,6 +52,13 @@ impl Outs {
         self.grown.clear();
         self.reply.clear();
         self.closes = false;
+    }
+
+    /// What the step gives out, in its order.
+    pub fn iter(&self) -> OutsIter<'_>
+        ensures { result ≡ outs_of self.now }
+    {
+        OutsIter::new(self)
     }
 
     /// The link that the step was made on.

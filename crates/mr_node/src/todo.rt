@@ -5,7 +5,9 @@ ghost use Rattle.mr_node.specs.Progresses.{AgreesAlong};
 
 use mr_data::{Dataset, Given, Plan};
 use mr_plan_keys::plan_words;
-use mr_resp::{Fault, Limits, Progress, Scan, next_request_from};
+use mr_resp::{
+    Fault, Limits, Progress, Scan, full_input_wants_no_more, next_request_from,
+};
 use std::alloc::{AllocError, Global};
 
 /// What is to be done about unread bytes.
@@ -42,7 +44,10 @@ pub(crate) fn todo_of(
             Ok(Todo::Run { used, plan })
         }
         Scan::Skip { used } => Ok(Todo::Skip { used }),
-        Scan::More => Ok(Todo::Wait(progress)),
+        Scan::More => {
+            full_input_wants_no_more(&limits);
+            Ok(Todo::Wait(progress))
+        }
         Scan::Bad(fault) => Ok(Todo::Refuse(fault)),
     }
 }

@@ -7,7 +7,7 @@ use Rattle.mr_resp.specs.Resumed.{Agrees}
 use Rattle.mr_resp.specs.ReplyView.{view}
 use Rattle.mr_resp.specs.Usual.{usual, usual-word}
 use Rattle.mr_plan_keys.specs.Requests.{IsPlanned, Leads, AllFit}
-use Rattle.mr_node.proofs.Progressing.{agrees_now}
+use Rattle.mr_node.proofs.Progressing.{agrees_now, not_le}
 use Rattle.mr_node.proofs.todo.todo_of.Goals as goal
 
 pub next_request_from-requires : goal.next_request_from-requires
@@ -36,8 +36,12 @@ returns-in_ok-plan-in-Whole c =
 pub returns-in-More : goal.returns-in-More
 returns-in-More c =
     let u = c.args.unread.now in
+    let more = subst (λ s. Reads c.usual-limits.result u s) c.in-More.is c.in_ok-scan.ensures.found in
     record {
-      todo = record { more = subst (λ limits. Reads limits u More) c.usual-limits.ensures.same (subst (λ s. Reads c.usual-limits.result u s) c.in-More.is c.in_ok-scan.ensures.found) };
+      todo = (
+        record { more = subst (λ limits. Reads limits u More) c.usual-limits.ensures.same more },
+        not_le (length u) 33554432 (λ h. c.full_input_wants_no_more.ensures u (subst (λ n. n ≤ length u) (sym c.usual-limits.ensures.text) h) more)
+      );
       along = record { along = λ more. subst (λ limits. Agrees limits c.next_request_from.new.progress (u ++ more)) c.usual-limits.ensures.same (c.in_ok-scan.ensures.more more) };
     }
 

@@ -1,0 +1,89 @@
+// The outs of a step, one after another.
+ghost use Rattle.std.specs.Prelude.{◌≡◌};
+ghost use Rattle.std.specs.Iterator.{YieldsFirstBy, item_count};
+ghost use Rattle.mr_node.specs.Outs.{outs_of};
+ghost use Rattle.mr_node.specs.Listing.{out_view};
+
+use crate::outs::Outs;
+use mr_links::LinkId;
+use std::marker::Model;
+
+/// One thing that a step gives out, as a view of its `Outs`.
+#[derive(Clone, Copy)]
+pub enum Out<'a> {
+    /// The stream grew by these texts of effects.
+    Grow(&'a [u8]),
+    /// These bytes are sent on the link.
+    Send(LinkId, &'a [u8]),
+    /// The node closed the link.
+    Close(LinkId),
+}
+
+/// Which out may come next.
+#[derive(Clone, Copy)]
+enum Place {
+    Grow,
+    Send,
+    Close,
+    End,
+}
+
+/// The outs that are still to come, seen as a list.
+#[derive(Drop)]
+pub struct OutsIter<'a> {
+    outs: &'a Outs,
+    place: Place,
+}
+
+impl<'a> Model for OutsIter<'a> {
+    ghost use Rattle.std.specs.Prelude.{List};
+    ghost use Rattle.mr_node.specs.Outs.{OutState};
+
+    ghost Value = { List OutState };
+
+    ghost use Rattle.mr_node.specs.Listing.{outs_from};
+
+    ghost view = { λ a. outs_from a.place a.outs.now };
+}
+
+impl<'a> OutsIter<'a> {
+    pub(crate) fn new(outs: &'a Outs) -> OutsIter<'a>
+        ensures { result ≡ outs_of outs.now }
+    {
+        OutsIter {
+            outs,
+            place: Place::Grow,
+        }
+    }
+}
+
+impl<'a> Iterator for OutsIter<'a> {
+    type Item = Out<'a>;
+
+    ghost next_gives = { YieldsFirstBy out_view (λ s. s) };
+
+    ghost remaining = { item_count (λ s. s) };
+
+    fn next(&mut self) -> Option<Out<'a>> {
+        let outs = self.outs;
+        if let Place::Grow = self.place {
+            self.place = Place::Send;
+            if !outs.grown().is_empty() {
+                return Some(Out::Grow(outs.grown()));
+            }
+        }
+        if let Place::Send = self.place {
+            self.place = Place::Close;
+            if !outs.reply().is_empty() {
+                return Some(Out::Send(outs.link(), outs.reply()));
+            }
+        }
+        if let Place::Close = self.place {
+            self.place = Place::End;
+            if outs.closes() {
+                return Some(Out::Close(outs.link()));
+            }
+        }
+        None
+    }
+}

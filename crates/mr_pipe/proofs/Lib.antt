@@ -1,0 +1,3 @@
+pub mod Serves
+pub mod Goings
+pub mod Relaying

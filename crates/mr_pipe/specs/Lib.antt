@@ -1,0 +1,4 @@
+pub mod Sessions
+pub mod Serving
+pub mod Piped
+pub mod Reading

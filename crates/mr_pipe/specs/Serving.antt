@@ -1,0 +1,61 @@
+-- A link that is served, and what was written for it.
+use Rattle.std.specs.Prelude.{◌≡◌, ℕ, List, [], ◌++◌, Bool, true, false, Option}
+use Rattle.std.specs.Io.KnownBytes.{Appends}
+use Rattle.mr_links.specs.declared.LinkId.{LinkId}
+use Rattle.mr_resp.specs.Faults.{fault_text}
+use Rattle.mr_resp.specs.Replies.{error, reply_text}
+use Rattle.mr_resp.specs.declared.fault.Fault.{Fault}
+use Rattle.mr_data.specs.declared.given.Given.{Given}
+use Rattle.mr_node.specs.State.{NodeState, Agrees, IsShut}
+use Rattle.mr_node.specs.Outs.{OutsState}
+use Rattle.mr_node.specs.Requests.{Waits, IsDoomedBy}
+use Rattle.mr_node.specs.Rows.{ClientRow, Idles}
+use Rattle.mr_pipe.specs.Sessions.{Moment, Serves}
+use Rattle.mr_pipe.specs.declared.serve.Turned.{Turned}
+use Rattle.mr_pipe.specs.declared.serve.Turned.TheVariants as turned
+
+-- Of the bytes u the requests in front were served, what is left is unread, and what was sent is written.
+pub record Going (g : Given) (a : NodeState) (l : LinkId) (u : List ℕ) (old : Option (List ℕ)) (b : NodeState) (new : Option (List ℕ)) : Type 0 where
+  pub turns : List Moment
+  pub rest : List ℕ
+  pub said : List ℕ
+  pub serves : Serves g a.core u turns b.core rest said
+  pub told : Appends old new said
+  pub agrees : Agrees b l rest
+
+-- All requests in front were served, and no whole one is left.
+pub record Drained (g : Given) (a : NodeState) (l : LinkId) (u : List ℕ) (old : Option (List ℕ)) (b : NodeState) (new : Option (List ℕ)) : Type 0 where
+  pub going : Going g a l u old b new
+  pub waits : Waits going.rest
+
+-- All requests before a doomed beginning were served, its fault was told, and the link is closed.
+pub record Ended (g : Given) (a : NodeState) (l : LinkId) (u : List ℕ) (old : Option (List ℕ)) (b : NodeState) (new : Option (List ℕ)) : Type 0 where
+  pub mid : NodeState
+  pub before : Option (List ℕ)
+  pub going : Going g a l u old mid before
+  pub fault : Fault
+  pub doomed : IsDoomedBy going.rest fault
+  pub core : b.core ≡ mid.core
+  pub told : Appends before new (reply_text (error (fault_text fault)))
+  pub shut : IsShut b l
+
+abbrev pub IsDrained : Given → NodeState → LinkId → List ℕ → Option (List ℕ) → NodeState → Option (List ℕ) → Bool → Type 0
+IsDrained g a l u old b new true = Drained g a l u old b new
+IsDrained g a l u old b new false = Ended g a l u old b new
+
+-- A step used something, and what it sends is written.
+pub record TurnedOn (a : NodeState) (l : LinkId) (u : List ℕ) (g : Given) (old : Option (List ℕ)) (b : NodeState) (new : Option (List ℕ)) (closes : Bool) : Type 0 where
+  pub outs : OutsState
+  pub row : ClientRow a l u g b outs
+  pub closes_is : outs.closes ≡ closes
+  pub told : Appends old new outs.reply
+
+-- A step found no whole request.
+pub record TurnedNothing (a : NodeState) (u : List ℕ) (old : Option (List ℕ)) (b : NodeState) (new : Option (List ℕ)) : Type 0 where
+  pub idles : Idles a u b
+  pub told : Appends old new []
+
+abbrev pub IsTurn : NodeState → LinkId → List ℕ → Given → Option (List ℕ) → NodeState → Option (List ℕ) → Turned → Type 0
+IsTurn a l u g old b new turned.Waits = TurnedNothing a u old b new
+IsTurn a l u g old b new turned.On = TurnedOn a l u g old b new false
+IsTurn a l u g old b new turned.Shut = TurnedOn a l u g old b new true

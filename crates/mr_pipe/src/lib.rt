@@ -1,0 +1,14 @@
+//! One node and one client: requests from a reader, replies to a writer.
+#![tactic(auto)]
+
+mod config;
+mod fault;
+mod relay;
+mod serve;
+
+pub use config::PipeConfig;
+pub use fault::PipeFault;
+pub use relay::pipe;
+
+#[cfg(test)]
+mod tests;
