@@ -1,5 +1,10 @@
 -- The progress over unread bytes, as bytes come behind them.
-use Rattle.std.proofs.Common.{◌≡◌, ◌≤◌, ◌<◌, ◌+◌, ℕ, List, [], ◌∷◌, ◌++◌, length, drop, refl, sym, ap, subst, ◌∙◌, append_assoc, arith, length-append}
+use Rattle.std.proofs.Common.{◌≡◌, ◌≤◌, ◌<◌, ◌+◌, ℕ, List, [], ◌∷◌, ◌++◌, length, drop, refl, sym, ap, subst, ◌∙◌, append_assoc, arith, length-append, true, All, IsTrue}
+use Rattle.std.specs.List.{list_all, AllByRecursion}
+use Rattle.std.specs.Cmp.Derive.{both_true}
+use Rattle.std.proofs.lemmas.Bool.{le-leb}
+use Rattle.std.proofs.lemmas.List.Elements.{recursion_from_All}
+use Rattle.mr_value.specs.Words.{fits}
 use Rattle.std.proofs.lemmas.List.{drop-append-le}
 use Rattle.mr_resp.specs.Resumed.{Agrees}
 use Rattle.mr_resp.specs.Usual.{usual}
@@ -26,3 +31,11 @@ fits_more input more now used p e few f = subst (λ z. Fits z used p) (sym e) (r
 
 pub not_le : (n m : ℕ) → (m ≤ n → ⊥) → n < m
 not_le n m h = omega (arith, h)
+
+within_by_recursion : (ws : List (List ℕ)) → AllByRecursion (λ (w : List ℕ). length w ≤ 16777216) ws → list_all fits ws ≡ true
+within_by_recursion [] h = refl
+within_by_recursion (w ∷ ws) h = both_true (le-leb (length w) 16777216 h.0) (within_by_recursion ws h.1)
+
+-- words within the limit, by the test
+pub all_fit : (ws : List (List ℕ)) → All (λ (w : List ℕ). length w ≤ 16777216) ws → IsTrue (list_all fits ws)
+all_fit ws a = within_by_recursion ws (recursion_from_All (λ (w : List ℕ). length w ≤ 16777216) ws a)

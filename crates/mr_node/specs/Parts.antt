@@ -13,7 +13,7 @@ use Rattle.mr_data.specs.Spelling.{texts}
 use Rattle.mr_data.specs.declared.effect.Effect.{Effect}
 use Rattle.mr_data.specs.declared.given.Given.{Given}
 use Rattle.mr_data.specs.declared.plan.Plan.{Plan}
-use Rattle.mr_plan_keys.specs.Requests.{IsPlanned, Leads}
+use Rattle.mr_plan_keys.specs.Requests.{IsPlanned}
 use Rattle.mr_node.specs.State.{NodeState, EndState, end_of, put_end, full}
 use Rattle.mr_node.specs.Outs.{OutsState}
 use Rattle.mr_node.specs.Requests.{Asks, AsksNothing, Waits, IsDoomedBy}
@@ -35,6 +35,10 @@ pub record HasRoom (a : NodeState) (l : LinkId) (count : ℕ) : Type 0 where
   pub old : EndState
   pub found : end_of a l ≡ Some old
   pub enough : length old.kept + count ≤ full
+
+-- the effects lead somewhere
+abbrev pub Leads : List Effect → Dataset → Type 0
+Leads es m = (n : Dataset) × (apply_all es m ≡ Some n)
 
 -- So many bytes are a request, of which this is the plan.
 pub record Runs (u : List ℕ) (given : Given) (m : Dataset) (used : ℕ) (p : Plan) : Type 0 where

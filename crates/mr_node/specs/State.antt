@@ -7,6 +7,7 @@ use Rattle.mr_links.specs.LinkId.{id_cmp, coded_id}
 use Rattle.mr_links.specs.Links.{Links, links_code}
 use Rattle.mr_links.specs.declared.LinkId.{LinkId}
 use Rattle.mr_data.specs.Dataset.{Dataset}
+use Rattle.mr_data.specs.contracts.value.Entry as item
 
 -- what a node keeps of its end of a client's link
 pub record EndState : Type 0 where
@@ -34,7 +35,7 @@ abbrev pub end_code : Coded EndState
 end_code = code_by (List ℕ × Bool) (coded× (coded_list coded_ℕ) coded_bool) (λ e. (e.kept, e.serving)) (λ p. record { kept = p.0; serving = p.1 }) (λ _. refl)
 
 abbrev pub dataset_code : Coded Dataset
-dataset_code = map.code (coded_list coded_ℕ) (coded_list coded_ℕ)
+dataset_code = map.code (coded_list coded_ℕ) item.the_row.coded
 
 abbrev pub core_code : Coded Core
 core_code = code_by (Bool × (Bool × (ℕ × (List ℕ × (Dataset × Window)))))

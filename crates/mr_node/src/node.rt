@@ -6,11 +6,10 @@ ghost use Rattle.mr_resp.specs.Replies.{reply_text};
 ghost use Rattle.mr_resp.specs.ReplyView.{view};
 ghost use Rattle.mr_data.specs.Spelling.{texts};
 ghost use Rattle.mr_data.specs.Meaning.{apply_all};
-ghost use Rattle.mr_plan_keys.specs.Requests.{Leads};
 ghost use Rattle.mr_node.specs.State.{NodeState, Core, EndState, end_of, put_end, open_end, shut_end, Agrees, IsShut, OthersStay, Opens, stopped_as, shown, room_of, IsTooMuch};
 ghost use Rattle.mr_node.specs.Outs.{no_outs};
 ghost use Rattle.mr_node.specs.Progresses.{AgreesAlong};
-ghost use Rattle.mr_node.specs.Parts.{HasAhead, HasRoom, Uses, Hears, fault_outs, Ran, Commits, Tells, KeepsOn};
+ghost use Rattle.mr_node.specs.Parts.{Leads, HasAhead, HasRoom, Uses, Hears, fault_outs, Ran, Commits, Tells, KeepsOn};
 ghost use Rattle.mr_node.specs.Rows.{StepRow, WhyStopped, offset_limit};
 
 use crate::config::Config;

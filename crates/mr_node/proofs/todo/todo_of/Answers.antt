@@ -1,4 +1,4 @@
-use Rattle.std.proofs.Common.{rules, ◌≡◌, ◌≤◌, ℕ, List, ◌++◌, map, take, drop, length, subst, sym, ap, All}
+use Rattle.std.proofs.Common.{rules, ◌≡◌, ◌≤◌, ℕ, List, ◌++◌, map, take, drop, length, subst, sym, ap, All, IsTrue}
 use Rattle.std.proofs.lemmas.List.{take-append-drop}
 use Rattle.std.specs.Cow.{cow_slice_items}
 use Rattle.mr_resp.specs.Scans.{Reads}
@@ -6,8 +6,11 @@ use Rattle.mr_resp.specs.declared.request.Scan.TheVariants.{Whole, More, Bad}
 use Rattle.mr_resp.specs.Resumed.{Agrees}
 use Rattle.mr_resp.specs.ReplyView.{view}
 use Rattle.mr_resp.specs.Usual.{usual, usual-word}
-use Rattle.mr_plan_keys.specs.Requests.{IsPlanned, Leads, AllFit}
-use Rattle.mr_node.proofs.Progressing.{agrees_now, not_le}
+use Rattle.std.specs.List.{list_all}
+use Rattle.mr_value.specs.Words.{fits}
+use Rattle.mr_plan_keys.specs.Requests.{IsPlanned}
+use Rattle.mr_node.specs.Parts.{Leads}
+use Rattle.mr_node.proofs.Progressing.{agrees_now, not_le, all_fit}
 use Rattle.mr_node.proofs.todo.todo_of.Goals as goal
 
 pub next_request_from-requires : goal.next_request_from-requires
@@ -26,9 +29,9 @@ returns-in_ok-plan-in-Whole c =
         enough = r.0;
         words = ws;
         asks = record { text = take c.in-Whole.used input; begins = sym (take-append-drop c.in-Whole.used input); request = r.1 };
-        planned = subst (λ xs. IsPlanned (map cow_slice_items xs) c.args.given c.args.held.now (view p.reply) p.effects.items) slices c.in_ok-plan-in-Whole.ensures.plan;
-        leads = subst (λ xs. AllFit (map cow_slice_items xs) → Leads p.effects.items c.args.held.now) slices c.in_ok-plan-in-Whole.ensures.leads
-          (subst (λ n. All (λ w. length w ≤ n) ws) usual-word r.1.each);
+        planned = subst (λ xs. IsPlanned (map cow_slice_items xs) c.args.given c.args.held.now (view p.reply) p.effects.items) slices c.in_ok-plan-in-Whole.ensures.planned;
+        leads = subst (λ xs. IsTrue (list_all fits (map cow_slice_items xs)) → Leads p.effects.items c.args.held.now) slices c.in_ok-plan-in-Whole.ensures.leads
+          (all_fit ws (subst (λ n. All (λ w. length w ≤ n) ws) usual-word r.1.each));
       };
       along = tt;
     }

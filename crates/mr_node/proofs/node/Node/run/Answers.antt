@@ -1,5 +1,5 @@
 use Rattle.std.proofs.Common.{◌≡◌, subst, sym}
-use Rattle.mr_plan_keys.specs.Requests.{Leads}
+use Rattle.mr_node.specs.Parts.{Leads}
 use Rattle.mr_node.proofs.node.Node.run.Goals as goal
 
 pub commit-requires-clause-leads : goal.commit-requires-clause-leads

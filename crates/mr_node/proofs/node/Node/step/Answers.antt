@@ -1,5 +1,5 @@
 use Rattle.std.proofs.Common.{rules, ◌≡◌, ℕ, List, Some, sym, ap, subst, ◌∙◌}
-use Rattle.mr_plan_keys.specs.Requests.{Leads}
+use Rattle.mr_node.specs.Parts.{Leads}
 use Rattle.mr_node.specs.State.{NodeState, Agrees, end_of, put_end}
 use Rattle.mr_node.specs.Rows.{ClientRow, StepRow}
 use Rattle.mr_node.specs.Parts.{Ran, fault_outs}
