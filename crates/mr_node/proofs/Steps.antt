@@ -1,7 +1,7 @@
 -- From what the parts of a step do to the step's row.
-use Rattle.std.proofs.Common.{◌≡◌, ℕ, List, ◌≤◌, ◌<◌, ◌+◌, ◌^◌, [], length, drop, Bool, true, false, Option, Some, None, Ok, Err, Result, IfOk, OnOk, refl, sym, ap, subst, ◌∙◌}
+use Rattle.std.proofs.Common.{◌≡◌, ◌≢◌, ℕ, List, ◌≤◌, ◌<◌, ◌+◌, ◌^◌, [], length, drop, Bool, true, false, Option, Some, None, Ok, Err, Result, IfOk, OnOk, refl, sym, ap, subst, ◌∙◌}
 use Rattle.mr_repl.specs.Backlog.{after_bytes}
-use Rattle.mr_links.specs.declared.LinkId.{LinkId}
+use Rattle.mr_links.specs.declared.link_id.LinkId.{LinkId}
 use Rattle.mr_resp.specs.ReplyView.{view}
 use Rattle.mr_resp.specs.declared.fault.Fault.{Fault}
 use Rattle.mr_data.specs.Spelling.{texts}
@@ -10,7 +10,7 @@ use Rattle.mr_data.specs.declared.plan.Plan.{Plan}
 use Rattle.mr_node.specs.State.{NodeState, EndState, end_of, put_end, open_end, shut_end, Agrees, IsShut, OthersStay}
 use Rattle.mr_node.specs.Outs.{no_outs}
 use Rattle.mr_node.specs.Requests.{IsDoomedBy}
-use Rattle.mr_node.specs.Rows.{ClientRow, StepRow, Leaves}
+use Rattle.mr_node.specs.Rows.{ClientRow, StepRow, Leaves, Stops}
 use Rattle.mr_node.specs.Parts.{Uses, Ran, Commits, IsTooFar, fault_outs}
 use Rattle.mr_node.specs.Parts.Ran.{commits, too_far}
 use Rattle.mr_node.specs.Parts.{Passes, Runs}
@@ -63,3 +63,7 @@ run_row a b l given u used p s r (too_far t) ag =
     subst (λ z. StepRow a l u given b z) (sym t.step) (ClientRow.passes_limit (record {
       words = r.words; rest = drop used u; asks = r.asks; reply = view p.reply; effects = p.effects.items; planned = r.planned; beyond = t.beyond;
       core = ap (λ (z : NodeState). z.core) e; leaves = leaves_of a b l (drop used u) e; outs_are = refl }))
+
+-- a node may stop at a request with effects
+pub stops_of : (a : NodeState) (u : List ℕ) (given : Given) (used : ℕ) (p : Plan) → Runs u given a.core.held used p → p.effects.items ≢ [] → Stops a u given
+stops_of a u given used p r some = record { words = r.words; rest = drop used u; asks = r.asks; reply = view p.reply; effects = p.effects.items; planned = r.planned; some = some }

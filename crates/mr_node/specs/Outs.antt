@@ -2,7 +2,7 @@
 use Rattle.std.specs.Prelude.{ℕ, List, [], ◌∷◌, ◌++◌, Bool, true, false, refl}
 use Rattle.std.specs.Coded.{Coded, code_by, coded×, coded_ℕ, coded_bool, coded_list}
 use Rattle.mr_links.specs.LinkId.{coded_id}
-use Rattle.mr_links.specs.declared.LinkId.{LinkId}
+use Rattle.mr_links.specs.declared.link_id.LinkId.{LinkId}
 
 pub record OutsState : Type 0 where
   pub link : LinkId

@@ -1,7 +1,7 @@
 -- What the parts of a step do.
 use Rattle.std.specs.Prelude.{◌≡◌, ◌++◌, ◌≤◌, ◌<◌, ◌+◌, ℕ, List, [], Bool, true, false, Some, length, drop}
 use Rattle.mr_repl.specs.Backlog.{after_bytes}
-use Rattle.mr_links.specs.declared.LinkId.{LinkId}
+use Rattle.mr_links.specs.declared.link_id.LinkId.{LinkId}
 use Rattle.mr_resp.specs.Replies.{Tree, error, reply_text}
 use Rattle.mr_resp.specs.ReplyView.{view}
 use Rattle.mr_resp.specs.Faults.{fault_text}

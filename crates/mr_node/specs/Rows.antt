@@ -1,7 +1,7 @@
 -- What a step at a client's end of a link may do, one row for each.
 use Rattle.std.specs.Prelude.{◌≡◌, ◌≢◌, ◌≤◌, ◌<◌, ◌+◌, ◌^◌, ℕ, List, [], ◌++◌, Bool, true, false, Option, Some, length, codes}
 use Rattle.mr_repl.specs.Backlog.{after_bytes}
-use Rattle.mr_links.specs.declared.LinkId.{LinkId}
+use Rattle.mr_links.specs.declared.link_id.LinkId.{LinkId}
 use Rattle.mr_resp.specs.Replies.{Tree, error, reply_text}
 use Rattle.mr_resp.specs.Faults.{fault_text}
 use Rattle.mr_resp.specs.declared.fault.Fault.{Fault}

@@ -5,7 +5,7 @@ use Rattle.std.specs.FinMap as map
 use Rattle.mr_repl.specs.Backlog.{Window}
 use Rattle.mr_links.specs.LinkId.{id_cmp, coded_id}
 use Rattle.mr_links.specs.Links.{Links, links_code}
-use Rattle.mr_links.specs.declared.LinkId.{LinkId}
+use Rattle.mr_links.specs.declared.link_id.LinkId.{LinkId}
 use Rattle.mr_data.specs.Dataset.{Dataset}
 use Rattle.mr_data.specs.contracts.value.Entry as item
 

@@ -107,9 +107,10 @@ impl Node {
         requires { HasAhead self.old link count }
         ensures { Uses self.old link count self.new }
     {
-        let mut end = self.links.replace(link, End::new(self.alloc));
+        let Some(end) = self.links.get_mut(link) else {
+            unreachable!()
+        };
         end.take(count);
-        let _ = self.links.replace(link, end);
     }
 
     /// Closes the node's end of a link.
@@ -117,9 +118,10 @@ impl Node {
         requires { IsSome (end_of self.old link) }
         ensures { self.new ≡ put_end self.old link shut_end }
     {
-        let mut end = self.links.replace(link, End::new(self.alloc));
+        let Some(end) = self.links.get_mut(link) else {
+            unreachable!()
+        };
         end.shut();
-        let _ = self.links.replace(link, end);
     }
 
     /// Keeps how far the reader has gone over the unread bytes of a link.
@@ -127,9 +129,10 @@ impl Node {
         requires { KeepsOn self.old link progress }
         ensures { self.new ≡ self.old }
     {
-        let mut end = self.links.replace(link, End::new(self.alloc));
+        let Some(end) = self.links.get_mut(link) else {
+            unreachable!()
+        };
         end.keep(progress);
-        let _ = self.links.replace(link, end);
     }
 
     /// The outs kept for the next step, emptied.
@@ -317,12 +320,12 @@ impl Node {
         ensures ok { OnOk result (Hears self.old link bytes.now self.new) }
         ensures err { IfErr result (λ e. (e ≡ NodeFault.Memory) × (self.new ≡ self.old)) }
     {
-        let mut end = self.links.replace(link, End::new(self.alloc));
-        let heard = end.hear(bytes);
-        let _ = self.links.replace(link, end);
-        if heard.is_err() {
+        let Some(end) = self.links.get_mut(link) else {
+            unreachable!()
+        };
+        let Ok(_) = end.hear(bytes) else {
             return Err(NodeFault::Memory);
-        }
+        };
         Ok(())
     }
 

@@ -6,7 +6,7 @@ ghost use Rattle.mr_node.specs.Progresses.{AgreesAlong};
 use mr_data::{Dataset, Given, Plan};
 use mr_plan_keys::plan_words;
 use mr_resp::{
-    Fault, Limits, Progress, Scan, full_input_wants_no_more, next_request_from,
+    Fault, Limits, Progress, Scan, more_is_wanted, next_request_from,
 };
 use std::alloc::{AllocError, Global};
 
@@ -45,7 +45,7 @@ pub(crate) fn todo_of(
         }
         Scan::Skip { used } => Ok(Todo::Skip { used }),
         Scan::More => {
-            full_input_wants_no_more(&limits);
+            more_is_wanted();
             Ok(Todo::Wait(progress))
         }
         Scan::Bad(fault) => Ok(Todo::Refuse(fault)),

@@ -2,7 +2,7 @@
 use Rattle.std.proofs.Common.{rules, ◌≡◌, ◌<◌, ℕ, List, [], ◌∷◌, ◌++◌, Option, refl, sym, ap, subst, ◌∙◌, append_assoc, inl, inr, All, lit<, Ok, Err, Result, OnOk}
 use Rattle.std.specs.Io.KnownBytes.{Consumes, IsAtEnd, Appends, Keeps}
 use Rattle.std.proofs.KnownBytes.{Consumes-nil, Consumes-trans, Appends-trans, Appends-kept}
-use Rattle.mr_links.specs.declared.LinkId.{LinkId}
+use Rattle.mr_links.specs.declared.link_id.LinkId.{LinkId}
 use Rattle.mr_resp.specs.Faults.{fault_text}
 use Rattle.mr_resp.specs.Replies.{error, reply_text}
 use Rattle.mr_data.specs.declared.given.Given.{Given}

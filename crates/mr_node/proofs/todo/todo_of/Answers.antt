@@ -43,7 +43,7 @@ returns-in-More c =
     record {
       todo = (
         record { more = subst (λ limits. Reads limits u More) c.usual-limits.ensures.same more },
-        not_le (length u) 33554432 (λ h. c.full_input_wants_no_more.ensures u (subst (λ n. n ≤ length u) (sym c.usual-limits.ensures.text) h) more)
+        not_le (length u) 33554432 (λ h. c.more_is_wanted.ensures.not_full c.usual-limits.result u (subst (λ n. n ≤ length u) (sym c.usual-limits.ensures.text) h) more)
       );
       along = record { along = λ more. subst (λ limits. Agrees limits c.next_request_from.new.progress (u ++ more)) c.usual-limits.ensures.same (c.in_ok-scan.ensures.more more) };
     }

@@ -1,12 +1,12 @@
-use Rattle.std.proofs.Common.{rules, ◌≡◌, ℕ, List, Some, sym, ap, subst, ◌∙◌}
+use Rattle.std.proofs.Common.{rules, ◌≡◌, true, ℕ, List, Some, sym, ap, subst, ◌∙◌}
 use Rattle.mr_node.specs.Parts.{Leads}
 use Rattle.mr_node.specs.State.{NodeState, Agrees, end_of, put_end}
-use Rattle.mr_node.specs.Rows.{ClientRow, StepRow}
+use Rattle.mr_node.specs.Rows.{ClientRow, StepRow, WhyStopped}
 use Rattle.mr_node.specs.Parts.{Ran, fault_outs}
 use Rattle.mr_node.specs.Parts.{Passes, Runs}
 use Rattle.mr_node.specs.Requests.{IsDoomedBy}
 use Rattle.mr_node.specs.declared.step.Step.TheVariants.{Done}
-use Rattle.mr_node.proofs.Steps.{ok_map, ok_is, kept_is, skip_row, fault_row, run_row}
+use Rattle.mr_node.proofs.Steps.{ok_map, ok_is, kept_is, skip_row, fault_row, run_row, stops_of}
 use Rattle.mr_node.proofs.node.Node.step.Goals as goal
 
 pub run-requires-clause-leads : goal.run-requires-clause-leads
@@ -39,3 +39,13 @@ returns-in-Ok-Run-clause-row c =
     let r : Runs c.unread.result.now c.args.given a.core.held used plan = search rules in
     ok_map c.run.result _ _ c.run.ensures.step
       (λ s ran u ag. run_row a c.run.new.self l c.args.given u used plan s (subst (λ z. Runs z c.args.given a.core.held used plan) (c.unread.ensures ∙ kept_is a l u _ ag found) r) ran ag)
+
+pub returns-in-Ok-Run-clause-stopped : goal.returns-in-Ok-Run-clause-stopped
+returns-in-Ok-Run-clause-stopped c = λ stopped.
+    let a = c.args.self.now in let l = c.args.link in
+    let used = c.in-Ok-Run.used in let plan = c.in-Ok-Run.plan in
+    let found : end_of a l ≡ Some c.in-Some.end.now = ap (λ (s : NodeState). end_of s l) (sym c.self.view_is) ∙ sym c.in-Some.ensures in
+    let r : Runs c.unread.result.now c.args.given a.core.held used plan = search rules in
+    let up : a.core.up ≡ true = search rules in
+    let s = c.run.ensures.stopped stopped in
+    WhyStopped.stops up (λ u ag. stops_of a u c.args.given used plan (subst (λ z. Runs z c.args.given a.core.held used plan) (c.unread.ensures ∙ kept_is a l u _ ag found) r) s.1) s.0
