@@ -20,9 +20,9 @@ get_put m l e = get-insert ids_total m l e l ∙ ap (λ b. cond b (Some e) (get 
 
 pub get_other : (m : FinMap id_cmp EndState) (l : LinkId) (e : EndState) (q : LinkId) → q ≢ l → get (insert m l e) q ≡ get m q
 get_other m l e q ne = get-insert ids_total m l e q ∙ (elim (eq_by_cmp id_cmp q l) as (λ v. eq_by_cmp id_cmp q l ≡ v → cond v (Some e) (get m q) ≡ get m q) [
-    | true ↦ λ h. absurd (ne (tells_apart exact_ids q l h))
-    | false ↦ λ h. refl
-  ] refl)
+  | true ↦ λ h. absurd (ne (tells_apart exact_ids q l h))
+  | false ↦ λ h. refl
+] refl)
 
 twice : (b : Bool) (x y : EndState) (o : Option EndState) → cond b (Some y) (cond b (Some x) o) ≡ cond b (Some y) o
 twice true x y o = refl
@@ -59,9 +59,9 @@ put_others a b l x e = record { stay = λ q ne. ap (λ z. end_of z q) e ∙ get_
 -- an end put in its own place
 pub put_same : (m : FinMap id_cmp EndState) (l : LinkId) (e : EndState) → get m l ≡ Some e → insert m l e ≡ m
 put_same m l e here = same_map ids_total exact_ids _ _ (λ q. get-insert ids_total m l e q ∙ (elim (eq_by_cmp id_cmp q l) as (λ v. eq_by_cmp id_cmp q l ≡ v → cond v (Some e) (get m q) ≡ get m q) [
-    | true ↦ λ h. sym (ap (get m) (tells_apart exact_ids q l h) ∙ here)
-    | false ↦ λ h. refl
-  ] refl))
+  | true ↦ λ h. sym (ap (get m) (tells_apart exact_ids q l h) ∙ here)
+  | false ↦ λ h. refl
+] refl))
 
 pub on_ok_is : {A E : Type 0} (r : Result A E) (P : Type 0) → is_err r ≡ false → OnOk r P → P
 on_ok_is (Ok x) P e h = h

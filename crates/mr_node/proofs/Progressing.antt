@@ -24,10 +24,10 @@ agrees_now p u a = subst (λ z. Agrees usual p z) (append_nil u) (a.along [])
 -- bytes that come behind
 pub fits_more : (input more now : List ℕ) (used : ℕ) (p : Progress) → now ≡ input ++ more → length input + length more ≤ used + 33554432 → Fits input used p → Fits now used p
 fits_more input more now used p e few f = subst (λ z. Fits z used p) (sym e) (record {
-    within = omega (arith, f.within, length-append input more);
-    few = omega (arith, few, length-append input more);
-    agrees = subst (λ z. AgreesAlong p z) (sym (drop-append-le used input more f.within)) (along_more p (drop used input) more f.agrees);
-  })
+  within = omega (arith, f.within, length-append input more);
+  few = omega (arith, few, length-append input more);
+  agrees = subst (λ z. AgreesAlong p z) (sym (drop-append-le used input more f.within)) (along_more p (drop used input) more f.agrees);
+})
 
 pub not_le : (n m : ℕ) → (m ≤ n → ⊥) → n < m
 not_le n m h = omega (arith, h)

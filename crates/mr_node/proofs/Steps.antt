@@ -54,15 +54,33 @@ run_row a b l given u used p s r (commits within c) ag =
     let e : b ≡ put_end mid l (open_end (drop used u)) = c.state (open_end u) ag.is in
     let o = put_others mid b l _ e in
     subst (λ z. StepRow a l u given b z) (sym c.step) (ClientRow.replies (record {
-      words = r.words; rest = drop used u; asks = r.asks; reply = view p.reply; effects = es; planned = r.planned; within = within;
-      held = c.held; applied = c.applied; core = ap (λ (z : NodeState). z.core) e;
+      words = r.words;
+      rest = drop used u;
+      asks = r.asks;
+      reply = view p.reply;
+      effects = es;
+      planned = r.planned;
+      within = within;
+      held = c.held;
+      applied = c.applied;
+      core = ap (λ (z : NodeState). z.core) e;
       leaves = record { agrees = put_agrees mid b l (drop used u) e; others = record { stay = o.stay; opened = o.opened } };
-      outs_are = refl }))
+      outs_are = refl;
+    }))
 run_row a b l given u used p s r (too_far t) ag =
     let e = used_end a b l u used ag t.state in
     subst (λ z. StepRow a l u given b z) (sym t.step) (ClientRow.passes_limit (record {
-      words = r.words; rest = drop used u; asks = r.asks; reply = view p.reply; effects = p.effects.items; planned = r.planned; beyond = t.beyond;
-      core = ap (λ (z : NodeState). z.core) e; leaves = leaves_of a b l (drop used u) e; outs_are = refl }))
+      words = r.words;
+      rest = drop used u;
+      asks = r.asks;
+      reply = view p.reply;
+      effects = p.effects.items;
+      planned = r.planned;
+      beyond = t.beyond;
+      core = ap (λ (z : NodeState). z.core) e;
+      leaves = leaves_of a b l (drop used u) e;
+      outs_are = refl;
+    }))
 
 -- a node may stop at a request with effects
 pub stops_of : (a : NodeState) (u : List ℕ) (given : Given) (used : ℕ) (p : Plan) → Runs u given a.core.held used p → p.effects.items ≢ [] → Stops a u given

@@ -6,9 +6,9 @@ use Rattle.mr_links.specs.declared.link_id.LinkId.{LinkId}
 
 pub record OutsState : Type 0 where
   pub link : LinkId
-  pub grown : List ℕ      -- the texts of the effects
-  pub reply : List ℕ      -- what is sent on the link
-  pub closes : Bool       -- the link is closed behind it
+  pub grown : List ℕ  -- the texts of the effects
+  pub reply : List ℕ  -- what is sent on the link
+  pub closes : Bool  -- the link is closed behind it
 
 abbrev pub outs_code : Coded OutsState
 outs_code = code_by (LinkId × (List ℕ × (List ℕ × Bool))) (coded× coded_id (coded× (coded_list coded_ℕ) (coded× (coded_list coded_ℕ) coded_bool)))

@@ -11,17 +11,17 @@ use Rattle.mr_data.specs.contracts.value.Entry as item
 
 -- what a node keeps of its end of a client's link
 pub record EndState : Type 0 where
-  pub kept : List ℕ       -- the bytes that were fed and that no step has used
-  pub serving : Bool      -- the node has not closed it
+  pub kept : List ℕ  -- the bytes that were fed and that no step has used
+  pub serving : Bool  -- the node has not closed it
 
 -- a node, its links apart
 pub record Core : Type 0 where
-  pub up : Bool           -- not stopped
-  pub replica : Bool      -- it was started as a replica
-  pub port : ℕ            -- the port that it tells a master
-  pub id : List ℕ         -- the replication id, as its bytes
+  pub up : Bool  -- not stopped
+  pub replica : Bool  -- it was started as a replica
+  pub port : ℕ  -- the port that it tells a master
+  pub id : List ℕ  -- the replication id, as its bytes
   pub held : Dataset
-  pub stream : Window     -- the offset, and the last bytes of the stream
+  pub stream : Window  -- the offset, and the last bytes of the stream
 
 pub record NodeState : Type 0 where
   pub core : Core

@@ -52,8 +52,8 @@ impl Model for Node {
     ghost coded = { node_code };
 
     ghost view = { λ a. record {
-        core = record { up = a.up; replica = a.replica; port = a.port; id = a.id; held = a.held; stream = a.stream };
-        links = a.links;
+      core = record { up = a.up; replica = a.replica; port = a.port; id = a.id; held = a.held; stream = a.stream };
+      links = a.links;
     } };
 }
 
@@ -331,12 +331,7 @@ impl Node {
 
     /// The next step on a link: uses the request at the front of its unread bytes. `given` is the time and the chance of this
     /// step; `fresh` is an id that was never drawn, for a step that needs one.
-    pub fn step(
-        &mut self,
-        link: LinkId,
-        given: Given,
-        fresh: ReplId,
-    ) -> Result<Step, NodeFault>
+    pub fn step(&mut self, link: LinkId, given: Given, fresh: ReplId) -> Result<Step, NodeFault>
         ensures row { IfOk result (λ s. (u : List ℕ) → Agrees self.old link u → StepRow self.old link u given self.new s) }
         ensures shut { self.old.core.up ≡ true → IsShut self.old link → (result ≡ Ok Step.Closed) × (self.new ≡ self.old) }
         ensures memory { IsErrOf result NodeFault.Memory → self.new ≡ self.old }

@@ -6,6 +6,7 @@ use std::hash::RandomState;
 use std::test::Fail;
 
 const SET: &[u8] = b"*3\r\n$3\r\nSET\r\n$1\r\nk\r\n$1\r\nv\r\n";
+
 const GET: &[u8] = b"*2\r\n$3\r\nGET\r\n$1\r\nk\r\n";
 
 #[test]
@@ -21,7 +22,10 @@ fn a_client_is_answered(rt: HostRuntime) -> Result<(), Fail> {
     assert_eq!(rt; node.room(link), Some(33_554_432));
 
     node.feed(link, &SET[..20])?;
-    assert!(rt; matches!(node.step(link, given, id)?, Step::Idle), "half a request");
+    assert!(rt;
+        matches!(node.step(link, given, id)?, Step::Idle),
+        "half a request"
+    );
     node.feed(link, &SET[20..])?;
     node.feed(link, GET)?;
     let Step::Done(outs) = node.step(link, given, id)? else {
@@ -74,7 +78,10 @@ fn a_fault_closes_one_link(rt: HostRuntime) -> Result<(), Fail> {
     assert_eq!(rt; outs.reply(), text);
     assert!(rt; outs.closes() && outs.link() == bad);
     node.feed(bad, GET)?;
-    assert!(rt; matches!(node.step(bad, given, id)?, Step::Closed), "what follows is dropped");
+    assert!(rt;
+        matches!(node.step(bad, given, id)?, Step::Closed),
+        "what follows is dropped"
+    );
     assert_eq!(rt; node.room(bad), Some(usize::MAX));
     let Step::Done(outs) = node.step(good, given, id)? else {
         assert!(rt; false, "the other link");
@@ -95,7 +102,10 @@ fn a_link_takes_no_more_than_its_room(rt: HostRuntime) -> Result<(), Fail> {
     let mut node = Node::start(alloc, id, held, config)?;
     let link = node.open()?;
     let piece = vec![in alloc; b'*'; 33_554_433]?;
-    assert_eq!(rt; node.feed(link, piece.as_slice()), Err(NodeFault::InputFull));
+    assert_eq!(rt;
+        node.feed(link, piece.as_slice()),
+        Err(NodeFault::InputFull)
+    );
     assert_eq!(rt; node.room(link), Some(33_554_432));
     node.feed(link, b"*2")?;
     assert_eq!(rt; node.room(link), Some(33_554_430));

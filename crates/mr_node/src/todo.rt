@@ -5,9 +5,7 @@ ghost use Rattle.mr_node.specs.Progresses.{AgreesAlong};
 
 use mr_data::{Dataset, Given, Plan};
 use mr_plan_keys::plan_words;
-use mr_resp::{
-    Fault, Limits, Progress, Scan, more_is_wanted, next_request_from,
-};
+use mr_resp::{Fault, Limits, Progress, Scan, more_is_wanted, next_request_from};
 use std::alloc::{AllocError, Global};
 
 /// What is to be done about unread bytes.

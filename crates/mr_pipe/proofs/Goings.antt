@@ -24,12 +24,21 @@ yes_close : {A : Type 0} → false ≡ true → A
 yes_close e = absurd (cc)
 
 went : (a : NodeState) (l : LinkId) (u : List ℕ) (g : Given) (b : NodeState) (outs : OutsState) → ClientRow a l u g b outs → outs.closes ≡ false → Went a l u g b outs
-went a l u g b outs (ClientRow.replies r) e = record { rest = r.rest; agrees = r.leaves.agrees;
-    turn = Turn.replies r.words r.reply r.effects r.held r.asks r.planned r.within r.applied r.core (ap (λ (o : OutsState). o.reply) r.outs_are) }
-went a l u g b outs (ClientRow.passes_limit r) e = record { rest = r.rest; agrees = r.leaves.agrees;
-    turn = Turn.passes_limit r.words r.reply r.effects r.asks r.planned r.beyond r.core (ap (λ (o : OutsState). o.reply) r.outs_are) }
-went a l u g b outs (ClientRow.skips r) e = record { rest = r.rest; agrees = r.leaves.agrees;
-    turn = Turn.skips r.asks r.core (ap (λ (o : OutsState). o.reply) r.outs_are) }
+went a l u g b outs (ClientRow.replies r) e = record {
+  rest = r.rest;
+  agrees = r.leaves.agrees;
+  turn = Turn.replies r.words r.reply r.effects r.held r.asks r.planned r.within r.applied r.core (ap (λ (o : OutsState). o.reply) r.outs_are);
+}
+went a l u g b outs (ClientRow.passes_limit r) e = record {
+  rest = r.rest;
+  agrees = r.leaves.agrees;
+  turn = Turn.passes_limit r.words r.reply r.effects r.asks r.planned r.beyond r.core (ap (λ (o : OutsState). o.reply) r.outs_are);
+}
+went a l u g b outs (ClientRow.skips r) e = record {
+  rest = r.rest;
+  agrees = r.leaves.agrees;
+  turn = Turn.skips r.asks r.core (ap (λ (o : OutsState). o.reply) r.outs_are);
+}
 went a l u g b outs (ClientRow.faults r) e = no_close (sym (ap (λ (o : OutsState). o.closes) r.outs_are) ∙ e)
 
 abbrev pub starts : (g : Given) (a : NodeState) (l : LinkId) (u : List ℕ) (old : Option (List ℕ)) → Agrees a l u → Going g a l u old a old
@@ -53,15 +62,29 @@ pub drained : (g : Given) (a : NodeState) (l : LinkId) (u : List ℕ) (old : Opt
 drained g a l u old b mid d new w t =
     let s = t.idles.same in
     record {
-      going = record { turns = w.turns; rest = w.rest; said = w.said; serves = subst (λ (z : NodeState). Serves g a.core u w.turns z.core w.rest w.said) (sym s) w.serves;
-        told = subst (λ z. Appends old new z) (append_nil w.said) (Appends-trans old mid new w.said [] w.told t.told); agrees = subst (λ z. Agrees z l w.rest) (sym s) w.agrees };
+      going = record {
+        turns = w.turns;
+        rest = w.rest;
+        said = w.said;
+        serves = subst (λ (z : NodeState). Serves g a.core u w.turns z.core w.rest w.said) (sym s) w.serves;
+        told = subst (λ z. Appends old new z) (append_nil w.said) (Appends-trans old mid new w.said [] w.told t.told);
+        agrees = subst (λ z. Agrees z l w.rest) (sym s) w.agrees;
+      };
       waits = t.idles.waits;
     }
 
 pub ended : (g : Given) (a : NodeState) (l : LinkId) (u : List ℕ) (old : Option (List ℕ)) (b : NodeState) (mid : Option (List ℕ)) (d : NodeState) (new : Option (List ℕ))
     → (w : Going g a l u old b mid) → (outs : OutsState) → ClientRow b l w.rest g d outs → outs.closes ≡ true → Appends mid new outs.reply → Ended g a l u old d new
-ended g a l u old b mid d new w outs (ClientRow.faults r) e n = record { mid = b; before = mid; going = w; fault = r.fault; doomed = r.doomed; core = r.core;
-    told = subst (λ (o : OutsState). Appends mid new o.reply) r.outs_are n; shut = r.shut }
+ended g a l u old b mid d new w outs (ClientRow.faults r) e n = record {
+  mid = b;
+  before = mid;
+  going = w;
+  fault = r.fault;
+  doomed = r.doomed;
+  core = r.core;
+  told = subst (λ (o : OutsState). Appends mid new o.reply) r.outs_are n;
+  shut = r.shut;
+}
 ended g a l u old b mid d new w outs (ClientRow.replies r) e n = yes_close (sym (ap (λ (o : OutsState). o.closes) r.outs_are) ∙ e)
 ended g a l u old b mid d new w outs (ClientRow.passes_limit r) e n = yes_close (sym (ap (λ (o : OutsState). o.closes) r.outs_are) ∙ e)
 ended g a l u old b mid d new w outs (ClientRow.skips r) e n = yes_close (sym (ap (λ (o : OutsState). o.closes) r.outs_are) ∙ e)
@@ -69,19 +92,26 @@ ended g a l u old b mid d new w outs (ClientRow.skips r) e n = yes_close (sym (a
 abbrev pub going_join : (g : Given) (a : NodeState) (l : LinkId) (u : List ℕ) (old : Option (List ℕ)) (bytes : List ℕ) (n : NodeState) (m : Option (List ℕ)) (n1 b : NodeState) (new : Option (List ℕ))
     → (w : Going g a l u old n m) → n1.core ≡ n.core → Going g n1 l (w.rest ++ bytes) m b new → Going g a l (u ++ bytes) old b new
 going_join g a l u old bytes n m n1 b new w same d = record {
-    turns = more_moments bytes w.turns ++ d.turns;
-    rest = d.rest;
-    said = w.said ++ d.said;
-    serves = serves_join g a.core (u ++ bytes) (more_moments bytes w.turns) n.core (w.rest ++ bytes) w.said d.turns b.core d.rest d.said
+  turns = more_moments bytes w.turns ++ d.turns;
+  rest = d.rest;
+  said = w.said ++ d.said;
+  serves = serves_join g a.core (u ++ bytes) (more_moments bytes w.turns) n.core (w.rest ++ bytes) w.said d.turns b.core d.rest d.said
       (serves_more g bytes a.core u w.turns n.core w.rest w.said w.serves) (subst (λ z. Serves g z (w.rest ++ bytes) d.turns b.core d.rest d.said) same d.serves);
-    told = Appends-trans old m new w.said d.said w.told d.told;
-    agrees = d.agrees;
-  }
+  told = Appends-trans old m new w.said d.said w.told d.told;
+  agrees = d.agrees;
+}
 
 -- what was served before, and what is served of the bytes that came
 pub drained_join : (g : Given) (a : NodeState) (l : LinkId) (u : List ℕ) (old : Option (List ℕ)) (bytes : List ℕ) (n : NodeState) (m : Option (List ℕ)) (n1 b : NodeState) (new : Option (List ℕ))
     → (w : Going g a l u old n m) → n1.core ≡ n.core → (goes : Bool) → IsDrained g n1 l (w.rest ++ bytes) m b new goes → IsDrained g a l (u ++ bytes) old b new goes
 drained_join g a l u old bytes n m n1 b new w same true d = record { going = going_join g a l u old bytes n m n1 b new w same d.going; waits = d.waits }
 drained_join g a l u old bytes n m n1 b new w same false d = record {
-    mid = d.mid; before = d.before; going = going_join g a l u old bytes n m n1 d.mid d.before w same d.going;
-    fault = d.fault; doomed = d.doomed; core = d.core; told = d.told; shut = d.shut }
+  mid = d.mid;
+  before = d.before;
+  going = going_join g a l u old bytes n m n1 d.mid d.before w same d.going;
+  fault = d.fault;
+  doomed = d.doomed;
+  core = d.core;
+  told = d.told;
+  shut = d.shut;
+}

@@ -33,15 +33,25 @@ after_round g a l old x y z m mid b new round.Shut w r = record { read = w.read 
 pub session_end : (g : Given) (a : NodeState) (l : LinkId) (old x z : Option (List ℕ)) (b : NodeState) (new : Option (List ℕ)) → RelaysEnd g a l [] old x z b new → Session g a.core x z old new
 session_end g a l old x z b new r =
     let w = r.all.drained.going in
-    record { read = r.all.read; consumed = r.all.consumed; said = w.said; told = w.told;
-      answers = Answers.at_end w.turns b.core w.rest w.serves r.all.drained.waits r.at_end }
+    record {
+      read = r.all.read;
+      consumed = r.all.consumed;
+      said = w.said;
+      told = w.told;
+      answers = Answers.at_end w.turns b.core w.rest w.serves r.all.drained.waits r.at_end;
+    }
 
 pub session_fault : (g : Given) (a : NodeState) (l : LinkId) (old x z : Option (List ℕ)) (b : NodeState) (new : Option (List ℕ)) → RelaysFault g a l [] old x z b new → Session g a.core x z old new
 session_fault g a l old x z b new r =
     let w = r.ended.going in
     let fault = reply_text (error (fault_text r.ended.fault)) in
-    record { read = r.read; consumed = r.consumed; said = w.said ++ fault; told = Appends-trans old r.ended.before new w.said fault w.told r.ended.told;
-      answers = Answers.at_fault w.turns r.ended.mid.core w.rest w.said r.ended.fault w.serves r.ended.doomed refl }
+    record {
+      read = r.read;
+      consumed = r.consumed;
+      said = w.said ++ fault;
+      told = Appends-trans old r.ended.before new w.said fault w.told r.ended.told;
+      answers = Answers.at_fault w.turns r.ended.mid.core w.rest w.said r.ended.fault w.serves r.ended.doomed refl;
+    }
 
 -- a flush changes nothing of this
 pub drained_kept : (g : Given) (a : NodeState) (l : LinkId) (u : List ℕ) (old : Option (List ℕ)) (b : NodeState) (mid new : Option (List ℕ)) → Drained g a l u old b mid → Keeps mid new → Drained g a l u old b new
@@ -50,8 +60,16 @@ drained_kept g a l u old b mid new d k =
     record { going = record { turns = w.turns; rest = w.rest; said = w.said; serves = w.serves; told = Appends-kept old mid new w.said w.told k; agrees = w.agrees }; waits = d.waits }
 
 pub ended_kept : (g : Given) (a : NodeState) (l : LinkId) (u : List ℕ) (old : Option (List ℕ)) (b : NodeState) (mid new : Option (List ℕ)) → Ended g a l u old b mid → Keeps mid new → Ended g a l u old b new
-ended_kept g a l u old b mid new e k = record { mid = e.mid; before = e.before; going = e.going; fault = e.fault; doomed = e.doomed; core = e.core;
-    told = Appends-kept e.before mid new (reply_text (error (fault_text e.fault))) e.told k; shut = e.shut }
+ended_kept g a l u old b mid new e k = record {
+  mid = e.mid;
+  before = e.before;
+  going = e.going;
+  fault = e.fault;
+  doomed = e.doomed;
+  core = e.core;
+  told = Appends-kept e.before mid new (reply_text (error (fault_text e.fault))) e.told k;
+  shut = e.shut;
+}
 
 pub on_ok_map : {A E : Type 0} (r : Result A E) (P Q : Type 0) → OnOk r P → (P → Q) → OnOk r Q
 on_ok_map (Ok x) P Q h f = f h

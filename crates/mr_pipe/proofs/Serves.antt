@@ -12,9 +12,10 @@ append_nil (x ∷ xs) = ap (λ ys. x ∷ ys) (append_nil xs)
 -- one more request
 pub serves_then : (g : Given) (c : Core) (u : List ℕ) (ts : List Moment) (d : Core) (rest out : List ℕ) (e : Core) (left said : List ℕ)
     → Serves g c u ts d rest out → Turn d rest g e left said → Serves g c u (ts ++ record { core = e; left = left; said = said } ∷ []) e left (out ++ said)
-serves_then g c u [] d rest out e left said s r =
-    (subst (λ z. Turn z u g e left said) s.0 (subst (λ z. Turn d z g e left said) s.1 r),
-      ([], (refl, refl, refl), ap (λ z. z ++ said) s.2 ∙ sym (append_nil said)))
+serves_then g c u [] d rest out e left said s r = (
+  subst (λ z. Turn z u g e left said) s.0 (subst (λ z. Turn d z g e left said) s.1 r),
+  ([], (refl, refl, refl), ap (λ z. z ++ said) s.2 ∙ sym (append_nil said)),
+)
 serves_then g c u (t ∷ ts) d rest out e left said s r =
     (s.0, (s.1.0 ++ said, serves_then g t.core t.left ts d rest s.1.0 e left said s.1.1 r, ap (λ z. z ++ said) s.1.2 ∙ append_assoc t.said s.1.0 said))
 

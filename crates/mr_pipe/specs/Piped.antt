@@ -25,7 +25,7 @@ pub data Answers (g : Given) (c : Core) (read said : List ℕ) (after : Option (
   at_end : (turns : List Moment) (d : Core) (rest : List ℕ) → Serves g c read turns d rest said → Waits rest → IsAtEnd after → Answers g c read said after
   -- .. and then the bytes were doomed: their fault was told last, and nothing behind them is answered
   at_fault : (turns : List Moment) (d : Core) (rest replies : List ℕ) (fault : Fault) → Serves g c read turns d rest replies → IsDoomedBy rest fault
-    → said ≡ replies ++ reply_text (error (fault_text fault)) → Answers g c read said after
+      → said ≡ replies ++ reply_text (error (fault_text fault)) → Answers g c read said after
 
 -- What was read of the input and written to the output is a session of a node that was c, with a fresh link.
 pub record Session (g : Given) (c : Core) (before after : Option (List ℕ)) (old new : Option (List ℕ)) : Type 0 where

@@ -16,11 +16,11 @@ use Rattle.mr_node.specs.Rows.{offset_limit, limit_text}
 pub data Turn (c : Core) (u : List ℕ) (g : Given) (d : Core) (rest out : List ℕ) : Type 0 where
   -- it is answered at the node's dataset, and its effects are applied and put behind the stream
   replies : (words : List (List ℕ)) (reply : Tree) (effects : List Effect) (held : Dataset) → Asks u words rest → IsPlanned words g c.held reply effects
-    → c.stream.offset + length (texts effects) ≤ offset_limit → apply_all effects c.held ≡ Some held
-    → d ≡ record c { held = held; stream = after_bytes c.stream (texts effects) } → out ≡ reply_text reply → Turn c u g d rest out
+      → c.stream.offset + length (texts effects) ≤ offset_limit → apply_all effects c.held ≡ Some held
+      → d ≡ record c { held = held; stream = after_bytes c.stream (texts effects) } → out ≡ reply_text reply → Turn c u g d rest out
   -- its effects would carry the offset past its limit
   passes_limit : (words : List (List ℕ)) (reply : Tree) (effects : List Effect) → Asks u words rest → IsPlanned words g c.held reply effects
-    → offset_limit < c.stream.offset + length (texts effects) → d ≡ c → out ≡ reply_text (error limit_text) → Turn c u g d rest out
+      → offset_limit < c.stream.offset + length (texts effects) → d ≡ c → out ≡ reply_text (error limit_text) → Turn c u g d rest out
   -- it is an empty request
   skips : AsksNothing u rest → d ≡ c → out ≡ [] → Turn c u g d rest out
 

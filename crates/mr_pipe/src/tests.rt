@@ -8,7 +8,9 @@ use std::io::{ErrorKind, Read, Write};
 use std::test::Fail;
 
 const SET: &[u8] = b"*3\r\n$3\r\nSET\r\n$1\r\nk\r\n$1\r\nv\r\n";
+
 const GET: &[u8] = b"*2\r\n$3\r\nGET\r\n$1\r\nk\r\n";
+
 const PING: &[u8] = b"*1\r\n$4\r\nPING\r\n";
 
 /// Gives its bytes in pieces of at most so many, and then ends or fails.
@@ -74,7 +76,10 @@ fn replies_are_those_of_the_requests(rt: HostRuntime) -> Result<(), Fail> {
         (&[b"*0\r\n", b"*-1\r\n", PING], b"+PONG\r\n"),
         (&[b"*1\r\n$-5\r\n", PING], fault),
         (&[b"*2\r\n$3\r\nGET\r\n$1\r\nkXY", PING], fault),
-        (&[PING, b"*1\r\n:3\r\n", PING], b"+PONG\r\n-ERR Protocol error: expected '$', got ':'\r\n"),
+        (
+            &[PING, b"*1\r\n:3\r\n", PING],
+            b"+PONG\r\n-ERR Protocol error: expected '$', got ':'\r\n",
+        ),
         (&[PING, &SET[..26]], b"+PONG\r\n"),
     ];
     for (texts, want) in rows {
@@ -89,7 +94,13 @@ fn replies_are_those_of_the_requests(rt: HostRuntime) -> Result<(), Fail> {
                 fails: false,
             };
             let mut output = Vec::new(alloc);
-            let ended = pipe(alloc, &config, RandomState::new(&rt)?, &mut input, &mut output);
+            let ended = pipe(
+                alloc,
+                &config,
+                RandomState::new(&rt)?,
+                &mut input,
+                &mut output,
+            );
             assert_eq!(rt; ended, Ok(()));
             assert_eq!(rt; output.as_slice(), want, "in pieces of {piece}");
         }
@@ -107,9 +118,19 @@ fn each_cut_gives_the_same_bytes(rt: HostRuntime) -> Result<(), Fail> {
     for cut in 0..whole.len() {
         let mut input = whole[..cut].chain(&whole[cut..]);
         let mut output = Vec::new(alloc);
-        let ended = pipe(alloc, &config, RandomState::new(&rt)?, &mut input, &mut output);
+        let ended = pipe(
+            alloc,
+            &config,
+            RandomState::new(&rt)?,
+            &mut input,
+            &mut output,
+        );
         assert_eq!(rt; ended, Ok(()));
-        assert_eq!(rt; output.as_slice(), b"+OK\r\n$1\r\nv\r\n".as_slice(), "cut at {cut}");
+        assert_eq!(rt;
+            output.as_slice(),
+            b"+OK\r\n$1\r\nv\r\n".as_slice(),
+            "cut at {cut}"
+        );
     }
     Ok(())
 }
@@ -129,7 +150,13 @@ fn a_failed_read_or_write_ends_it(rt: HostRuntime) -> Result<(), Fail> {
             fails: true,
         };
         let mut output = Vec::new(alloc);
-        let ended = pipe(alloc, &config, RandomState::new(&rt)?, &mut input, &mut output);
+        let ended = pipe(
+            alloc,
+            &config,
+            RandomState::new(&rt)?,
+            &mut input,
+            &mut output,
+        );
         assert_eq!(rt; ended, Err(PipeFault::Read));
         assert_eq!(rt; output.as_slice(), want, "what came was answered");
     }
@@ -143,9 +170,19 @@ fn a_failed_read_or_write_ends_it(rt: HostRuntime) -> Result<(), Fail> {
             taken: Vec::new(alloc),
             room,
         };
-        let ended = pipe(alloc, &config, RandomState::new(&rt)?, &mut input, &mut output);
+        let ended = pipe(
+            alloc,
+            &config,
+            RandomState::new(&rt)?,
+            &mut input,
+            &mut output,
+        );
         assert_eq!(rt; ended, Err(PipeFault::Write));
-        assert_eq!(rt; output.taken.as_slice(), &want[..room], "a beginning of the replies");
+        assert_eq!(rt;
+            output.taken.as_slice(),
+            &want[..room],
+            "a beginning of the replies"
+        );
     }
     Ok(())
 }

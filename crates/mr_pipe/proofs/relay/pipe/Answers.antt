@@ -12,7 +12,7 @@ returns g c =
     let core : n.core ≡ fresh_core c.args.config.now.id = search rules in
     let agrees : Agrees n c.in_ok-link.link [] = search rules in
     on_ok_map c.relay.result
-      (Agrees n c.in_ok-link.link [] → Session given n.core (left c.args.input.now) (left c.relay.new.input) (told c.args.output.now) (told c.relay.new.output))
-      (Session given (fresh_core c.args.config.now.id) (left c.args.input.now) (left c.relay.new.input) (told c.args.output.now) (told c.relay.new.output))
-      c.relay.ensures
-      (λ s. subst (λ (k : Core). Session given k (left c.args.input.now) (left c.relay.new.input) (told c.args.output.now) (told c.relay.new.output)) core (s agrees))
+    (Agrees n c.in_ok-link.link [] → Session given n.core (left c.args.input.now) (left c.relay.new.input) (told c.args.output.now) (told c.relay.new.output))
+    (Session given (fresh_core c.args.config.now.id) (left c.args.input.now) (left c.relay.new.input) (told c.args.output.now) (told c.relay.new.output))
+    c.relay.ensures
+    (λ s. subst (λ (k : Core). Session given k (left c.args.input.now) (left c.relay.new.input) (told c.args.output.now) (told c.relay.new.output)) core (s agrees))

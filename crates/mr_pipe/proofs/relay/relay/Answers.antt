@@ -14,7 +14,7 @@ loop-turn-preserved g c = λ ag.
     let x = left c.args.input.now in let y = left c.loop-turn.input in let z = left c.serve_piece.new.input in
     let w : Relays c.args.given c.args.node.now c.args.link [] old x y n mid = c.loop-turn.invariant ag in
     after_round c.args.given c.args.node.now c.args.link old x y z n mid m new round.On w
-      (subst (λ t. IsRound c.args.given c.args.node.now c.args.link w.read old y z m new t) c.in-On.is (c.in_ok-serve_piece.ensures c.args.node.now w.read old w.drained))
+    (subst (λ t. IsRound c.args.given c.args.node.now c.args.link w.read old y z m new t) c.in-On.is (c.in_ok-serve_piece.ensures c.args.node.now w.read old w.drained))
 
 pub returns-in-End : goal.returns-in-End
 returns-in-End g c = λ ag.
@@ -23,8 +23,8 @@ returns-in-End g c = λ ag.
     let x = left c.args.input.now in let y = left c.loop-turn.input in let z = left c.serve_piece.new.input in
     let w : Relays c.args.given c.args.node.now c.args.link [] old x y n mid = c.loop-turn.invariant ag in
     session_end c.args.given c.args.node.now c.args.link old x z m new
-      (after_round c.args.given c.args.node.now c.args.link old x y z n mid m new round.End w
-        (subst (λ t. IsRound c.args.given c.args.node.now c.args.link w.read old y z m new t) c.in-End.is (c.in_ok-serve_piece.ensures c.args.node.now w.read old w.drained)))
+    (after_round c.args.given c.args.node.now c.args.link old x y z n mid m new round.End w
+    (subst (λ t. IsRound c.args.given c.args.node.now c.args.link w.read old y z m new t) c.in-End.is (c.in_ok-serve_piece.ensures c.args.node.now w.read old w.drained)))
 
 pub returns-in-Shut : goal.returns-in-Shut
 returns-in-Shut g c = λ ag.
@@ -33,5 +33,5 @@ returns-in-Shut g c = λ ag.
     let x = left c.args.input.now in let y = left c.loop-turn.input in let z = left c.serve_piece.new.input in
     let w : Relays c.args.given c.args.node.now c.args.link [] old x y n mid = c.loop-turn.invariant ag in
     session_fault c.args.given c.args.node.now c.args.link old x z m new
-      (after_round c.args.given c.args.node.now c.args.link old x y z n mid m new round.Shut w
-        (subst (λ t. IsRound c.args.given c.args.node.now c.args.link w.read old y z m new t) c.in-Shut.is (c.in_ok-serve_piece.ensures c.args.node.now w.read old w.drained)))
+    (after_round c.args.given c.args.node.now c.args.link old x y z n mid m new round.Shut w
+    (subst (λ t. IsRound c.args.given c.args.node.now c.args.link w.read old y z m new t) c.in-Shut.is (c.in_ok-serve_piece.ensures c.args.node.now w.read old w.drained)))

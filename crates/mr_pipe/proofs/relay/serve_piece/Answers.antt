@@ -28,7 +28,7 @@ returns-then-goes_on g c = λ a u old d.
       read = bytes;
       consumed = came.1;
       drained = drained_kept c.args.given a c.args.link (u ++ bytes) old c.deliver.new.node (told c.deliver.new.output) (told c.flush.new.self)
-        (subst (λ b. IsDrained c.args.given a c.args.link (u ++ bytes) old c.deliver.new.node (told c.deliver.new.output) b) c.if-goes_on.true (c.in_ok-goes_on.ensures a u old d.going)) c.flush.ensures.bytes;
+          (subst (λ b. IsDrained c.args.given a c.args.link (u ++ bytes) old c.deliver.new.node (told c.deliver.new.output) b) c.if-goes_on.true (c.in_ok-goes_on.ensures a u old d.going)) c.flush.ensures.bytes;
     }
 
 pub returns : goal.returns
@@ -40,5 +40,5 @@ returns g c = λ a u old d.
       read = bytes;
       consumed = came.1;
       ended = ended_kept c.args.given a c.args.link (u ++ bytes) old c.deliver.new.node (told c.deliver.new.output) (told c.flush.new.self)
-        (subst (λ b. IsDrained c.args.given a c.args.link (u ++ bytes) old c.deliver.new.node (told c.deliver.new.output) b) c.if-goes_on.false (c.in_ok-goes_on.ensures a u old d.going)) c.flush.ensures.bytes;
+          (subst (λ b. IsDrained c.args.given a c.args.link (u ++ bytes) old c.deliver.new.node (told c.deliver.new.output) b) c.if-goes_on.false (c.in_ok-goes_on.ensures a u old d.going)) c.flush.ensures.bytes;
     }

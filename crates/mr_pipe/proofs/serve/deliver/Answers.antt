@@ -19,8 +19,8 @@ returns g c =
     let heard : (v : List ℕ) → Agrees n l v → Agrees n1 l (v ++ c.args.bytes.now) = search rules in
     let same : n1.core ≡ n.core = search rules in
     ok_map c.drain.result
-      (λ goes. (v : List ℕ) → Agrees n1 l v → IsDrained c.args.given n1 l v before c.drain.new.node after goes)
-      (λ goes. (a : NodeState) (u : List ℕ) (old : Option (List ℕ)) → Going c.args.given a l u old n before → IsDrained c.args.given a l (u ++ c.args.bytes.now) old c.drain.new.node after goes)
-      c.drain.ensures
-      (λ goes d a u old w. drained_join c.args.given a l u old c.args.bytes.now n before n1 c.drain.new.node after w same goes
-        (d (w.rest ++ c.args.bytes.now) (heard w.rest w.agrees)))
+    (λ goes. (v : List ℕ) → Agrees n1 l v → IsDrained c.args.given n1 l v before c.drain.new.node after goes)
+    (λ goes. (a : NodeState) (u : List ℕ) (old : Option (List ℕ)) → Going c.args.given a l u old n before → IsDrained c.args.given a l (u ++ c.args.bytes.now) old c.drain.new.node after goes)
+    c.drain.ensures
+    (λ goes d a u old w. drained_join c.args.given a l u old c.args.bytes.now n before n1 c.drain.new.node after w same goes
+    (d (w.rest ++ c.args.bytes.now) (heard w.rest w.agrees)))

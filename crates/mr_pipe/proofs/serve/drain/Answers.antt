@@ -8,7 +8,7 @@ returns-in-Waits g c = λ u ag.
     let told = g.W.Write.contents in let n = c.loop-turn.node in let m = c.turn.new.node in let o = c.turn.new.output in
     let w : Going c.args.given c.args.node.now c.args.link u (told c.args.output.now) n (told c.loop-turn.output) = c.loop-turn.invariant u ag in
     drained c.args.given c.args.node.now c.args.link u (told c.args.output.now) n (told c.loop-turn.output) m (told o) w
-      (subst (λ s. IsTurn n c.args.link w.rest c.args.given (told c.loop-turn.output) m (told o) s) c.in-Waits.is (c.in_ok-turn.ensures w.rest w.agrees))
+    (subst (λ s. IsTurn n c.args.link w.rest c.args.given (told c.loop-turn.output) m (told o) s) c.in-Waits.is (c.in_ok-turn.ensures w.rest w.agrees))
 
 pub returns-in-Shut : goal.returns-in-Shut
 returns-in-Shut g c = λ u ag.
@@ -22,4 +22,4 @@ loop-turn-preserved g c = λ u ag.
     let told = g.W.Write.contents in let n = c.loop-turn.node in let m = c.turn.new.node in let o = c.turn.new.output in
     let w : Going c.args.given c.args.node.now c.args.link u (told c.args.output.now) n (told c.loop-turn.output) = c.loop-turn.invariant u ag in
     goes_on c.args.given c.args.node.now c.args.link u (told c.args.output.now) n (told c.loop-turn.output) m (told o) w
-      (subst (λ s. IsTurn n c.args.link w.rest c.args.given (told c.loop-turn.output) m (told o) s) c.in-On.is (c.in_ok-turn.ensures w.rest w.agrees))
+    (subst (λ s. IsTurn n c.args.link w.rest c.args.given (told c.loop-turn.output) m (told o) s) c.in-On.is (c.in_ok-turn.ensures w.rest w.agrees))

@@ -9,4 +9,4 @@ invariant_of-self-2 c =
     let used = c.self.inside.used in
     let kept : drop used input ≡ c.args.self.now.kept = ap (λ (e : EndState). e.kept) (c.self.view_is ∙ c.compact.ensures) in
     fits_more input c.args.bytes.now _ used c.self.inside.progress c.in_ok-extend_from_slice.ensures.items
-      (omega (arith, c.requires, c.self.invariant.within, length-drop used input, ap length kept)) c.self.invariant
+    (omega (arith, c.requires, c.self.invariant.within, length-drop used input, ap length kept)) c.self.invariant

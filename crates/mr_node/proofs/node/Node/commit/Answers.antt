@@ -16,8 +16,8 @@ returns-clause-step c =
     let g : c.grown.result.now ≡ texts es = search rules in
     let streams : c.push.new.self ≡ after_bytes c.self.inside.stream (texts es) = c.push.ensures ∙ ap (after_bytes c.self.inside.stream) g in
     let path =
-        ap (λ (z : Window). with_stream c.self.inside h z) streams
-        ∙ ap (λ (s : NodeState). record s { core = record s.core { held = h; stream = after_bytes s.core.stream (texts es) } }) c.self.view_is in
+    ap (λ (z : Window). with_stream c.self.inside h z) streams
+    ∙ ap (λ (s : NodeState). record s { core = record s.core { held = h; stream = after_bytes s.core.stream (texts es) } }) c.self.view_is in
     record {
       held = h;
       applied = search rules;

@@ -8,7 +8,9 @@ use Rattle.mr_node.proofs.node.Node.hear.Goals as goal
 
 pub returns-in_default-hear-clause-err : goal.returns-in_default-hear-clause-err
 returns-in_default-hear-clause-err c =
-    let links = c.self.inside.links in let l = c.args.link in
-    (refl, ap (λ (m : FinMap id_cmp EndState). with_links c.self.inside (record { open_links = m; opened = links.opened }))
-        (ap (λ (e : EndState). insert links.open_links l e) c.in_default-hear.ensures.err ∙ put_same links.open_links l c.in-Some.end.now (sym c.in-Some.ensures.value))
-      ∙ c.self.view_is)
+    let links = c.self.inside.links in let l = c.args.link in (
+      refl,
+      ap (λ (m : FinMap id_cmp EndState). with_links c.self.inside (record { open_links = m; opened = links.opened }))
+          (ap (λ (e : EndState). insert links.open_links l e) c.in_default-hear.ensures.err ∙ put_same links.open_links l c.in-Some.end.now (sym c.in-Some.ensures.value))
+          ∙ c.self.view_is,
+    )

@@ -10,5 +10,5 @@ pub returns : goal.returns
 returns c =
     let links = c.self.inside.links in let l = c.args.link in
     ap (λ (m : FinMap id_cmp EndState). with_links c.self.inside (record { open_links = m; opened = links.opened }))
-        (ap (λ (e : EndState). insert links.open_links l e) c.keep.ensures ∙ put_same links.open_links l c.in-Some.end.now (sym c.in-Some.ensures.value))
-      ∙ c.self.view_is
+    (ap (λ (e : EndState). insert links.open_links l e) c.keep.ensures ∙ put_same links.open_links l c.in-Some.end.now (sym c.in-Some.ensures.value))
+    ∙ c.self.view_is

@@ -21,7 +21,7 @@ returns-in-Ok-Skip-clause-row c = λ u ag.
     let k : c.unread.result.now ≡ u = c.unread.ensures ∙ kept_is a l u _ ag found in
     let p : Passes c.unread.result.now c.in-Ok-Skip.used = search rules in
     subst (λ s. StepRow a l u c.args.given c.skip.new.self s) (sym c.skip.ensures.step)
-      (skip_row a c.skip.new.self l c.args.given u c.in-Ok-Skip.used (subst (λ z. Passes z c.in-Ok-Skip.used) k p) c.skip.ensures.state ag)
+    (skip_row a c.skip.new.self l c.args.given u c.in-Ok-Skip.used (subst (λ z. Passes z c.in-Ok-Skip.used) k p) c.skip.ensures.state ag)
 
 pub returns-in-Ok-Refuse-clause-row : goal.returns-in-Ok-Refuse-clause-row
 returns-in-Ok-Refuse-clause-row c =
@@ -29,7 +29,7 @@ returns-in-Ok-Refuse-clause-row c =
     let found : end_of a l ≡ Some c.in-Some.end.now = ap (λ (s : NodeState). end_of s l) (sym c.self.view_is) ∙ sym c.in-Some.ensures in
     let p : IsDoomedBy c.unread.result.now c.in-Ok-Refuse.fault = search rules in
     ok_is c.refuse.result (Done (fault_outs l c.in-Ok-Refuse.fault)) _ _ c.refuse.ensures.step c.refuse.ensures.state
-      (λ e u ag. fault_row a c.refuse.new.self l c.args.given u c.in-Ok-Refuse.fault (subst (λ z. IsDoomedBy z c.in-Ok-Refuse.fault) (c.unread.ensures ∙ kept_is a l u _ ag found) p) e)
+    (λ e u ag. fault_row a c.refuse.new.self l c.args.given u c.in-Ok-Refuse.fault (subst (λ z. IsDoomedBy z c.in-Ok-Refuse.fault) (c.unread.ensures ∙ kept_is a l u _ ag found) p) e)
 
 pub returns-in-Ok-Run-clause-row : goal.returns-in-Ok-Run-clause-row
 returns-in-Ok-Run-clause-row c =
@@ -38,7 +38,7 @@ returns-in-Ok-Run-clause-row c =
     let found : end_of a l ≡ Some c.in-Some.end.now = ap (λ (s : NodeState). end_of s l) (sym c.self.view_is) ∙ sym c.in-Some.ensures in
     let r : Runs c.unread.result.now c.args.given a.core.held used plan = search rules in
     ok_map c.run.result _ _ c.run.ensures.step
-      (λ s ran u ag. run_row a c.run.new.self l c.args.given u used plan s (subst (λ z. Runs z c.args.given a.core.held used plan) (c.unread.ensures ∙ kept_is a l u _ ag found) r) ran ag)
+    (λ s ran u ag. run_row a c.run.new.self l c.args.given u used plan s (subst (λ z. Runs z c.args.given a.core.held used plan) (c.unread.ensures ∙ kept_is a l u _ ag found) r) ran ag)
 
 pub returns-in-Ok-Run-clause-stopped : goal.returns-in-Ok-Run-clause-stopped
 returns-in-Ok-Run-clause-stopped c = λ stopped.
