@@ -1,0 +1,40 @@
+//! Why the program ends with another status than 0.
+use mr_options::UsageFault;
+use mr_pipe::PipeFault;
+use thiserror::Error;
+
+/// Why the program fails. Its text stands on standard error, behind the program's name.
+#[derive(Debug, Drop, Error)]
+pub enum Failure {
+    #[error("{0}")]
+    Usage(UsageFault),
+    #[error("{0}")]
+    Pipe(PipeFault),
+}
+
+impl Failure {
+    ghost use Rattle.std.specs.Prelude.{◌≡◌};
+    ghost use Rattle.minired.specs.Ending.{status_of};
+
+    /// The status that the program ends with.
+    pub fn status(&self) -> u8
+        ensures { result ≡ status_of self.now }
+    {
+        match self {
+            Failure::Usage(UsageFault::Line(_)) | Failure::Usage(UsageFault::BadValue) => 1,
+            Failure::Usage(UsageFault::Memory) | Failure::Pipe(_) => 3,
+        }
+    }
+}
+
+impl From<UsageFault> for Failure {
+    fn from(fault: UsageFault) -> Failure {
+        Failure::Usage(fault)
+    }
+}
+
+impl From<PipeFault> for Failure {
+    fn from(fault: PipeFault) -> Failure {
+        Failure::Pipe(fault)
+    }
+}

@@ -1,0 +1,71 @@
+//! The program: reads its words, runs what they name over its standard streams, and tells how it ended.
+#![tactic(auto)]
+
+ghost use Rattle.mr_data.specs.Given.{IsMoment};
+
+mod failure;
+
+use failure::Failure;
+use mr_data::Given;
+use mr_options::{Options, PipeOptions, UsageFault, options};
+use mr_pipe::{PipeConfig, PipeFault, pipe};
+use std::env;
+use std::hash::RandomState;
+use std::io::{BufWriter, ErrorKind};
+use std::process::ExitCode;
+
+/// How many bytes of replies are kept until they are written together.
+const REPLIES: usize = 65_536;
+
+/// The program's words, its name left out. One that isn't text is a bad value.
+fn words(rt: &HostRuntime) -> Result<Vec<String>, UsageFault> {
+    let all = match env::args(rt) {
+        Ok(all) => all,
+        Err(error) => {
+            if error.kind() == ErrorKind::OutOfMemory {
+                return Err(UsageFault::Memory);
+            }
+            return Err(UsageFault::BadValue);
+        }
+    };
+    let words = all.skip(1).collect(rt.alloc())?;
+    Ok(words)
+}
+
+/// One node, asked by one client on standard input and answered on standard output.
+fn run_pipe(rt: &HostRuntime, options: &PipeOptions) -> Result<(), PipeFault>
+    requires { IsMoment options.now.now }
+{
+    let Some(given) = Given::new(options.now, options.word) else {
+        unreachable!()
+    };
+    let config = PipeConfig {
+        id: options.id,
+        given,
+    };
+    let Ok(seed) = RandomState::new(rt) else {
+        return Err(PipeFault::Read);
+    };
+    let Ok(mut output) = BufWriter::with_capacity(rt.alloc(), REPLIES, rt.stdout()) else {
+        return Err(PipeFault::Memory);
+    };
+    pipe(rt.alloc(), &config, seed, &mut rt.stdin(), &mut output)
+}
+
+fn run(rt: &HostRuntime) -> Result<(), Failure> {
+    let words = words(rt)?;
+    match options(rt.alloc(), words.as_slice())? {
+        Options::Pipe(options) => run_pipe(rt, &options)?,
+    }
+    Ok(())
+}
+
+fn main(rt: HostRuntime) -> ExitCode {
+    match run(&rt) {
+        Ok(()) => ExitCode::SUCCESS,
+        Err(failure) => {
+            let _ = eprintln!(rt; "minired: {failure}");
+            ExitCode::from(failure.status())
+        }
+    }
+}
