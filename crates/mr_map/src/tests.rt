@@ -4,21 +4,9 @@ use std::hash::RandomState;
 use std::test::Fail;
 
 // One beginning of another, the empty key, and a byte past ASCII; not in order.
-const ADDED: [(&[u8], u32); 5] = [
-    (b"b", 1),
-    (b"ab", 2),
-    (b"\xff", 3),
-    (b"", 4),
-    (b"a", 5),
-];
+const ADDED: [(&[u8], u32); 5] = [(b"b", 1), (b"ab", 2), (b"\xff", 3), (b"", 4), (b"a", 5)];
 
-const IN_ORDER: [(&[u8], u32); 5] = [
-    (b"", 4),
-    (b"a", 5),
-    (b"ab", 2),
-    (b"b", 1),
-    (b"\xff", 3),
-];
+const IN_ORDER: [(&[u8], u32); 5] = [(b"", 4), (b"a", 5), (b"ab", 2), (b"b", 1), (b"\xff", 3)];
 
 #[test]
 fn tree(rt: HostRuntime) -> Result<(), Fail> {
@@ -37,7 +25,10 @@ fn tree(rt: HostRuntime) -> Result<(), Fail> {
     assert_eq!(rt; map.keys().count(), 5);
     for (place, (key, value)) in map.iter().enumerate() {
         let (wanted, number) = IN_ORDER[place % 5];
-        assert!(rt; place < 5 && key == wanted && *value == number, "pair {place}");
+        assert!(rt;
+            place < 5 && key == wanted && *value == number,
+            "pair {place}"
+        );
     }
     assert_eq!(rt; map.iter().count(), 5);
     assert_eq!(rt; map.get(b"ab"), Some(&2));
