@@ -1,4 +1,1 @@
-pub mod Lists
-pub mod Number
-pub mod Window
 pub mod Words

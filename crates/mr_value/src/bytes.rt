@@ -1,5 +1,5 @@
 // Bytes that own their memory.
-ghost use Rattle.std.specs.Prelude.{◌≡◌, IfOk};
+ghost use Rattle.std.specs.Prelude.{◌≡◌, IfOk, OnErr, OnOk, ◌++◌};
 
 use std::alloc::{AllocError, Global};
 use std::marker::Model;
@@ -35,15 +35,13 @@ impl Bytes {
         Bytes { items }
     }
 
-    /// The vector that holds the bytes, which are not copied.
+    /// The vector that holds the bytes.
     pub fn into_vec(self) -> Vec<u8>
         ensures { result.items ≡ self }
     {
-        let Self { items } = self;
-        items
+        self.items
     }
 
-    /// The bytes.
     pub fn as_slice(&self) -> &[u8]
         ensures { result.now ≡ self.now }
     {

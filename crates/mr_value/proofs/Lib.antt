@@ -1,4 +1,0 @@
-pub mod Members
-pub mod Numbers
-pub mod Removals
-pub mod Windows
