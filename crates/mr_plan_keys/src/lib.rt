@@ -10,3 +10,6 @@ mod turns;
 
 pub use planning::plan;
 pub use requests::plan_words;
+
+#[cfg(test)]
+mod tests;
