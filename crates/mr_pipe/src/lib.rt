@@ -9,3 +9,6 @@ mod serve;
 pub use config::PipeConfig;
 pub use fault::PipeFault;
 pub use relay::pipe;
+
+#[cfg(test)]
+mod tests;
