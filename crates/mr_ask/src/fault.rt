@@ -53,6 +53,11 @@ fn wrong_count(name: Name) -> &'static [u8]
 }
 
 impl fmt::Display for Name {
+    ghost use Rattle.std.specs.Prelude.{Some};
+    ghost use Rattle.mr_ask.specs.Names.{text_of};
+
+    ghost output = { λ name. Some (text_of name) };
+
     fn fmt<W: fmt::Write>(&self, f: &mut fmt::Formatter<W>) -> fmt::Result {
         f.write_str(self.text())
     }
