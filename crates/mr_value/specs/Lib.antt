@@ -1,1 +1,4 @@
+pub mod Lists
+pub mod Number
+pub mod Window
 pub mod Words

@@ -1,8 +1,26 @@
-//! Byte strings, and the words of requests and effects.
+//! Byte strings and words, numbers as texts, and the collections that a key may hold.
 #![tactic(auto)]
 
 mod bytes;
+mod hash;
+mod indexes;
+mod items;
+mod laws;
+mod list_value;
+mod matching;
+mod number;
+mod set_value;
 mod word;
 
 pub use bytes::Bytes;
+pub use hash::Hash;
+pub use indexes::window;
+pub use items::Items;
+pub use laws::{number_texts, removals_mirrored, window_places};
+pub use list_value::ListValue;
+pub use number::{read_i64, write_i64};
+pub use set_value::SetValue;
 pub use word::{Word, fits};
+
+#[cfg(test)]
+mod tests;

@@ -1,5 +1,5 @@
 // A word, borrowed or owned.
-ghost use Rattle.std.specs.Prelude.{◌≡◌, IfOk, OnErr, OnOk, ◌++◌};
+ghost use Rattle.std.specs.Prelude.{◌≡◌, IfOk};
 ghost use Rattle.mr_value.specs.Words.{fits};
 
 use crate::bytes::Bytes;
@@ -41,6 +41,7 @@ impl<'a> Word<'a> {
         })
     }
 
+    /// The bytes.
     pub fn as_slice(&self) -> &[u8]
         ensures { result.now ≡ self.now }
     {
@@ -61,7 +62,7 @@ impl<'a> Word<'a> {
     }
 }
 
-/// Whether a word is within the limit.
+/// Whether a word is within the limit of 16,777,216 bytes.
 pub fn fits(word: &[u8]) -> bool
     ensures { result ≡ fits word.now }
 {
