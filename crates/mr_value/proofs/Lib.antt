@@ -2,3 +2,5 @@ pub mod Members
 pub mod Numbers
 pub mod Removals
 pub mod Windows
+pub mod Uniform
+pub mod Places

@@ -13,7 +13,6 @@ use Rattle.std.proofs.Math.Seq.{take-length}
 use Rattle.std.proofs.Math.Nat.{pow-le-pow_right}
 use Rattle.mr_value.specs.Number.{is_i64, value_of, number_of}
 use Rattle.std.specs.Char.{digit_value, is_ascii_digit}
-use Rattle.std.specs.Int.{IsInRange}
 use Rattle.std.specs.Str.Parse.{AllDigits, digits_value}
 use Rattle.std.proofs.lemmas.Bool.{cases_lt}
 use Rattle.std.proofs.lemmas.Bool.Decides.{nat_tests}
@@ -88,18 +87,18 @@ pub no_minus : (bs : List ℕ) → get_or bs 0 0 ≢ 45 → ((n : ℕ) → n < 2
 no_minus bs front none (pos k) fits same = none k (ltb-true _ _ fits) same
 no_minus bs front none (negsuc k) fits same = front (ap (λ cs. get_or cs 0 0) same)
 
-first : (a b : Bool) → a && b ≡ true → a ≡ true
+pub first : (a b : Bool) → a && b ≡ true → a ≡ true
 first true b p = refl
 first false b p = cc
 
-second : (a b : Bool) → a && b ≡ true → b ≡ true
+pub second : (a b : Bool) → a && b ≡ true → b ≡ true
 second true b p = p
 second false b p = cc
 
-same_bytes : (xs ys : List ℕ) → bytes_eq xs ys ≡ true → xs ≡ ys
+pub same_bytes : (xs ys : List ℕ) → bytes_eq xs ys ≡ true → xs ≡ ys
 same_bytes xs ys h = search (rules, bytes_eq-Decides)
 
-equal_bytes : (xs : List ℕ) → bytes_eq xs xs ≡ true
+pub equal_bytes : (xs : List ℕ) → bytes_eq xs xs ≡ true
 equal_bytes xs = search (rules, bytes_eq-Decides)
 
 -- what a number's own text says

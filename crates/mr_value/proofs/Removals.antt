@@ -1,8 +1,8 @@
 -- The removal of items that equal one, an item at a time.
 use Rattle.std.proofs.Common.{◌≡◌, ℕ, zero, suc, reverse, ◌⊎◌, ◌+◌, ◌-◌, ◌<◌, ◌≤◌, min, List, [], ◌∷◌, ◌++◌, length, take, drop, Bool, true, false, ◌&&◌, cond, not, refl, sym, ap, subst, ◌∙◌, append_assoc, arith, inl, inr}
-use Rattle.std.specs.Prelude.{nat_lt, count_by, filter, ℤ, pos, negsuc}
+use Rattle.std.specs.Prelude.{nat_lt, ℤ, pos, negsuc}
 use Rattle.std.specs.Str.{bytes_eq}
-use Rattle.std.proofs.lemmas.Bool.{cases_lt, lt-ltb, le-ltb, ltb-true}
+use Rattle.std.proofs.lemmas.Bool.{cases_lt, lt-ltb, le-ltb}
 use Rattle.std.proofs.lemmas.List.{append-nil, length-append, length_push, drop-take, length-reverse, reverse-append}
 use Rattle.std.proofs.lemmas.List.Sums.{sum_by_push, sum_by-cons, count_by-le-length}
 use Rattle.mr_value.specs.Lists.{count_of, without_first, without_last, without_all, without, removed_count}

@@ -1,5 +1,5 @@
 -- The window of two indexes, from its first place and the place past its last.
-use Rattle.std.proofs.Common.{◌≡◌, ℕ, ◌+◌, ◌-◌, ◌<◌, ◌≤◌, ℤ, pos, negsuc, ◌+ℤ◌, ◌<ℤ◌, ◌≤ℤ◌, true, false, Option, Some, None, cond, refl, sym, ap, subst, ◌∙◌, arith}
+use Rattle.std.proofs.Common.{◌≡◌, ℕ, ◌-◌, ◌<◌, ◌≤◌, ℤ, pos, negsuc, ◌+ℤ◌, ◌<ℤ◌, ◌≤ℤ◌, true, false, Some, None, cond, refl, sym, ap, subst, ◌∙◌, arith}
 use Rattle.std.specs.Prelude.{int_lt, unsigned_abs, nat_lt, ◌↔◌, T}
 use Rattle.std.specs.Int.{int_min, int_max}
 use Rattle.std.proofs.lemmas.Int.{ints, clamps}
@@ -12,7 +12,7 @@ last_is z n end e some = omega (arith, ints, clamps)
 last_below : (z : ℤ) (n first end : ℕ) → pos end ≡ int_max (pos 0) (int_min (z +ℤ pos 1) (pos n)) → end ≤ first → int_min z (pos n +ℤ negsuc 0) <ℤ pos first
 last_below z n first end e le = omega (arith, ints, clamps)
 
-less : (l f : ℤ) → l <ℤ f → int_lt l f ≡ true
+pub less : (l f : ℤ) → l <ℤ f → int_lt l f ≡ true
 less l f h = grind (arith, ints)
 
 pub some_window : (a b : ℤ) (n first end : ℕ) → pos first ≡ int_max (pos 0) (place_of a n) → pos end ≡ int_max (pos 0) (int_min (place_of b n +ℤ pos 1) (pos n)) → first < end → Some (first, end - 1) ≡ window_of a b n
@@ -34,10 +34,10 @@ natural : (z : ℤ) → pos 0 ≤ℤ z → pos (unsigned_abs z) ≡ z
 natural (pos n) h = refl
 natural (negsuc n) h = absurd (omega (arith, ints))
 
-in_order : (l f : ℤ) → int_lt l f ≡ false → f ≤ℤ l
+pub in_order : (l f : ℤ) → int_lt l f ≡ false → f ≤ℤ l
 in_order l f h = grind (arith, ints)
 
-out_of_order : (l f : ℤ) → int_lt l f ≡ true → l <ℤ f
+pub out_of_order : (l f : ℤ) → int_lt l f ≡ true → l <ℤ f
 out_of_order l f h = record { lt = subst T (sym h) tt }
 
 module _ (first last : ℤ) (n p : ℕ) (here : p < n) where

@@ -1,5 +1,6 @@
 -- What is done to lists of byte strings.
-use Rattle.std.specs.Prelude.{ℕ, ◌+◌, ◌-◌, suc, zero, min, ℤ, pos, negsuc, List, [], ◌∷◌, insert, filter, count_by, position, Bool, not, ◌&&◌, nat_lt, if◌then◌else◌, Option, Some, None}
+use Rattle.std.specs.Prelude.{ℕ, ◌+◌, ◌-◌, suc, zero, min, ℤ, pos, negsuc, List, [], ◌∷◌, get_or, insert, filter, count_by, position, Bool, not, ◌&&◌, nat_lt, if◌then◌else◌, Option, Some, None}
+use Rattle.std.specs.List.{list_all}
 use Rattle.std.specs.Option.{option_map}
 use Rattle.std.specs.Str.{bytes_eq}
 
@@ -50,3 +51,7 @@ abbrev pub removed_count : ℤ → ℕ → ℕ
 removed_count (pos zero) m = m
 removed_count (pos (suc n)) m = min (suc n) m
 removed_count (negsuc n) m = min (suc n) m
+
+-- the items equal one another
+unfoldable pub are_equal : List (List ℕ) → Bool
+are_equal xs = list_all (λ x. bytes_eq x (get_or xs 0 [])) xs

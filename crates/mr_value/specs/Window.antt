@@ -1,11 +1,15 @@
 -- The part of a list that two inclusive indexes name.
-use Rattle.std.specs.Prelude.{ℕ, ◌+◌, ◌≤◌, ℤ, pos, negsuc, ◌+ℤ◌, List, [], Bool, if◌then◌else◌, Option, Some, None, unsigned_abs, int_lt, slice_range}
+use Rattle.std.specs.Prelude.{ℕ, ◌+◌, ◌≤◌, ℤ, pos, negsuc, ◌+ℤ◌, List, [], ◌||◌, if◌then◌else◌, Option, Some, None, unsigned_abs, int_le, int_lt, slice_range}
 use Rattle.std.specs.Int.{int_min, int_max}
 
 -- the place that an index means among n: a negative one counts from the end, where -1 is the last place
 abbrev pub place_of : ℤ → ℕ → ℤ
 place_of (pos i) n = pos i
 place_of (negsuc k) n = pos n +ℤ negsuc k
+
+-- the place that an index names among n, if it is one of them
+unfoldable pub named_place : ℤ → ℕ → Option ℕ
+named_place i n = if int_lt (place_of i n) (pos 0) || int_le (pos n) (place_of i n) then None else Some (unsigned_abs (place_of i n))
 
 -- the places from the first to the last, if there are any
 abbrev pub from_to : ℤ → ℤ → Option (ℕ × ℕ)

@@ -1,7 +1,7 @@
 // The places that two inclusive indexes name.
 ghost use Rattle.std.specs.Prelude.{◌≡◌, ◌<◌, ◌≤◌, IfSome, pos, negsuc, ◌+ℤ◌};
 ghost use Rattle.std.specs.Int.{int_min, int_max};
-ghost use Rattle.mr_value.specs.Window.{place_of, window_of};
+ghost use Rattle.mr_value.specs.Window.{named_place, place_of, window_of};
 
 /// The first and the last place (both inclusive, counted from 0) that the inclusive indexes `a`
 /// and `b` name among `len` places, or none where they name no place.
@@ -19,6 +19,19 @@ pub fn window(a: i64, b: i64, len: usize) -> Option<(usize, usize)>
     } else {
         None
     }
+}
+
+/// The place that an index names among `len` places, or none where it names no place. A negative
+/// index counts from the end, -1 being the last place.
+pub fn place(index: i64, len: usize) -> Option<usize>
+    ensures place { result ≡ named_place index len }
+    ensures within { IfSome result (λ place. place < len) }
+{
+    if index < 0 {
+        return len.checked_sub(index.unsigned_abs() as usize);
+    }
+    let place = index as usize;
+    if place < len { Some(place) } else { None }
 }
 
 // The first place that a first index allows, which may lie past the end.

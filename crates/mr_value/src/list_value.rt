@@ -1,6 +1,6 @@
 // Lists of byte strings.
 ghost use Rattle.std.specs.Prelude.{◌≡◌, ◌+◌, ◌-◌, ◌<◌, ◌≤◌, ◌↔◌, ◌==◌, List, [], ◌∷◌, ◌++◌, length, take, drop, insert, slice_get, slice_set, slice_range, is_some, Some, None, Ok, false, IfOk, IfSome, OnOk, OnErr, MatchOption, option_copied};
-ghost use Rattle.mr_value.specs.Lists.{first_place, count_of, with_before, with_after, without, removed_count};
+ghost use Rattle.mr_value.specs.Lists.{are_equal, first_place, count_of, with_before, with_after, without, removed_count};
 
 use crate::bytes::Bytes;
 use crate::items::Items;
@@ -92,11 +92,23 @@ impl ListValue {
         matching::count_of(&self.items, item)
     }
 
-    /// Makes room for so many more items: as many pushes then take no memory.
-    pub fn reserve(&mut self, additional: usize) -> Result<(), AllocError>
-        ensures { self.new ≡ self.old }
+    /// Whether the items equal one another, so that the list is the same however it is turned.
+    pub fn is_uniform(&self) -> bool
+        ensures { result ≡ are_equal self.now }
     {
-        self.items.reserve(additional)
+        matching::are_equal(&self.items)
+    }
+
+    /// How many items `remove_matching` would remove.
+    pub fn count_removed(&self, count: i64, item: &[u8]) -> usize
+        ensures { result ≡ removed_count count (count_of item.now self.now) }
+    {
+        let matching = self.count(item);
+        if count == 0 {
+            matching
+        } else {
+            matching.min(count.unsigned_abs() as usize)
+        }
     }
 
     /// Puts an item in front.

@@ -2,7 +2,7 @@
 ghost use Rattle.std.specs.Prelude.{◌≡◌, ◌<◌, min, IfSome};
 ghost use Rattle.std.specs.Str.{bytes_eq};
 ghost use Rattle.std.specs.VecDeque.{deque_len};
-ghost use Rattle.mr_value.specs.Lists.{first_place, count_of, without_first, without_last};
+ghost use Rattle.mr_value.specs.Lists.{are_equal, first_place, count_of, without_first, without_last};
 
 use crate::bytes::Bytes;
 use std::collections::VecDeque;
@@ -28,6 +28,17 @@ pub(crate) fn count_of(items: &VecDeque<Bytes>, item: &[u8]) -> usize
     ensures { result ≡ count_of item.now items.now.items }
 {
     items.iter().filter(|other| matches(other, item)).count()
+}
+
+/// Whether the items equal one another.
+#[tactic(auto, unfolding(crate::specs::Lists::are_equal))]
+pub(crate) fn are_equal(items: &VecDeque<Bytes>) -> bool
+    ensures { result ≡ are_equal items.now.items }
+{
+    match items.front() {
+        Some(first) => items.iter().all(|other| matches(other, first.as_slice())),
+        None => true,
+    }
 }
 
 /// Removes the first items that equal `item`, at most so many, and answers how many.

@@ -84,7 +84,6 @@ fn cuts_windows(rt: HostRuntime) {
 fn grows_and_shrinks_lists(rt: HostRuntime) -> Result<(), Fail> {
     let alloc = rt.alloc();
     let mut list = list(alloc, "b c")?;
-    list.reserve(2)?;
     list.push_front(bytes(alloc, "a")?)?;
     list.insert(0, bytes(alloc, "z")?)?;
     assert_eq!(rt; list.len(), 4);
@@ -185,6 +184,36 @@ fn removes_from_either_end(rt: HostRuntime) -> Result<(), Fail> {
         );
     }
     Ok(())
+}
+
+// What LREM would remove, which place LINDEX means, and when LMOVE of a list onto itself changes nothing.
+#[test]
+fn foretells_changes(rt: HostRuntime) -> Result<(), Fail> {
+    let alloc = rt.alloc();
+    let greetings = list(alloc, "hello hello foo hello")?;
+    assert_eq!(rt; greetings.count_removed(-2, b"hello"), 2);
+    assert_eq!(rt; greetings.count_removed(0, b"hello"), 3);
+    assert_eq!(rt; greetings.count_removed(i64::MIN, b"hello"), 3);
+    assert_eq!(rt; greetings.is_uniform(), false);
+    assert_eq!(rt; list(alloc, "foo foo foo")?.is_uniform(), true);
+    assert_eq!(rt; ListValue::new(alloc).is_uniform(), true);
+    Ok(())
+}
+
+#[test]
+fn names_places(rt: HostRuntime) {
+    for (index, len, want) in [
+        (0, 3, Some(0)),
+        (2, 3, Some(2)),
+        (3, 3, None),
+        (-1, 3, Some(2)),
+        (-3, 3, Some(0)),
+        (-4, 3, None),
+        (i64::MIN, 3, None),
+        (i64::MAX, 3, None),
+    ] {
+        assert_eq!(rt; place(index, len), want, "at {index} of {len}");
+    }
 }
 
 #[test]

@@ -1,4 +1,4 @@
-use Rattle.std.proofs.Common.{◌≡◌, ◌+ℤ◌, pos, ap, ◌∙◌, w64}
+use Rattle.std.proofs.Common.{◌+ℤ◌, pos, ap, ◌∙◌, w64}
 use Rattle.std.specs.Int.{int_min, int_max}
 use Rattle.std.proofs.lemmas.Int.{to_z-of_z}
 use Rattle.mr_value.specs.Window.{place_of}

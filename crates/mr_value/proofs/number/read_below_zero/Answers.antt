@@ -1,6 +1,3 @@
-use Rattle.std.proofs.Common.{◌≢◌, ℤ, ◌∷◌, IsTrue, IfNone}
-use Rattle.std.specs.Fmt.{signed_decimal}
-use Rattle.mr_value.specs.Number.{is_i64}
 use Rattle.mr_value.proofs.Numbers.{none_below, found_below, below_spelled}
 use Rattle.mr_value.proofs.number.read_below_zero.Goals as goal
 
