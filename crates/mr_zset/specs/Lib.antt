@@ -2,3 +2,4 @@ pub mod Bounds
 pub mod Order
 pub mod Pairs
 pub mod Score
+pub mod Texts

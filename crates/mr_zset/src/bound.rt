@@ -1,6 +1,10 @@
 // The bounds of a range of scores.
 ghost use Rattle.std.specs.Prelude.{◌≡◌};
+ghost use Rattle.std.specs.Str.{bytes_eq};
 ghost use Rattle.mr_zset.specs.Bounds.{is_from, is_to};
+ghost use Rattle.mr_zset.specs.Texts.{bound_of, excluding, limit_of};
+
+use crate::score::read_score;
 
 /// Where a range of scores begins or ends.
 #[derive(Clone, Copy, Debug, PartialEq, Eq)]
@@ -39,4 +43,45 @@ impl Bound {
             Bound::PositiveInfinity => true,
         }
     }
+
+    // The bound without what lies on it.
+    fn excluding(self) -> Bound
+        ensures { result ≡ excluding self }
+    {
+        match self {
+            Bound::Included(limit) => Bound::Excluded(limit),
+            other => other,
+        }
+    }
+}
+
+/// The bound that a text spells: a score, `inf`, `+inf` or `-inf`, in front of which a `(` excludes
+/// what lies on the bound. It takes no memory.
+pub fn read_bound(text: &[u8]) -> Option<Bound>
+    ensures { result ≡ bound_of text.now }
+{
+    match text {
+        [b'(', limit @ ..] => Some(read_limit(limit)?.excluding()),
+        _ => read_limit(text),
+    }
+}
+
+// The bound that a text without a parenthesis spells.
+#[tactic(auto, unfolding(crate::specs::Texts::limit_of))]
+fn read_limit(text: &[u8]) -> Option<Bound>
+    ensures { result ≡ limit_of text.now }
+{
+    if is_same(text, b"inf") || is_same(text, b"+inf") {
+        return Some(Bound::PositiveInfinity);
+    }
+    if is_same(text, b"-inf") {
+        return Some(Bound::NegativeInfinity);
+    }
+    Some(Bound::Included(read_score(text)?))
+}
+
+fn is_same(text: &[u8], other: &[u8]) -> bool
+    ensures { result ≡ bytes_eq text.now other.now }
+{
+    text == other
 }

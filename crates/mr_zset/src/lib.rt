@@ -9,10 +9,10 @@ mod ranges;
 mod score;
 mod sorted_set;
 
-pub use bound::Bound;
-pub use laws::all_pairs_in_order;
+pub use bound::{Bound, read_bound};
+pub use laws::{all_pairs_in_order, score_texts};
 pub use pair::Pair;
-pub use score::is_score;
+pub use score::{is_score, read_score};
 pub use sorted_set::ZSet;
 
 #[cfg(test)]

@@ -1,6 +1,6 @@
 // Each call with ample memory. The order of three members of two scores, and the ranges from `(1` to `+inf` and from 1
 // to `+inf`, are what ZRANGE and ZRANGEBYSCORE answer.
-use super::{Bound, Pair, ZSet, all_pairs_in_order, is_score};
+use super::{Bound, Pair, ZSet, all_pairs_in_order, is_score, read_bound, read_score, score_texts};
 use std::alloc::{AllocError, Global};
 use std::test::Fail;
 
@@ -128,4 +128,61 @@ fn changes(rt: HostRuntime) -> Result<(), Fail> {
 fn limits(rt: HostRuntime) {
     assert!(rt; is_score(9_007_199_254_740_992) && is_score(-9_007_199_254_740_992));
     assert!(rt; !is_score(9_007_199_254_740_993) && !is_score(-9_007_199_254_740_993));
+}
+
+#[test]
+fn reads_scores(rt: HostRuntime) {
+    score_texts();
+    for (text, score) in [
+        ("1", 1),
+        ("1.0", 1),
+        ("-3.000", -3),
+        ("0.0", 0),
+        ("9007199254740992", 9_007_199_254_740_992),
+        ("-9007199254740992.0", -9_007_199_254_740_992),
+    ] {
+        assert_eq!(rt; read_score(text.as_bytes()), Some(score), "at {text:?}");
+    }
+}
+
+#[test]
+fn refuses_other_scores(rt: HostRuntime) {
+    for text in [
+        "",
+        "1.5",
+        "1.",
+        ".0",
+        "-0.0",
+        "+1",
+        "01",
+        "1.0.0",
+        "1.01",
+        "1e3",
+        "inf",
+        "9007199254740993",
+        "-9007199254740993",
+    ] {
+        assert_eq!(rt; read_score(text.as_bytes()), None, "at {text:?}");
+    }
+}
+
+#[test]
+fn reads_bounds(rt: HostRuntime) {
+    for (text, bound) in [
+        ("1", Some(Bound::Included(1))),
+        ("(1.0", Some(Bound::Excluded(1))),
+        ("inf", Some(Bound::PositiveInfinity)),
+        ("+inf", Some(Bound::PositiveInfinity)),
+        ("(inf", Some(Bound::PositiveInfinity)),
+        ("-inf", Some(Bound::NegativeInfinity)),
+        ("(-inf", Some(Bound::NegativeInfinity)),
+        ("", None),
+        ("(", None),
+        ("((1", None),
+        ("INF", None),
+        ("(1.5", None),
+        ("9007199254740993", None),
+    ] {
+        assert_eq!(rt; read_bound(text.as_bytes()), bound, "at {text:?}");
+    }
 }
