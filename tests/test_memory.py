@@ -17,11 +17,13 @@ ASKED = b"".join(
         request("GET", "k"),
         request("DEL", "k", "other", "k"),
         request("GET", "k"),
+        b"SET \"a b\" 'x\\'y'\r\n",
+        b"GET 'a b'\n",
         request("PING"),
     ]
 )
 ANSWERED = (
-    b"+OK\r\n$1\r\nv\r\n+OK\r\n+OK\r\n$5000\r\n" + 5000 * b"y" + b"\r\n:2\r\n$-1\r\n+PONG\r\n"
+    b"+OK\r\n$1\r\nv\r\n+OK\r\n+OK\r\n$5000\r\n" + 5000 * b"y" + b"\r\n:2\r\n$-1\r\n+OK\r\n$3\r\nx'y\r\n+PONG\r\n"
 )
 
 

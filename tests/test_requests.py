@@ -70,6 +70,31 @@ class Requests(unittest.TestCase):
         self.answers(run(asked, "pipe"), b"+OK\r\n$300000\r\n" + value + b"\r\n+PONG\r\n")
 
 
+class Lines(unittest.TestCase):
+    """Requests on a line of their own."""
+
+    def answers(self, asked, wanted):
+        for ran in (run(asked, "pipe"), run_in_pieces([bytes([byte]) for byte in asked], "pipe")):
+            self.assertEqual((ran.returncode, ran.stdout, ran.stderr), (0, wanted, b""))
+
+    def test_a_line_is_a_request(self):
+        self.answers(b"PING\r\nping\n", b"+PONG\r\n+PONG\r\n")
+
+    def test_quotes_are_read(self):
+        asked = b"SET \"a b\" 'x\\'y'\r\n" + request("GET", "a b") + b'GET "a\\x20b"\n'
+        self.answers(asked, b"+OK\r\n" + 2 * b"$3\r\nx'y\r\n")
+
+    def test_blank_lines_have_no_reply(self):
+        self.answers(b"*0\r\n\r\n*-1\r\n \t\nPING\r\n", b"+PONG\r\n")
+
+    def test_both_forms_in_one_stream(self):
+        self.answers(request("SET", "k", "v") + b"GET k\r\n" + PING, OK_THEN_VALUE + b"+PONG\r\n")
+
+    def test_the_longest_line(self):
+        ran = run(65_536 * b"x" + b"\n" + PING, "pipe")
+        self.assertEqual((ran.returncode, ran.stdout), (0, b"-ERR unknown command\r\n+PONG\r\n"))
+
+
 class Faults(unittest.TestCase):
     """A text that no bytes can make a request is answered once, and what follows is never read."""
 
@@ -96,6 +121,14 @@ class Faults(unittest.TestCase):
 
     def test_a_word_past_the_limit(self):
         self.refuses(b"*2\r\n$3\r\nGET\r\n$16777217\r\n", BULK_LENGTH)
+
+    def test_quotes_that_are_not_balanced(self):
+        for line in (b'"a"b', b'GET "a\n', b"GET 'a\n", b'"' + 65_535 * b"x"):
+            with self.subTest(line=line[:8]):
+                self.refuses(line, b"-ERR Protocol error: unbalanced quotes in request\r\n")
+
+    def test_a_line_past_the_limit(self):
+        self.refuses(65_537 * b"x", b"-ERR Protocol error: too big inline request\r\n")
 
 
 if __name__ == "__main__":

@@ -7,3 +7,4 @@ pub mod QuotedLines
 pub mod CutSteps
 pub mod MeasureSteps
 pub mod SkipSteps
+pub mod WordLengths

@@ -6,9 +6,10 @@ use Rattle.std.proofs.lemmas.Bool.{le-leb}
 use Rattle.std.proofs.lemmas.List.Elements.{recursion_from_All}
 use Rattle.mr_value.specs.Words.{fits}
 use Rattle.std.proofs.lemmas.List.{drop-append-le}
-use Rattle.mr_resp.specs.Resumed.{Agrees}
+use Rattle.mr_resp.specs.Resumed.{Agrees, IsFresh}
 use Rattle.mr_resp.specs.Usual.{usual}
-use Rattle.mr_resp.specs.declared.scan.Progress.{Progress}
+use Rattle.mr_resp.proofs.Resuming.{fresh_agrees}
+use Rattle.mr_resp.specs.declared.progress.Progress.{Progress}
 use Rattle.mr_node.specs.Progresses.{AgreesAlong, Fits}
 
 pub append_nil : (xs : List ℕ) → xs ++ [] ≡ xs
@@ -20,6 +21,10 @@ along_more p u m a = record { along = λ more. subst (λ z. Agrees usual p z) (s
 
 pub agrees_now : (p : Progress) (u : List ℕ) → AgreesAlong p u → Agrees usual p u
 agrees_now p u a = subst (λ z. Agrees usual p z) (append_nil u) (a.along [])
+
+-- where nothing is known, it holds of all bytes
+pub fresh_along : (p : Progress) (u : List ℕ) → IsFresh p → AgreesAlong p u
+fresh_along p u f = record { along = λ more. fresh_agrees usual p (u ++ more) f }
 
 -- bytes that come behind
 pub fits_more : (input more now : List ℕ) (used : ℕ) (p : Progress) → now ≡ input ++ more → length input + length more ≤ used + 33554432 → Fits input used p → Fits now used p

@@ -6,7 +6,7 @@ use Rattle.mr_resp.specs.Replies.{Tree, error, reply_text}
 use Rattle.mr_resp.specs.ReplyView.{view}
 use Rattle.mr_resp.specs.Faults.{fault_text}
 use Rattle.mr_resp.specs.declared.fault.Fault.{Fault}
-use Rattle.mr_resp.specs.declared.scan.Progress.{Progress}
+use Rattle.mr_resp.specs.declared.progress.Progress.{Progress}
 use Rattle.mr_data.specs.Dataset.{Dataset}
 use Rattle.mr_data.specs.Meaning.{apply_all}
 use Rattle.mr_data.specs.Spelling.{texts}

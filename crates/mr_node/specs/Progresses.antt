@@ -2,7 +2,7 @@
 use Rattle.std.specs.Prelude.{◌≤◌, ◌+◌, ℕ, List, ◌++◌, length, drop}
 use Rattle.mr_resp.specs.Resumed.{Agrees}
 use Rattle.mr_resp.specs.Usual.{usual}
-use Rattle.mr_resp.specs.declared.scan.Progress.{Progress}
+use Rattle.mr_resp.specs.declared.progress.Progress.{Progress}
 
 -- The progress holds of these bytes, whatever comes behind them.
 pub record AgreesAlong (progress : Progress) (unread : List ℕ) : Type 0 where

@@ -1,6 +1,6 @@
 -- What unread bytes ask of a node.
 use Rattle.std.specs.Prelude.{◌≡◌, ℕ, List, ◌++◌}
-use Rattle.mr_resp.specs.Language.{Continues, Fails}
+use Rattle.mr_inline.specs.Language.{Continues, Fails}
 use Rattle.mr_resp.specs.Request.{IsRequest, IsEmptyRequest, IsText, HasFault}
 use Rattle.mr_resp.specs.Usual.{usual}
 use Rattle.mr_resp.specs.declared.fault.Fault.{Fault}

@@ -32,6 +32,7 @@ impl Model for End {
 }
 
 impl End {
+    #[tactic(auto, using(crate::proofs::Progressing::fresh_along))]
     pub(crate) fn new(alloc: Global) -> End
         ensures { result ≡ open_end [] }
     {
@@ -80,6 +81,7 @@ impl End {
     }
 
     /// Closes it. What was fed goes, with its memory.
+    #[tactic(auto, using(crate::proofs::Progressing::fresh_along))]
     pub(crate) fn shut(&mut self)
         ensures { self.new ≡ shut_end }
     {

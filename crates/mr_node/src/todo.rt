@@ -5,7 +5,7 @@ ghost use Rattle.mr_node.specs.Progresses.{AgreesAlong};
 
 use mr_data::{Dataset, Given, Plan};
 use mr_plan_keys::plan_words;
-use mr_resp::{Fault, Limits, Progress, Scan, more_is_wanted, next_request_from};
+use mr_resp::{Fault, Limits, Progress, Scan, more_is_wanted, next_request_from, words_fit};
 use std::alloc::{AllocError, Global};
 
 /// What is to be done about unread bytes.
@@ -38,6 +38,7 @@ pub(crate) fn todo_of(
     let scan = next_request_from(alloc, &limits, &mut progress, unread)?;
     match scan {
         Scan::Whole { words, used } => {
+            words_fit();
             let plan = plan_words(alloc, held, words.as_slice(), given)?;
             Ok(Todo::Run { used, plan })
         }

@@ -16,7 +16,7 @@ use Rattle.mr_pipe.proofs.Goings.{starts}
 
 -- a request may follow nothing
 pub waits_nothing : Waits []
-waits_nothing = record { more = record { more = 42 ∷ 45 ∷ 49 ∷ 13 ∷ 10 ∷ []; some = lit< tt; are_bytes = search rules; whole = inr (inr refl) } }
+waits_nothing = record { more = record { more = 42 ∷ 45 ∷ 49 ∷ 13 ∷ 10 ∷ []; some = lit< tt; are_bytes = search rules; whole = inr (inl (inr refl)) } }
 
 -- nothing was read yet
 pub no_round : (g : Given) (a : NodeState) (l : LinkId) (old x : Option (List ℕ)) → Agrees a l [] → Relays g a l [] old x x a old

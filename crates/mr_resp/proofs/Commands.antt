@@ -6,10 +6,10 @@ use Rattle.std.specs.Cow.{cow_slice_items}
 use Rattle.std.proofs.lemmas.Fmt.{length-decimal-le}
 use Rattle.std.proofs.lemmas.List.{append-nil, length-append, take-append-drop, get_or_append_left}
 use Rattle.std.proofs.lemmas.List.Elements.{All-nil, All-cons, All-head, All-tail}
-use Rattle.mr_resp.specs.Language.{Continues, IsDoomed, Fails}
-use Rattle.mr_resp.specs.Request.{IsNumber, IsCountLine, IsRequest, IsEmptyRequest, IsText, HasFault}
+use Rattle.mr_inline.specs.Language.{Continues, IsDoomed, Fails}
+use Rattle.mr_resp.specs.Array.{IsNumber, IsCountLine, IsArray, IsEmptyArray, IsArrayText, HasArrayFault}
 use Rattle.mr_resp.specs.Command.{IsCommand, IsCommandText, HasCommandFault, ReadsCommand}
-use Rattle.mr_resp.specs.Scans.{Reads}
+use Rattle.mr_resp.specs.Scans.{ReadsArray}
 use Rattle.mr_resp.specs.Spelling.{line_end, number_line, bulk, array}
 use Rattle.mr_resp.specs.declared.fault.Fault.{Fault}
 use Rattle.mr_resp.specs.declared.fault.Fault.TheVariants.{MultibulkLength}
@@ -30,18 +30,18 @@ IsClear input = (b : ℕ) (rest : List ℕ) → input ≡ 42 ∷ b ∷ rest → 
 clear_front : (input front rest : List ℕ) → input ≡ front ++ rest → IsClear input → IsClear front
 clear_front input front rest e clear = λ b r k. clear b (r ++ rest) (e ∙ ap (λ (x : List ℕ). x ++ rest) k)
 
-empty_second : (text : List ℕ) → IsEmptyRequest text → (b : ℕ) × (rest : List ℕ) × (text ≡ 42 ∷ b ∷ rest) × ((b ≡ 48) ⊎ (b ≡ 45))
+empty_second : (text : List ℕ) → IsEmptyArray text → (b : ℕ) × (rest : List ℕ) × (text ≡ 42 ∷ b ∷ rest) × ((b ≡ 48) ⊎ (b ≡ 45))
 empty_second text (inl e) = (48, line_end ++ [], e ∙ ap (λ (x : List ℕ). (42 ∷ x ++ line_end) ++ []) decimal_0, inl refl)
 empty_second text (inr e) = (45, 49 ∷ line_end, e, inr refl)
 
-clear_no_empty : (text rest : List ℕ) → IsClear (text ++ rest) → IsEmptyRequest text → ⊥
+clear_no_empty : (text rest : List ℕ) → IsClear (text ++ rest) → IsEmptyArray text → ⊥
 clear_no_empty text rest clear empty =
     let s = empty_second text empty in
     let both = clear s.0 (s.1 ++ rest) (ap (λ (x : List ℕ). x ++ rest) s.2) in
     elim s.3 [ inl e ↦ both.0 e | inr e ↦ both.1 e ]
 
 -- a request is a command
-pub command_of : (limits : Limits) (text : List ℕ) (words : List (List ℕ)) → IsRequest limits text words → IsCommand limits text words
+pub command_of : (limits : Limits) (text : List ℕ) (words : List (List ℕ)) → IsArray limits text words → IsCommand limits text words
 command_of limits text words r = record { spelled = r.spelled; some = r.some; count = r.count; each = r.each }
 
 pub map_ok : {T E : Type 0} (r : Result T E) (P Q : T → Type 0) → ((x : T) → P x → Q x) → IfOk r P → IfOk r Q
@@ -57,7 +57,7 @@ module _ (limits : Limits) (word : limits.word ≡ 16777216) (words : limits.wor
   words_size [] h = omega arith
   words_size (w ∷ ws) h = omega (arith, length-append (bulk w) (flat_map bulk ws), word_size w (All-head (λ w. length w ≤ limits.word) w ws h), words_size ws (All-tail (λ w. length w ≤ limits.word) w ws h))
 
-  pub request_of : (t : List ℕ) (ws : List (List ℕ)) → IsCommand limits t ws → IsRequest limits t ws
+  pub request_of : (t : List ℕ) (ws : List (List ℕ)) → IsCommand limits t ws → IsArray limits t ws
   request_of t ws c = record {
     spelled = c.spelled;
     some = c.some;
@@ -77,11 +77,11 @@ module _ (limits : Limits) (word : limits.word ≡ 16777216) (words : limits.wor
   }
 
   -- a text that begins no empty request is a command
-  text_command : (t rest : List ℕ) → IsClear (t ++ rest) → IsText limits t → IsCommandText limits t
+  text_command : (t rest : List ℕ) → IsClear (t ++ rest) → IsArrayText limits t → IsCommandText limits t
   text_command t rest clear (inl r) = (r.0, command_of limits t r.0 r.1)
   text_command t rest clear (inr e) = absurd (clear_no_empty t rest clear e)
 
-  doomed_command : (y : List ℕ) → IsDoomed (IsText limits) y → IsDoomed (IsCommandText limits) y
+  doomed_command : (y : List ℕ) → IsDoomed (IsArrayText limits) y → IsDoomed (IsCommandText limits) y
   doomed_command y d = record { never = λ more t rest c e. d.never more t rest (inl (c.0, request_of t c.0 c.1)) e }
 
   one_command : IsCommand limits (array ([] ∷ [])) ([] ∷ [])
@@ -114,7 +114,7 @@ module _ (limits : Limits) (word : limits.word ≡ 16777216) (words : limits.wor
       let second : b ≡ c = cc both in
       clear c r (ap (λ (x : ℕ). x ∷ b ∷ r) first ∙ ap (λ (x : ℕ). 42 ∷ x ∷ r) second)
 
-  goes_on : (input : List ℕ) → IsClear input → Continues (IsText limits) input → Continues (IsCommandText limits) input
+  goes_on : (input : List ℕ) → IsClear input → Continues (IsArrayText limits) input → Continues (IsCommandText limits) input
   goes_on [] clear h = nothing_begins
   goes_on (a ∷ []) clear h =
       let star = text_star limits (a ∷ h.more) h.whole in
@@ -128,7 +128,7 @@ module _ (limits : Limits) (word : limits.word ≡ 16777216) (words : limits.wor
     whole = text_command ((a ∷ b ∷ r) ++ h.more) [] (subst (λ (x : List ℕ). IsClear x) (sym (append-nil ((a ∷ b ∷ r) ++ h.more))) (clear_more a b r h.more clear)) h.whole;
   }
 
-  fails_command : (input : List ℕ) (fault : Fault) → IsClear input → Fails (IsText limits) (HasFault limits fault) input → Fails (IsCommandText limits) (HasCommandFault limits fault) input
+  fails_command : (input : List ℕ) (fault : Fault) → IsClear input → Fails (IsArrayText limits) (HasArrayFault limits fault) input → Fails (IsCommandText limits) (HasCommandFault limits fault) input
   fails_command input fault clear f = record {
     front = f.front;
     byte = f.byte;
@@ -142,7 +142,7 @@ module _ (limits : Limits) (word : limits.word ≡ 16777216) (words : limits.wor
     );
   }
 
-  pub reads_command : (input : List ℕ) (scan : Scan) → IsClear input → Reads limits input scan → ReadsCommand limits input scan
+  pub reads_command : (input : List ℕ) (scan : Scan) → IsClear input → ReadsArray limits input scan → ReadsCommand limits input scan
   reads_command input (Whole ws used) clear p = (p.0, command_of limits (take used input) (map cow_slice_items ws.items) p.1)
   reads_command input (Skip used) clear p = clear_no_empty (take used input) (drop used input) (subst (λ (x : List ℕ). IsClear x) (sym (take-append-drop used input)) clear) p.1
   reads_command input More clear p = goes_on input clear p

@@ -1,200 +1,121 @@
 -- Each input has one answer.
-use Rattle.std.proofs.Common.{◌≡◌, ℕ, ◌<◌, ◌≤◌, ◌⊎◌, inl, inr, List, [], ◌∷◌, ◌++◌, length, take, drop, map, refl, sym, ap, ◌∙◌, subst, append_assoc, arith}
-use Rattle.std.specs.List.{flat_map}
+use Rattle.std.proofs.Common.{◌≡◌, ℕ, ◌<◌, ◌≤◌, ◌+◌, ◌⊎◌, inl, inr, List, [], ◌∷◌, ◌++◌, length, take, drop, map, All, refl, sym, ap, ◌∙◌, subst, append_assoc, arith}
 use Rattle.std.specs.Cow.{cow_slice_items}
-use Rattle.std.proofs.lemmas.Bool.{cases_lt}
-use Rattle.std.proofs.lemmas.List.{append-nil, length-append, length-drop, length_push, take-append-drop}
-use Rattle.mr_resp.specs.Language.{Continues, IsDoomed, Fails}
-use Rattle.mr_resp.specs.Request.{IsNumber, IsWordFault, IsCountFault, IsCountLine, IsBulk, IsInWord, IsRequest, IsText, HasFault}
-use Rattle.mr_resp.specs.Spelling.{number_line, bulk, array}
+use Rattle.std.proofs.lemmas.List.{append-nil, length-append, length-drop, take-append-drop}
+use Rattle.mr_inline.specs.Language.{Continues, IsDoomed, Fails}
+use Rattle.mr_inline.specs.Line.{IsLineOf, IsLineText}
+use Rattle.mr_inline.specs.Quoted.{quoted_line}
+use Rattle.mr_inline.proofs.LinesByRuns.{apart, one_list}
+use Rattle.mr_inline.proofs.QuotedLines.{quoted_is_read}
+use Rattle.mr_inline.proofs.WordLengths.{words_within}
+use Rattle.mr_resp.specs.Array.{IsArray}
+use Rattle.mr_resp.specs.Request.{line_limit, IsRequest, IsEmptyRequest, IsText, HasInlineFault, HasFault}
+use Rattle.mr_resp.specs.Spelling.{array}
 use Rattle.mr_resp.specs.Scans.{Reads, request, nothing, faulty, outcome_of, IsBad}
+use Rattle.mr_resp.specs.Usual.{usual, usual-word}
 use Rattle.mr_resp.specs.declared.limits.Limits.{Limits}
 use Rattle.mr_resp.specs.declared.fault.Fault.{Fault}
 use Rattle.mr_resp.specs.declared.fault.Fault.TheVariants.{MultibulkLength, BulkLength, ExpectedDollar, UnbalancedQuotes, TooBigInline, WordTooBig, TooManyWords}
 use Rattle.mr_resp.specs.declared.request.Scan.{Scan}
 use Rattle.mr_resp.specs.declared.request.Scan.TheVariants.{Whole, Skip, More, Bad}
-use Rattle.mr_resp.proofs.Words.{split_same, line_unique, bulk_unique}
-use Rattle.mr_resp.proofs.Requests.{next_word, same_words, line_head, few, same_requests, not_empty, one_text, text_wants_no_more}
+use Rattle.mr_resp.proofs.Words.{split_same}
+use Rattle.mr_resp.proofs.Requests as arrays
+use Rattle.mr_resp.proofs.OneFault.{doomed_no_more, doomed_no_text, fails_doomed, same_front, one_fault_at}
+use Rattle.mr_resp.proofs.Forms.{not_both, line_some, line_no_star, array_star, form_of}
 
--- a list that ends further on begins with the shorter one and its next item
-longer_front : (a x b y : List ℕ) (c : ℕ) → a ++ c ∷ x ≡ b ++ y → length a < length b → (z : List ℕ) × (b ≡ (a ++ c ∷ []) ++ z)
-longer_front a x [] y c e lt = absurd (omega arith)
-longer_front [] x (d ∷ b) y c e lt = let same : d ≡ c = cc in (b, ap (λ (n : ℕ). n ∷ b) same)
-longer_front (f ∷ a) x (d ∷ b) y c e lt =
-    let same : d ≡ f = cc in
-    let tails : a ++ c ∷ x ≡ b ++ y = cc in
-    let r = longer_front a x b y c tails (omega arith) in
-    let is : b ≡ (a ++ c ∷ []) ++ r.0 = r.1 in
-    (r.0, cc)
+-- the two faults of a byte in a line
+inline_cases : (f : Fault) (front : List ℕ) (byte : ℕ) → HasInlineFault f front byte → ((f ≡ UnbalancedQuotes) × HasInlineFault UnbalancedQuotes front byte) ⊎ ((f ≡ TooBigInline) × HasInlineFault TooBigInline front byte)
+inline_cases UnbalancedQuotes front byte h = inl (refl, h)
+inline_cases TooBigInline front byte h = inr (refl, h)
+inline_cases MultibulkLength front byte h = absurd h
+inline_cases BulkLength front byte h = absurd h
+inline_cases (ExpectedDollar x) front byte h = absurd h
+inline_cases WordTooBig front byte h = absurd h
+inline_cases TooManyWords front byte h = absurd h
 
-module _ (P : List ℕ → Type 0) where
-  pub doomed_no_more : (input : List ℕ) → IsDoomed P input → Continues P input → ⊥
-  doomed_no_more input d h = d.never h.more (input ++ h.more) [] h.whole (sym (append-nil (input ++ h.more)))
-
-  pub doomed_no_text : (text rest : List ℕ) → P text → IsDoomed P (text ++ rest) → ⊥
-  doomed_no_text text rest p d = d.never [] text rest p (append-nil (text ++ rest))
-
-  pub fails_doomed : (T : List ℕ → ℕ → Type 0) (input : List ℕ) → Fails P T input → IsDoomed P input
-  fails_doomed T input f = record {
-    never = λ more text rest p e. f.doomed.never (f.rest ++ more) text rest p
-        (append_assoc f.front (f.byte ∷ []) (f.rest ++ more) ∙ sym (append_assoc f.front (f.byte ∷ f.rest) more) ∙ ap (λ (x : List ℕ). x ++ more) (sym f.is) ∙ e);
-  }
-
-  -- no doomed beginning is shorter than the shortest
-  not_shorter : (T U : List ℕ → ℕ → Type 0) (input : List ℕ) (p : Fails P T input) (q : Fails P U input) → length p.front < length q.front → ⊥
-  not_shorter T U input p q lt =
-      let z = longer_front p.front p.rest q.front (q.byte ∷ q.rest) p.byte (sym p.is ∙ q.is) lt in
-      doomed_no_more q.front (record {
-        never = λ more text rest t e. p.doomed.never (z.0 ++ more) text rest t (sym (append_assoc (p.front ++ p.byte ∷ []) z.0 more) ∙ ap (λ (x : List ℕ). x ++ more) (sym z.1) ∙ e);
-      }) q.before
-
-  -- there is one shortest doomed beginning
-  pub same_front : (T U : List ℕ → ℕ → Type 0) (input : List ℕ) (p : Fails P T input) (q : Fails P U input) → (p.front ≡ q.front) × (p.byte ≡ q.byte)
-  same_front T U input p q = elim (cases_lt (length p.front) (length q.front)) [
-    | inl lt ↦ absurd (not_shorter T U input p q lt)
-    | inr ge ↦ elim (cases_lt (length q.front) (length p.front)) [
-      | inl lt ↦ absurd (not_shorter U T input q p lt)
-      | inr le ↦
-          let both = split_same p.front q.front (p.byte ∷ p.rest) (q.byte ∷ q.rest) (omega (arith, ge, le)) (sym p.is ∙ q.is) in
-          let tails : p.byte ∷ p.rest ≡ q.byte ∷ q.rest = both.1 in
-          (both.0, cc tails)
-    ]
-  ]
-
--- the two faults of a byte in the line of the count
-count_cases : (f : Fault) (front : List ℕ) (byte : ℕ) → IsCountFault f front byte → ((f ≡ TooManyWords) × IsNumber 42 (front ++ byte ∷ [])) ⊎ ((f ≡ MultibulkLength) × (IsNumber 42 (front ++ byte ∷ []) → ⊥))
-count_cases TooManyWords front byte h = inl (refl, h)
-count_cases MultibulkLength front byte h = inr (refl, h)
-count_cases BulkLength front byte h = absurd h
-count_cases (ExpectedDollar x) front byte h = absurd h
-count_cases UnbalancedQuotes front byte h = absurd h
-count_cases TooBigInline front byte h = absurd h
-count_cases WordTooBig front byte h = absurd h
-
-one_count_fault : (f g : Fault) (front : List ℕ) (byte : ℕ) → IsCountFault f front byte → IsCountFault g front byte → f ≡ g
-one_count_fault f g front byte a b = elim (count_cases f front byte a) [
-  | inl x ↦ elim (count_cases g front byte b) [ inl y ↦ x.0 ∙ sym y.0 | inr y ↦ absurd (y.1 x.1) ]
-  | inr x ↦ elim (count_cases g front byte b) [ inl y ↦ absurd (x.1 y.1) | inr y ↦ x.0 ∙ sym y.0 ]
+one_inline_fault : (f g : Fault) (front : List ℕ) (byte : ℕ) → HasInlineFault f front byte → HasInlineFault g front byte → f ≡ g
+one_inline_fault f g front byte a b = elim (inline_cases f front byte a) [
+  | inl x ↦ elim (inline_cases g front byte b) [ inl y ↦ x.0 ∙ sym y.0 | inr y ↦ absurd (x.1 y.1) ]
+  | inr x ↦ elim (inline_cases g front byte b) [ inl y ↦ absurd (y.1 x.1) | inr y ↦ x.0 ∙ sym y.0 ]
 ]
 
--- the three faults of a byte in a word with its length
-abbrev IsNoMark : Fault → List ℕ → ℕ → Type 0
-IsNoMark f part byte = (f ≡ ExpectedDollar byte) × (part ≡ [])
+line_length : (text : List ℕ) (words : List (List ℕ)) → IsLineOf line_limit text words → 0 < length text
+line_length text [] l = line_some line_limit text (inr l)
+line_length text (w ∷ ws) l = line_some line_limit text (inl (w ∷ ws, (omega arith, l)))
 
-abbrev IsBigWord : Fault → List ℕ → ℕ → Type 0
-IsBigWord f part byte = (f ≡ WordTooBig) × IsNumber 36 (part ++ byte ∷ [])
-
-abbrev IsBadLength : Fault → List ℕ → ℕ → Type 0
-IsBadLength f part byte = (f ≡ BulkLength) × (0 < length part) × (IsNumber 36 (part ++ byte ∷ []) → ⊥)
-
-word_cases : (f : Fault) (part : List ℕ) (byte : ℕ) → IsWordFault f part byte → IsNoMark f part byte ⊎ (IsBigWord f part byte ⊎ IsBadLength f part byte)
-word_cases (ExpectedDollar x) part byte h = inl (ap ExpectedDollar h.1, h.0)
-word_cases WordTooBig part byte h = inr (inl (refl, h))
-word_cases BulkLength part byte h = inr (inr (refl, h.0, h.1))
-word_cases MultibulkLength part byte h = absurd h
-word_cases TooManyWords part byte h = absurd h
-word_cases UnbalancedQuotes part byte h = absurd h
-word_cases TooBigInline part byte h = absurd h
-
-mark_first : (f g : Fault) (part : List ℕ) (byte : ℕ) → IsNoMark f part byte → IsBigWord g part byte → ⊥
-mark_first f g part byte x y = omega (arith, ap length x.1, ap length y.1.1, length_push part byte, y.1.2.some)
-
-mark_length : (f g : Fault) (part : List ℕ) (byte : ℕ) → IsNoMark f part byte → IsBadLength g part byte → ⊥
-mark_length f g part byte x y = omega (arith, ap length x.1, y.1)
-
-one_word_fault : (f g : Fault) (part : List ℕ) (byte : ℕ) → IsWordFault f part byte → IsWordFault g part byte → f ≡ g
-one_word_fault f g part byte a b = elim (word_cases f part byte a) [
-  | inl x ↦ elim (word_cases g part byte b) [
-    | inl y ↦ x.0 ∙ sym y.0
-    | inr y ↦ elim y [ inl z ↦ absurd (mark_first f g part byte x z) | inr z ↦ absurd (mark_length f g part byte x z) ]
-  ]
-  | inr x ↦ elim x [
-    | inl v ↦ elim (word_cases g part byte b) [
-      | inl y ↦ absurd (mark_first g f part byte y v)
-      | inr y ↦ elim y [ inl z ↦ v.0 ∙ sym z.0 | inr z ↦ absurd (z.2 v.1) ]
-    ]
-    | inr v ↦ elim (word_cases g part byte b) [
-      | inl y ↦ absurd (mark_length g f part byte y v)
-      | inr y ↦ elim y [ inl z ↦ absurd (v.2 z.1) | inr z ↦ v.0 ∙ sym z.0 ]
-    ]
-  ]
-]
+line_size : (text : List ℕ) → IsLineText line_limit text → length text ≤ line_limit + 1
+line_size text (inl l) = l.1.1.size
+line_size text (inr l) = l.size
 
 module _ (limits : Limits) where
-  -- what can still become a word doesn't begin with one
-  no_whole_word : (part w tail : List ℕ) → length w ≤ limits.word → part ≡ bulk w ++ tail → Continues (IsBulk limits) part → ⊥
-  no_whole_word part w tail within e h =
-      let both : bulk w ++ (tail ++ h.more) ≡ bulk h.whole.0 ++ [] = sym (append_assoc (bulk w) tail h.more) ∙ ap (λ (x : List ℕ). x ++ h.more) (sym e) ∙ h.whole.2 ∙ sym (append-nil (bulk h.whole.0)) in
-      let parts = bulk_unique w h.whole.0 (tail ++ h.more) [] (omega (arith, within, limits.small_word)) (omega (arith, h.whole.1, limits.small_word)) both in
-      omega (arith, ap length parts.1, length-append tail h.more, h.some)
+  -- no array and no line begin the same bytes
+  array_or_line : (a b x y : List ℕ) (ws vs : List (List ℕ)) → IsArray limits a ws → IsLineOf line_limit b vs → a ++ x ≡ b ++ y → ⊥
+  array_or_line a b x y ws vs r l e = not_both a b x y (array_star limits a (inl (ws, r))) l.no_array (line_length b vs l) e
 
-  -- the line of the count and all behind it
-  opened : (count : ℕ) (ws : List (List ℕ)) (part : List ℕ) → (42 ∷ number_line count ++ flat_map bulk ws) ++ part ≡ 42 ∷ (number_line count ++ (flat_map bulk ws ++ part))
-  opened count ws part = ap (λ (x : List ℕ). 42 ∷ x) (append_assoc (number_line count) (flat_map bulk ws) part)
+  pub same_requests : (a b x y : List ℕ) (ws vs : List (List ℕ)) → IsRequest limits a ws → IsRequest limits b vs → a ++ x ≡ b ++ y → (ws ≡ vs) × (x ≡ y)
+  same_requests a b x y ws vs (inl r) (inl q) e = arrays.same_requests limits a b x y ws vs r q e
+  same_requests a b x y ws vs (inl r) (inr q) e = absurd (array_or_line a b x y ws vs r q.1 e)
+  same_requests a b x y ws vs (inr r) (inl q) e = absurd (array_or_line b a y x vs ws q r.1 (sym e))
+  same_requests a b x y ws vs (inr r) (inr q) e = (one_list line_limit a b x y ws vs r.1 q.1 e, apart line_limit a b x y (inl (ws, r)) (inl (vs, q)) e)
 
-  part_of_fewer : (front part other : List ℕ) (w : IsInWord limits front part) (v : IsInWord limits front other) → flat_map bulk w.words ++ part ≡ flat_map bulk v.words ++ other → length w.words < length v.words → ⊥
-  part_of_fewer front part other w v e lt =
-      let n = next_word limits w.words v.words part other limits.small_word w.each v.each lt e in
-      no_whole_word part n.word (flat_map bulk n.later ++ other) n.within n.text w.inside
+  pub not_empty : (a b x y : List ℕ) (ws : List (List ℕ)) → IsRequest limits a ws → IsEmptyRequest b → a ++ x ≡ b ++ y → ⊥
+  not_empty a b x y ws (inl r) (inl q) e = arrays.not_empty limits a b x y ws r q e
+  not_empty a b x y ws (inl r) (inr q) e = array_or_line a b x y ws [] r q e
+  not_empty a b x y ws (inr r) (inl q) e = not_both b a y x (array_star limits b (inr q)) r.1.no_array (line_length a ws r.1) (sym e)
+  not_empty a b x y ws (inr r) (inr q) e = omega (arith, r.0, ap length (one_list line_limit a b x y ws [] r.1 q e))
 
-  same_part : (front part other : List ℕ) → IsInWord limits front part → IsInWord limits front other → part ≡ other
-  same_part front part other w v =
-      let both : 42 ∷ (number_line w.count ++ (flat_map bulk w.words ++ part)) ≡ 42 ∷ (number_line v.count ++ (flat_map bulk v.words ++ other)) = sym (opened w.count w.words part) ∙ sym w.is ∙ v.is ∙ opened v.count v.words other in
-      let inner : number_line w.count ++ (flat_map bulk w.words ++ part) ≡ number_line v.count ++ (flat_map bulk v.words ++ other) = cc both in
-      let tails = (line_unique w.count v.count (flat_map bulk w.words ++ part) (flat_map bulk v.words ++ other) (few limits w.count w.within) (few limits v.count v.within) inner).1 in
-      elim (cases_lt (length w.words) (length v.words)) [
-        | inl lt ↦ absurd (part_of_fewer front part other w v tails lt)
-        | inr ge ↦ elim (cases_lt (length v.words) (length w.words)) [
-          | inl lt ↦ absurd (part_of_fewer front other part v w (sym tails) lt)
-          | inr le ↦ (same_words limits w.words v.words part other limits.small_word w.each v.each (omega (arith, ge, le)) tails).1
-        ]
-      ]
+  -- no text begins another
+  pub one_text : (a b x y : List ℕ) → IsText limits a → IsText limits b → a ++ x ≡ b ++ y → x ≡ y
+  one_text a b x y p q e = elim (form_of limits a p) [
+    | inl r ↦ elim (form_of limits b q) [
+      | inl s ↦ arrays.one_text limits a b x y r s e
+      | inr s ↦ absurd (not_both a b x y (array_star limits a r) (line_no_star line_limit b s) (line_some line_limit b s) e)
+    ]
+    | inr r ↦ elim (form_of limits b q) [
+      | inl s ↦ absurd (not_both b a y x (array_star limits b s) (line_no_star line_limit a r) (line_some line_limit a r) (sym e))
+      | inr s ↦ apart line_limit a b x y r s e
+    ]
+  ]
 
-  -- a place in the line of the count is in no word
-  no_word_in_line : (front part : List ℕ) → Continues (IsCountLine limits) front → IsInWord limits front part → ⊥
-  no_word_in_line front part h w =
-      let after : List ℕ = flat_map bulk w.words ++ (part ++ h.more) in
-      let is : front ++ h.more ≡ 42 ∷ (number_line w.count ++ after) =
-      ap (λ (x : List ℕ). x ++ h.more) w.is ∙ append_assoc (42 ∷ number_line w.count ++ flat_map bulk w.words) part h.more ∙ opened w.count w.words (part ++ h.more) in
-      elim h.whole [
-        | inl n ↦
-            let both : 42 ∷ (number_line w.count ++ after) ≡ 42 ∷ (number_line n.0 ++ []) = sym is ∙ n.2 ∙ ap (λ (x : List ℕ). 42 ∷ x) (sym (append-nil (number_line n.0))) in
-            let inner : number_line w.count ++ after ≡ number_line n.0 ++ [] = cc both in
-            let none = (line_unique w.count n.0 after [] (few limits w.count w.within) (few limits n.0 n.1) inner).1 in
-            omega (arith, ap length none, length-append (flat_map bulk w.words) (part ++ h.more), length-append part h.more, h.some)
-        | inr minus ↦
-            let both : 42 ∷ (number_line w.count ++ after) ≡ 42 ∷ (45 ∷ (49 ∷ (13 ∷ (10 ∷ [])))) = sym is ∙ minus in
-            let inner : number_line w.count ++ after ≡ 45 ∷ (49 ∷ (13 ∷ (10 ∷ []))) = cc both in
-            omega (arith, (line_head w.count 45 after (49 ∷ (13 ∷ (10 ∷ []))) (few limits w.count w.within) inner).0)
-      ]
+  -- what begins with a text wants no more
+  pub text_wants_no_more : (text rest : List ℕ) → IsText limits text → Continues (IsText limits) (text ++ rest) → ⊥
+  text_wants_no_more text rest t h =
+      let both : text ++ (rest ++ h.more) ≡ ((text ++ rest) ++ h.more) ++ [] = sym (append_assoc text rest h.more) ∙ sym (append-nil ((text ++ rest) ++ h.more)) in
+      let none : rest ++ h.more ≡ [] = one_text text ((text ++ rest) ++ h.more) (rest ++ h.more) [] t h.whole both in
+      omega (arith, ap length none, length-append rest h.more, h.some)
 
-  one_fault_at : (f g : Fault) (front : List ℕ) (byte : ℕ) → HasFault limits f front byte → HasFault limits g front byte → f ≡ g
-  one_fault_at f g front byte (inl a) (inl b) = one_count_fault f g front byte a.1 b.1
-  one_fault_at f g front byte (inl a) (inr b) = absurd (no_word_in_line front b.0 a.0 b.1)
-  one_fault_at f g front byte (inr a) (inl b) = absurd (no_word_in_line front a.0 b.0 a.1)
-  one_fault_at f g front byte (inr a) (inr b) =
-      let same = same_part front a.0 b.0 a.1 b.1 in
-      one_word_fault f g b.0 byte (subst (λ (x : List ℕ). IsWordFault f x byte) same a.2) b.2
+  -- An input as long as the longest text of either form wants no more.
+  pub full_input : (input : List ℕ) → limits.text ≤ length input → line_limit < length input → Continues (IsText limits) input → ⊥
+  full_input input le lt h = elim (form_of limits (input ++ h.more) h.whole) [
+    | inl a ↦ omega (arith, arrays.text_size limits (input ++ h.more) a, length-append input h.more, h.some, le)
+    | inr l ↦ omega (arith, line_size (input ++ h.more) l, length-append input h.more, h.some, lt)
+  ]
+
+  pub same_texts : (a b x y : List ℕ) → IsText limits a → IsText limits b → a ++ x ≡ b ++ y → a ≡ b
+  same_texts a b x y p q e =
+      let rest = one_text a b x y p q e in
+      (split_same a b x y (omega (arith, ap length e, ap length rest, length-append a x, length-append b y)) e).0
+
+  pub one_words : (text : List ℕ) (ws vs : List (List ℕ)) → IsRequest limits text ws → IsRequest limits text vs → ws ≡ vs
+  one_words text ws vs r q = (same_requests text text [] [] ws vs r q refl).0
+
+  one_place_fault : (f g : Fault) (front : List ℕ) (byte : ℕ) → HasFault limits f front byte → HasFault limits g front byte → f ≡ g
+  one_place_fault f g front byte (inl a) (inl b) = one_fault_at limits f g front byte a.1 b.1
+  one_place_fault f g front byte (inl a) (inr b) = absurd (b.0 a.0)
+  one_place_fault f g front byte (inr a) (inl b) = absurd (a.0 b.0)
+  one_place_fault f g front byte (inr a) (inr b) = one_inline_fault f g front byte a.1 b.1
 
   pub one_fault : (input : List ℕ) (f g : Fault) (p : Fails (IsText limits) (HasFault limits f) input) (q : Fails (IsText limits) (HasFault limits g) input) → (p.front ≡ q.front) × (p.byte ≡ q.byte) × (f ≡ g)
   one_fault input f g p q =
       let same = same_front (IsText limits) (HasFault limits f) (HasFault limits g) input p q in (
         same.0,
         same.1,
-        one_fault_at f g q.front q.byte (subst (λ (x : List ℕ). HasFault limits f x q.byte) same.0 (subst (λ (n : ℕ). HasFault limits f p.front n) same.1 p.fault)) q.fault,
+        one_place_fault f g q.front q.byte (subst (λ (x : List ℕ). HasFault limits f x q.byte) same.0 (subst (λ (n : ℕ). HasFault limits f p.front n) same.1 p.fault)) q.fault,
       )
-
-  pub same_texts : (a b x y : List ℕ) → IsText limits a → IsText limits b → a ++ x ≡ b ++ y → a ≡ b
-  same_texts a b x y p q e =
-      let rest = one_text limits a b x y p q e in
-      (split_same a b x y (omega (arith, ap length e, ap length rest, length-append a x, length-append b y)) e).0
-
-  pub one_words : (text : List ℕ) (ws vs : List (List ℕ)) → IsRequest limits text ws → IsRequest limits text vs → ws ≡ vs
-  one_words text ws vs r q = (same_requests limits text text [] [] ws vs r q refl).0
 
   -- a beginning that is a text leaves no other answer
   text_no_more : (input : List ℕ) (used : ℕ) → IsText limits (take used input) → Continues (IsText limits) input → ⊥
-  text_no_more input used t h = text_wants_no_more limits (take used input) (drop used input) t (subst (λ (x : List ℕ). Continues (IsText limits) x) (sym (take-append-drop used input)) h)
+  text_no_more input used t h = text_wants_no_more (take used input) (drop used input) t (subst (λ (x : List ℕ). Continues (IsText limits) x) (sym (take-append-drop used input)) h)
 
   text_no_fault : (input : List ℕ) (used : ℕ) → IsText limits (take used input) → IsDoomed (IsText limits) input → ⊥
   text_no_fault input used t d = doomed_no_text (IsText limits) (take used input) (drop used input) t (subst (λ (x : List ℕ). IsDoomed (IsText limits) x) (sym (take-append-drop used input)) d)
@@ -207,14 +128,14 @@ module _ (limits : Limits) where
 
   pub one_answer : (input : List ℕ) (s t : Scan) → Reads limits input s → Reads limits input t → outcome_of s ≡ outcome_of t
   one_answer input (Whole ws m) (Whole vs n) p q =
-      let both = same_requests limits (take m input) (take n input) (drop m input) (drop n input) (map cow_slice_items ws.items) (map cow_slice_items vs.items) p.1 q.1 (halves input m n) in
+      let both = same_requests (take m input) (take n input) (drop m input) (drop n input) (map cow_slice_items ws.items) (map cow_slice_items vs.items) p.1 q.1 (halves input m n) in
       let same : m ≡ n = same_used input m n p.0 q.0 both.1 in
       ap (λ (x : List (List ℕ)). request x m) both.0 ∙ ap (λ (k : ℕ). request (map cow_slice_items vs.items) k) same
-  one_answer input (Whole ws m) (Skip n) p q = absurd (not_empty limits (take m input) (take n input) (drop m input) (drop n input) (map cow_slice_items ws.items) p.1 q.1 (halves input m n))
+  one_answer input (Whole ws m) (Skip n) p q = absurd (not_empty (take m input) (take n input) (drop m input) (drop n input) (map cow_slice_items ws.items) p.1 q.1 (halves input m n))
   one_answer input (Whole ws m) More p q = absurd (text_no_more input m (inl (map cow_slice_items ws.items, p.1)) q)
   one_answer input (Whole ws m) (Bad f) p q = absurd (text_no_fault input m (inl (map cow_slice_items ws.items, p.1)) (fails_doomed (IsText limits) (HasFault limits f) input q))
-  one_answer input (Skip m) (Whole vs n) p q = absurd (not_empty limits (take n input) (take m input) (drop n input) (drop m input) (map cow_slice_items vs.items) q.1 p.1 (halves input n m))
-  one_answer input (Skip m) (Skip n) p q = ap nothing (same_used input m n p.0 q.0 (one_text limits (take m input) (take n input) (drop m input) (drop n input) (inr p.1) (inr q.1) (halves input m n)))
+  one_answer input (Skip m) (Whole vs n) p q = absurd (not_empty (take n input) (take m input) (drop n input) (drop m input) (map cow_slice_items vs.items) q.1 p.1 (halves input n m))
+  one_answer input (Skip m) (Skip n) p q = ap nothing (same_used input m n p.0 q.0 (one_text (take m input) (take n input) (drop m input) (drop n input) (inr p.1) (inr q.1) (halves input m n)))
   one_answer input (Skip m) More p q = absurd (text_no_more input m (inr p.1) q)
   one_answer input (Skip m) (Bad f) p q = absurd (text_no_fault input m (inr p.1) (fails_doomed (IsText limits) (HasFault limits f) input q))
   one_answer input More (Whole vs n) p q = absurd (text_no_more input n (inl (map cow_slice_items vs.items, q.1)) p)
@@ -226,17 +147,30 @@ module _ (limits : Limits) where
   one_answer input (Bad f) More p q = absurd (doomed_no_more (IsText limits) input (fails_doomed (IsText limits) (HasFault limits f) input p) q)
   one_answer input (Bad f) (Bad g) p q = ap faulty (one_fault input f g p q).2
 
-  pub written_read : (words : List (List ℕ)) (rest : List ℕ) (scan : Scan) → IsRequest limits (array words) words → Reads limits (array words ++ rest) scan → outcome_of scan ≡ request words (length (array words))
-  written_read words rest (Whole ws n) r p =
-      let both = same_requests limits (take n (array words ++ rest)) (array words) (drop n (array words ++ rest)) rest (map cow_slice_items ws.items) words p.1 r (take-append-drop n (array words ++ rest)) in
-      let same : n ≡ length (array words) = omega (arith, ap length both.1, length-drop n (array words ++ rest), length-append (array words) rest, p.0) in
+  -- A request at the front is the answer.
+  pub front_read : (text : List ℕ) (words : List (List ℕ)) (rest : List ℕ) (scan : Scan) → IsRequest limits text words → Reads limits (text ++ rest) scan → outcome_of scan ≡ request words (length text)
+  front_read text words rest (Whole ws n) r p =
+      let both = same_requests (take n (text ++ rest)) text (drop n (text ++ rest)) rest (map cow_slice_items ws.items) words p.1 r (take-append-drop n (text ++ rest)) in
+      let same : n ≡ length text = omega (arith, ap length both.1, length-drop n (text ++ rest), length-append text rest, p.0) in
       ap (λ (x : List (List ℕ)). request x n) both.0 ∙ ap (λ (k : ℕ). request words k) same
-  written_read words rest (Skip n) r p = absurd (not_empty limits (array words) (take n (array words ++ rest)) rest (drop n (array words ++ rest)) words r p.1 (sym (take-append-drop n (array words ++ rest))))
-  written_read words rest More r p = absurd (text_wants_no_more limits (array words) rest (inl (words, r)) p)
-  written_read words rest (Bad f) r p = absurd (doomed_no_text (IsText limits) (array words) rest (inl (words, r)) (fails_doomed (IsText limits) (HasFault limits f) (array words ++ rest) p))
+  front_read text words rest (Skip n) r p = absurd (not_empty text (take n (text ++ rest)) rest (drop n (text ++ rest)) words r p.1 (sym (take-append-drop n (text ++ rest))))
+  front_read text words rest More r p = absurd (text_wants_no_more text rest (inl (words, r)) p)
+  front_read text words rest (Bad f) r p = absurd (doomed_no_text (IsText limits) text rest (inl (words, r)) (fails_doomed (IsText limits) (HasFault limits f) (text ++ rest) p))
+
+  pub written_read : (words : List (List ℕ)) (rest : List ℕ) (scan : Scan) → IsArray limits (array words) words → Reads limits (array words ++ rest) scan → outcome_of scan ≡ request words (length (array words))
+  written_read words rest scan r p = front_read (array words) words rest scan (inl r) p
+
+  pub quoted_read : (words : List (List ℕ)) (rest : List ℕ) (scan : Scan) → 0 < length words → length (quoted_line words) ≤ line_limit + 1 → Reads limits (quoted_line words ++ rest) scan
+      → outcome_of scan ≡ request words (length (quoted_line words))
+  quoted_read words rest scan some size p = front_read (quoted_line words) words rest scan (inr (some, quoted_is_read line_limit words size)) p
 
   pub doomed_bad : (input : List ℕ) (scan : Scan) → IsDoomed (IsText limits) input → Reads limits input scan → IsBad scan
   doomed_bad input (Whole ws n) d p = absurd (text_no_fault input n (inl (map cow_slice_items ws.items, p.1)) d)
   doomed_bad input (Skip n) d p = absurd (text_no_fault input n (inr p.1) d)
   doomed_bad input More d p = absurd (doomed_no_more (IsText limits) input d p)
   doomed_bad input (Bad f) d p = tt
+
+-- a server's limit on words is above that on lines
+pub words_fit : (text : List ℕ) (words : List (List ℕ)) → IsRequest usual text words → All (λ word. length word ≤ usual.word) words
+words_fit text words (inl r) = r.each
+words_fit text words (inr r) = (let each = words_within line_limit text words r.1 in λ k d lt. omega (arith, each k d lt, usual-word))

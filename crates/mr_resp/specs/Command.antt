@@ -1,8 +1,8 @@
 -- Command texts: requests in array form of at least one word, with no limit on the whole.
 use Rattle.std.specs.Prelude.{◌≡◌, ℕ, ◌<◌, ◌≤◌, ◌⊎◌, List, [], ◌∷◌, ◌++◌, length, take, map, All}
 use Rattle.std.specs.Cow.{cow_slice_items}
-use Rattle.mr_resp.specs.Language.{Continues, Fails}
-use Rattle.mr_resp.specs.Request.{HasFault}
+use Rattle.mr_inline.specs.Language.{Continues, Fails}
+use Rattle.mr_resp.specs.Array.{HasArrayFault}
 use Rattle.mr_resp.specs.Spelling.{array}
 use Rattle.mr_resp.specs.declared.fault.Fault.{Fault}
 use Rattle.mr_resp.specs.declared.fault.Fault.TheVariants.{MultibulkLength}
@@ -26,7 +26,7 @@ BeginsZero front byte = front ++ byte ∷ [] ≡ 42 ∷ 48 ∷ []
 
 -- The fault of the last byte of the shortest doomed beginning: a 0 is no count here, and else it is that of a request.
 abbrev pub HasCommandFault : Limits → Fault → List ℕ → ℕ → Type 0
-HasCommandFault limits fault front byte = (BeginsZero front byte × (fault ≡ MultibulkLength)) ⊎ ((BeginsZero front byte → ⊥) × HasFault limits fault front byte)
+HasCommandFault limits fault front byte = (BeginsZero front byte × (fault ≡ MultibulkLength)) ⊎ ((BeginsZero front byte → ⊥) × HasArrayFault limits fault front byte)
 
 -- The answer for this input: the command text that begins it, with its length; more is wanted; or the input is doomed.
 abbrev pub ReadsCommand : Limits → List ℕ → Scan → Type 0

@@ -3,9 +3,11 @@ ghost use Rattle.mr_resp.specs.Command.{ReadsCommand};
 ghost use Rattle.mr_resp.specs.Scans.{CopiesNothing};
 ghost use Rattle.mr_resp.specs.Usual.{commands};
 
+use crate::array::next_array_from;
 use crate::fault::Fault;
 use crate::limits::Limits;
-use crate::request::{Scan, next_request_within};
+use crate::request::Scan;
+use crate::scan::ArrayProgress;
 use std::alloc::{AllocError, Global};
 
 /// Whether a count of 0 or less is begun.
@@ -25,5 +27,5 @@ pub fn next_command<'a>(alloc: Global, input: &'a [u8]) -> Result<Scan<'a>, Allo
     if begins_empty(input) {
         return Ok(Scan::Bad(Fault::MultibulkLength));
     }
-    next_request_within(alloc, &Limits::commands(), input)
+    next_array_from(alloc, &Limits::commands(), &mut ArrayProgress::new(), input)
 }

@@ -1,4 +1,4 @@
-use Rattle.std.proofs.Common.{rules, ◌≡◌, ◌≤◌, ℕ, List, ◌++◌, map, take, drop, length, subst, sym, ap, All, IsTrue}
+use Rattle.std.proofs.Common.{rules, arith, ◌≡◌, ◌≤◌, ℕ, List, ◌++◌, map, take, drop, length, subst, sym, ap, All, IsTrue}
 use Rattle.std.proofs.lemmas.List.{take-append-drop}
 use Rattle.std.specs.Cow.{cow_slice_items}
 use Rattle.mr_resp.specs.Scans.{Reads}
@@ -31,7 +31,7 @@ returns-in_ok-plan-in-Whole c =
         asks = record { text = take c.in-Whole.used input; begins = sym (take-append-drop c.in-Whole.used input); request = r.1 };
         planned = subst (λ xs. IsPlanned (map cow_slice_items xs) c.args.given c.args.held.now (view p.reply) p.effects.items) slices c.in_ok-plan-in-Whole.ensures.planned;
         leads = subst (λ xs. IsTrue (list_all fits (map cow_slice_items xs)) → Leads p.effects.items c.args.held.now) slices c.in_ok-plan-in-Whole.ensures.leads
-            (all_fit ws (subst (λ n. All (λ w. length w ≤ n) ws) usual-word r.1.each));
+            (all_fit ws (subst (λ n. All (λ w. length w ≤ n) ws) usual-word (c.words_fit.ensures (take c.in-Whole.used input) ws r.1)));
       };
       along = tt;
     }
@@ -43,7 +43,7 @@ returns-in-More c =
     record {
       todo = (
         record { more = subst (λ limits. Reads limits u More) c.usual-limits.ensures.same more },
-        not_le (length u) 33554432 (λ h. c.more_is_wanted.ensures.not_full c.usual-limits.result u (subst (λ n. n ≤ length u) (sym c.usual-limits.ensures.text) h) more),
+        not_le (length u) 33554432 (λ h. c.more_is_wanted.ensures.not_full c.usual-limits.result u (subst (λ n. n ≤ length u) (sym c.usual-limits.ensures.text) h) (omega (arith, h)) more),
       );
       along = record { along = λ more. subst (λ limits. Agrees limits c.next_request_from.new.progress (u ++ more)) c.usual-limits.ensures.same (c.in_ok-scan.ensures.more more) };
     }

@@ -1,5 +1,5 @@
 use Rattle.std.proofs.Common.{◌≡◌, ◌<◌, ◌⊎◌, ◌∷◌, ℕ, List, length, get_or, drop, inl, inr, sym, ap, ◌∙◌, subst, arith, IfOk}
-use Rattle.mr_resp.specs.Scans.{Reads}
+use Rattle.mr_resp.specs.Scans.{ReadsArray}
 use Rattle.mr_resp.specs.Usual.{commands, commands-word, commands-words, commands-text}
 use Rattle.mr_resp.proofs.LineEnds.{drop_two}
 use Rattle.mr_resp.proofs.Commands.{IsClear, empty_fails, reads_command, map_ok}
@@ -23,6 +23,6 @@ pub returns-clause-found : goal.returns-clause-found
 returns-clause-found c =
     let input = c.args.input.now in
     let clear = clear_of input (λ begun. absurd (let both = sym (c.begins_empty.ensures.1 begun) ∙ c.if-begins_empty.false in cc both)) in
-    let r = c.next_request_within.result in
-    map_ok r (λ scan. Reads commands input scan) _ (λ scan p. reads_command commands commands-word commands-words commands-text input scan clear p)
-    (subst (λ limits. IfOk r (λ scan. Reads limits input scan)) c.commands.ensures c.next_request_within.ensures.found)
+    let r = c.next_array_from.result in
+    map_ok r (λ scan. ReadsArray commands input scan) _ (λ scan p. reads_command commands commands-word commands-words commands-text input scan clear p)
+    (subst (λ limits. IfOk r (λ scan. ReadsArray limits input scan)) c.commands.ensures c.next_array_from.ensures.found)

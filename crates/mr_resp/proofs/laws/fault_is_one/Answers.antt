@@ -1,5 +1,6 @@
 use Rattle.mr_resp.specs.Request.{IsText, HasFault}
-use Rattle.mr_resp.proofs.OneAnswer.{one_fault, fails_doomed, doomed_bad}
+use Rattle.mr_resp.proofs.OneFault.{fails_doomed}
+use Rattle.mr_resp.proofs.OneAnswer.{one_fault, doomed_bad}
 use Rattle.mr_resp.proofs.laws.fault_is_one.Goals as goal
 
 pub returns-clause-one : goal.returns-clause-one

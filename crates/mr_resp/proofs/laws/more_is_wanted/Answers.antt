@@ -1,6 +1,6 @@
 use Rattle.mr_resp.specs.Request.{IsText}
-use Rattle.mr_resp.proofs.Requests.{text_wants_no_more, full_input}
-use Rattle.mr_resp.proofs.OneAnswer.{doomed_no_more}
+use Rattle.mr_resp.proofs.OneFault.{doomed_no_more}
+use Rattle.mr_resp.proofs.OneAnswer.{text_wants_no_more, full_input}
 use Rattle.mr_resp.proofs.laws.more_is_wanted.Goals as goal
 
 pub returns-clause-no_text : goal.returns-clause-no_text

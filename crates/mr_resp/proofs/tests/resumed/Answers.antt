@@ -1,7 +1,11 @@
 use Rattle.std.proofs.Common.{◌++◌, List, ℕ, take, drop, sym, ap, ◌∙◌, subst}
 use Rattle.std.proofs.lemmas.List.{take-append-drop, take-take}
 use Rattle.mr_resp.specs.Resumed.{Agrees}
+use Rattle.mr_resp.proofs.Resuming.{fresh_agrees}
 use Rattle.mr_resp.proofs.tests.resumed.Goals as goal
+
+pub next_request_from-requires : goal.next_request_from-requires
+next_request_from-requires c = fresh_agrees c.usual-limits.result c.new-progress.result (take c.args.first c.args.input.now) c.new-progress.ensures
 
 pub next_request_from-requires-2 : goal.next_request_from-requires-2
 next_request_from-requires-2 c =
