@@ -1,3 +1,4 @@
 pub mod Orders
 pub mod PairLemmas
 pub mod TextLemmas
+pub mod BoundLemmas

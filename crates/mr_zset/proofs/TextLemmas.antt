@@ -19,7 +19,7 @@ use Rattle.mr_zset.specs.declared.bound.Bound.{Bound}
 abbrev is_point : ℕ → Bool
 is_point b = b == 46
 
-score_fits : (n : ℤ) → IsTrue (is_score n) → IsTrue (is_i64 n)
+pub score_fits : (n : ℤ) → IsTrue (is_score n) → IsTrue (is_i64 n)
 score_fits (pos k) h = grind (arith, nat_tests, h)
 score_fits (negsuc k) h = grind (arith, nat_tests, h)
 
@@ -120,7 +120,7 @@ text_read text w n fits whole same =
     let number : number_of w ≡ Some n = ap number_of same ∙ number_of-signed_decimal n (score_fits n fits) in
     ap (λ o. option_and_then (λ x. option_and_then within_limit (number_of x)) o) whole ∙ ap (option_and_then within_limit) number ∙ ap (λ b. cond b (Some n) None) fits
 
-spelled_read : (text : List ℕ) (n : ℤ) → IsScoreText text n → score_of text ≡ Some n
+pub spelled_read : (text : List ℕ) (n : ℤ) → IsScoreText text n → score_of text ≡ Some n
 spelled_read text n h = elim h.1 [
   | inl e ↦ text_read text (signed_decimal n) n h.0 (ap whole_part e ∙ whole_alone n (score_fits n h.0)) refl
   | inr e ↦ text_read text (signed_decimal n) n h.0 (ap whole_part e.2 ∙ whole_with_zeros n e.0 (score_fits n h.0) e.1) refl
@@ -143,7 +143,7 @@ spelling text w n (inl e) same = inl (e ∙ same)
 spelling text w n (inr e) same = inr (e.0, e.1, e.2 ∙ ap (λ xs. xs ++ 46 ∷ replicate e.0 48) same)
 
 -- What is read as a score is that score's text.
-read_spelled : (text : List ℕ) (n : ℤ) → score_of text ≡ Some n → IsScoreText text n
+pub read_spelled : (text : List ℕ) (n : ℤ) → score_of text ≡ Some n → IsScoreText text n
 unfolding score_of
 read_spelled text n h = elim (whole_part text) as (λ o. whole_part text ≡ o → option_and_then (λ x. option_and_then within_limit (number_of x)) o ≡ Some n → IsScoreText text n) [
   | None ↦ λ t e. cc

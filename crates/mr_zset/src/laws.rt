@@ -1,9 +1,10 @@
 // Laws of the definitions that the contracts cite.
-ghost use Rattle.std.specs.Prelude.{◌≡◌, ◌↔◌, ℕ, ℤ, List, Some};
+ghost use Rattle.std.specs.Prelude.{◌≡◌, ◌↔◌, ◌∷◌, ℕ, ℤ, List, Some};
 ghost use Rattle.std.specs.FinMap.{entries};
 ghost use Rattle.std.specs.List.Sorted.{IsPermutation, IsSorted};
 ghost use Rattle.mr_zset.specs.Pairs.{pair_cmp, pairs_of};
-ghost use Rattle.mr_zset.specs.Texts.{IsScoreText, score_of};
+ghost use Rattle.mr_zset.specs.Texts.{IsScoreText, bound_of, score_of};
+ghost use Rattle.mr_zset.specs.declared.bound.Bound.TheVariants.{Excluded, Included};
 
 use crate::sorted_set::ZSet;
 
@@ -16,4 +17,10 @@ pub fn all_pairs_in_order(_set: &ZSet)
 /// A text is read as a score exactly where it spells that score.
 pub fn score_texts()
     ensures { (text : List ℕ) (n : ℤ) → (score_of text ≡ Some n) ↔ IsScoreText text n }
+{}
+
+/// A text is read as a bound on a score exactly where it spells that score, behind a `(` where what lies on the bound is left out.
+pub fn bound_texts()
+    ensures included { (text : List ℕ) (n : ℤ) → (bound_of text ≡ Some (Included n)) ↔ IsScoreText text n }
+    ensures excluded { (text : List ℕ) (n : ℤ) → (bound_of text ≡ Some (Excluded n)) ↔ ((rest : List ℕ) × (text ≡ 40 ∷ rest) × IsScoreText rest n) }
 {}

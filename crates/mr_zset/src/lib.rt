@@ -10,7 +10,7 @@ mod score;
 mod sorted_set;
 
 pub use bound::{Bound, read_bound};
-pub use laws::{all_pairs_in_order, score_texts};
+pub use laws::{all_pairs_in_order, bound_texts, score_texts};
 pub use pair::Pair;
 pub use score::{is_score, read_score};
 pub use sorted_set::ZSet;

@@ -1,5 +1,5 @@
 // The pairs of a map from member to score, put in order.
-ghost use Rattle.std.specs.Prelude.{◌≡◌, ◌+◌, ◌<◌, ◌≤◌, IfOk, length, map, count_by, slice_range};
+ghost use Rattle.std.specs.Prelude.{◌≡◌, ◌+◌, ◌<◌, ◌≤◌, IfOk, IsPermutation, IsSortedBy, length, map, count_by, slice_range};
 ghost use Rattle.std.specs.FinMap.{entries};
 ghost use Rattle.mr_zset.specs.Bounds.{is_within};
 ghost use Rattle.mr_zset.specs.Pairs.{pair_lt, range_of, shown};
@@ -25,8 +25,15 @@ pub(crate) fn pairs_within(
             pairs.push(Pair { score, member })?;
         }
     }
-    pairs.sort_unstable();
+    put_in_order(&mut pairs);
     Ok(pairs)
+}
+
+fn put_in_order(pairs: &mut Vec<Pair<'_>>)
+    ensures moved { IsPermutation pairs.old.items pairs.new.items }
+    ensures sorted { IsSortedBy (λ a b. pair_lt (shown a) (shown b)) pairs.new.items }
+{
+    pairs.sort_unstable();
 }
 
 // The pairs from one place to another, both included.

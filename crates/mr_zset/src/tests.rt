@@ -1,6 +1,9 @@
 // Each call with ample memory. The order of three members of two scores, and the ranges from `(1` to `+inf` and from 1
 // to `+inf`, are what ZRANGE and ZRANGEBYSCORE answer.
-use super::{Bound, Pair, ZSet, all_pairs_in_order, is_score, read_bound, read_score, score_texts};
+use super::{
+    Bound, Pair, ZSet, all_pairs_in_order, bound_texts, is_score, read_bound, read_score,
+    score_texts,
+};
 use std::alloc::{AllocError, Global};
 use std::test::Fail;
 
@@ -168,6 +171,7 @@ fn refuses_other_scores(rt: HostRuntime) {
 
 #[test]
 fn reads_bounds(rt: HostRuntime) {
+    bound_texts();
     for (text, bound) in [
         ("1", Some(Bound::Included(1))),
         ("(1.0", Some(Bound::Excluded(1))),

@@ -15,6 +15,6 @@ loop-member-preserved-then-is_to c =
 pub returns : goal.returns
 returns c =
     let test = λ (p : List ℕ × ℤ). is_within c.args.from c.args.to p.1 in
-    sorted_range (entries c.args.scores.now) test c.loop-member.pairs.items c.sort_unstable.new.self.items
+    sorted_range (entries c.args.scores.now) test c.loop-member.pairs.items c.put_in_order.new.pairs.items
     (sym (append-nil (map shown c.loop-member.pairs.items)) ∙ ap (λ zs. map shown c.loop-member.pairs.items ++ filter test zs) (sym c.in-None.ensures.steps.0) ∙ c.loop-member.invariant)
-    c.sort_unstable.ensures.permutation c.sort_unstable.ensures.sorted
+    c.put_in_order.ensures.moved c.put_in_order.ensures.sorted

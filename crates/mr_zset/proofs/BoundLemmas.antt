@@ -1,0 +1,160 @@
+-- Texts of bounds: which of them are bounds on a score.
+use Rattle.std.proofs.Common.{◌≡◌, ◌≢◌, ℕ, suc, ℤ, pos, negsuc, ◌<◌, ◌≤◌, ◌^◌, List, [], ◌∷◌, ◌++◌, length, get_or, drop, decimal, true, false, ◌||◌, cond, Option, Some, None, IsTrue, ◌⊎◌, inl, inr, refl, sym, ap, subst, ◌∙◌, arith}
+use Rattle.std.specs.Prelude.{◌==◌, ◌↔◌, codes, option_map, replicate}
+use Rattle.std.specs.Fmt.{signed_decimal}
+use Rattle.std.specs.Str.{bytes_eq}
+use Rattle.std.proofs.lemmas.List.{append-nil}
+use Rattle.std.proofs.lemmas.Bool.{eqb-true, ltb-true}
+use Rattle.mr_value.proofs.Numbers.{bounds, digit, each_is_digit, same_bytes}
+use Rattle.mr_value.specs.Number.{is_i64}
+use Rattle.mr_zset.specs.declared.bound.Bound.{Bound}
+use Rattle.mr_zset.specs.declared.bound.Bound.TheVariants.{NegativeInfinity, Included, Excluded, PositiveInfinity}
+use Rattle.mr_zset.specs.Texts.{IsScoreText, bound_of, excluding, limit_of, score_of}
+use Rattle.mr_zset.proofs.TextLemmas.{bound_excluding, bound_plain, read_spelled, score_fits, spelled_read}
+
+front_of_append : (xs ys : List ℕ) → 0 < length xs → get_or (xs ++ ys) 0 0 ≡ get_or xs 0 0
+front_of_append [] ys some = absurd (omega arith)
+front_of_append (x ∷ xs) ys some = refl
+
+abbrev IsDigit : ℕ → Type 0
+IsDigit b = (48 ≤ b) × (b ≤ 57)
+
+-- a number begins with a digit, or with a minus and a digit
+abbrev BeginsNumber : List ℕ → Type 0
+BeginsNumber text = IsDigit (get_or text 0 0) ⊎ ((get_or text 0 0 ≡ 45) × IsDigit (get_or text 1 0))
+
+first_digit : (n : ℕ) (rest : List ℕ) → n < 10 ^ 19 → IsDigit (get_or (decimal n ++ rest) 0 0)
+first_digit n rest small =
+    let some = (bounds n small).0 in
+    let d = digit (get_or (decimal n) 0 0) (each_is_digit n 0 small some) in
+    subst IsDigit (sym (front_of_append (decimal n) rest some)) (d.1, d.2)
+
+number_begins : (n : ℤ) (rest : List ℕ) → IsTrue (is_i64 n) → BeginsNumber (signed_decimal n ++ rest)
+number_begins (pos n) rest fits = let small : n < 2 ^ 63 = ltb-true _ _ fits in inl (first_digit n rest (omega arith))
+number_begins (negsuc n) rest fits = let small : n < 2 ^ 63 = ltb-true _ _ fits in inr (refl, first_digit (suc n) rest (omega arith))
+
+score_begins : (text : List ℕ) (n : ℤ) → IsScoreText text n → BeginsNumber text
+score_begins text n h =
+    elim h.1 [
+      | inl plain ↦ subst BeginsNumber (append-nil (signed_decimal n) ∙ sym plain) (number_begins n [] (score_fits n h.0))
+      | inr zeros ↦ subst BeginsNumber (sym zeros.2) (number_begins n (46 ∷ replicate zeros.0 48) (score_fits n h.0))
+    ]
+
+no_parenthesis : (text : List ℕ) (n : ℤ) → IsScoreText text n → get_or text 0 0 ≢ 40
+no_parenthesis text n h e =
+    elim (score_begins text n h) [
+      | inl d ↦ omega (arith, d.0)
+      | inr m ↦ omega (arith, m.0)
+    ]
+
+-- the names of the infinities are no scores
+
+no_score : (name : List ℕ) → (BeginsNumber name → ⊥) → score_of name ≡ None
+no_score name other = elim (score_of name) as (λ o. score_of name ≡ o → o ≡ None) [
+  | None ↦ λ e. refl
+  | Some n ↦ λ e. absurd (other (score_begins name n (read_spelled name n e)))
+] refl
+
+bare : score_of (codes "inf") ≡ None
+bare = no_score (codes "inf") (λ h. elim h [
+  | inl d ↦ (let lie : 105 ≤ 57 = d.1 in omega arith)
+  | inr m ↦ (let lie : 105 ≡ 45 = m.0 in omega arith)
+])
+
+with_plus : score_of (codes "+inf") ≡ None
+with_plus = no_score (codes "+inf") (λ h. elim h [
+  | inl d ↦ (let lie : 48 ≤ 43 = d.0 in omega arith)
+  | inr m ↦ (let lie : 43 ≡ 45 = m.0 in omega arith)
+])
+
+with_minus : score_of (codes "-inf") ≡ None
+with_minus = no_score (codes "-inf") (λ h. elim h [
+  | inl d ↦ (let lie : 48 ≤ 45 = d.0 in omega arith)
+  | inr m ↦ (let lie : 105 ≤ 57 = m.1.1 in omega arith)
+])
+
+other_text : (text name : List ℕ) (n : ℤ) → score_of name ≡ None → score_of text ≡ Some n → bytes_eq text name ≡ false
+other_text text name n none some = elim (bytes_eq text name) as (λ b. bytes_eq text name ≡ b → b ≡ false) [
+  | true ↦ λ e. (let same : text ≡ name = same_bytes text name e in let both : Some n ≡ None = sym some ∙ ap score_of same ∙ none in cc)
+  | false ↦ λ e. refl
+] refl
+
+score_limit : (text : List ℕ) (n : ℤ) → score_of text ≡ Some n → limit_of text ≡ Some (Included n)
+unfolding limit_of
+score_limit text n h =
+    rw (other_text text (codes "inf") n bare h, other_text text (codes "+inf") n with_plus h, other_text text (codes "-inf") n with_minus h, h) refl
+
+-- what a limit says of the text
+
+scored : (o : Option ℤ) (b : Bound) (n : ℤ) → excluding b ≡ Excluded n → option_map Included o ≡ Some b → o ≡ Some n
+scored None b n e p = cc
+scored (Some m) b n e p =
+    let same : Included m ≡ b = cc in
+    let out : Excluded m ≡ Excluded n = ap excluding same ∙ e in
+    let equal : m ≡ n = cc in
+    ap (λ k. Some k) equal
+
+limit_score : (text : List ℕ) (b : Bound) (n : ℤ) → excluding b ≡ Excluded n → limit_of text ≡ Some b → score_of text ≡ Some n
+unfolding limit_of
+limit_score text b n e h = elim (bytes_eq text (codes "inf") || bytes_eq text (codes "+inf")) as (λ t. cond t (Some PositiveInfinity) (cond (bytes_eq text (codes "-inf")) (Some NegativeInfinity) (option_map Included (score_of text))) ≡ Some b → score_of text ≡ Some n) [
+  | true ↦ λ p. (let same : PositiveInfinity ≡ b = cc in let other : PositiveInfinity ≡ Excluded n = ap excluding same ∙ e in cc)
+  | false ↦ λ q. elim (bytes_eq text (codes "-inf")) as (λ t. cond t (Some NegativeInfinity) (option_map Included (score_of text)) ≡ Some b → score_of text ≡ Some n) [
+    | true ↦ λ p. (let same : NegativeInfinity ≡ b = cc in let other : NegativeInfinity ≡ Excluded n = ap excluding same ∙ e in cc)
+    | false ↦ λ p. scored (score_of text) b n e p
+  ] q
+] h
+
+included_alone : (o : Option ℤ) (n : ℤ) → option_map Included o ≡ Some (Excluded n) → ⊥
+included_alone None n p = cc
+included_alone (Some m) n p = cc
+
+not_excluded : (text : List ℕ) (n : ℤ) → limit_of text ≡ Some (Excluded n) → ⊥
+unfolding limit_of
+not_excluded text n h = elim (bytes_eq text (codes "inf") || bytes_eq text (codes "+inf")) as (λ t. cond t (Some PositiveInfinity) (cond (bytes_eq text (codes "-inf")) (Some NegativeInfinity) (option_map Included (score_of text))) ≡ Some (Excluded n) → ⊥) [
+  | true ↦ λ p. cc
+  | false ↦ λ q. elim (bytes_eq text (codes "-inf")) as (λ t. cond t (Some NegativeInfinity) (option_map Included (score_of text)) ≡ Some (Excluded n) → ⊥) [
+    | true ↦ λ p. cc
+    | false ↦ λ p. included_alone (score_of text) n p
+  ] q
+] h
+
+never_included : (o : Option Bound) (n : ℤ) → option_map excluding o ≡ Some (Included n) → ⊥
+never_included None n p = cc
+never_included (Some NegativeInfinity) n p = cc
+never_included (Some (Included m)) n p = cc
+never_included (Some (Excluded m)) n p = cc
+never_included (Some PositiveInfinity) n p = cc
+
+some_limit : (o : Option Bound) (n : ℤ) → option_map excluding o ≡ Some (Excluded n) → (b : Bound) × (o ≡ Some b) × (excluding b ≡ Excluded n)
+some_limit None n p = cc
+some_limit (Some b) n p = (b, refl, cc)
+
+parenthesis : (text : List ℕ) → get_or text 0 0 ≡ 40 → text ≡ 40 ∷ drop 1 text
+parenthesis [] e = absurd (omega arith)
+parenthesis (c ∷ cs) e = ap (λ b. b ∷ cs) e
+
+read_included : (text : List ℕ) (n : ℤ) → bound_of text ≡ Some (Included n) → IsScoreText text n
+unfolding bound_of
+read_included text n h = elim (get_or text 0 0 == 40) as (λ t. cond t (option_map excluding (limit_of (drop 1 text))) (limit_of text) ≡ Some (Included n) → IsScoreText text n) [
+  | true ↦ λ p. absurd (never_included (limit_of (drop 1 text)) n p)
+  | false ↦ λ p. read_spelled text n (limit_score text (Included n) n refl p)
+] h
+
+read_excluded : (text : List ℕ) (n : ℤ) → bound_of text ≡ Some (Excluded n) → (rest : List ℕ) × (text ≡ 40 ∷ rest) × IsScoreText rest n
+unfolding bound_of
+read_excluded text n h = elim (get_or text 0 0 == 40) as (λ t. (get_or text 0 0 == 40) ≡ t → cond t (option_map excluding (limit_of (drop 1 text))) (limit_of text) ≡ Some (Excluded n) → (rest : List ℕ) × (text ≡ 40 ∷ rest) × IsScoreText rest n) [
+  | true ↦ λ t p. (let found = some_limit (limit_of (drop 1 text)) n p in (drop 1 text, parenthesis text (eqb-true _ _ t), read_spelled (drop 1 text) n (limit_score (drop 1 text) found.0 n found.2 found.1)))
+  | false ↦ λ t p. absurd (not_excluded text n p)
+] refl h
+
+spelled_included : (text : List ℕ) (n : ℤ) → IsScoreText text n → bound_of text ≡ Some (Included n)
+spelled_included text n h = sym (bound_plain text (no_parenthesis text n h)) ∙ score_limit text n (spelled_read text n h)
+
+spelled_excluded : (text : List ℕ) (n : ℤ) → (rest : List ℕ) × (text ≡ 40 ∷ rest) × IsScoreText rest n → bound_of text ≡ Some (Excluded n)
+spelled_excluded text n h = sym (bound_excluding text h.0 (Some (Included n)) (sym h.1) (sym (score_limit h.0 n (spelled_read h.0 n h.2))))
+
+pub included_texts : (text : List ℕ) (n : ℤ) → (bound_of text ≡ Some (Included n)) ↔ IsScoreText text n
+included_texts text n = (read_included text n, spelled_included text n)
+
+pub excluded_texts : (text : List ℕ) (n : ℤ) → (bound_of text ≡ Some (Excluded n)) ↔ ((rest : List ℕ) × (text ≡ 40 ∷ rest) × IsScoreText rest n)
+excluded_texts text n = (read_excluded text n, spelled_excluded text n)
