@@ -1,5 +1,5 @@
 -- The ends of links, as a map.
-use Rattle.std.proofs.Common.{◌≡◌, ◌≢◌, ℕ, List, [], ◌≤◌, length, drop, Bool, true, false, cond, Option, Some, None, IsSome, is_some, refl, sym, ap, subst, ◌∙◌}
+use Rattle.std.proofs.Common.{◌≡◌, ◌≢◌, ℕ, List, Bool, true, false, cond, Option, Some, IsSome, is_some, refl, sym, ap, ◌∙◌}
 use Rattle.std.proofs.Common.{Ok, Err, OnOk, OnErr, Result}
 use Rattle.std.specs.Result.{is_err}
 use Rattle.std.specs.Ordering.{eq_by_cmp}

@@ -1,5 +1,5 @@
 -- From what the parts of a step do to the step's row.
-use Rattle.std.proofs.Common.{◌≡◌, ◌≢◌, ℕ, List, ◌≤◌, ◌<◌, ◌+◌, ◌^◌, [], length, drop, Bool, true, false, Option, Some, None, Ok, Err, Result, IfOk, OnOk, refl, sym, ap, subst, ◌∙◌}
+use Rattle.std.proofs.Common.{◌≡◌, ◌≢◌, ℕ, List, [], drop, Some, Ok, Err, Result, IfOk, OnOk, refl, sym, ap, subst, ◌∙◌}
 use Rattle.mr_repl.specs.Backlog.{after_bytes}
 use Rattle.mr_links.specs.declared.link_id.LinkId.{LinkId}
 use Rattle.mr_resp.specs.ReplyView.{view}
@@ -7,15 +7,14 @@ use Rattle.mr_resp.specs.declared.fault.Fault.{Fault}
 use Rattle.mr_data.specs.Spelling.{texts}
 use Rattle.mr_data.specs.declared.given.Given.{Given}
 use Rattle.mr_data.specs.declared.plan.Plan.{Plan}
-use Rattle.mr_node.specs.State.{NodeState, EndState, end_of, put_end, open_end, shut_end, Agrees, IsShut, OthersStay}
+use Rattle.mr_node.specs.State.{NodeState, EndState, end_of, put_end, open_end, shut_end, Agrees}
 use Rattle.mr_node.specs.Outs.{no_outs}
 use Rattle.mr_node.specs.Requests.{IsDoomedBy}
 use Rattle.mr_node.specs.Rows.{ClientRow, StepRow, Leaves, Stops}
-use Rattle.mr_node.specs.Parts.{Uses, Ran, Commits, IsTooFar, fault_outs}
+use Rattle.mr_node.specs.Parts.{Uses, Ran, fault_outs}
 use Rattle.mr_node.specs.Parts.Ran.{commits, too_far}
 use Rattle.mr_node.specs.Parts.{Passes, Runs}
 use Rattle.mr_node.specs.declared.step.Step.{Step}
-use Rattle.mr_node.specs.declared.step.Step.TheVariants.{Done}
 use Rattle.mr_node.proofs.Ends.{some_is, put_agrees, put_shut, put_others}
 
 pub ok_map : {A E : Type 0} (r : Result A E) (P Q : A → Type 0) → IfOk r P → ((x : A) → P x → Q x) → IfOk r Q

@@ -1,5 +1,5 @@
 -- The outs of a step, one after another.
-use Rattle.std.specs.Prelude.{ℕ, List, [], ◌++◌}
+use Rattle.std.specs.Prelude.{List, [], ◌++◌}
 use Rattle.mr_node.specs.Outs.{OutsState, OutState, grow, send, close, outs_of, sent_outs, closed_outs}
 use Rattle.mr_node.specs.declared.out.Out.{Out}
 use Rattle.mr_node.specs.declared.out.Out.TheVariants as out

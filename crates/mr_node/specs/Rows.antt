@@ -1,5 +1,5 @@
 -- What a step at a client's end of a link may do, one row for each.
-use Rattle.std.specs.Prelude.{◌≡◌, ◌≢◌, ◌≤◌, ◌<◌, ◌+◌, ◌^◌, ℕ, List, [], ◌++◌, Bool, true, false, Option, Some, length, codes}
+use Rattle.std.specs.Prelude.{◌≡◌, ◌≢◌, ◌≤◌, ◌<◌, ◌+◌, ◌^◌, ℕ, List, [], true, false, Some, length, codes}
 use Rattle.mr_repl.specs.Backlog.{after_bytes}
 use Rattle.mr_links.specs.declared.link_id.LinkId.{LinkId}
 use Rattle.mr_resp.specs.Replies.{Tree, error, reply_text}
@@ -11,7 +11,7 @@ use Rattle.mr_data.specs.Spelling.{texts}
 use Rattle.mr_data.specs.declared.effect.Effect.{Effect}
 use Rattle.mr_data.specs.declared.given.Given.{Given}
 use Rattle.mr_plan_keys.specs.Requests.{IsPlanned}
-use Rattle.mr_node.specs.State.{NodeState, Core, Agrees, IsShut, OthersStay, full}
+use Rattle.mr_node.specs.State.{NodeState, Agrees, IsShut, OthersStay, full}
 use Rattle.mr_node.specs.Outs.{OutsState}
 use Rattle.mr_node.specs.Requests.{Asks, AsksNothing, Waits, IsDoomedBy}
 use Rattle.mr_node.specs.declared.step.Step.{Step}

@@ -1,9 +1,8 @@
 -- What a contract sees of a node.
-use Rattle.std.specs.Prelude.{◌≡◌, ◌≢◌, ℕ, List, [], ◌++◌, Bool, true, false, Option, None, Some, refl, ◌≤◌, ◌<◌, ◌+◌, ◌-◌, ◌^◌, length, if◌then◌else◌}
+use Rattle.std.specs.Prelude.{◌≡◌, ◌≢◌, ℕ, List, [], Bool, true, false, Option, None, Some, refl, ◌<◌, ◌+◌, ◌-◌, ◌^◌, length, if◌then◌else◌}
 use Rattle.std.specs.Coded.{Coded, code_by, coded×, coded_ℕ, coded_bool, coded_list}
 use Rattle.std.specs.FinMap as map
 use Rattle.mr_repl.specs.Backlog.{Window}
-use Rattle.mr_links.specs.LinkId.{id_cmp, coded_id}
 use Rattle.mr_links.specs.Links.{Links, links_code}
 use Rattle.mr_links.specs.declared.link_id.LinkId.{LinkId}
 use Rattle.mr_data.specs.Dataset.{Dataset}

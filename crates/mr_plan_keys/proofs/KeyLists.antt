@@ -1,7 +1,7 @@
 -- Lists of keys that are taken out of a dataset.
-use Rattle.std.proofs.Common.{rules, arith, ℕ, ◌<◌, ◌≤◌, get_or, take, add-zero, ◌≡◌, ◌≢◌, ℤ, List, [], ◌∷◌, ◌++◌, length, length-append, append_assoc, ◌+◌, Bool, true, false, ◌&&◌, cond, Option, Some, None, refl, sym, ◌∙◌, ap, subst}
+use Rattle.std.proofs.Common.{ℕ, ◌<◌, get_or, take, add-zero, ◌≡◌, ℤ, List, [], ◌∷◌, ◌++◌, length, length-append, append_assoc, ◌+◌, Bool, true, false, ◌&&◌, cond, Option, Some, None, refl, sym, ◌∙◌, ap, subst}
 use Rattle.std.specs.Prelude.{◌||◌, is_some, if◌then◌else◌, IsTrue, not, map}
-use Rattle.std.specs.List.{list_all, list_any}
+use Rattle.std.specs.List.{list_all}
 use Rattle.std.specs.Option.{option_and_then}
 use Rattle.std.specs.FinMap.{get, remove}
 use Rattle.std.proofs.lemmas.List.{take_more, map-append}

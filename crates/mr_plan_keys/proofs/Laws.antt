@@ -1,9 +1,9 @@
 -- The effects of each command lead to what it leaves.
-use Rattle.std.proofs.Common.{rules, ℕ, ◌≡◌, List, [], ◌∷◌, ◌++◌, Bool, true, false, ◌&&◌, cond, Option, Some, None, refl, sym, ◌∙◌, ap, subst}
+use Rattle.std.proofs.Common.{rules, ℕ, ◌≡◌, List, [], ◌∷◌, Bool, true, false, ◌&&◌, Option, Some, None, refl, sym, ◌∙◌, ap}
 use Rattle.std.specs.Prelude.{IsTrue, is_some, is_none, if◌then◌else◌, ◌↔◌, ℤ}
 use Rattle.std.specs.List.{list_all}
 use Rattle.std.specs.Option.{option_and_then}
-use Rattle.std.specs.FinMap.{get, remove}
+use Rattle.std.specs.FinMap.{get}
 use Rattle.std.specs.Str.{bytes_eq}
 use Rattle.std.proofs.lemmas.Slice.Eq.{bytes_eq-Decides}
 use Rattle.mr_map.specs.Bytes.{Bytes}
@@ -19,10 +19,10 @@ use Rattle.mr_data.specs.declared.effect.Effect.TheVariants as effect
 use Rattle.mr_ask.specs.Asks.{AskFits}
 use Rattle.mr_ask.specs.declared.ask.Ask.{Ask}
 use Rattle.mr_ask.specs.declared.ask.Ask.TheVariants as ask
-use Rattle.mr_plan_keys.specs.Turns.{Turn, plain, is_text, is_plain, set_turn}
+use Rattle.mr_plan_keys.specs.Turns.{plain, is_text, is_plain, set_turn}
 use Rattle.mr_plan_keys.specs.Keys.{chosen, without, dels, is_stored}
 use Rattle.mr_plan_keys.specs.Outcomes.{outcome}
-use Rattle.mr_plan_keys.specs.Plans.{keys_of, past, purged, before, after, effects, own_effects}
+use Rattle.mr_plan_keys.specs.Plans.{keys_of, past, before, after, effects, own_effects}
 use Rattle.mr_plan_keys.proofs.Maps.{get_put, put_same}
 use Rattle.mr_plan_keys.proofs.KeyLists.{apply_all-append, dels_lead, chosen_fits, without_chosen, none_chosen}
 

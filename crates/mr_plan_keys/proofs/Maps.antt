@@ -1,14 +1,13 @@
 -- A key that is put or removed, and then asked for.
-use Rattle.std.proofs.Common.{rules, arith, ℕ, ◌≡◌, List, [], ◌∷◌, Bool, true, false, cond, Option, Some, None, refl, sym, ◌∙◌, ap, subst}
-use Rattle.std.specs.Prelude.{◌||◌, is_some, if◌then◌else◌}
+use Rattle.std.proofs.Common.{◌≡◌, true, false, cond, Option, Some, None, refl, sym, ◌∙◌, ap}
 use Rattle.std.specs.Cmp.{eq_by_cmp_equiv}
-use Rattle.std.specs.Ordering.{eq_by_cmp, is_eq}
-use Rattle.std.specs.FinMap.{get, insert, remove, get-insert, get-remove, same_map}
+use Rattle.std.specs.Ordering.{is_eq}
+use Rattle.std.specs.FinMap.{get, remove, get-insert, get-remove, same_map}
 use Rattle.std.specs.declared.cmp.Ordering.{Ordering}
 use Rattle.std.specs.declared.cmp.Ordering.TheVariants.{Less, Equal, Greater}
 use Rattle.std.proofs.lemmas.Cmp.{nat_list_cmp_total, tied_itself}
 use Rattle.std.proofs.lemmas.Map.Lookups.{exact_bytes}
-use Rattle.mr_map.specs.Bytes.{Bytes, bytes_cmp}
+use Rattle.mr_map.specs.Bytes.{Bytes}
 use Rattle.mr_data.specs.Dataset.{Dataset, put_at}
 use Rattle.mr_data.specs.declared.value.Entry.{Entry}
 use Rattle.mr_plan_keys.specs.Taken.{is_key}

@@ -1,13 +1,11 @@
 -- Plans from what was seen.
-use Rattle.std.proofs.Common.{rules, ℕ, ◌≡◌, List, [], ◌∷◌, ◌++◌, append_assoc, length, Bool, true, false, cond, Option, Some, None, refl, sym, ◌∙◌, ap, subst}
-use Rattle.std.specs.Prelude.{◌||◌, is_some, ℤ, pos, Ok, Err, Result, IfOk}
-use Rattle.std.specs.List.{list_all}
+use Rattle.std.proofs.Common.{◌≡◌, List, [], ◌∷◌, ◌++◌, length, Bool, true, false, cond, Option, Some, refl, sym, ◌∙◌, ap}
+use Rattle.std.specs.Prelude.{◌||◌, ℤ, pos, Ok, Err, Result, IfOk}
 use Rattle.std.specs.FinMap.{get}
 use Rattle.mr_map.specs.Bytes.{Bytes}
-use Rattle.mr_value.specs.Words.{fits}
 use Rattle.mr_resp.specs.Replies as reply
 use Rattle.mr_resp.specs.Replies.{Tree}
-use Rattle.mr_data.specs.Dataset.{Dataset, live, seen}
+use Rattle.mr_data.specs.Dataset.{Dataset, live}
 use Rattle.mr_data.specs.Meaning.{apply_all}
 use Rattle.mr_data.proofs.Seeing.{get-seen}
 use Rattle.mr_data.specs.declared.given.Given.{Given}
@@ -16,9 +14,9 @@ use Rattle.mr_data.specs.declared.effect.Effect.{Effect}
 use Rattle.mr_ask.specs.Asks.{AskFits}
 use Rattle.mr_ask.specs.declared.ask.Ask.{Ask}
 use Rattle.mr_ask.specs.declared.ask.Ask.TheVariants as ask
-use Rattle.mr_plan_keys.specs.Turns.{Turn, get_reply, set_turn, Takes}
-use Rattle.mr_plan_keys.specs.Keys.{chosen, without, dels, is_stored}
-use Rattle.mr_plan_keys.specs.Plans.{IsPlan, keys_of, past, purged}
+use Rattle.mr_plan_keys.specs.Turns.{get_reply, set_turn, Takes}
+use Rattle.mr_plan_keys.specs.Keys.{chosen, dels, is_stored}
+use Rattle.mr_plan_keys.specs.Plans.{IsPlan, past, purged}
 use Rattle.mr_plan_keys.proofs.Maps.{is_key_itself}
 use Rattle.mr_plan_keys.proofs.KeyLists.{get_purged, present_seen, present_purged}
 use Rattle.mr_plan_keys.proofs.Laws.{plan_leads}

@@ -1,5 +1,5 @@
 -- Some of the keys that a command names, each once, in order of naming.
-use Rattle.std.specs.Prelude.{ℤ, List, [], ◌∷◌, map, Bool, true, false, not, if◌then◌else◌, Option, Some, None, is_some}
+use Rattle.std.specs.Prelude.{ℤ, List, [], ◌∷◌, map, Bool, true, false, not, if◌then◌else◌, Option, Some, None}
 use Rattle.std.specs.FinMap.{get, remove}
 use Rattle.mr_map.specs.Bytes.{Bytes}
 use Rattle.mr_data.specs.Dataset.{Dataset, is_past}

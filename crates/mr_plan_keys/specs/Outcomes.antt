@@ -1,5 +1,5 @@
 -- What a command does to a dataset in which no key that it names is past.
-use Rattle.std.specs.Prelude.{pos, List, [], ◌∷◌, length, codes, Option, Some, None, is_some}
+use Rattle.std.specs.Prelude.{pos, List, [], length, codes, Option, Some, None, is_some}
 use Rattle.std.specs.FinMap.{get}
 use Rattle.mr_map.specs.Bytes.{Bytes}
 use Rattle.mr_resp.specs.Replies as reply

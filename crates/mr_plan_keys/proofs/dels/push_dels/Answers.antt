@@ -1,4 +1,4 @@
-use Rattle.std.proofs.Common.{rules, ◌∙◌, ◌≡◌, ap, sym, refl, true, not, length, ◌+◌}
+use Rattle.std.proofs.Common.{rules, ◌∙◌, ◌≡◌, ap, sym, refl, length, ◌+◌}
 use Rattle.std.specs.Prelude.{if◌then◌else◌}
 use Rattle.std.specs.FinMap.{get}
 use Rattle.mr_plan_keys.specs.Keys.{is_stored}

@@ -1,4 +1,4 @@
-use Rattle.std.proofs.Common.{rules, ◌≡◌, ◌∙◌, ap}
+use Rattle.std.proofs.Common.{rules, ◌≡◌, ◌∙◌}
 use Rattle.mr_resp.specs.Replies as reply
 use Rattle.mr_resp.specs.ReplyView.{view}
 use Rattle.mr_plan_keys.proofs.PlanLemmas.{del_plan}

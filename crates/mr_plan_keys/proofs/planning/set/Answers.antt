@@ -1,7 +1,3 @@
-use Rattle.std.proofs.Common.{◌∙◌, ap, List, sym, subst}
-use Rattle.mr_resp.specs.Replies.{Tree}
-use Rattle.mr_resp.specs.ReplyView.{view}
-use Rattle.mr_plan_keys.specs.Plans.{IsPlan}
 use Rattle.mr_plan_keys.proofs.PlanLemmas.{set_plan}
 use Rattle.mr_plan_keys.proofs.planning.set.Goals as goal
 

@@ -1,4 +1,4 @@
-use Rattle.std.proofs.Common.{◌≡◌, ℕ, List, drop, length, arith, ap, ◌∙◌, length-drop}
+use Rattle.std.proofs.Common.{◌≡◌, drop, length, arith, ap, ◌∙◌, length-drop}
 use Rattle.mr_node.specs.State.{EndState}
 use Rattle.mr_node.proofs.Progressing.{fits_more}
 use Rattle.mr_node.proofs.end.End.hear.Goals as goal

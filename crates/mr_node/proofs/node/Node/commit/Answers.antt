@@ -1,9 +1,8 @@
-use Rattle.std.proofs.Common.{rules, ◌≡◌, ◌++◌, ℕ, List, Some, sym, ap, subst, ◌∙◌}
+use Rattle.std.proofs.Common.{rules, ◌≡◌, ap, subst, ◌∙◌}
 use Rattle.mr_repl.specs.Backlog.{Window, after_bytes}
 use Rattle.mr_data.specs.Spelling.{texts}
-use Rattle.mr_data.specs.Meaning.{apply_all}
 use Rattle.mr_node.specs.State.{NodeState}
-use Rattle.mr_node.specs.Parts.{Uses, Commits}
+use Rattle.mr_node.specs.Parts.{Uses}
 use Rattle.mr_node.specs.declared.step.Step.TheVariants.{Done}
 use Rattle.mr_node.proofs.Nodes.{with_stream}
 use Rattle.mr_node.proofs.node.Node.commit.Goals as goal

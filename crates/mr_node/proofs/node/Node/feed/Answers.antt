@@ -1,5 +1,5 @@
 use Rattle.std.proofs.Common.{◌≡◌, ◌++◌, ℕ, List, Some, true, sym, ap, ◌∙◌}
-use Rattle.mr_node.specs.State.{NodeState, EndState, end_of, Agrees}
+use Rattle.mr_node.specs.State.{NodeState, end_of, Agrees}
 use Rattle.mr_node.specs.Parts.{Hears}
 use Rattle.mr_node.proofs.Ends.{put_agrees, put_others, on_ok_map}
 use Rattle.mr_node.proofs.node.Node.feed.Goals as goal

@@ -1,4 +1,4 @@
-use Rattle.std.proofs.Common.{◌≡◌, sym, ap, ◌∙◌}
+use Rattle.std.proofs.Common.{sym, ap, ◌∙◌}
 use Rattle.std.specs.FinMap.{FinMap, insert}
 use Rattle.mr_links.specs.LinkId.{id_cmp}
 use Rattle.mr_node.specs.State.{EndState}

@@ -1,4 +1,4 @@
-use Rattle.std.proofs.Common.{◌≡◌, subst, sym}
+use Rattle.std.proofs.Common.{subst, sym}
 use Rattle.mr_node.specs.Parts.{Leads}
 use Rattle.mr_node.proofs.node.Node.run.Goals as goal
 

@@ -1,8 +1,7 @@
-use Rattle.std.proofs.Common.{rules, ◌≡◌, true, ℕ, List, Some, sym, ap, subst, ◌∙◌}
-use Rattle.mr_node.specs.Parts.{Leads}
-use Rattle.mr_node.specs.State.{NodeState, Agrees, end_of, put_end}
-use Rattle.mr_node.specs.Rows.{ClientRow, StepRow, WhyStopped}
-use Rattle.mr_node.specs.Parts.{Ran, fault_outs}
+use Rattle.std.proofs.Common.{rules, ◌≡◌, true, Some, sym, ap, subst, ◌∙◌}
+use Rattle.mr_node.specs.State.{NodeState, end_of}
+use Rattle.mr_node.specs.Rows.{StepRow, WhyStopped}
+use Rattle.mr_node.specs.Parts.{fault_outs}
 use Rattle.mr_node.specs.Parts.{Passes, Runs}
 use Rattle.mr_node.specs.Requests.{IsDoomedBy}
 use Rattle.mr_node.specs.declared.step.Step.TheVariants.{Done}
