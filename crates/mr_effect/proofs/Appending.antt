@@ -1,0 +1,31 @@
+-- Writers one after the other.
+use Rattle.std.proofs.Common.{◌≡◌, ℕ, ◌+◌, List, [], ◌∷◌, ◌++◌, length, take, refl, sym, ap, ◌∙◌, append_assoc, arith}
+use Rattle.std.specs.List.{flat_map}
+use Rattle.mr_map.specs.Bytes.{Bytes}
+use Rattle.mr_resp.specs.Appends.{Extends}
+use Rattle.mr_resp.specs.Spelling.{number_line, bulk, array}
+use Rattle.mr_resp.proofs.AppendsLemmas.{Extends-trans, take_Extends}
+use Rattle.mr_effect.specs.Parts.{head}
+use Rattle.mr_effect.specs.Spelling.{pair_words}
+
+pub take_front : (a b : List ℕ) → Extends a b → take (length a) b ≡ a
+take_front a b p = take_Extends a b p
+
+pub after : (a b c : List ℕ) → Extends a b → Extends b c → Extends a c
+after a b c p q = Extends-trans a b c p q
+
+pub ruleset steps = (after)
+
+-- a name, a key, and the words behind them
+pub whole : (old name key : List ℕ) (ws : List Bytes) (n : ℕ) → n ≡ length ws → (old ++ head name key n) ++ flat_map bulk ws ≡ old ++ array (name ∷ key ∷ ws)
+unfolding head
+whole old name key ws n is =
+    append_assoc old _ (flat_map bulk ws)
+    ∙ ap (λ (t : List ℕ). old ++ (42 ∷ t)) (
+    append_assoc (number_line (n + 2)) (bulk name ++ bulk key) (flat_map bulk ws)
+    ∙ ap (λ (t : List ℕ). number_line (n + 2) ++ t) (append_assoc (bulk name) (bulk key) (flat_map bulk ws))
+    ∙ ap (λ (m : ℕ). number_line m ++ flat_map bulk (name ∷ key ∷ ws)) (omega (arith, is)))
+
+pub length-pairs : (ps : List (Bytes × Bytes)) → length (flat_map pair_words ps) ≡ length ps + length ps
+length-pairs [] = refl
+length-pairs (p ∷ ps) = omega (arith, length-pairs ps)

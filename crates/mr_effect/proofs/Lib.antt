@@ -1,0 +1,5 @@
+mod Appending
+mod NameLemmas
+mod Readings
+mod Texts
+mod Folding

@@ -1,0 +1,128 @@
+-- The texts of effects are apart.
+use Rattle.std.proofs.Common.{◌≡◌, ℕ, suc, ℤ, pos, negsuc, ◌<◌, ◌^◌, List, [], ◌∷◌, ◌++◌, length, Bool, true, false, ◌&&◌, IsTrue, refl, sym, ◌∙◌, append_assoc, arith}
+use Rattle.std.specs.List.{list_all, flat_map}
+use Rattle.std.specs.Fmt.{signed_decimal}
+use Rattle.std.proofs.lemmas.Bool.{leb-true, ltb-true}
+use Rattle.mr_map.specs.Bytes.{Bytes}
+use Rattle.mr_value.specs.Words.{fits}
+use Rattle.mr_value.specs.Number.{is_i64}
+use Rattle.mr_value.proofs.Numbers.{bounds}
+use Rattle.mr_resp.specs.Spelling.{number_line, bulk, array}
+use Rattle.mr_resp.proofs.Words.{line_unique, bulk_unique}
+use Rattle.mr_effect.specs.Effects.{pair_fits, words_fit, has_spelling}
+use Rattle.mr_effect.specs.Names.{text_of}
+use Rattle.mr_effect.specs.Spelling.{words, text, name_of, arguments, pair_words, end_word, side_word}
+use Rattle.mr_effect.specs.declared.name.EffectName.{EffectName}
+use Rattle.mr_effect.specs.declared.name.EffectName.TheVariants as name
+use Rattle.mr_effect.specs.declared.effect.Effect.{Effect}
+use Rattle.mr_effect.specs.declared.effect.Effect.TheVariants as effect
+use Rattle.mr_effect.specs.declared.effect.End.{End}
+use Rattle.mr_effect.specs.declared.effect.End.TheVariants.{Left, Right}
+use Rattle.mr_effect.specs.declared.effect.Side.{Side}
+use Rattle.mr_effect.specs.declared.effect.Side.TheVariants.{Before, After}
+use Rattle.mr_effect.proofs.Readings.{one_effect}
+
+-- each word is short enough for a number of 64 bits to say its length
+abbrev AreShort : List Bytes → Type 0
+AreShort [] = Unit {0}
+AreShort (w ∷ ws) = (length w < 2 ^ 64) × AreShort ws
+
+bulks_unique : (ws vs : List Bytes) (x y : List ℕ) → AreShort ws → AreShort vs → length ws ≡ length vs → flat_map bulk ws ++ x ≡ flat_map bulk vs ++ y → (ws ≡ vs) × (x ≡ y)
+bulks_unique [] [] x y s t n e = (refl, e)
+bulks_unique [] (v ∷ vs) x y s t n e = absurd (omega arith)
+bulks_unique (w ∷ ws) [] x y s t n e = absurd (omega arith)
+bulks_unique (w ∷ ws) (v ∷ vs) x y s t n e =
+    let both : bulk w ++ (flat_map bulk ws ++ x) ≡ bulk v ++ (flat_map bulk vs ++ y) = sym (append_assoc (bulk w) (flat_map bulk ws) x) ∙ e ∙ append_assoc (bulk v) (flat_map bulk vs) y in
+    let first = bulk_unique w v (flat_map bulk ws ++ x) (flat_map bulk vs ++ y) s.0 t.0 both in
+    let rest = bulks_unique ws vs x y s.1 t.1 (omega arith) first.1 in
+    let head : w ≡ v = first.0 in
+    let tail : ws ≡ vs = rest.0 in
+    (cc, rest.1)
+
+array_unique : (ws vs : List Bytes) (x y : List ℕ) → length ws < 2 ^ 64 → length vs < 2 ^ 64 → AreShort ws → AreShort vs → array ws ++ x ≡ array vs ++ y → (ws ≡ vs) × (x ≡ y)
+array_unique ws vs x y few_ws few_vs s t e =
+    let inner : (number_line (length ws) ++ flat_map bulk ws) ++ x ≡ (number_line (length vs) ++ flat_map bulk vs) ++ y = cc in
+    let both = sym (append_assoc (number_line (length ws)) (flat_map bulk ws) x) ∙ inner ∙ append_assoc (number_line (length vs)) (flat_map bulk vs) y in
+    let line = line_unique (length ws) (length vs) (flat_map bulk ws ++ x) (flat_map bulk vs ++ y) few_ws few_vs both in
+    bulks_unique ws vs x y s t line.0 line.1
+
+short : (w : Bytes) → IsTrue (fits w) → length w < 2 ^ 64
+short w h = omega (arith, leb-true _ _ h)
+
+first : (a b : Bool) → IsTrue (a && b) → IsTrue a
+first true b p = refl
+first false b p = cc
+
+second : (a b : Bool) → IsTrue (a && b) → IsTrue b
+second true b p = p
+second false b p = cc
+
+short_number : (n : ℤ) → IsTrue (is_i64 n) → length (signed_decimal n) < 2 ^ 64
+short_number (pos n) h = let small : n < 2 ^ 63 = ltb-true _ _ h in omega (arith, (bounds n (omega arith)).1)
+short_number (negsuc n) h = let small : n < 2 ^ 63 = ltb-true _ _ h in omega (arith, (bounds (suc n) (omega arith)).1)
+
+short_words : (ws : List Bytes) → IsTrue (list_all fits ws) → AreShort ws
+short_words [] h = tt
+short_words (w ∷ ws) h = (short w (first (fits w) _ h), short_words ws (second (fits w) _ h))
+
+short_pairs : (ps : List (Bytes × Bytes)) → IsTrue (list_all pair_fits ps) → AreShort (flat_map pair_words ps)
+short_pairs [] h = tt
+short_pairs (p ∷ ps) h =
+    let here : IsTrue (fits p.0 && fits p.1) = first (pair_fits p) _ h in
+    (short p.0 (first (fits p.0) _ here), (short p.1 (second (fits p.0) _ here), short_pairs ps (second (pair_fits p) _ h)))
+
+short_name : (n : EffectName) → length (text_of n) < 2 ^ 64
+short_name name.Set = omega arith
+short_name name.Del = omega arith
+short_name name.HSet = omega arith
+short_name name.HDel = omega arith
+short_name name.LPush = omega arith
+short_name name.RPush = omega arith
+short_name name.LPop = omega arith
+short_name name.RPop = omega arith
+short_name name.LSet = omega arith
+short_name name.LInsert = omega arith
+short_name name.LRem = omega arith
+short_name name.LTrim = omega arith
+short_name name.LMove = omega arith
+short_name name.SAdd = omega arith
+short_name name.SRem = omega arith
+short_name name.SMove = omega arith
+
+short_end : (e : End) → length (end_word e) < 2 ^ 64
+short_end Left = omega arith
+short_end Right = omega arith
+
+short_side : (s : Side) → length (side_word s) < 2 ^ 64
+short_side Before = omega arith
+short_side After = omega arith
+
+arguments_short : (e : Effect) → IsTrue (has_spelling e) → IsTrue (words_fit e) → AreShort (arguments e)
+arguments_short (effect.Set k v) s h = (short k (first (fits k) _ h), (short v (second (fits k) _ h), tt))
+arguments_short (effect.Del k) s h = (short k h, tt)
+arguments_short (effect.SetFields k pairs) s h = (short k (first (fits k) _ h), short_pairs pairs (second (fits k) _ h))
+arguments_short (effect.RemoveFields k fields) s h = (short k (first (fits k) _ h), short_words fields (second (fits k) _ h))
+arguments_short (effect.Push k end items) s h = (short k (first (fits k) _ h), short_words items (second (fits k) _ h))
+arguments_short (effect.Pop k end n) s h = (short k h, (short_number n s, tt))
+arguments_short (effect.SetItem k i item) s h = (short k (first (fits k) _ h), (short_number i (first (is_i64 i) _ s), (short item (second (fits k) _ h), tt)))
+arguments_short (effect.InsertItem k side pivot item) s h =
+    let both = first (fits k && fits pivot) _ h in
+    (short k (first (fits k) _ both), (short_side side, (short pivot (second (fits k) _ both), (short item (second (fits k && fits pivot) _ h), tt))))
+arguments_short (effect.RemoveItems k n item) s h = (short k (first (fits k) _ h), (short_number n s, (short item (second (fits k) _ h), tt)))
+arguments_short (effect.Trim k a b) s h = (short k h, (short_number a (first (is_i64 a) _ s), (short_number b (second (is_i64 a) _ s), tt)))
+arguments_short (effect.MoveItem from to taken put) s h = (short from (first (fits from) _ h), (short to (second (fits from) _ h), (short_end taken, (short_end put, tt))))
+arguments_short (effect.AddMembers k members) s h = (short k (first (fits k) _ h), short_words members (second (fits k) _ h))
+arguments_short (effect.RemoveMembers k members) s h = (short k (first (fits k) _ h), short_words members (second (fits k) _ h))
+arguments_short (effect.MoveMember from to member) s h =
+    let both = first (fits from && fits to) _ h in
+    (short from (first (fits from) _ both), (short to (second (fits from) _ both), (short member (second (fits from && fits to) _ h), tt)))
+
+words_short : (e : Effect) → IsTrue (has_spelling e) → IsTrue (words_fit e) → AreShort (words e)
+unfolding words
+words_short e s h = (short_name (name_of e), arguments_short e s h)
+
+-- bytes that begin with the texts of two effects begin with one text of one effect
+pub one_text : (e f : Effect) (x y : List ℕ) → IsTrue (has_spelling e) → IsTrue (has_spelling f) → IsTrue (words_fit e) → IsTrue (words_fit f) → length (words e) < 2 ^ 64 → length (words f) < 2 ^ 64 → text e ++ x ≡ text f ++ y → (e ≡ f) × (x ≡ y)
+one_text e f x y spelled_e spelled_f fits_e fits_f few_e few_f h =
+    let both = array_unique (words e) (words f) x y few_e few_f (words_short e spelled_e fits_e) (words_short f spelled_f fits_f) h in
+    (one_effect e f spelled_e spelled_f both.0, both.1)

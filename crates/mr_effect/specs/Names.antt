@@ -1,0 +1,35 @@
+-- The names of effects.
+use Rattle.std.specs.Prelude.{List, [], ◌∷◌, Bool, Option, find, codes}
+use Rattle.std.specs.Str.{bytes_eq}
+use Rattle.mr_map.specs.Bytes.{Bytes}
+use Rattle.mr_effect.specs.declared.name.EffectName.{EffectName}
+use Rattle.mr_effect.specs.declared.name.EffectName.TheVariants as name
+
+abbrev pub text_of : EffectName → Bytes
+text_of name.Set = codes "SET"
+text_of name.Del = codes "DEL"
+text_of name.HSet = codes "HSET"
+text_of name.HDel = codes "HDEL"
+text_of name.LPush = codes "LPUSH"
+text_of name.RPush = codes "RPUSH"
+text_of name.LPop = codes "LPOP"
+text_of name.RPop = codes "RPOP"
+text_of name.LSet = codes "LSET"
+text_of name.LInsert = codes "LINSERT"
+text_of name.LRem = codes "LREM"
+text_of name.LTrim = codes "LTRIM"
+text_of name.LMove = codes "LMOVE"
+text_of name.SAdd = codes "SADD"
+text_of name.SRem = codes "SREM"
+text_of name.SMove = codes "SMOVE"
+
+-- all of them
+abbrev pub names : List EffectName
+names = name.Set ∷ name.Del ∷ name.HSet ∷ name.HDel ∷ name.LPush ∷ name.RPush ∷ name.LPop ∷ name.RPop ∷ name.LSet ∷ name.LInsert ∷ name.LRem ∷ name.LTrim ∷ name.LMove ∷ name.SAdd ∷ name.SRem ∷ name.SMove ∷ []
+
+abbrev pub is_named : Bytes → EffectName → Bool
+is_named word n = bytes_eq (text_of n) word
+
+-- the name that a word is
+unfoldable pub named : Bytes → Option EffectName
+named word = find (is_named word) names

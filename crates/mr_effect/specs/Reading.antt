@@ -1,0 +1,118 @@
+-- Effects read from words. The law above it: it finds the effect that has these words.
+use Rattle.std.specs.Prelude.{ℤ, List, [], ◌∷◌, Bool, if◌then◌else◌, Option, Some, None, codes}
+use Rattle.std.specs.Option.{option_map, option_and_then}
+use Rattle.std.specs.Str.{bytes_eq}
+use Rattle.mr_map.specs.Bytes.{Bytes}
+use Rattle.mr_value.specs.Number.{number_of}
+use Rattle.mr_effect.specs.Effects.{is_place}
+use Rattle.mr_effect.specs.Names.{named}
+use Rattle.mr_effect.specs.declared.name.EffectName.{EffectName}
+use Rattle.mr_effect.specs.declared.name.EffectName.TheVariants as name
+use Rattle.mr_effect.specs.declared.effect.Effect.{Effect}
+use Rattle.mr_effect.specs.declared.effect.Effect.TheVariants as effect
+use Rattle.mr_effect.specs.declared.effect.End.{End}
+use Rattle.mr_effect.specs.declared.effect.End.TheVariants.{Left, Right}
+use Rattle.mr_effect.specs.declared.effect.Side.{Side}
+use Rattle.mr_effect.specs.declared.effect.Side.TheVariants.{Before, After}
+
+abbrev pub end_of : Bytes → Option End
+end_of word = if bytes_eq word (codes "LEFT") then Some Left else if bytes_eq word (codes "RIGHT") then Some Right else None
+
+abbrev pub side_of : Bytes → Option Side
+side_of word = if bytes_eq word (codes "BEFORE") then Some Before else if bytes_eq word (codes "AFTER") then Some After else None
+
+-- a place counted from the front
+abbrev pub within : ℤ → Option ℤ
+within i = if is_place i then Some i else None
+
+abbrev pub place_of : Bytes → Option ℤ
+place_of word = option_and_then within (number_of word)
+
+-- fields and values in turn
+abbrev pub pairs_of : List Bytes → Option (List (Bytes × Bytes))
+pairs_of [] = Some []
+pairs_of (f ∷ []) = None
+pairs_of (f ∷ v ∷ ws) = option_map (λ ps. (f, v) ∷ ps) (pairs_of ws)
+
+abbrev pub set_of : List Bytes → Option Effect
+set_of (k ∷ text ∷ []) = Some (effect.Set k text)
+set_of _ = None
+
+abbrev pub del_of : List Bytes → Option Effect
+del_of (k ∷ []) = Some (effect.Del k)
+del_of _ = None
+
+abbrev pub set_fields_of : List Bytes → Option Effect
+set_fields_of (k ∷ f ∷ ws) = option_map (effect.SetFields k) (pairs_of (f ∷ ws))
+set_fields_of _ = None
+
+abbrev pub remove_fields_of : List Bytes → Option Effect
+remove_fields_of (k ∷ f ∷ ws) = Some (effect.RemoveFields k (f ∷ ws))
+remove_fields_of _ = None
+
+abbrev pub push_of : End → List Bytes → Option Effect
+push_of end (k ∷ x ∷ ws) = Some (effect.Push k end (x ∷ ws))
+push_of end _ = None
+
+abbrev pub pop_of : End → List Bytes → Option Effect
+pop_of end (k ∷ count ∷ []) = option_map (effect.Pop k end) (number_of count)
+pop_of end _ = None
+
+abbrev pub set_item_of : List Bytes → Option Effect
+set_item_of (k ∷ place ∷ item ∷ []) = option_map (λ i. effect.SetItem k i item) (place_of place)
+set_item_of _ = None
+
+abbrev pub insert_item_of : List Bytes → Option Effect
+insert_item_of (k ∷ side ∷ pivot ∷ item ∷ []) = option_map (λ s. effect.InsertItem k s pivot item) (side_of side)
+insert_item_of _ = None
+
+abbrev pub remove_items_of : List Bytes → Option Effect
+remove_items_of (k ∷ count ∷ item ∷ []) = option_map (λ n. effect.RemoveItems k n item) (number_of count)
+remove_items_of _ = None
+
+abbrev pub trim_of : List Bytes → Option Effect
+trim_of (k ∷ first ∷ last ∷ []) = option_and_then (λ a. option_map (effect.Trim k a) (number_of last)) (number_of first)
+trim_of _ = None
+
+abbrev pub move_item_of : List Bytes → Option Effect
+move_item_of (from ∷ to ∷ taken ∷ put ∷ []) = option_and_then (λ t. option_map (effect.MoveItem from to t) (end_of put)) (end_of taken)
+move_item_of _ = None
+
+abbrev pub add_members_of : List Bytes → Option Effect
+add_members_of (k ∷ m ∷ ws) = Some (effect.AddMembers k (m ∷ ws))
+add_members_of _ = None
+
+abbrev pub remove_members_of : List Bytes → Option Effect
+remove_members_of (k ∷ m ∷ ws) = Some (effect.RemoveMembers k (m ∷ ws))
+remove_members_of _ = None
+
+abbrev pub move_member_of : List Bytes → Option Effect
+move_member_of (from ∷ to ∷ member ∷ []) = Some (effect.MoveMember from to member)
+move_member_of _ = None
+
+-- the effect of this name with these arguments
+unfoldable pub reading : EffectName → List Bytes → Option Effect
+reading name.Set = set_of
+reading name.Del = del_of
+reading name.HSet = set_fields_of
+reading name.HDel = remove_fields_of
+reading name.LPush = push_of Left
+reading name.RPush = push_of Right
+reading name.LPop = pop_of Left
+reading name.RPop = pop_of Right
+reading name.LSet = set_item_of
+reading name.LInsert = insert_item_of
+reading name.LRem = remove_items_of
+reading name.LTrim = trim_of
+reading name.LMove = move_item_of
+reading name.SAdd = add_members_of
+reading name.SRem = remove_members_of
+reading name.SMove = move_member_of
+
+abbrev pub read_as : Option EffectName → List Bytes → Option Effect
+read_as None ws = None
+read_as (Some n) ws = reading n ws
+
+unfoldable pub effect_of : List Bytes → Option Effect
+effect_of [] = None
+effect_of (word ∷ ws) = read_as (named word) ws

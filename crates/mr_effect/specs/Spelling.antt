@@ -1,0 +1,96 @@
+-- The one spelling of an effect.
+use Rattle.std.specs.Prelude.{◌≡◌, ◌≢◌, ℕ, List, [], ◌∷◌, length, codes, IsTrue, Option, Some, MatchOption}
+use Rattle.std.specs.List.{flat_map}
+use Rattle.std.specs.Fmt.{signed_decimal}
+use Rattle.mr_map.specs.Bytes.{Bytes}
+use Rattle.mr_resp.specs.Spelling.{array}
+use Rattle.mr_effect.specs.Effects.{has_spelling}
+use Rattle.mr_effect.specs.Names.{text_of}
+use Rattle.mr_effect.specs.declared.name.EffectName.{EffectName}
+use Rattle.mr_effect.specs.declared.name.EffectName.TheVariants as name
+use Rattle.mr_effect.specs.declared.effect.Effect.{Effect}
+use Rattle.mr_effect.specs.declared.effect.Effect.TheVariants as effect
+use Rattle.mr_effect.specs.declared.effect.End.{End}
+use Rattle.mr_effect.specs.declared.effect.End.TheVariants.{Left, Right}
+use Rattle.mr_effect.specs.declared.effect.Side.{Side}
+use Rattle.mr_effect.specs.declared.effect.Side.TheVariants.{Before, After}
+
+abbrev pub push_name : End → EffectName
+push_name Left = name.LPush
+push_name Right = name.RPush
+
+abbrev pub pop_name : End → EffectName
+pop_name Left = name.LPop
+pop_name Right = name.RPop
+
+abbrev pub end_word : End → Bytes
+end_word Left = codes "LEFT"
+end_word Right = codes "RIGHT"
+
+abbrev pub side_word : Side → Bytes
+side_word Before = codes "BEFORE"
+side_word After = codes "AFTER"
+
+-- the first word
+abbrev pub name_of : Effect → EffectName
+name_of (effect.Set k text) = name.Set
+name_of (effect.Del k) = name.Del
+name_of (effect.SetFields k pairs) = name.HSet
+name_of (effect.RemoveFields k fields) = name.HDel
+name_of (effect.Push k end items) = push_name end
+name_of (effect.Pop k end count) = pop_name end
+name_of (effect.SetItem k place item) = name.LSet
+name_of (effect.InsertItem k side pivot item) = name.LInsert
+name_of (effect.RemoveItems k count item) = name.LRem
+name_of (effect.Trim k first last) = name.LTrim
+name_of (effect.MoveItem from to taken put) = name.LMove
+name_of (effect.AddMembers k members) = name.SAdd
+name_of (effect.RemoveMembers k members) = name.SRem
+name_of (effect.MoveMember from to member) = name.SMove
+
+-- each field, and its value behind it
+abbrev pub pair_words : Bytes × Bytes → List Bytes
+pair_words p = p.0 ∷ p.1 ∷ []
+
+-- the other words
+abbrev pub arguments : Effect → List Bytes
+arguments (effect.Set k text) = k ∷ text ∷ []
+arguments (effect.Del k) = k ∷ []
+arguments (effect.SetFields k pairs) = k ∷ flat_map pair_words pairs
+arguments (effect.RemoveFields k fields) = k ∷ fields
+arguments (effect.Push k end items) = k ∷ items
+arguments (effect.Pop k end count) = k ∷ signed_decimal count ∷ []
+arguments (effect.SetItem k place item) = k ∷ signed_decimal place ∷ item ∷ []
+arguments (effect.InsertItem k side pivot item) = k ∷ side_word side ∷ pivot ∷ item ∷ []
+arguments (effect.RemoveItems k count item) = k ∷ signed_decimal count ∷ item ∷ []
+arguments (effect.Trim k first last) = k ∷ signed_decimal first ∷ signed_decimal last ∷ []
+arguments (effect.MoveItem from to taken put) = from ∷ to ∷ end_word taken ∷ end_word put ∷ []
+arguments (effect.AddMembers k members) = k ∷ members
+arguments (effect.RemoveMembers k members) = k ∷ members
+arguments (effect.MoveMember from to member) = from ∷ to ∷ member ∷ []
+
+unfoldable pub words : Effect → List Bytes
+words e = text_of (name_of e) ∷ arguments e
+
+-- the words in array form
+abbrev pub text : Effect → List ℕ
+text e = array (words e)
+
+abbrev pub texts : List Effect → List ℕ
+texts es = flat_map text es
+
+-- how many bytes of the stream an effect takes
+abbrev pub size : Effect → ℕ
+size e = length (text e)
+
+-- an effect that has a spelling has these words
+abbrev pub IsSpelled : List Bytes → Effect → Type 0
+IsSpelled ws e = IsTrue (has_spelling e) × (words e ≡ ws)
+
+-- what was found has these words, and where nothing was found no effect has them
+abbrev pub Spells : List Bytes → Option Effect → Type 0
+Spells ws found = MatchOption found ((e : Effect) → IsSpelled ws e → ⊥) (IsSpelled ws)
+
+-- an effect with these words is the one that was found
+abbrev pub FindsEach : List Bytes → Option Effect → Type 0
+FindsEach ws found = (e : Effect) → IsSpelled ws e → found ≡ Some e

@@ -1,0 +1,175 @@
+// What a write does.
+ghost use Rattle.std.specs.Prelude.{◌≡◌};
+ghost use Rattle.mr_value.specs.Number.{is_i64};
+ghost use Rattle.mr_effect.specs.Effects.{words_fit, has_spelling};
+
+use crate::words::{Pairs, Words};
+use mr_value::{Word, fits};
+
+/// An end of a list.
+#[derive(Clone, Copy, Debug, PartialEq, Eq)]
+pub enum End {
+    /// The front.
+    Left,
+    /// The back.
+    Right,
+}
+
+/// A side of an item in a list.
+#[derive(Clone, Copy, Debug, PartialEq, Eq)]
+pub enum Side {
+    Before,
+    After,
+}
+
+/// What a write does to a dataset, free of clock and chance.
+#[derive(Drop)]
+pub enum Effect<'a> {
+    /// The key holds this text, whatever it held, and has no deadline.
+    Set {
+        key: Word<'a>,
+        value: Word<'a>,
+    },
+    /// The key goes. One that isn't there is left alone.
+    Del {
+        key: Word<'a>,
+    },
+    /// Fields of a hash get these values, one after another.
+    SetFields {
+        key: Word<'a>,
+        pairs: Pairs<'a>,
+    },
+    /// Fields of a hash go. One that isn't there is left alone.
+    RemoveFields {
+        key: Word<'a>,
+        fields: Words<'a>,
+    },
+    /// Items are put at an end of a list, one after another.
+    Push {
+        key: Word<'a>,
+        end: End,
+        items: Words<'a>,
+    },
+    /// So many items are taken from an end of a list.
+    Pop {
+        key: Word<'a>,
+        end: End,
+        count: i64,
+    },
+    /// The item at a place, counted from the front, becomes another.
+    SetItem {
+        key: Word<'a>,
+        place: i64,
+        item: Word<'a>,
+    },
+    /// An item is put beside the first pivot.
+    InsertItem {
+        key: Word<'a>,
+        side: Side,
+        pivot: Word<'a>,
+        item: Word<'a>,
+    },
+    /// Items that equal this one go: the first ones for a count above 0, the last ones below, all for 0.
+    RemoveItems {
+        key: Word<'a>,
+        count: i64,
+        item: Word<'a>,
+    },
+    /// A list keeps the items from the first place to the last, both included.
+    Trim {
+        key: Word<'a>,
+        first: i64,
+        last: i64,
+    },
+    /// An item is taken from an end of one list and put at an end of another, or of the same.
+    MoveItem {
+        from: Word<'a>,
+        to: Word<'a>,
+        taken: End,
+        put: End,
+    },
+    /// Members come into a set.
+    AddMembers {
+        key: Word<'a>,
+        members: Words<'a>,
+    },
+    /// Members go from a set.
+    RemoveMembers {
+        key: Word<'a>,
+        members: Words<'a>,
+    },
+    /// A member goes from one set into another, or into the same.
+    MoveMember {
+        from: Word<'a>,
+        to: Word<'a>,
+        member: Word<'a>,
+    },
+}
+
+impl Effect<'_> {
+    /// Whether each of its words is within the limit.
+    pub fn fits(&self) -> bool
+        ensures { result ≡ words_fit self.now }
+    {
+        match self {
+            Effect::Set { key, value } => fits(key.as_slice()) && fits(value.as_slice()),
+            Effect::Del { key } => fits(key.as_slice()),
+            Effect::SetFields { key, pairs } => fits(key.as_slice()) && pairs.fit(),
+            Effect::RemoveFields { key, fields } => fits(key.as_slice()) && fields.fit(),
+            Effect::Push { key, end: _, items } => fits(key.as_slice()) && items.fit(),
+            Effect::Pop { key, .. } => fits(key.as_slice()),
+            Effect::SetItem {
+                key,
+                place: _,
+                item,
+            } => { fits(key.as_slice()) && fits(item.as_slice()) }
+            Effect::InsertItem {
+                key,
+                side: _,
+                pivot,
+                item,
+            } => fits(key.as_slice()) && fits(pivot.as_slice()) && fits(item.as_slice()),
+            Effect::RemoveItems {
+                key,
+                count: _,
+                item,
+            } => { fits(key.as_slice()) && fits(item.as_slice()) }
+            Effect::Trim { key, .. } => fits(key.as_slice()),
+            Effect::MoveItem { from, to, .. } => fits(from.as_slice()) && fits(to.as_slice()),
+            Effect::AddMembers { key, members } => fits(key.as_slice()) && members.fit(),
+            Effect::RemoveMembers { key, members } => fits(key.as_slice()) && members.fit(),
+            Effect::MoveMember { from, to, member } => {
+                fits(from.as_slice()) && fits(to.as_slice()) && fits(member.as_slice())
+            }
+        }
+    }
+
+    /// Whether it has a spelling: lists of words aren't empty, and the place of an item isn't below 0.
+    pub fn has_spelling(&self) -> bool
+        ensures { result ≡ has_spelling self.now }
+    {
+        match self {
+            Effect::SetFields { pairs, .. } => !pairs.is_empty(),
+            Effect::RemoveFields { fields, .. } => !fields.is_empty(),
+            Effect::Push { items, .. } => !items.is_empty(),
+            Effect::SetItem { place, .. } => *place >= 0,
+            Effect::AddMembers { members, .. } => !members.is_empty(),
+            Effect::RemoveMembers { members, .. } => !members.is_empty(),
+            Effect::Set { .. } => true,
+            Effect::Del { .. } => true,
+            Effect::Pop { count, .. } => is_i64(*count),
+            Effect::InsertItem { .. } => true,
+            Effect::RemoveItems { count, .. } => is_i64(*count),
+            Effect::Trim { first, last, .. } => is_i64(*first) && is_i64(*last),
+            Effect::MoveItem { .. } => true,
+            Effect::MoveMember { .. } => true,
+        }
+    }
+}
+
+// A number of this type always is one.
+fn is_i64(_number: i64) -> bool
+    ensures { result ≡ is_i64 _number }
+{
+    true
+}

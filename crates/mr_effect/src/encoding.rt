@@ -1,0 +1,300 @@
+// The text of an effect.
+ghost use Rattle.std.specs.Prelude.{◌≡◌, ◌++◌, ◌∷◌, [], OnOk, OnErr};
+ghost use Rattle.std.specs.List.{flat_map};
+ghost use Rattle.std.specs.Fmt.{signed_decimal};
+ghost use Rattle.mr_resp.specs.Appends.{Extends};
+ghost use Rattle.mr_resp.specs.Spelling.{array, bulk};
+ghost use Rattle.mr_effect.specs.Names.{text_of};
+ghost use Rattle.mr_effect.specs.Parts.{head};
+ghost use Rattle.mr_effect.specs.Spelling.{text, texts, push_name, pop_name, end_word, side_word, pair_words};
+
+use crate::effect::{Effect, End, Side};
+use crate::name::EffectName;
+use crate::words::{Pairs, Words};
+use itoa::Buffer;
+use mr_resp::{push_request, push_word, push_word_count};
+use mr_value::Word;
+use std::alloc::AllocError;
+
+fn push_name(end: End) -> EffectName
+    ensures { result ≡ push_name end }
+{
+    match end {
+        End::Left => EffectName::LPush,
+        End::Right => EffectName::RPush,
+    }
+}
+
+fn pop_name(end: End) -> EffectName
+    ensures { result ≡ pop_name end }
+{
+    match end {
+        End::Left => EffectName::LPop,
+        End::Right => EffectName::RPop,
+    }
+}
+
+fn end_word(end: End) -> &'static [u8]
+    ensures { result.now ≡ end_word end }
+{
+    match end {
+        End::Left => b"LEFT",
+        End::Right => b"RIGHT",
+    }
+}
+
+fn side_word(side: Side) -> &'static [u8]
+    ensures { result.now ≡ side_word side }
+{
+    match side {
+        Side::Before => b"BEFORE",
+        Side::After => b"AFTER",
+    }
+}
+
+// The beginning of a request: a name and a key, to which so many words more are to come.
+#[tactic(auto, using(crate::proofs::Appending::steps), unfolding(crate::specs::Parts::head))]
+fn push_head(
+    name: EffectName,
+    key: &Word<'_>,
+    more: usize,
+    out: &mut Vec<u8>,
+) -> Result<(), AllocError>
+    ensures ok { OnOk result (out.new.items ≡ out.old.items ++ head (text_of name) key.now more) }
+    ensures kept { Extends out.old.items out.new.items }
+{
+    let count = more.checked_add(2).ok_or(AllocError)?;
+    push_word_count(out, count)?;
+    push_word(out, name.text())?;
+    push_word(out, key.as_slice())
+}
+
+// A name, a key and words.
+#[tactic(auto, using(crate::proofs::Appending::steps))]
+fn push_words(
+    name: EffectName,
+    key: &Word<'_>,
+    words: &Words<'_>,
+    out: &mut Vec<u8>,
+) -> Result<(), AllocError>
+    ensures ok { OnOk result (out.new.items ≡ out.old.items ++ array (text_of name ∷ key.now ∷ words.now)) }
+    ensures kept { Extends out.old.items out.new.items }
+{
+    push_head(name, key, words.len(), out)?;
+    for word in words.as_slice() {
+        push_word(out, word.as_slice())?;
+    }
+    Ok(())
+}
+
+// A field, and its value behind it.
+#[tactic(auto, using(crate::proofs::Appending::steps))]
+fn push_pair(pair: &(Word<'_>, Word<'_>), out: &mut Vec<u8>) -> Result<(), AllocError>
+    ensures ok { OnOk result (out.new.items ≡ out.old.items ++ flat_map bulk (pair_words pair.now)) }
+    ensures kept { Extends out.old.items out.new.items }
+{
+    push_word(out, pair.0.as_slice())?;
+    push_word(out, pair.1.as_slice())
+}
+
+// A name, a key, and fields each with its value behind it.
+#[tactic(auto, using(crate::proofs::Appending::steps))]
+fn push_pairs(key: &Word<'_>, pairs: &Pairs<'_>, out: &mut Vec<u8>) -> Result<(), AllocError>
+    ensures ok { OnOk result (out.new.items ≡ out.old.items ++ array (text_of EffectName.HSet ∷ key.now ∷ flat_map pair_words pairs.now)) }
+    ensures kept { Extends out.old.items out.new.items }
+{
+    push_head(EffectName::HSet, key, 2 * pairs.len(), out)?;
+    for pair in pairs.as_slice() {
+        push_pair(pair, out)?;
+    }
+    Ok(())
+}
+
+// Requests of so many words. (The words of an array must stand at one lifetime.)
+fn push_two<'x>(first: &'x [u8], second: &'x [u8], out: &mut Vec<u8>) -> Result<(), AllocError>
+    ensures ok { OnOk result (out.new.items ≡ out.old.items ++ array (first.now ∷ second.now ∷ [])) }
+    ensures kept { Extends out.old.items out.new.items }
+{
+    push_request(&[first, second], out)
+}
+
+fn push_three<'x>(
+    first: &'x [u8],
+    second: &'x [u8],
+    third: &'x [u8],
+    out: &mut Vec<u8>,
+) -> Result<(), AllocError>
+    ensures ok { OnOk result (out.new.items ≡ out.old.items ++ array (first.now ∷ second.now ∷ third.now ∷ [])) }
+    ensures kept { Extends out.old.items out.new.items }
+{
+    push_request(&[first, second, third], out)
+}
+
+fn push_four<'x>(
+    first: &'x [u8],
+    second: &'x [u8],
+    third: &'x [u8],
+    fourth: &'x [u8],
+    out: &mut Vec<u8>,
+) -> Result<(), AllocError>
+    ensures ok { OnOk result (out.new.items ≡ out.old.items ++ array (first.now ∷ second.now ∷ third.now ∷ fourth.now ∷ [])) }
+    ensures kept { Extends out.old.items out.new.items }
+{
+    push_request(&[first, second, third, fourth], out)
+}
+
+fn push_five<'x>(
+    first: &'x [u8],
+    second: &'x [u8],
+    third: &'x [u8],
+    fourth: &'x [u8],
+    fifth: &'x [u8],
+    out: &mut Vec<u8>,
+) -> Result<(), AllocError>
+    ensures ok { OnOk result (out.new.items ≡ out.old.items ++ array (first.now ∷ second.now ∷ third.now ∷ fourth.now ∷ fifth.now ∷ [])) }
+    ensures kept { Extends out.old.items out.new.items }
+{
+    push_request(&[first, second, third, fourth, fifth], out)
+}
+
+// A name, a key and two numbers.
+fn push_range(key: &Word<'_>, first: i64, last: i64, out: &mut Vec<u8>) -> Result<(), AllocError>
+    ensures ok { OnOk result (out.new.items ≡ out.old.items ++ array (text_of EffectName.LTrim ∷ key.now ∷ signed_decimal first ∷ signed_decimal last ∷ [])) }
+    ensures kept { Extends out.old.items out.new.items }
+{
+    let mut from = Buffer::new();
+    let mut to = Buffer::new();
+    push_four(
+        EffectName::LTrim.text(),
+        key.as_slice(),
+        from.format(first).as_bytes(),
+        to.format(last).as_bytes(),
+        out,
+    )
+}
+
+// A name, a key and a number.
+fn push_number(
+    name: EffectName,
+    key: &Word<'_>,
+    number: i64,
+    out: &mut Vec<u8>,
+) -> Result<(), AllocError>
+    ensures ok { OnOk result (out.new.items ≡ out.old.items ++ array (text_of name ∷ key.now ∷ signed_decimal number ∷ [])) }
+    ensures kept { Extends out.old.items out.new.items }
+{
+    let mut buffer = Buffer::new();
+    push_three(
+        name.text(),
+        key.as_slice(),
+        buffer.format(number).as_bytes(),
+        out,
+    )
+}
+
+// A name, a key, a number and an item.
+fn push_numbered(
+    name: EffectName,
+    key: &Word<'_>,
+    number: i64,
+    item: &Word<'_>,
+    out: &mut Vec<u8>,
+) -> Result<(), AllocError>
+    ensures ok { OnOk result (out.new.items ≡ out.old.items ++ array (text_of name ∷ key.now ∷ signed_decimal number ∷ item.now ∷ [])) }
+    ensures kept { Extends out.old.items out.new.items }
+{
+    let mut buffer = Buffer::new();
+    push_four(
+        name.text(),
+        key.as_slice(),
+        buffer.format(number).as_bytes(),
+        item.as_slice(),
+        out,
+    )
+}
+
+#[tactic(auto, unfolding(crate::specs::Spelling::words))]
+fn push_effect(effect: &Effect<'_>, out: &mut Vec<u8>) -> Result<(), AllocError>
+    ensures ok { OnOk result (out.new.items ≡ out.old.items ++ text effect.now) }
+    ensures kept { Extends out.old.items out.new.items }
+{
+    match effect {
+        Effect::Set { key, value } => push_three(b"SET", key.as_slice(), value.as_slice(), out),
+        Effect::Del { key } => push_two(b"DEL", key.as_slice(), out),
+        Effect::SetFields { key, pairs } => push_pairs(key, pairs, out),
+        Effect::RemoveFields { key, fields } => push_words(EffectName::HDel, key, fields, out),
+        Effect::Push { key, end, items } => push_words(push_name(*end), key, items, out),
+        Effect::Pop { key, end, count } => push_number(pop_name(*end), key, *count, out),
+        Effect::SetItem { key, place, item } => {
+            push_numbered(EffectName::LSet, key, *place, item, out)
+        }
+        Effect::InsertItem {
+            key,
+            side,
+            pivot,
+            item,
+        } => push_five(
+            b"LINSERT",
+            key.as_slice(),
+            side_word(*side),
+            pivot.as_slice(),
+            item.as_slice(),
+            out,
+        ),
+        Effect::RemoveItems { key, count, item } => {
+            push_numbered(EffectName::LRem, key, *count, item, out)
+        }
+        Effect::Trim { key, first, last } => push_range(key, *first, *last, out),
+        Effect::MoveItem {
+            from,
+            to,
+            taken,
+            put,
+        } => push_five(
+            b"LMOVE",
+            from.as_slice(),
+            to.as_slice(),
+            end_word(*taken),
+            end_word(*put),
+            out,
+        ),
+        Effect::AddMembers { key, members } => push_words(EffectName::SAdd, key, members, out),
+        Effect::RemoveMembers { key, members } => push_words(EffectName::SRem, key, members, out),
+        Effect::MoveMember { from, to, member } => push_four(
+            b"SMOVE",
+            from.as_slice(),
+            to.as_slice(),
+            member.as_slice(),
+            out,
+        ),
+    }
+}
+
+/// Appends the text of an effect. An `Err` changes nothing.
+#[tactic(auto, using(crate::proofs::Appending::take_front))]
+pub fn encode(effect: &Effect<'_>, out: &mut Vec<u8>) -> Result<(), AllocError>
+    ensures ok { OnOk result (out.new.items ≡ out.old.items ++ text effect.now) }
+    ensures err { OnErr result (out.new.items ≡ out.old.items) }
+{
+    let start = out.len();
+    let written = push_effect(effect, out);
+    if written.is_err() {
+        out.truncate(start);
+    }
+    written
+}
+
+/// Appends the texts of effects, in order. An `Err` changes nothing.
+pub fn encode_all(effects: &[Effect<'_>], out: &mut Vec<u8>) -> Result<(), AllocError>
+    ensures ok { OnOk result (out.new.items ≡ out.old.items ++ texts effects.now) }
+    ensures err { OnErr result (out.new.items ≡ out.old.items) }
+{
+    let start = out.len();
+    for effect in effects {
+        if let Err(e) = encode(effect, out) {
+            out.truncate(start);
+            return Err(e);
+        }
+    }
+    Ok(())
+}

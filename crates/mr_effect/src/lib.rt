@@ -1,0 +1,20 @@
+//! Effects: what writes do to a dataset, and their one spelling.
+#![tactic(auto)]
+
+mod decoding;
+mod effect;
+mod encoding;
+mod laws;
+mod name;
+mod reading;
+mod words;
+
+pub use decoding::decode;
+pub use effect::{Effect, End, Side};
+pub use encoding::{encode, encode_all};
+pub use laws::{effects_are_told_apart, texts_come_in_parts};
+pub use name::EffectName;
+pub use words::{Pairs, Words};
+
+#[cfg(test)]
+mod tests;

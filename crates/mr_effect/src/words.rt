@@ -1,0 +1,178 @@
+// The words of an effect that follow one another.
+ghost use Rattle.std.specs.Prelude.{◌≡◌, ◌==◌, ◌&&◌, ◌<◌, ◌^◌, [], ◌∷◌, ◌++◌, map, length, IfOk, OnOk, OnErr};
+ghost use Rattle.std.specs.Cow.{cow_slice_items};
+ghost use Rattle.std.specs.List.{list_all};
+ghost use Rattle.mr_value.specs.Words.{fits};
+ghost use Rattle.mr_effect.specs.Effects.{pair_fits};
+
+use mr_value::{Word, fits};
+use std::alloc::{AllocError, Global};
+use std::borrow::CowSlice;
+use std::marker::Model;
+
+/// Words in order, seen as a list of byte strings.
+#[derive(Drop)]
+pub struct Words<'a> {
+    items: Vec<Word<'a>>,
+}
+
+impl<'a> Model for Words<'a> {
+    ghost use Rattle.std.specs.Prelude.{List, ℕ};
+
+    ghost Value = { List (List ℕ) };
+
+    ghost view = { λ a. a.items.items };
+}
+
+impl<'a> Words<'a> {
+    /// No word. It takes no memory.
+    pub fn new(alloc: Global) -> Words<'a>
+        ensures { result ≡ [] }
+    {
+        Words {
+            items: Vec::new(alloc),
+        }
+    }
+
+    /// Words that lie elsewhere.
+    pub fn borrowed(alloc: Global, words: &'a [CowSlice<'_, u8>]) -> Result<Words<'a>, AllocError>
+        ensures { IfOk result (λ ws. ws ≡ map cow_slice_items words.now) }
+    {
+        let mut items = Vec::with_capacity(alloc, words.len())?;
+        for word in words {
+            items.push(Word::borrowed(word.as_slice()))?;
+        }
+        Ok(Words { items })
+    }
+
+    /// Puts a word behind the others.
+    pub fn push(&mut self, word: Word<'a>) -> Result<(), AllocError>
+        ensures ok { OnOk result (self.new ≡ self.old ++ word.entry ∷ []) }
+        ensures err { OnErr result (self.new ≡ self.old) }
+    {
+        self.items.push(word)?;
+        Ok(())
+    }
+
+    /// How many there are.
+    pub fn len(&self) -> usize
+        ensures len { result ≡ length self.now }
+        ensures small { result < 2 ^ 63 }
+    {
+        self.items.len()
+    }
+
+    /// Whether there is none.
+    pub fn is_empty(&self) -> bool
+        ensures { result ≡ (length self.now == 0) }
+    {
+        self.items.is_empty()
+    }
+
+    /// The words.
+    pub fn as_slice(&self) -> &[Word<'a>]
+        ensures { result.now ≡ self.now }
+    {
+        self.items.as_slice()
+    }
+
+    /// The vector of the words, which are not copied.
+    pub fn into_vec(self) -> Vec<Word<'a>>
+        ensures { result.items ≡ self.entry }
+    {
+        let Self { items } = self;
+        items
+    }
+
+    /// Whether each is within the limit.
+    pub fn fit(&self) -> bool
+        ensures { result ≡ list_all fits self.now }
+    {
+        all_fit(self.as_slice())
+    }
+}
+
+fn all_fit(words: &[Word<'_>]) -> bool
+    ensures { result ≡ list_all fits words.now }
+{
+    words.iter().all(|word| fits(word.as_slice()))
+}
+
+/// Fields with their values, in order.
+#[derive(Drop)]
+pub struct Pairs<'a> {
+    items: Vec<(Word<'a>, Word<'a>)>,
+}
+
+impl<'a> Model for Pairs<'a> {
+    ghost use Rattle.std.specs.Prelude.{List, ℕ};
+
+    ghost Value = { List (List ℕ × List ℕ) };
+
+    ghost view = { λ a. a.items.items };
+}
+
+impl<'a> Pairs<'a> {
+    /// No pair. It takes no memory.
+    pub fn new(alloc: Global) -> Pairs<'a>
+        ensures { result ≡ [] }
+    {
+        Pairs {
+            items: Vec::new(alloc),
+        }
+    }
+
+    /// Puts a pair behind the others.
+    pub fn push(&mut self, field: Word<'a>, value: Word<'a>) -> Result<(), AllocError>
+        ensures ok { OnOk result (self.new ≡ self.old ++ (field.entry, value.entry) ∷ []) }
+        ensures err { OnErr result (self.new ≡ self.old) }
+    {
+        self.items.push((field, value))?;
+        Ok(())
+    }
+
+    /// How many there are.
+    pub fn len(&self) -> usize
+        ensures len { result ≡ length self.now }
+        ensures small { result < 2 ^ 63 }
+    {
+        self.items.len()
+    }
+
+    /// Whether there is none.
+    pub fn is_empty(&self) -> bool
+        ensures { result ≡ (length self.now == 0) }
+    {
+        self.items.is_empty()
+    }
+
+    /// The pairs.
+    pub fn as_slice(&self) -> &[(Word<'a>, Word<'a>)]
+        ensures { result.now ≡ self.now }
+    {
+        self.items.as_slice()
+    }
+
+    /// The vector of the pairs, which are not copied.
+    pub fn into_vec(self) -> Vec<(Word<'a>, Word<'a>)>
+        ensures { result.items ≡ self.entry }
+    {
+        let Self { items } = self;
+        items
+    }
+
+    /// Whether each field and each value is within the limit.
+    pub fn fit(&self) -> bool
+        ensures { result ≡ list_all pair_fits self.now }
+    {
+        all_pairs_fit(self.as_slice())
+    }
+}
+
+fn all_pairs_fit(pairs: &[(Word<'_>, Word<'_>)]) -> bool
+    ensures { result ≡ list_all pair_fits pairs.now }
+{
+    pairs
+        .iter()
+        .all(|pair| fits(pair.0.as_slice()) && fits(pair.1.as_slice()))
+}
