@@ -4,7 +4,7 @@ use Rattle.std.specs.Io.KnownBytes.{Appends}
 use Rattle.std.proofs.KnownBytes.{Appends-nil, Appends-trans}
 use Rattle.mr_links.specs.declared.link_id.LinkId.{LinkId}
 use Rattle.mr_data.specs.declared.given.Given.{Given}
-use Rattle.mr_node.specs.State.{NodeState, Agrees}
+use Rattle.mr_node.specs.State.{NodeState, Core, Agrees}
 use Rattle.mr_node.specs.Outs.{OutsState}
 use Rattle.mr_node.specs.Rows.{ClientRow}
 use Rattle.mr_pipe.specs.Sessions.{Turn, Serves}

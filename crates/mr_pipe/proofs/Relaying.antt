@@ -1,6 +1,6 @@
 -- One read after another.
-use Rattle.std.proofs.Common.{rules, ℕ, List, [], ◌∷◌, ◌++◌, Option, refl, inr, lit<, Ok, Err, Result, OnOk}
-use Rattle.std.specs.Io.KnownBytes.{Keeps}
+use Rattle.std.proofs.Common.{rules, ◌≡◌, ◌<◌, ℕ, List, [], ◌∷◌, ◌++◌, Option, refl, sym, ap, subst, ◌∙◌, append_assoc, inl, inr, All, lit<, Ok, Err, Result, OnOk}
+use Rattle.std.specs.Io.KnownBytes.{Consumes, IsAtEnd, Appends, Keeps}
 use Rattle.std.proofs.KnownBytes.{Consumes-nil, Consumes-trans, Appends-trans, Appends-kept}
 use Rattle.mr_links.specs.declared.link_id.LinkId.{LinkId}
 use Rattle.mr_resp.specs.Faults.{fault_text}
@@ -8,7 +8,7 @@ use Rattle.mr_resp.specs.Replies.{error, reply_text}
 use Rattle.mr_data.specs.declared.given.Given.{Given}
 use Rattle.mr_node.specs.State.{NodeState, Agrees}
 use Rattle.mr_node.specs.Requests.{Waits}
-use Rattle.mr_pipe.specs.Serving.{Drained, Ended}
+use Rattle.mr_pipe.specs.Serving.{Going, Drained, Ended}
 use Rattle.mr_pipe.specs.Piped.{Relays, RelaysEnd, RelaysFault, IsRound, Session, Answers}
 use Rattle.mr_pipe.specs.declared.relay.Round.{Round}
 use Rattle.mr_pipe.specs.declared.relay.Round.TheVariants as round

@@ -2,7 +2,7 @@
 use Rattle.std.proofs.Common.{◌≡◌, ℕ, List, [], ◌∷◌, ◌++◌, refl, sym, ap, subst, ◌∙◌, append_assoc}
 use Rattle.mr_data.specs.declared.given.Given.{Given}
 use Rattle.mr_node.specs.State.{Core}
-use Rattle.mr_node.specs.Requests.{Asks}
+use Rattle.mr_node.specs.Requests.{Asks, AsksNothing}
 use Rattle.mr_pipe.specs.Sessions.{Turn, Moment, Serves}
 
 pub append_nil : (xs : List ℕ) → xs ++ [] ≡ xs

@@ -1,4 +1,4 @@
-use Rattle.std.proofs.Common.{rules, ◌≡◌, [], subst}
+use Rattle.std.proofs.Common.{rules, ◌≡◌, ℕ, List, [], Option, sym, subst, ap, ◌∙◌}
 use Rattle.mr_node.specs.State.{Agrees, Core}
 use Rattle.mr_pipe.specs.Piped.{Session, fresh_core}
 use Rattle.mr_pipe.proofs.Relaying.{on_ok_map}

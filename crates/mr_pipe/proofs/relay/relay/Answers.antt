@@ -1,4 +1,4 @@
-use Rattle.std.proofs.Common.{[], subst}
+use Rattle.std.proofs.Common.{◌≡◌, ℕ, List, [], subst}
 use Rattle.mr_pipe.specs.Piped.{Relays, IsRound}
 use Rattle.mr_pipe.specs.declared.relay.Round.TheVariants as round
 use Rattle.mr_pipe.proofs.Relaying.{after_round, no_round, session_end, session_fault}

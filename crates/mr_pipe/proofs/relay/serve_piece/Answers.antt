@@ -1,5 +1,7 @@
-use Rattle.std.proofs.Common.{[], ◌++◌, take, sym, subst}
+use Rattle.std.proofs.Common.{rules, ◌≡◌, ℕ, List, [], ◌++◌, Option, Some, None, true, false, take, sym, subst, ap, ◌∙◌}
+use Rattle.std.specs.Io.KnownBytes.{Consumes, Appends}
 use Rattle.std.proofs.KnownBytes.{Consumes-nil, Consumes-kept}
+use Rattle.mr_node.specs.State.{NodeState}
 use Rattle.mr_pipe.specs.Serving.{Drained, IsDrained}
 use Rattle.mr_pipe.specs.Reading.{IsRead}
 use Rattle.mr_pipe.proofs.Serves.{append_nil}

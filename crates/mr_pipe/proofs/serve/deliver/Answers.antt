@@ -1,4 +1,4 @@
-use Rattle.std.proofs.Common.{rules, ◌≡◌, ◌++◌, ℕ, List, Option, Ok, Err, Result, IfOk}
+use Rattle.std.proofs.Common.{rules, ◌≡◌, ◌++◌, ℕ, List, Option, Bool, Ok, Err, Result, IfOk}
 use Rattle.mr_node.specs.State.{NodeState, Agrees}
 use Rattle.mr_pipe.specs.Serving.{Going, IsDrained}
 use Rattle.mr_pipe.proofs.Goings.{drained_join}

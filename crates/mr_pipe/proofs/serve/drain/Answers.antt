@@ -1,4 +1,4 @@
-use Rattle.std.proofs.Common.{subst}
+use Rattle.std.proofs.Common.{◌≡◌, ℕ, List, subst}
 use Rattle.mr_pipe.specs.Serving.{Going, IsTurn}
 use Rattle.mr_pipe.proofs.Goings.{drained, ended, goes_on}
 use Rattle.mr_pipe.proofs.serve.drain.Goals as goal

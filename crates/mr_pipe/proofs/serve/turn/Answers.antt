@@ -1,4 +1,5 @@
-use Rattle.std.proofs.Common.{rules, subst, sym}
+use Rattle.std.proofs.Common.{rules, ◌≡◌, ℕ, List, true, false, subst, sym, ap, ◌∙◌}
+use Rattle.std.specs.Io.KnownBytes.{Appends}
 use Rattle.mr_node.specs.Rows.{ClientRow, StepRow}
 use Rattle.mr_pipe.proofs.serve.turn.Goals as goal
 
