@@ -2,7 +2,6 @@
 #![tactic(auto)]
 
 mod bytes;
-mod ends;
 mod hash;
 mod indexes;
 mod items;
@@ -14,7 +13,6 @@ mod set_value;
 mod word;
 
 pub use bytes::Bytes;
-pub use ends::{End, Side};
 pub use hash::Hash;
 pub use indexes::{place, window};
 pub use items::Items;
