@@ -1,12 +1,5 @@
-pub mod Answering
-pub mod Changes
 pub mod Datasets
-pub mod Ends
 pub mod Folding
-pub mod Fitting
-pub mod Maps
-pub mod Moving
-pub mod Nonempty
-pub mod Numbers
+pub mod Readings
 pub mod Seeing
-pub mod Stepping
+pub mod Texts

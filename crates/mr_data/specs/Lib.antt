@@ -1,6 +1,5 @@
 pub mod Dataset
 pub mod Given
-pub mod Collections
-pub mod Steps
 pub mod Meaning
-pub mod Outcome
+pub mod Spelling
+pub mod Reading

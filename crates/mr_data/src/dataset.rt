@@ -4,10 +4,11 @@ ghost use Rattle.std.specs.Option.{option_map, option_and_then};
 ghost use Rattle.std.specs.FinMap as map;
 
 mod applying;
+mod moving;
+mod steps;
 
-use crate::entries::Entries;
 use crate::value::{Entry, Value};
-use mr_map::Keys;
+use mr_map::{KeyedMap, Keys};
 use std::alloc::Global;
 use std::hash::RandomState;
 use std::marker::Model;
@@ -15,7 +16,8 @@ use std::marker::Model;
 /// Values and deadlines by key, seen as a finite map from keys to entries.
 #[derive(Drop)]
 pub struct Dataset {
-    entries: Entries,
+    alloc: Global,
+    entries: KeyedMap<Entry>,
 }
 
 impl Model for Dataset {
@@ -43,7 +45,8 @@ impl Dataset {
         ensures { result ≡ map.empty }
     {
         Dataset {
-            entries: Entries::new(alloc, seed),
+            alloc,
+            entries: KeyedMap::new(alloc, seed),
         }
     }
 
