@@ -1,2 +1,4 @@
 pub mod NameLemmas
+pub mod PairLemmas
+pub mod PartLemmas
 pub mod AskLemmas

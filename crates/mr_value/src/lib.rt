@@ -2,6 +2,7 @@
 #![tactic(auto)]
 
 mod bytes;
+mod ends;
 mod hash;
 mod indexes;
 mod items;
@@ -13,6 +14,7 @@ mod set_value;
 mod word;
 
 pub use bytes::Bytes;
+pub use ends::{End, Side};
 pub use hash::Hash;
 pub use indexes::{place, window};
 pub use items::Items;

@@ -1,0 +1,56 @@
+-- Commands to the server itself.
+use Rattle.std.specs.Prelude.{ℕ, ℤ, pos, List, [], ◌∷◌, if◌then◌else◌, Some, None, Result, Ok, Err}
+use Rattle.mr_ask.specs.declared.name.Name.TheVariants as name
+use Rattle.mr_ask.specs.declared.fault.AskFault.{AskFault}
+use Rattle.mr_ask.specs.declared.fault.AskFault.TheVariants.{Arity, Syntax}
+use Rattle.mr_ask.specs.declared.ask.Ask.{Ask}
+use Rattle.mr_ask.specs.declared.ask.Ask.TheVariants as ask
+use Rattle.std.specs.Prelude.{codes}
+use Rattle.std.specs.Str.{bytes_eq}
+use Rattle.std.specs.Ordering.{int_eq}
+use Rattle.mr_ask.specs.Names.{lowered}
+use Rattle.mr_ask.specs.Parts.{with, integer}
+use Rattle.mr_ask.specs.declared.fault.AskFault.TheVariants.{Other}
+use Rattle.mr_ask.specs.declared.fault.BadValue.TheVariants.{Database}
+
+-- PING [message]
+abbrev pub ping : List (List ℕ) → Result Ask AskFault
+ping [] = Ok (ask.Ping None)
+ping (message ∷ []) = Ok (ask.Ping (Some message))
+ping _ = Err (Arity name.Ping)
+
+-- ECHO message
+abbrev pub echo : List (List ℕ) → Result Ask AskFault
+echo (message ∷ []) = Ok (ask.Echo message)
+echo _ = Err (Arity name.Echo)
+
+-- the only database
+abbrev pub database : ℤ → Result Ask AskFault
+database index = if int_eq index (pos 0) then Ok ask.Select else Err (Other Database)
+
+-- SELECT 0
+abbrev pub select : List (List ℕ) → Result Ask AskFault
+select (index ∷ []) = with (integer index) database
+select _ = Err (Arity name.Select)
+
+-- QUIT
+abbrev pub quit : List (List ℕ) → Result Ask AskFault
+quit [] = Ok ask.Quit
+quit _ = Err (Arity name.Quit)
+
+-- COMMAND [argument ..]
+abbrev pub command : List (List ℕ) → Result Ask AskFault
+command arguments = Ok (ask.Command arguments)
+
+-- option words, in lower case
+abbrev pub setname : List ℕ
+setname = codes "setname"
+
+abbrev pub setinfo : List ℕ
+setinfo = codes "setinfo"
+
+-- CLIENT SETNAME name, CLIENT SETINFO attribute value
+abbrev pub client : List (List ℕ) → Result Ask AskFault
+client (option ∷ name ∷ []) = if bytes_eq (lowered option) setname then Ok (ask.SetClientName name) else Err Syntax
+client (option ∷ attribute ∷ value ∷ []) = if bytes_eq (lowered option) setinfo then Ok (ask.SetClientInfo attribute value) else Err Syntax
+client _ = Err Syntax

@@ -1,0 +1,40 @@
+// What commands are about.
+ghost use Rattle.std.specs.Prelude.{◌≡◌};
+ghost use Rattle.mr_ask.specs.Asks.{group_of};
+
+use crate::ask::Ask;
+
+/// What a command is about.
+#[derive(Clone, Copy, Debug, PartialEq, Eq)]
+pub enum Group {
+    /// Strings, and keys whatever they hold.
+    Keys,
+    /// Hashes, lists and sets.
+    Collections,
+    /// The server itself. No key is looked at.
+    Server,
+}
+
+impl Ask<'_, '_> {
+    /// What the command is about.
+    pub fn group(&self) -> Group
+        ensures { result ≡ group_of self.now }
+    {
+        match self {
+            Ask::Get { .. }
+            | Ask::Set { .. }
+            | Ask::Del { .. }
+            | Ask::Unlink { .. }
+            | Ask::Exists { .. }
+            | Ask::KeyType { .. } => Group::Keys,
+            Ask::Ping { .. }
+            | Ask::Echo { .. }
+            | Ask::Select
+            | Ask::Quit
+            | Ask::Command { .. }
+            | Ask::SetClientName { .. }
+            | Ask::SetClientInfo { .. } => Group::Server,
+            _ => Group::Collections,
+        }
+    }
+}

@@ -1,0 +1,101 @@
+// Commands to the server itself.
+ghost use Rattle.std.specs.Prelude.{◌≡◌, map};
+ghost use Rattle.std.specs.Cow.{cow_slice_items};
+ghost use Rattle.std.specs.Str.{bytes_eq};
+ghost use Rattle.mr_ask.specs.Names.{lowered};
+ghost use Rattle.mr_ask.specs.Server.{ping, echo, select, quit, command, client, setname, setinfo};
+
+use crate::ask::Ask;
+use crate::fault::{AskFault, BadValue};
+use crate::name::Name;
+use crate::parts::integer;
+use crate::reading::{Arguments, Reading};
+use crate::words::{Argument, Words};
+use std::borrow::CowSlice;
+
+/// `PING [message]`
+pub(crate) fn ping<'a, 't>(arguments: Arguments<'a, 't>) -> Reading<'a, 't>
+    ensures { result ≡ ping (map cow_slice_items arguments.now) }
+{
+    match arguments {
+        [] => Ok(Ask::Ping { message: None }),
+        [message] => Ok(Ask::Ping {
+            message: Some(Argument::of(message)),
+        }),
+        _ => Err(AskFault::Arity(Name::Ping)),
+    }
+}
+
+/// `ECHO message`
+pub(crate) fn echo<'a, 't>(arguments: Arguments<'a, 't>) -> Reading<'a, 't>
+    ensures { result ≡ echo (map cow_slice_items arguments.now) }
+{
+    match arguments {
+        [message] => Ok(Ask::Echo {
+            message: Argument::of(message),
+        }),
+        _ => Err(AskFault::Arity(Name::Echo)),
+    }
+}
+
+/// `SELECT 0`
+pub(crate) fn select<'a, 't>(arguments: Arguments<'a, 't>) -> Reading<'a, 't>
+    ensures { result ≡ select (map cow_slice_items arguments.now) }
+{
+    match arguments {
+        [index] => {
+            if integer(index)? != 0 {
+                return Err(AskFault::Other(BadValue::Database));
+            }
+            Ok(Ask::Select)
+        }
+        _ => Err(AskFault::Arity(Name::Select)),
+    }
+}
+
+/// `QUIT`
+pub(crate) fn quit<'a, 't>(arguments: Arguments<'a, 't>) -> Reading<'a, 't>
+    ensures { result ≡ quit (map cow_slice_items arguments.now) }
+{
+    match arguments {
+        [] => Ok(Ask::Quit),
+        _ => Err(AskFault::Arity(Name::Quit)),
+    }
+}
+
+/// `COMMAND [argument ..]`
+pub(crate) fn command<'a, 't>(arguments: Arguments<'a, 't>) -> Reading<'a, 't>
+    ensures { result ≡ command (map cow_slice_items arguments.now) }
+{
+    Ok(Ask::Command {
+        arguments: Words::new(arguments),
+    })
+}
+
+/// `CLIENT SETNAME name`, `CLIENT SETINFO attribute value`
+pub(crate) fn client<'a, 't>(arguments: Arguments<'a, 't>) -> Reading<'a, 't>
+    ensures { result ≡ client (map cow_slice_items arguments.now) }
+{
+    match arguments {
+        [option, name] if is_setname(option) => Ok(Ask::SetClientName {
+            name: Argument::of(name),
+        }),
+        [option, attribute, value] if is_setinfo(option) => Ok(Ask::SetClientInfo {
+            attribute: Argument::of(attribute),
+            value: Argument::of(value),
+        }),
+        _ => Err(AskFault::Syntax),
+    }
+}
+
+fn is_setname(word: &CowSlice<'_, u8>) -> bool
+    ensures { result ≡ bytes_eq (lowered (cow_slice_items word.now)) setname }
+{
+    word.as_slice().eq_ignore_ascii_case(b"setname")
+}
+
+fn is_setinfo(word: &CowSlice<'_, u8>) -> bool
+    ensures { result ≡ bytes_eq (lowered (cow_slice_items word.now)) setinfo }
+{
+    word.as_slice().eq_ignore_ascii_case(b"setinfo")
+}
