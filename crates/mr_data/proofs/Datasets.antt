@@ -1,23 +1,21 @@
--- What a dataset keeps, after a change at one key.
-use Rattle.std.proofs.Common.{◌≡◌, true, false, cond, Option, Some, None, refl, sym, ◌∙◌, subst}
-use Rattle.std.specs.Ordering.{eq_by_cmp, is_eq}
-use Rattle.std.specs.declared.cmp.Ordering.{Ordering}
-use Rattle.std.specs.declared.cmp.Ordering.TheVariants.{Less, Equal, Greater}
-use Rattle.std.specs.FinMap.{get, empty, insert, remove, get-empty, get-insert, get-remove}
+-- What a dataset keeps, after a step at one key.
+use Rattle.std.proofs.Common.{◌≡◌, ◌<◌, ℕ, zero, suc, List, [], length, Bool, true, false, cond, IsTrue, Option, Some, None, refl, sym, ◌∙◌, ap, subst, arith}
+use Rattle.std.specs.Prelude.{◌==◌, if◌then◌else◌}
+use Rattle.std.specs.Option.{option_map, option_and_then}
+use Rattle.std.specs.Ordering.{eq_by_cmp}
+use Rattle.std.specs.FinMap.{get, empty, insert, remove, len, get-empty, get-insert, get-remove}
 use Rattle.std.proofs.lemmas.Cmp.{nat_list_cmp_total}
-use Rattle.std.proofs.lemmas.Map.Lookups.{exact_bytes}
-use Rattle.mr_map.specs.Bytes.{Bytes, bytes_cmp}
-use Rattle.mr_data.specs.Dataset.{Dataset, IsDataset, IsEntry}
+use Rattle.std.proofs.lemmas.List.Elements.{All-nil}
+use Rattle.std.proofs.lemmas.Bool.{eqb-false}
+use Rattle.mr_map.specs.Bytes.{Bytes, ByteMap, bytes_cmp}
+use Rattle.mr_data.specs.Dataset.{Dataset, IsWord, IsDataset, IsEntry, IsValue, IsHash, IsList, IsSet, put_at}
+use Rattle.mr_data.specs.Steps.{Step, Kind, hashes, lists, sets, on, held, entry_of, deadline_of}
+use Rattle.mr_data.specs.Meaning.{at_key}
+use Rattle.mr_data.specs.declared.value.Value.{Value}
+use Rattle.mr_data.specs.declared.value.Value.TheVariants as value
 use Rattle.mr_data.specs.declared.value.Entry.{Entry}
-
-tied : (r : Ordering) → is_eq r ≡ true → r ≡ Equal
-tied Less p = cc
-tied Equal p = refl
-tied Greater p = cc
-
--- keys that compare alike are one
-pub same_key : (q k : Bytes) → eq_by_cmp bytes_cmp q k ≡ true → q ≡ k
-same_key q k h = exact_bytes q k (tied _ h)
+use Rattle.mr_data.proofs.Maps.{same_key}
+use Rattle.mr_data.proofs.Fitting.{FieldsFit, no_fields, ItemsFit, MembersFit, no_members}
 
 -- what one key has was set to o
 updated : (m n : Dataset) (k : Bytes) (o : Option Entry) → ((q : Bytes) → get n q ≡ cond (eq_by_cmp bytes_cmp q k) o (get m q)) → ((e : Entry) → o ≡ Some e → IsEntry k e) → IsDataset m → IsDataset n
@@ -35,8 +33,85 @@ nothing e h = cc
 pub IsDataset-empty : IsDataset empty
 IsDataset-empty = record { entries = λ k e h. absurd (nothing e (sym (get-empty bytes_cmp k) ∙ h)) }
 
-pub IsDataset-insert : (m : Dataset) (k : Bytes) (e : Entry) → IsDataset m → IsEntry k e → IsDataset (insert m k e)
-IsDataset-insert m k e old new = updated m _ k (Some e) (get-insert nat_list_cmp_total m k e) (λ f h. let same : e ≡ f = cc in subst (IsEntry k) same new) old
+-- the value of an entry, if there is one, is one that may stand in a dataset
+abbrev pub HasValue : Option Entry → Type 0
+HasValue None = Unit {0}
+HasValue (Some e) = IsValue e.value
 
-pub IsDataset-remove : (m : Dataset) (k : Bytes) → IsDataset m → IsDataset (remove m k)
-IsDataset-remove m k old = updated m _ k None (get-remove nat_list_cmp_total m k) (λ f h. cc) old
+put_keeps : (m : Dataset) (k : Bytes) (o : Option Entry) → IsDataset m → IsWord k → HasValue o → IsDataset (put_at m k o)
+put_keeps m k None old fit new = updated m _ k None (get-remove nat_list_cmp_total m k) (λ e h. absurd (nothing e h)) old
+put_keeps m k (Some e) old fit new = updated m _ k (Some e) (get-insert nat_list_cmp_total m k e) (λ f h. let same : e ≡ f = cc in subst (IsEntry k) same (record { key = fit; value = new })) old
+
+-- a step makes of such an entry such an entry
+abbrev pub Keeps : Step → Type 0
+Keeps step = (before after : Option Entry) → HasValue before → step before ≡ Some after → HasValue after
+
+pub value_at : (m : Dataset) (k : Bytes) (o : Option Entry) → get m k ≡ o → IsDataset m → HasValue o
+value_at m k None h old = tt
+value_at m k (Some e) h old = (old.entries k e h).value
+
+pub at_key_keeps : (step : Step) → Keeps step → (k : Bytes) (m n : Dataset) → IsDataset m → IsWord k → at_key step k m ≡ Some n → IsDataset n
+at_key_keeps step keeps k m n old fit h =
+    elim (step (get m k)) as (λ o. step (get m k) ≡ o → option_map (put_at m k) o ≡ Some n → IsDataset n) [
+      | None ↦ λ s i. cc
+      | Some after ↦ λ s i. let same : put_at m k after ≡ n = cc in subst IsDataset same (put_keeps m k after old fit (keeps (get m k) after (value_at m k (get m k) refl old) s))
+    ] refl h
+
+-- ---- collections
+
+-- what P says of a collection is what a dataset keeps of it, beside that it has an element
+pub record Suits {X : Type 0} (kind : Kind X) (P : X → Type 0) : Type 0 where
+  pub none : P kind.none
+  pub taken : (v : Value) (x : X) → kind.of v ≡ Some x → IsValue v → P x
+  pub put : (x : X) → kind.is_none x ≡ false → P x → IsValue (kind.value x)
+
+pub held_suits : {X : Type 0} (kind : Kind X) (P : X → Type 0) → Suits kind P → (before : Option Entry) (x : X) → HasValue before → held kind before ≡ Some x → P x
+held_suits kind P suits None x has h = let same : kind.none ≡ x = cc in subst P same suits.none
+held_suits kind P suits (Some e) x has h = suits.taken e.value x h has
+
+entry_suits : {X : Type 0} (kind : Kind X) (P : X → Type 0) → Suits kind P → (e : Option Entry) (y : X) → P y → HasValue (entry_of kind (deadline_of e) y)
+entry_suits kind P suits e y fit =
+    elim (kind.is_none y) as (λ b. kind.is_none y ≡ b → HasValue (if b then None else Some (record { value = kind.value y; deadline = deadline_of e }))) [
+      | true ↦ λ t. tt
+      | false ↦ λ t. suits.put y t fit
+    ] refl
+
+pub on_keeps : {X : Type 0} (kind : Kind X) (P : X → Type 0) → Suits kind P → (f : X → Option X) → ((x y : X) → P x → f x ≡ Some y → P y) → Keeps (on kind f)
+on_keeps kind P suits f keeps before after has h =
+    elim (held kind before) as (λ o. held kind before ≡ o → option_and_then (λ x. option_map (entry_of kind (deadline_of before)) (f x)) o ≡ Some after → HasValue after) [
+      | None ↦ λ s i. cc
+      | Some x ↦ λ s i. elim (f x) as (λ o. f x ≡ o → option_map (entry_of kind (deadline_of before)) o ≡ Some after → HasValue after) [
+        | None ↦ λ t j. cc
+        | Some y ↦ λ t j. let same : entry_of kind (deadline_of before) y ≡ after = cc in subst HasValue same (entry_suits kind P suits before y (keeps x y (held_suits kind P suits before x has s) t))
+      ] refl i
+    ] refl h
+
+not_none : (n : ℕ) → (n == 0) ≡ false → 0 < n
+not_none n h = omega (arith, eqb-false n 0 h)
+
+pub hashes_suit : Suits hashes FieldsFit
+hashes_suit = record { none = no_fields; taken = taken_hash; put = λ x some fit. record { some = not_none (len x) some; fit = fit } }
+  where
+    taken_hash : (v : Value) (x : ByteMap Bytes) → hashes.of v ≡ Some x → IsValue v → FieldsFit x
+    taken_hash (value.Text s) x h is = cc
+    taken_hash (value.Hash s) x h is = let same : s ≡ x = cc in subst FieldsFit same is.fit
+    taken_hash (value.List s) x h is = cc
+    taken_hash (value.Set s) x h is = cc
+
+pub lists_suit : Suits lists ItemsFit
+lists_suit = record { none = All-nil IsWord; taken = taken_list; put = λ x some fit. record { some = not_none (length x) some; fit = fit } }
+  where
+    taken_list : (v : Value) (x : List Bytes) → lists.of v ≡ Some x → IsValue v → ItemsFit x
+    taken_list (value.Text s) x h is = cc
+    taken_list (value.Hash s) x h is = cc
+    taken_list (value.List s) x h is = let same : s ≡ x = cc in subst ItemsFit same is.fit
+    taken_list (value.Set s) x h is = cc
+
+pub sets_suit : Suits sets MembersFit
+sets_suit = record { none = no_members; taken = taken_set; put = λ x some fit. record { some = not_none (len x) some; fit = fit } }
+  where
+    taken_set : (v : Value) (x : ByteMap (Unit {0})) → sets.of v ≡ Some x → IsValue v → MembersFit x
+    taken_set (value.Text s) x h is = cc
+    taken_set (value.Hash s) x h is = cc
+    taken_set (value.List s) x h is = cc
+    taken_set (value.Set s) x h is = let same : s ≡ x = cc in subst MembersFit same is.fit

@@ -1,10 +1,9 @@
 -- Effects in two parts.
-use Rattle.std.proofs.Common.{◌≡◌, ℕ, List, [], ◌∷◌, ◌++◌, Some, None, refl, sym, ap, ◌∙◌, append_assoc}
+use Rattle.std.proofs.Common.{◌≡◌, List, [], ◌∷◌, ◌++◌, Some, None, refl}
 use Rattle.std.specs.Option.{option_and_then}
+use Rattle.mr_effect.specs.declared.effect.Effect.{Effect}
 use Rattle.mr_data.specs.Dataset.{Dataset}
 use Rattle.mr_data.specs.Meaning.{apply, apply_all}
-use Rattle.mr_data.specs.Spelling.{text, texts}
-use Rattle.mr_data.specs.declared.effect.Effect.{Effect}
 
 pub apply_all-append : (es fs : List Effect) (m : Dataset) → apply_all (es ++ fs) m ≡ option_and_then (apply_all fs) (apply_all es m)
 apply_all-append [] fs m = refl
@@ -13,7 +12,3 @@ apply_all-append (e ∷ es) fs m =
       | None ↦ refl
       | Some n ↦ apply_all-append es fs n
     ]
-
-pub texts-append : (es fs : List Effect) → texts (es ++ fs) ≡ texts es ++ texts fs
-texts-append [] fs = refl
-texts-append (e ∷ es) fs = ap (λ (t : List ℕ). text e ++ t) (texts-append es fs) ∙ sym (append_assoc (text e) (texts es) (texts fs))

@@ -1,5 +1,12 @@
+pub mod Answering
+pub mod Changes
 pub mod Datasets
+pub mod Ends
 pub mod Folding
-pub mod Readings
+pub mod Fitting
+pub mod Maps
+pub mod Moving
+pub mod Nonempty
+pub mod Numbers
 pub mod Seeing
-pub mod Texts
+pub mod Stepping

@@ -1,7 +1,8 @@
 -- The dataset: a finite map from keys to entries, and what is seen of it at a moment.
-use Rattle.std.specs.Prelude.{◌≡◌, ℤ, int_le, Bool, false, if◌then◌else◌, IsTrue, Option, Some, None, is_some}
-use Rattle.std.specs.FinMap.{FinMap, get, insert, remove, retain_keys}
-use Rattle.mr_map.specs.Bytes.{bytes_cmp, Bytes}
+use Rattle.std.specs.Prelude.{◌≡◌, ◌<◌, ℤ, int_le, List, length, Bool, false, if◌then◌else◌, IsTrue, Option, Some, None, is_some}
+use Rattle.std.specs.List.{All}
+use Rattle.std.specs.FinMap.{FinMap, get, insert, remove, len, contains_key, retain_keys}
+use Rattle.mr_map.specs.Bytes.{bytes_cmp, Bytes, ByteMap}
 use Rattle.mr_value.specs.Words.{fits}
 use Rattle.mr_data.specs.declared.value.Value.{Value}
 use Rattle.mr_data.specs.declared.value.Value.TheVariants as value
@@ -10,13 +11,34 @@ use Rattle.mr_data.specs.declared.value.Entry.{Entry}
 abbrev pub Dataset : Type 0
 Dataset = FinMap bytes_cmp Entry
 
--- the value's byte strings are within the word limit
+-- within the word limit
+abbrev pub IsWord : Bytes → Type 0
+IsWord w = IsTrue (fits w)
+
+-- a hash has a field, and its fields and values are within the limit
+pub record IsHash (fields : ByteMap Bytes) : Type 0 where
+  pub some : 0 < len fields
+  pub fit : (f v : Bytes) → get fields f ≡ Some v → IsWord f × IsWord v
+
+-- a list has an item, and its items are within the limit
+pub record IsList (items : List Bytes) : Type 0 where
+  pub some : 0 < length items
+  pub fit : All IsWord items
+
+-- a set has a member, and its members are within the limit
+pub record IsSet (members : ByteMap (Unit {0})) : Type 0 where
+  pub some : 0 < len members
+  pub fit : (x : Bytes) → IsTrue (contains_key members x) → IsWord x
+
 abbrev pub IsValue : Value → Type 0
-IsValue (value.Text bytes) = IsTrue (fits bytes)
+IsValue (value.Text bytes) = IsWord bytes
+IsValue (value.Hash fields) = IsHash fields
+IsValue (value.List items) = IsList items
+IsValue (value.Set members) = IsSet members
 
 -- what each entry keeps, under its key
 pub record IsEntry (k : Bytes) (e : Entry) : Type 0 where
-  pub key : IsTrue (fits k)
+  pub key : IsWord k
   pub value : IsValue e.value
 
 -- what each dataset keeps

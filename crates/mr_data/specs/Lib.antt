@@ -1,5 +1,6 @@
 pub mod Dataset
 pub mod Given
+pub mod Collections
+pub mod Steps
 pub mod Meaning
-pub mod Spelling
-pub mod Reading
+pub mod Outcome

@@ -4,11 +4,10 @@ ghost use Rattle.std.specs.Option.{option_map, option_and_then};
 ghost use Rattle.std.specs.FinMap as map;
 
 mod applying;
-mod moving;
-mod steps;
 
+use crate::entries::Entries;
 use crate::value::{Entry, Value};
-use mr_map::{KeyedMap, Keys};
+use mr_map::Keys;
 use std::alloc::Global;
 use std::hash::RandomState;
 use std::marker::Model;
@@ -16,8 +15,7 @@ use std::marker::Model;
 /// Values and deadlines by key, seen as a finite map from keys to entries.
 #[derive(Drop)]
 pub struct Dataset {
-    alloc: Global,
-    entries: KeyedMap<Entry>,
+    entries: Entries,
 }
 
 impl Model for Dataset {
@@ -45,8 +43,7 @@ impl Dataset {
         ensures { result ≡ map.empty }
     {
         Dataset {
-            alloc,
-            entries: KeyedMap::new(alloc, seed),
+            entries: Entries::new(alloc, seed),
         }
     }
 

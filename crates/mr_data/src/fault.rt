@@ -11,7 +11,7 @@ pub enum ApplyFault {
     /// The effect is undefined at this dataset, which is unchanged.
     #[error("the effect does not apply")]
     Refused,
-    /// Memory ran out. The dataset is spent: nothing is said of what it holds.
+    /// Memory ran out. The dataset is spent: it is a dataset still, but nothing is said of what it holds.
     #[error("out of memory")]
     Memory,
 }

@@ -1,22 +1,20 @@
-//! The dataset: keys with their values and deadlines, the effects that change it, and the text of each effect.
+//! The dataset: keys with their values and deadlines, and what the effects do to it.
 #![tactic(auto)]
 
 mod dataset;
-mod effect;
+mod entries;
 mod fault;
 mod given;
 mod laws;
 mod plan;
-mod spelling;
 mod value;
 
 pub use dataset::Dataset;
-pub use effect::Effect;
 pub use fault::ApplyFault;
 pub use given::Given;
-pub use laws::{effects_are_told_apart, effects_come_in_parts, seen_is_what_is_not_past};
+pub use laws::{effects_come_in_parts, seen_is_what_is_not_past};
+pub use mr_effect::{Effect, End, Pairs, Side, Words, decode, encode, encode_all};
 pub use plan::Plan;
-pub use spelling::{decode, encode, encode_all};
 pub use value::{Entry, Value};
 
 #[cfg(test)]

@@ -1,5 +1,5 @@
 // What a command answers, and what it does.
-use crate::effect::Effect;
+use mr_effect::Effect;
 use mr_resp::Reply;
 
 /// What a command answers, and what it does. A plan owns what it holds.

@@ -1,4 +1,6 @@
+// Each kind of effect on its happy path, and refusals, which change nothing.
 use super::*;
+use mr_effect::decode;
 use mr_resp::Reply;
 use mr_value::Word;
 use std::alloc::Global;
@@ -22,115 +24,278 @@ fn del<'a>(key: &'a [u8]) -> Effect<'a> {
     }
 }
 
-fn as_set<'a>(effect: &'a Effect<'_>) -> Option<(&'a [u8], &'a [u8])> {
-    match effect {
-        Effect::Set { key, value } => Some((key.as_slice(), value.as_slice())),
-        Effect::Del { .. } => None,
+// Does the effect that the words of a line spell, cut at spaces: by reference, or moved in.
+fn done(
+    rt: &impl Abort,
+    alloc: Global,
+    held: &mut Dataset,
+    owned: bool,
+    line: &str,
+) -> Result<Result<(), ApplyFault>, Fail> {
+    let mut words = Vec::new(alloc);
+    for word in line.split(' ') {
+        words.push(CowSlice::Borrowed(word.as_bytes()))?;
     }
+    let effect = decode(alloc, words.as_slice())?.expect(rt, "an effect");
+    if owned {
+        return Ok(held.apply_owned(effect));
+    }
+    Ok(held.apply(&effect))
 }
 
-fn as_del<'a>(effect: &'a Effect<'_>) -> Option<&'a [u8]> {
-    match effect {
-        Effect::Set { .. } => None,
-        Effect::Del { key } => Some(key.as_slice()),
+// What a key holds: its kind, and its elements with a comma behind each.
+fn shown(alloc: Global, held: &Dataset, key: &[u8]) -> Result<Vec<u8>, Fail> {
+    let mut out = Vec::new(alloc);
+    match held.value(key) {
+        None => {}
+        Some(Value::Text(text)) => {
+            out.extend_from_slice(b"text:")?;
+            out.extend_from_slice(text.as_slice())?;
+        }
+        Some(Value::Hash(hash)) => {
+            out.extend_from_slice(b"hash:")?;
+            for (field, value) in hash.iter() {
+                out.extend_from_slice(field)?;
+                out.push(b'=')?;
+                out.extend_from_slice(value.as_slice())?;
+                out.push(b',')?;
+            }
+        }
+        Some(Value::List(list)) => {
+            out.extend_from_slice(b"list:")?;
+            for item in list.iter() {
+                out.extend_from_slice(item)?;
+                out.push(b',')?;
+            }
+        }
+        Some(Value::Set(set)) => {
+            out.extend_from_slice(b"set:")?;
+            for member in set.members() {
+                out.extend_from_slice(member)?;
+                out.push(b',')?;
+            }
+        }
     }
+    Ok(out)
+}
+
+// Each line is done, both ways, and leaves this at the key.
+fn leaves(
+    rt: &impl Abort,
+    alloc: Global,
+    mut by_reference: Dataset,
+    mut moved: Dataset,
+    lines: &[(&str, &str, &str)],
+) -> Result<(), Fail> {
+    for (line, key, want) in lines {
+        assert!(rt;
+            done(rt, alloc, &mut by_reference, false, line)?.is_ok(),
+            "{line}"
+        );
+        let got = shown(alloc, &by_reference, key.as_bytes())?;
+        assert!(rt; got.as_slice() == want.as_bytes(), "{line}");
+        assert!(rt; done(rt, alloc, &mut moved, true, line)?.is_ok(), "{line}");
+        let got = shown(alloc, &moved, key.as_bytes())?;
+        assert!(rt; got.as_slice() == want.as_bytes(), "{line}");
+    }
+    Ok(())
+}
+
+// The first lines are done; each of the others is refused, both ways, and leaves k as it was.
+fn refuses(
+    rt: &impl Abort,
+    alloc: Global,
+    mut held: Dataset,
+    before: &[&str],
+    lines: &[&str],
+) -> Result<(), Fail> {
+    for line in before {
+        assert!(rt; done(rt, alloc, &mut held, true, line)?.is_ok(), "{line}");
+    }
+    let was = shown(alloc, &held, b"k")?;
+    let len = held.len();
+    for line in lines {
+        for owned in [false, true] {
+            let result = done(rt, alloc, &mut held, owned, line)?;
+            assert!(rt; result == Err(ApplyFault::Refused), "{line}");
+            let is = shown(alloc, &held, b"k")?;
+            assert!(rt; is.as_slice() == was.as_slice(), "{line}");
+            assert!(rt; held.len() == len, "{line}");
+        }
+    }
+    Ok(())
+}
+
+#[test]
+fn hashes(rt: HostRuntime) -> Result<(), Fail> {
+    leaves(
+        &rt,
+        rt.alloc(),
+        Dataset::new(rt.alloc(), RandomState::new(&rt)?),
+        Dataset::new(rt.alloc(), RandomState::new(&rt)?),
+        &[
+            ("HSET k g 1 f 2 g 3", "k", "hash:f=2,g=3,"),
+            ("HDEL k f x", "k", "hash:g=3,"),
+            ("HDEL k x", "k", "hash:g=3,"),
+            ("HDEL k g", "k", ""),
+            ("HDEL k g", "k", ""),
+        ],
+    )
+}
+
+#[test]
+fn pushes_and_pops(rt: HostRuntime) -> Result<(), Fail> {
+    leaves(
+        &rt,
+        rt.alloc(),
+        Dataset::new(rt.alloc(), RandomState::new(&rt)?),
+        Dataset::new(rt.alloc(), RandomState::new(&rt)?),
+        &[
+            ("LPUSH k a b c", "k", "list:c,b,a,"),
+            ("RPUSH k d e", "k", "list:c,b,a,d,e,"),
+            ("LPOP k 2", "k", "list:a,d,e,"),
+            ("RPOP k 1", "k", "list:a,d,"),
+            ("RPOP k 2", "k", ""),
+        ],
+    )
+}
+
+#[test]
+fn items_of_lists(rt: HostRuntime) -> Result<(), Fail> {
+    leaves(
+        &rt,
+        rt.alloc(),
+        Dataset::new(rt.alloc(), RandomState::new(&rt)?),
+        Dataset::new(rt.alloc(), RandomState::new(&rt)?),
+        &[
+            ("RPUSH k a b a c a", "k", "list:a,b,a,c,a,"),
+            ("LSET k 3 d", "k", "list:a,b,a,d,a,"),
+            ("LINSERT k BEFORE a x", "k", "list:x,a,b,a,d,a,"),
+            ("LINSERT k AFTER a y", "k", "list:x,a,y,b,a,d,a,"),
+            ("LREM k -1 a", "k", "list:x,a,y,b,a,d,"),
+            ("LREM k 1 a", "k", "list:x,y,b,a,d,"),
+            ("LREM k 0 q", "k", "list:x,y,b,a,d,"),
+            ("LTRIM k 1 3", "k", "list:y,b,a,"),
+            ("LTRIM k 2 2", "k", "list:a,"),
+            ("LREM k 0 a", "k", ""),
+            ("LREM k 0 a", "k", ""),
+        ],
+    )
+}
+
+#[test]
+fn items_move(rt: HostRuntime) -> Result<(), Fail> {
+    leaves(
+        &rt,
+        rt.alloc(),
+        Dataset::new(rt.alloc(), RandomState::new(&rt)?),
+        Dataset::new(rt.alloc(), RandomState::new(&rt)?),
+        &[
+            ("RPUSH s a b c", "s", "list:a,b,c,"),
+            ("LMOVE s d LEFT RIGHT", "d", "list:a,"),
+            ("LMOVE s d RIGHT RIGHT", "d", "list:a,c,"),
+            ("LMOVE s d RIGHT LEFT", "d", "list:b,a,c,"),
+            ("LMOVE d d LEFT RIGHT", "d", "list:a,c,b,"),
+            ("LMOVE d d RIGHT LEFT", "d", "list:b,a,c,"),
+            ("LMOVE d d LEFT LEFT", "d", "list:b,a,c,"),
+            ("LTRIM d 1 1", "d", "list:a,"),
+            ("LMOVE d d LEFT RIGHT", "d", "list:a,"),
+            ("DEL d", "s", ""),
+        ],
+    )
+}
+
+#[test]
+fn sets(rt: HostRuntime) -> Result<(), Fail> {
+    leaves(
+        &rt,
+        rt.alloc(),
+        Dataset::new(rt.alloc(), RandomState::new(&rt)?),
+        Dataset::new(rt.alloc(), RandomState::new(&rt)?),
+        &[
+            ("SADD k c a b a", "k", "set:a,b,c,"),
+            ("SREM k b x", "k", "set:a,c,"),
+            ("SMOVE k d c", "d", "set:c,"),
+            ("SMOVE k k a", "k", "set:a,"),
+            ("SMOVE k d a", "d", "set:a,c,"),
+            ("SREM d c a", "k", ""),
+            ("SREM d c", "d", ""),
+        ],
+    )
+}
+
+#[test]
+fn lists_refuse(rt: HostRuntime) -> Result<(), Fail> {
+    refuses(
+        &rt,
+        rt.alloc(),
+        Dataset::new(rt.alloc(), RandomState::new(&rt)?),
+        &["RPUSH k a b", "SADD m a"],
+        &[
+            "LPOP k 0",
+            "LPOP k 3",
+            "RPOP k -1",
+            "LSET k 2 x",
+            "LINSERT k AFTER c x",
+            "LTRIM k 1 2",
+            "LTRIM k -1 1",
+            "LTRIM k 1 0",
+            "LMOVE k m LEFT LEFT",
+            "HSET k f v",
+            "SADD k a",
+            "SREM k a",
+            "HDEL k a",
+            "SMOVE m k a",
+        ],
+    )
+}
+
+#[test]
+fn absent_keys_and_sets_refuse(rt: HostRuntime) -> Result<(), Fail> {
+    refuses(
+        &rt,
+        rt.alloc(),
+        Dataset::new(rt.alloc(), RandomState::new(&rt)?),
+        &["SADD k a", "SET t a"],
+        &[
+            "LPOP x 1",
+            "LSET x 0 x",
+            "LINSERT x AFTER c x",
+            "LTRIM x 0 0",
+            "LMOVE x k LEFT LEFT",
+            "LMOVE x x LEFT RIGHT",
+            "SMOVE x k a",
+            "SMOVE k x b",
+            "SMOVE k t a",
+            "SMOVE t t a",
+            "LPUSH k a",
+            "LREM k 0 a",
+            "LPUSH t a",
+        ],
+    )
+}
+
+#[test]
+fn an_effect_without_a_spelling_is_refused(rt: HostRuntime) -> Result<(), Fail> {
+    let alloc = rt.alloc();
+    let mut held = Dataset::new(alloc, RandomState::new(&rt)?);
+    let nothing = Effect::Push {
+        key: Word::borrowed(b"k"),
+        end: End::Left,
+        items: Words::new(alloc),
+    };
+    let refused = Err(ApplyFault::Refused);
+    assert_eq!(rt; held.apply(&nothing), refused);
+    assert_eq!(rt; held.apply_owned(nothing), refused);
+    assert!(rt; held.is_empty());
+    Ok(())
 }
 
 fn text_at<'a>(held: &'a Dataset, key: &[u8]) -> Option<&'a [u8]> {
     match held.value(key)? {
         Value::Text(text) => Some(text.as_slice()),
+        _ => None,
     }
-}
-
-fn is_none(rt: &impl Abort, alloc: Global, words: &[CowSlice<'_, u8>]) {
-    assert!(rt; decode(alloc, words).expect(rt, "memory").is_none());
-}
-
-#[test]
-fn texts_are_requests_in_array_form(rt: HostRuntime) -> Result<(), Fail> {
-    let mut out = Vec::new(rt.alloc());
-    encode(&set(b"k", b"v"), &mut out)?;
-    assert_eq!(rt;
-        out.as_slice(),
-        b"*3\r\n$3\r\nSET\r\n$1\r\nk\r\n$1\r\nv\r\n".as_slice()
-    );
-    assert_eq!(rt; out.len(), 27);
-    out.clear();
-    encode(&del(b"k"), &mut out)?;
-    assert_eq!(rt; out.len(), 20);
-    encode_all(&[set(b"a b", b"x'y"), del(b"")], &mut out)?;
-    let both =
-        b"*2\r\n$3\r\nDEL\r\n$1\r\nk\r\n*3\r\n$3\r\nSET\r\n$3\r\na b\r\n$3\r\nx'y\r\n*2\r\n$3\r\nDEL\r\n$0\r\n\r\n";
-    assert_eq!(rt; out.as_slice(), both.as_slice());
-    assert_eq!(rt; out.len(), 20 + 31 + 19);
-    Ok(())
-}
-
-#[test]
-fn words_are_decoded(rt: HostRuntime) -> Result<(), Fail> {
-    let words = [
-        CowSlice::Borrowed(b"SET".as_slice()),
-        CowSlice::Borrowed(b"k".as_slice()),
-        CowSlice::Borrowed(b"v".as_slice()),
-    ];
-    let effect = decode(rt.alloc(), &words)?.ok_or("no effect")?;
-    assert_eq!(rt; as_set(&effect), Some((b"k".as_slice(), b"v".as_slice())));
-    let words = [
-        CowSlice::Borrowed(b"DEL".as_slice()),
-        CowSlice::Borrowed(b"k".as_slice()),
-    ];
-    let effect = decode(rt.alloc(), &words)?.ok_or("no effect")?;
-    assert_eq!(rt; as_del(&effect), Some(b"k".as_slice()));
-    Ok(())
-}
-
-#[test]
-fn near_misses_are_no_effects(rt: HostRuntime) {
-    let set = b"SET".as_slice();
-    let del = b"DEL".as_slice();
-    let k = b"k".as_slice();
-    let alloc = rt.alloc();
-    is_none(&rt, alloc, &[]);
-    is_none(&rt, alloc, &[CowSlice::Borrowed(set)]);
-    is_none(
-        &rt,
-        alloc,
-        &[CowSlice::Borrowed(set), CowSlice::Borrowed(k)],
-    );
-    is_none(
-        &rt,
-        alloc,
-        &[
-            CowSlice::Borrowed(b"set"),
-            CowSlice::Borrowed(k),
-            CowSlice::Borrowed(k),
-        ],
-    );
-    is_none(
-        &rt,
-        alloc,
-        &[
-            CowSlice::Borrowed(set),
-            CowSlice::Borrowed(k),
-            CowSlice::Borrowed(k),
-            CowSlice::Borrowed(k),
-        ],
-    );
-    is_none(&rt, alloc, &[CowSlice::Borrowed(del)]);
-    is_none(
-        &rt,
-        alloc,
-        &[
-            CowSlice::Borrowed(del),
-            CowSlice::Borrowed(k),
-            CowSlice::Borrowed(k),
-        ],
-    );
-    is_none(
-        &rt,
-        alloc,
-        &[CowSlice::Borrowed(b"GET"), CowSlice::Borrowed(k)],
-    );
 }
 
 #[test]

@@ -1,11 +1,17 @@
 // Values, and entries of a dataset.
-use mr_value::Bytes;
+use mr_value::{Bytes, Hash, ListValue, SetValue};
 
 /// What a key holds.
 #[derive(Drop)]
 pub enum Value {
     /// A byte string.
     Text(Bytes),
+    /// Values by field.
+    Hash(Hash),
+    /// Items in order.
+    List(ListValue),
+    /// Members.
+    Set(SetValue),
 }
 
 /// A value with its deadline.

@@ -128,4 +128,12 @@ impl<V: Drop> KeyedMap<V> {
         self.order.remove(key);
         Some(before)
     }
+
+    /// Removes every key. It takes no memory.
+    pub fn clear(&mut self)
+        ensures { self.new ≡ map.empty }
+    {
+        self.table.clear();
+        self.order = ByteMap::new(self.alloc);
+    }
 }

@@ -100,5 +100,8 @@ fn a_hashes_value(rt: HostRuntime) -> Result<(), Fail> {
     assert_eq!(rt; map.remove(b"ab"), Some(7));
     assert_eq!(rt; map.remove(b"ab"), None);
     assert_eq!(rt; map.keys().count(), 4);
+    map.clear();
+    assert!(rt; map.is_empty() && map.get(b"a").is_none());
+    assert_eq!(rt; map.keys().next(), None);
     Ok(())
 }

@@ -4,7 +4,7 @@ use Rattle.mr_repl.specs.Backlog.{after_bytes}
 use Rattle.mr_links.specs.declared.link_id.LinkId.{LinkId}
 use Rattle.mr_resp.specs.ReplyView.{view}
 use Rattle.mr_resp.specs.declared.fault.Fault.{Fault}
-use Rattle.mr_data.specs.Spelling.{texts}
+use Rattle.mr_effect.specs.Spelling.{texts}
 use Rattle.mr_data.specs.declared.given.Given.{Given}
 use Rattle.mr_data.specs.declared.plan.Plan.{Plan}
 use Rattle.mr_node.specs.State.{NodeState, EndState, end_of, put_end, open_end, shut_end, Agrees}

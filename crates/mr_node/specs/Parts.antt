@@ -9,8 +9,8 @@ use Rattle.mr_resp.specs.declared.fault.Fault.{Fault}
 use Rattle.mr_resp.specs.declared.progress.Progress.{Progress}
 use Rattle.mr_data.specs.Dataset.{Dataset}
 use Rattle.mr_data.specs.Meaning.{apply_all}
-use Rattle.mr_data.specs.Spelling.{texts}
-use Rattle.mr_data.specs.declared.effect.Effect.{Effect}
+use Rattle.mr_effect.specs.Spelling.{texts}
+use Rattle.mr_effect.specs.declared.effect.Effect.{Effect}
 use Rattle.mr_data.specs.declared.given.Given.{Given}
 use Rattle.mr_data.specs.declared.plan.Plan.{Plan}
 use Rattle.mr_plan_keys.specs.Requests.{IsPlanned}

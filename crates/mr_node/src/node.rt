@@ -4,7 +4,7 @@ ghost use Rattle.std.specs.FinMap as map;
 ghost use Rattle.mr_repl.specs.Backlog.{empty_at};
 ghost use Rattle.mr_resp.specs.Replies.{reply_text};
 ghost use Rattle.mr_resp.specs.ReplyView.{view};
-ghost use Rattle.mr_data.specs.Spelling.{texts};
+ghost use Rattle.mr_effect.specs.Spelling.{texts};
 ghost use Rattle.mr_data.specs.Meaning.{apply_all};
 ghost use Rattle.mr_node.specs.State.{NodeState, Core, EndState, end_of, put_end, open_end, shut_end, Agrees, IsShut, OthersStay, Opens, stopped_as, shown, room_of, IsTooMuch};
 ghost use Rattle.mr_node.specs.Outs.{no_outs};

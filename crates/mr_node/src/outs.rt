@@ -2,7 +2,7 @@
 ghost use Rattle.std.specs.Prelude.{◌≡◌, ◌++◌, [], true, false, OnOk};
 ghost use Rattle.mr_resp.specs.Replies.{reply_text};
 ghost use Rattle.mr_resp.specs.ReplyView.{view};
-ghost use Rattle.mr_data.specs.Spelling.{texts};
+ghost use Rattle.mr_effect.specs.Spelling.{texts};
 ghost use Rattle.mr_node.specs.Outs.{no_outs, outs_of};
 
 use crate::out::OutsIter;

@@ -4,8 +4,8 @@ use Rattle.mr_repl.specs.Backlog.{after_bytes}
 use Rattle.mr_resp.specs.Replies.{Tree, error, reply_text}
 use Rattle.mr_data.specs.Dataset.{Dataset}
 use Rattle.mr_data.specs.Meaning.{apply_all}
-use Rattle.mr_data.specs.Spelling.{texts}
-use Rattle.mr_data.specs.declared.effect.Effect.{Effect}
+use Rattle.mr_effect.specs.Spelling.{texts}
+use Rattle.mr_effect.specs.declared.effect.Effect.{Effect}
 use Rattle.mr_data.specs.declared.given.Given.{Given}
 use Rattle.mr_plan_keys.specs.Requests.{IsPlanned}
 use Rattle.mr_node.specs.State.{Core}

@@ -8,11 +8,11 @@ use Rattle.std.proofs.lemmas.List.{take_more, map-append}
 use Rattle.mr_map.specs.Bytes.{Bytes}
 use Rattle.mr_value.specs.Words.{fits}
 use Rattle.mr_data.specs.Dataset.{Dataset, is_past, live, seen}
-use Rattle.mr_data.specs.Meaning.{apply, apply_all}
+use Rattle.mr_data.specs.Meaning.{apply, change, apply_all}
 use Rattle.mr_data.proofs.Seeing.{get-seen}
 use Rattle.mr_data.specs.declared.value.Entry.{Entry}
-use Rattle.mr_data.specs.declared.effect.Effect.{Effect}
-use Rattle.mr_data.specs.declared.effect.Effect.TheVariants as effect
+use Rattle.mr_effect.specs.declared.effect.Effect.{Effect}
+use Rattle.mr_effect.specs.declared.effect.Effect.TheVariants as effect
 use Rattle.mr_plan_keys.specs.Taken.{is_key, has}
 use Rattle.mr_plan_keys.specs.Keys.{chosen, without, dels, is_stored}
 use Rattle.mr_plan_keys.specs.Plans.{past, purged}
@@ -33,7 +33,7 @@ second false b h = cc
 
 -- one DEL for each key leads to the dataset without them
 pub dels_lead : (ks : List Bytes) (m : Dataset) → IsTrue (list_all fits ks) → apply_all (dels ks) m ≡ Some (without ks m)
-unfolding apply
+unfolding apply change
 dels_lead [] m h = refl
 dels_lead (k ∷ ks) m h = ap (λ b. option_and_then (apply_all (dels ks)) (if b then Some (remove m k) else None)) (first _ _ h) ∙ dels_lead ks (remove m k) (second _ _ h)
 

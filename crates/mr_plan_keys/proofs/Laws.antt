@@ -9,13 +9,13 @@ use Rattle.std.proofs.lemmas.Slice.Eq.{bytes_eq-Decides}
 use Rattle.mr_map.specs.Bytes.{Bytes}
 use Rattle.mr_value.specs.Words.{fits}
 use Rattle.mr_data.specs.Dataset.{Dataset, put_at}
-use Rattle.mr_data.specs.Meaning.{apply, apply_all}
+use Rattle.mr_data.specs.Meaning.{apply, change, apply_all}
 use Rattle.mr_data.specs.declared.given.Given.{Given}
 use Rattle.mr_data.specs.declared.value.Entry.{Entry}
 use Rattle.mr_data.specs.declared.value.Value.{Value}
 use Rattle.mr_data.specs.declared.value.Value.TheVariants as value
-use Rattle.mr_data.specs.declared.effect.Effect.{Effect}
-use Rattle.mr_data.specs.declared.effect.Effect.TheVariants as effect
+use Rattle.mr_effect.specs.declared.effect.Effect.{Effect}
+use Rattle.mr_effect.specs.declared.effect.Effect.TheVariants as effect
 use Rattle.mr_ask.specs.Asks.{AskFits}
 use Rattle.mr_ask.specs.declared.ask.Ask.{Ask}
 use Rattle.mr_ask.specs.declared.ask.Ask.TheVariants as ask
@@ -40,6 +40,9 @@ bytes_itself xs = search (rules, bytes_eq-Decides)
 
 is_this_text : (text : Bytes) (v : Value) → is_text text v ≡ true → v ≡ value.Text text
 is_this_text text (value.Text t) h = ap value.Text (same_bytes t text h)
+is_this_text text (value.Hash t) h = cc
+is_this_text text (value.List t) h = cc
+is_this_text text (value.Set t) h = cc
 
 plain_at : (text : Bytes) (v : Value) (d : Option ℤ) → is_none d && is_text text v ≡ true → record { value = v; deadline = d } ≡ plain text
 plain_at text v None h = ap (λ (x : Value). let e : Entry = record { value = x; deadline = None } in e) (is_this_text text v h)
@@ -51,7 +54,7 @@ plain_is text (Some e) h = ap Some (plain_at text e.value e.deadline h)
 
 -- SET
 set_leads : (k text : Bytes) (m : Dataset) → fits k && fits text ≡ true → apply_all (set_turn k text (get m k)).effects m ≡ Some (put_at m k (Some (plain text)))
-unfolding apply
+unfolding apply change
 set_leads k text m h = elim (is_plain text (get m k)) as (λ b. is_plain text (get m k) ≡ b → apply_all (if b then [] else effect.Set k text ∷ []) m ≡ Some (put_at m k (Some (plain text)))) [
   | true ↦ λ t. ap Some (sym (put_same m k _ (plain_is text _ t)))
   | false ↦ λ t. ap (λ b. option_and_then (apply_all []) (if b then Some (put_at m k (Some (plain text))) else None)) h

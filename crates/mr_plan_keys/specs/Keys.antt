@@ -4,8 +4,8 @@ use Rattle.std.specs.FinMap.{get, remove}
 use Rattle.mr_map.specs.Bytes.{Bytes}
 use Rattle.mr_data.specs.Dataset.{Dataset, is_past}
 use Rattle.mr_data.specs.declared.value.Entry.{Entry}
-use Rattle.mr_data.specs.declared.effect.Effect.{Effect}
-use Rattle.mr_data.specs.declared.effect.Effect.TheVariants as effect
+use Rattle.mr_effect.specs.declared.effect.Effect.{Effect}
+use Rattle.mr_effect.specs.declared.effect.Effect.TheVariants as effect
 
 -- those whose entries pass the test
 abbrev pub chosen : (Option Entry → Bool) → List Bytes → Dataset → List Bytes

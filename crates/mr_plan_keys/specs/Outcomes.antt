@@ -6,7 +6,7 @@ use Rattle.mr_resp.specs.Replies as reply
 use Rattle.mr_resp.specs.Replies.{Tree}
 use Rattle.mr_data.specs.Dataset.{Dataset, put_at}
 use Rattle.mr_data.specs.declared.value.Entry.{Entry}
-use Rattle.mr_data.specs.declared.effect.Effect.{Effect}
+use Rattle.mr_effect.specs.declared.effect.Effect.{Effect}
 use Rattle.mr_ask.specs.declared.ask.Ask.{Ask}
 use Rattle.mr_ask.specs.declared.ask.Ask.TheVariants as ask
 use Rattle.mr_plan_keys.specs.Turns.{Turn, get_turn, set_turn}

@@ -4,7 +4,7 @@ use Rattle.mr_map.specs.Bytes.{Bytes}
 use Rattle.mr_resp.specs.Replies.{Tree}
 use Rattle.mr_data.specs.Dataset.{Dataset, seen}
 use Rattle.mr_data.specs.declared.given.Given.{Given}
-use Rattle.mr_data.specs.declared.effect.Effect.{Effect}
+use Rattle.mr_effect.specs.declared.effect.Effect.{Effect}
 use Rattle.mr_ask.specs.declared.ask.Ask.{Ask}
 use Rattle.mr_ask.specs.declared.ask.Ask.TheVariants as ask
 use Rattle.mr_plan_keys.specs.Keys.{chosen, without, dels, is_stored}

@@ -3,7 +3,7 @@ use Rattle.std.specs.Prelude.{◌≡◌, ℕ, List, [], Result, Ok, Err}
 use Rattle.mr_resp.specs.Replies.{Tree, error}
 use Rattle.mr_data.specs.Dataset.{Dataset}
 use Rattle.mr_data.specs.declared.given.Given.{Given}
-use Rattle.mr_data.specs.declared.effect.Effect.{Effect}
+use Rattle.mr_effect.specs.declared.effect.Effect.{Effect}
 use Rattle.mr_ask.specs.Asks.{asked}
 use Rattle.mr_ask.specs.Faults.{fault_text}
 use Rattle.mr_ask.specs.declared.ask.Ask.{Ask}

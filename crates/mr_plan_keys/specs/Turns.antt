@@ -7,8 +7,8 @@ use Rattle.mr_resp.specs.Replies.{Tree}
 use Rattle.mr_data.specs.declared.value.Value.{Value}
 use Rattle.mr_data.specs.declared.value.Value.TheVariants as value
 use Rattle.mr_data.specs.declared.value.Entry.{Entry}
-use Rattle.mr_data.specs.declared.effect.Effect.{Effect}
-use Rattle.mr_data.specs.declared.effect.Effect.TheVariants as effect
+use Rattle.mr_effect.specs.declared.effect.Effect.{Effect}
+use Rattle.mr_effect.specs.declared.effect.Effect.TheVariants as effect
 
 pub record Turn : Type 0 where
   pub reply : Tree
@@ -19,9 +19,14 @@ pub record Turn : Type 0 where
 abbrev pub kept : Tree → Option Entry → Turn
 kept answer before = record { reply = answer; entry = before; effects = [] }
 
+-- a value of another kind than the command is for
+abbrev pub wrong_kind : Tree
+wrong_kind = reply.error (codes "WRONGTYPE Operation against a key holding the wrong kind of value")
+
 -- ---- GET key: its text
 abbrev pub text_reply : Value → Tree
 text_reply (value.Text text) = reply.bytes text
+text_reply _ = wrong_kind
 
 abbrev pub get_reply : Option Entry → Tree
 get_reply None = reply.null_bulk
@@ -36,6 +41,7 @@ plain text = record { value = value.Text text; deadline = None }
 
 abbrev pub is_text : Bytes → Value → Bool
 is_text text (value.Text t) = bytes_eq t text
+is_text text _ = false
 
 -- it does already
 abbrev pub is_plain : Bytes → Option Entry → Bool

@@ -14,7 +14,7 @@ pub struct Effects {
 
 impl Model for Effects {
     ghost use Rattle.std.specs.Prelude.{List};
-    ghost use Rattle.mr_data.specs.declared.effect.Effect.{Effect as Item};
+    ghost use Rattle.mr_effect.specs.declared.effect.Effect.{Effect as Item};
 
     ghost Value = { List Item };
 

@@ -1,7 +1,8 @@
 use crate::{plan, plan_words};
 use mr_ask::read;
-use mr_data::{Dataset, Given, encode_all};
+use mr_data::{Dataset, Effect, End, Given, Words, encode_all};
 use mr_resp::write_reply;
+use mr_value::Word;
 use std::alloc::Global;
 use std::borrow::CowSlice;
 use std::hash::RandomState;
@@ -77,6 +78,28 @@ fn commands_are_answered_with_their_effects(rt: HostRuntime) -> Result<(), Fail>
         let got = answered(&rt, rt.alloc(), &mut held, line)?;
         assert_eq!(rt; got.as_slice(), want.as_bytes(), "{line}");
     }
+    Ok(())
+}
+
+#[test]
+fn a_list_is_no_text(rt: HostRuntime) -> Result<(), Fail> {
+    let alloc = rt.alloc();
+    let mut held = Dataset::new(alloc, RandomState::new(&rt)?);
+    let mut items = Words::new(alloc);
+    items.push(Word::borrowed(b"v"))?;
+    held.apply_owned(Effect::Push {
+        key: Word::borrowed(b"k"),
+        end: End::Left,
+        items,
+    })?;
+    let got = answered(&rt, alloc, &mut held, "GET k")?;
+    let want = "-WRONGTYPE Operation against a key holding the wrong kind of value\r\n";
+    assert_eq!(rt; got.as_slice(), want.as_bytes());
+    let got = answered(&rt, alloc, &mut held, "SET k v")?;
+    let want = "+OK\r\n*3\r\n$3\r\nSET\r\n$1\r\nk\r\n$1\r\nv\r\n";
+    assert_eq!(rt; got.as_slice(), want.as_bytes());
+    let got = answered(&rt, alloc, &mut held, "GET k")?;
+    assert_eq!(rt; got.as_slice(), b"$1\r\nv\r\n".as_slice());
     Ok(())
 }
 

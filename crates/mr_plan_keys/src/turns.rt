@@ -1,7 +1,7 @@
 // One function for each command on one key, over the entry that is seen there.
 ghost use Rattle.std.specs.Prelude.{◌≡◌, IfOk, option_copied};
 ghost use Rattle.mr_resp.specs.ReplyView.{view};
-ghost use Rattle.mr_plan_keys.specs.Turns.{get_reply, set_turn, is_plain, Takes};
+ghost use Rattle.mr_plan_keys.specs.Turns.{get_reply, wrong_kind, set_turn, is_text, is_plain, Takes};
 
 use crate::effects::Effects;
 use mr_ask::Argument;
@@ -19,7 +19,17 @@ pub fn get(alloc: Global, seen: Option<&Entry>) -> Result<Reply, AllocError>
     };
     match &entry.value {
         Value::Text(text) => Ok(Reply::Bulk(Vec::from_slice(alloc, text.as_slice())?)),
+        Value::Hash(_) | Value::List(_) | Value::Set(_) => Ok(wrong_kind()),
     }
+}
+
+// What is answered where a key holds another kind of value.
+fn wrong_kind() -> Reply
+    ensures { view result ≡ wrong_kind }
+{
+    Reply::Error(CowSlice::Borrowed(
+        b"WRONGTYPE Operation against a key holding the wrong kind of value",
+    ))
 }
 
 pub fn set(
@@ -47,7 +57,14 @@ fn is_plain(text: &[u8], seen: Option<&Entry>) -> bool
     let Some(entry) = seen else {
         return false;
     };
-    match &entry.value {
-        Value::Text(held) => entry.deadline.is_none() && held.as_slice() == text,
+    entry.deadline.is_none() && is_text(text, &entry.value)
+}
+
+fn is_text(text: &[u8], value: &Value) -> bool
+    ensures { result ≡ is_text text.now value.now }
+{
+    match value {
+        Value::Text(held) => held.as_slice() == text,
+        Value::Hash(_) | Value::List(_) | Value::Set(_) => false,
     }
 }

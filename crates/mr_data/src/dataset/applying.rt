@@ -1,14 +1,15 @@
-// Effects whose words are copied.
-ghost use Rattle.std.specs.Prelude.{◌≡◌, ◌≢◌, ◌↔◌, Some, None, Err, OnOk};
-ghost use Rattle.mr_data.specs.Meaning.{apply, NeedsNoMemory};
+// Effects on a dataset.
+ghost use Rattle.std.specs.Prelude.{◌≡◌, ◌≢◌, ◌↔◌, ◌&&◌, [], Some, None, Err, IsOk, OnOk};
+ghost use Rattle.std.specs.List.{AllByRecursion};
+ghost use Rattle.mr_effect.specs.Effects.{has_spelling, words_fit};
+ghost use Rattle.mr_data.specs.Meaning.{apply, apply_all, NeedsNoMemory};
 
 use crate::dataset::Dataset;
-use crate::effect::Effect;
 use crate::fault::ApplyFault;
-use mr_value::Word;
+use mr_effect::Effect;
 
 impl Dataset {
-    /// Does an effect, whose words are copied.
+    /// Does an effect, whose words are copied. A dataset for which memory ran out is emptied.
     #[tactic(auto, unfolding(crate::specs::Meaning::apply))]
     pub fn apply(&mut self, effect: &Effect<'_>) -> Result<(), ApplyFault>
         ensures ok { OnOk result (apply effect.now self.old ≡ Some self.new) }
@@ -16,19 +17,49 @@ impl Dataset {
         ensures unchanged { result ≡ Err ApplyFault.Refused → self.new ≡ self.old }
         ensures memory { NeedsNoMemory effect.now → result ≢ Err ApplyFault.Memory }
     {
-        if !effect.fits() {
+        if !is_possible(effect) {
             return Err(ApplyFault::Refused);
         }
-        match effect {
-            Effect::Set { key, value } => {
-                let key = Word::borrowed(key.as_slice());
-                let text = Word::borrowed(value.as_slice());
-                Ok(self.set(key, text)?)
-            }
-            Effect::Del { key } => {
-                self.delete(key.as_slice());
-                Ok(())
-            }
-        }
+        let outcome = self.entries.copy(effect);
+        self.entries.settle(&outcome);
+        outcome
     }
+
+    /// Does an effect, and moves into the dataset the words that own their memory. A dataset for which memory ran out
+    /// is emptied.
+    #[tactic(auto, unfolding(crate::specs::Meaning::apply))]
+    pub fn apply_owned(&mut self, effect: Effect<'_>) -> Result<(), ApplyFault>
+        ensures ok { OnOk result (apply effect.entry self.old ≡ Some self.new) }
+        ensures refused { (result ≡ Err ApplyFault.Refused) ↔ (apply effect.entry self.old ≡ None) }
+        ensures unchanged { result ≡ Err ApplyFault.Refused → self.new ≡ self.old }
+        ensures memory { NeedsNoMemory effect.entry → result ≢ Err ApplyFault.Memory }
+    {
+        if !is_possible(&effect) {
+            return Err(ApplyFault::Refused);
+        }
+        let outcome = self.entries.take(effect);
+        self.entries.settle(&outcome);
+        outcome
+    }
+
+    /// Does effects one after another, and moves into the dataset the words that own their memory. After an `Err` some
+    /// of them may be done.
+    pub fn apply_all(&mut self, effects: Vec<Effect<'_>>) -> Result<(), ApplyFault>
+        ensures ok { OnOk result (apply_all effects.entry.items self.old ≡ Some self.new) }
+        ensures refused { result ≡ Err ApplyFault.Refused → apply_all effects.entry.items self.old ≡ None }
+        ensures memory { AllByRecursion NeedsNoMemory effects.entry.items → result ≢ Err ApplyFault.Memory }
+        ensures none { effects.entry.items ≡ [] → IsOk result }
+    {
+        for effect in effects {
+            self.apply_owned(effect)?;
+        }
+        Ok(())
+    }
+}
+
+// Whether an effect has a spelling, with words within the limit.
+fn is_possible(effect: &Effect<'_>) -> bool
+    ensures { result ≡ (has_spelling effect.now && words_fit effect.now) }
+{
+    effect.has_spelling() && effect.fits()
 }

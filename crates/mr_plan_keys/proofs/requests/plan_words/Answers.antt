@@ -1,6 +1,6 @@
 use Rattle.std.proofs.Common.{ap, List}
 use Rattle.mr_data.specs.Meaning.{apply_all}
-use Rattle.mr_data.specs.declared.effect.Effect.{Effect}
+use Rattle.mr_effect.specs.declared.effect.Effect.{Effect}
 use Rattle.mr_plan_keys.proofs.PlanLemmas.{planned_leads, if_ok}
 use Rattle.mr_plan_keys.proofs.requests.plan_words.Goals as goal
 
