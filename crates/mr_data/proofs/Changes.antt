@@ -11,8 +11,8 @@ use Rattle.mr_value.specs.Lists.{without}
 use Rattle.mr_effect.specs.Effects.{words_fit, has_spelling, pair_fits}
 use Rattle.mr_effect.specs.declared.effect.Effect.{Effect}
 use Rattle.mr_effect.specs.declared.effect.Effect.TheVariants as effect
-use Rattle.mr_effect.specs.declared.effect.End.{End}
-use Rattle.mr_effect.specs.declared.effect.Side.{Side}
+use Rattle.mr_value.specs.declared.ends.End.{End}
+use Rattle.mr_value.specs.declared.ends.Side.{Side}
 use Rattle.mr_data.specs.declared.value.Value.TheVariants as value
 use Rattle.mr_data.specs.declared.value.Entry.{Entry}
 use Rattle.mr_data.specs.Dataset.{Dataset, IsWord, IsDataset, IsValue}

@@ -11,8 +11,8 @@ use Rattle.mr_map.specs.Bytes.{Bytes, ByteMap, bytes_cmp}
 use Rattle.mr_value.specs.Words.{fits}
 use Rattle.mr_value.specs.Lists.{count_of, without, without_first, without_last}
 use Rattle.mr_effect.specs.Effects.{pair_fits}
-use Rattle.mr_effect.specs.declared.effect.End.{End}
-use Rattle.mr_effect.specs.declared.effect.End.TheVariants.{Left, Right}
+use Rattle.mr_value.specs.declared.ends.End.{End}
+use Rattle.mr_value.specs.declared.ends.End.TheVariants.{Left, Right}
 use Rattle.mr_data.specs.Dataset.{IsWord}
 use Rattle.mr_data.specs.Collections.{with_fields, without_fields, with_members, without_members, put_item, pushed, popped, end_item, turned}
 use Rattle.mr_data.proofs.Maps.{same_key}

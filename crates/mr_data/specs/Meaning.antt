@@ -7,7 +7,7 @@ use Rattle.mr_map.specs.Bytes.{Bytes}
 use Rattle.mr_effect.specs.Effects.{words_fit, has_spelling}
 use Rattle.mr_effect.specs.declared.effect.Effect.{Effect}
 use Rattle.mr_effect.specs.declared.effect.Effect.TheVariants as effect
-use Rattle.mr_effect.specs.declared.effect.End.{End}
+use Rattle.mr_value.specs.declared.ends.End.{End}
 use Rattle.mr_data.specs.Dataset.{Dataset, put_at}
 use Rattle.mr_data.specs.Collections.{end_item}
 use Rattle.mr_data.specs.Steps.{Step, lists, held, set_step, del_step, set_fields_step, remove_fields_step, push_step, pop_step, set_item_step, insert_item_step, remove_items_step, trim_step, turn_step, add_members_step, remove_members_step}

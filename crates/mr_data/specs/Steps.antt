@@ -8,8 +8,8 @@ use Rattle.mr_data.specs.Collections.{with_fields, without_fields, with_members,
 use Rattle.mr_data.specs.declared.value.Value.{Value}
 use Rattle.mr_data.specs.declared.value.Value.TheVariants as value
 use Rattle.mr_data.specs.declared.value.Entry.{Entry}
-use Rattle.mr_effect.specs.declared.effect.End.{End}
-use Rattle.mr_effect.specs.declared.effect.Side.{Side}
+use Rattle.mr_value.specs.declared.ends.End.{End}
+use Rattle.mr_value.specs.declared.ends.Side.{Side}
 
 -- A step says what becomes of the entry at one key. It answers nothing where it is undefined.
 abbrev pub Step : Type 0

@@ -16,10 +16,10 @@ use Rattle.mr_effect.specs.declared.name.EffectName.{EffectName}
 use Rattle.mr_effect.specs.declared.name.EffectName.TheVariants as name
 use Rattle.mr_effect.specs.declared.effect.Effect.{Effect}
 use Rattle.mr_effect.specs.declared.effect.Effect.TheVariants as effect
-use Rattle.mr_effect.specs.declared.effect.End.{End}
-use Rattle.mr_effect.specs.declared.effect.End.TheVariants.{Left, Right}
-use Rattle.mr_effect.specs.declared.effect.Side.{Side}
-use Rattle.mr_effect.specs.declared.effect.Side.TheVariants.{Before, After}
+use Rattle.mr_value.specs.declared.ends.End.{End}
+use Rattle.mr_value.specs.declared.ends.End.TheVariants.{Left, Right}
+use Rattle.mr_value.specs.declared.ends.Side.{Side}
+use Rattle.mr_value.specs.declared.ends.Side.TheVariants.{Before, After}
 use Rattle.mr_effect.proofs.Readings.{one_effect}
 
 -- each word is short enough for a number of 64 bits to say its length

@@ -4,9 +4,10 @@ ghost use Rattle.std.specs.Cow.{cow_slice_items};
 ghost use Rattle.mr_effect.specs.Spelling.{Spells, FindsEach};
 ghost use Rattle.mr_effect.specs.Reading.{reading, effect_of};
 
-use crate::effect::{Effect, End};
+use crate::effect::Effect;
 use crate::name::EffectName;
 use crate::reading;
+use mr_value::End;
 use std::alloc::{AllocError, Global};
 use std::borrow::CowSlice;
 

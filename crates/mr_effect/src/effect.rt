@@ -4,23 +4,7 @@ ghost use Rattle.mr_value.specs.Number.{is_i64};
 ghost use Rattle.mr_effect.specs.Effects.{words_fit, has_spelling};
 
 use crate::words::{Pairs, Words};
-use mr_value::{Word, fits};
-
-/// An end of a list.
-#[derive(Clone, Copy, Debug, PartialEq, Eq)]
-pub enum End {
-    /// The front.
-    Left,
-    /// The back.
-    Right,
-}
-
-/// A side of an item in a list.
-#[derive(Clone, Copy, Debug, PartialEq, Eq)]
-pub enum Side {
-    Before,
-    After,
-}
+use mr_value::{End, Side, Word, fits};
 
 /// What a write does to a dataset, free of clock and chance.
 #[derive(Drop)]

@@ -8,12 +8,12 @@ ghost use Rattle.mr_effect.specs.Names.{text_of};
 ghost use Rattle.mr_effect.specs.Parts.{head};
 ghost use Rattle.mr_effect.specs.Spelling.{text, texts, push_name, pop_name, end_word, side_word, pair_words};
 
-use crate::effect::{Effect, End, Side};
+use crate::effect::Effect;
 use crate::name::EffectName;
 use crate::words::{Pairs, Words};
 use itoa::Buffer;
 use mr_resp::{push_request, push_word, push_word_count};
-use mr_value::Word;
+use mr_value::{End, Side, Word};
 use std::alloc::AllocError;
 
 fn push_name(end: End) -> EffectName

@@ -10,7 +10,7 @@ mod reading;
 mod words;
 
 pub use decoding::decode;
-pub use effect::{Effect, End, Side};
+pub use effect::Effect;
 pub use encoding::{encode, encode_all};
 pub use laws::{effects_are_told_apart, texts_come_in_parts};
 pub use name::EffectName;

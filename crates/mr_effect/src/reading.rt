@@ -3,9 +3,9 @@ ghost use Rattle.std.specs.Prelude.{◌≡◌, map, IfOk};
 ghost use Rattle.std.specs.Cow.{cow_slice_items};
 ghost use Rattle.mr_effect.specs.Reading.{end_of, side_of, place_of, pairs_of, set_of, del_of, set_fields_of, remove_fields_of, push_of, pop_of, set_item_of, insert_item_of, remove_items_of, trim_of, move_item_of, add_members_of, remove_members_of, move_member_of};
 
-use crate::effect::{Effect, End, Side};
+use crate::effect::Effect;
 use crate::words::{Pairs, Words};
-use mr_value::{Word, read_i64};
+use mr_value::{End, Side, Word, read_i64};
 use std::alloc::{AllocError, Global};
 use std::borrow::CowSlice;
 

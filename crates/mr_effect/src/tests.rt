@@ -1,6 +1,6 @@
 // Texts and words, with the lengths and spellings of the command reference.
-use crate::{Effect, EffectName, End, Pairs, Side, Words, decode, encode, encode_all};
-use mr_value::Word;
+use crate::{Effect, EffectName, Pairs, Words, decode, encode, encode_all};
+use mr_value::{End, Side, Word};
 use std::alloc::Global;
 use std::borrow::CowSlice;
 use std::test::Fail;

@@ -9,8 +9,8 @@ ghost use Rattle.mr_data.specs.Outcome.{Applies};
 use crate::entries::Entries;
 use crate::fault::ApplyFault;
 use crate::value::Value;
-use mr_effect::{End, Pairs, Words};
-use mr_value::Word;
+use mr_effect::{Pairs, Words};
+use mr_value::{End, Word};
 use std::alloc::{AllocError, Global};
 
 impl Entries {

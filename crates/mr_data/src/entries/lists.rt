@@ -10,8 +10,8 @@ ghost use Rattle.mr_data.specs.Outcome.{Applies};
 use crate::entries::Entries;
 use crate::fault::ApplyFault;
 use crate::value::Value;
-use mr_effect::{End, Side, Words};
-use mr_value::{Bytes, ListValue, Word};
+use mr_effect::Words;
+use mr_value::{Bytes, End, ListValue, Side, Word};
 use std::alloc::{AllocError, Global};
 
 impl Entries {

@@ -8,8 +8,8 @@ ghost use Rattle.mr_data.specs.Outcome.{Applies};
 use crate::entries::Entries;
 use crate::fault::ApplyFault;
 use crate::value::Value;
-use mr_effect::{End, Words};
-use mr_value::Word;
+use mr_effect::Words;
+use mr_value::{End, Word};
 
 impl Entries {
     /// Takes an item from one key's list and puts it to another's, or to the same.

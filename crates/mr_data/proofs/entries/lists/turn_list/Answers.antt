@@ -1,5 +1,5 @@
 use Rattle.std.proofs.Common.{ap, ◌∙◌, sym, Some}
-use Rattle.mr_effect.specs.declared.effect.End.TheVariants.{Left, Right}
+use Rattle.mr_value.specs.declared.ends.End.TheVariants.{Left, Right}
 use Rattle.mr_data.proofs.Ends.{turned_same, turned_right_left}
 use Rattle.mr_data.proofs.entries.lists.turn_list.Goals as goal
 
