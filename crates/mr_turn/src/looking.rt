@@ -2,8 +2,8 @@
 ghost use Rattle.std.specs.Prelude.{◌≡◌, [], ◌∷◌, ◌++◌, pos, length, IfOk, option_copied};
 ghost use Rattle.std.specs.FinMap as map;
 ghost use Rattle.mr_data.specs.Dataset.{is_past, live};
-ghost use Rattle.mr_plan_keys.specs.Keys.{chosen, dels, is_stored};
-ghost use Rattle.mr_plan_keys.specs.Plans.{past};
+ghost use Rattle.mr_turn.specs.Keys.{chosen, dels, is_stored};
+ghost use Rattle.mr_turn.specs.Keys.{past};
 
 use crate::effects::Effects;
 use crate::taken::Taken;

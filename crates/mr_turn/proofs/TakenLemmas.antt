@@ -6,7 +6,7 @@ use Rattle.std.specs.Borrow.{Bor}
 use Rattle.std.specs.List.{list_any}
 use Rattle.std.specs.declared.cmp.Ordering.{Ordering}
 use Rattle.mr_map.specs.Bytes.{bytes_cmp}
-use Rattle.mr_plan_keys.specs.Taken.{texts, has, is_key}
+use Rattle.mr_turn.specs.Taken.{texts, has, is_key}
 
 -- the order of references is that of what they point to
 abbrev pub by_bytes : Bor (List ℕ) → Bor (List ℕ) → Ordering

@@ -1,6 +1,6 @@
 // Keys that were taken already.
 ghost use Rattle.std.specs.Prelude.{◌≡◌, ◌+◌, ◌<◌, ◌^◌, ◌||◌, List, ℕ, [], length, not, if◌then◌else◌, IfOk, OnOk};
-ghost use Rattle.mr_plan_keys.specs.Taken.{has, is_key};
+ghost use Rattle.mr_turn.specs.Taken.{has, is_key};
 
 use std::alloc::{AllocError, Global};
 use std::collections::BTreeSet;
@@ -14,7 +14,7 @@ pub struct Taken<'a> {
 
 impl<'a> Model for Taken<'a> {
     ghost use Rattle.std.specs.Prelude.{List, ℕ};
-    ghost use Rattle.mr_plan_keys.specs.Taken.{texts};
+    ghost use Rattle.mr_turn.specs.Taken.{texts};
 
     ghost Value = { List (List ℕ) };
 

@@ -1,10 +1,10 @@
 use Rattle.std.proofs.Common.{rules, ◌∙◌, ◌≡◌, ap, sym, refl, length, ◌+◌}
 use Rattle.std.specs.Prelude.{if◌then◌else◌}
 use Rattle.std.specs.FinMap.{get}
-use Rattle.mr_plan_keys.specs.Keys.{is_stored}
-use Rattle.mr_plan_keys.proofs.KeyLists.{none_taken, word_not_chosen, word_taken_before, word_taken, not_true, not_false}
-use Rattle.mr_plan_keys.proofs.dels.push_dels.Goals as goal
-use Rattle.mr_plan_keys.proofs.dels.push_dels.Goals.{then-is_stored+in_ok-take+then-branch+in_ok-copied+in_ok-push, else-is_stored, else-is_stored-via-then-is_stored+in_ok-take+else-branch, else-is_stored-via-else-is_stored}
+use Rattle.mr_turn.specs.Keys.{is_stored}
+use Rattle.mr_turn.proofs.KeyLists.{none_taken, word_not_chosen, word_taken_before, word_taken, not_true, not_false}
+use Rattle.mr_turn.proofs.looking.push_dels.Goals as goal
+use Rattle.mr_turn.proofs.looking.push_dels.Goals.{then-is_stored+in_ok-take+then-branch+in_ok-copied+in_ok-push, else-is_stored, else-is_stored-via-then-is_stored+in_ok-take+else-branch, else-is_stored-via-else-is_stored}
 
 pub loop-word-init : goal.loop-word-init
 loop-word-init c = none_taken _ _ _ _ c.new-taken.ensures

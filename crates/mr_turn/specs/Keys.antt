@@ -26,3 +26,11 @@ abbrev pub is_stored : ℤ → Bool → Option Entry → Bool
 is_stored now past None = false
 is_stored now true (Some e) = is_past now e.deadline
 is_stored now false (Some e) = not (is_past now e.deadline)
+
+-- those of these keys that are stored and past
+abbrev pub past : ℤ → List Bytes → Dataset → List Bytes
+past now ks m = chosen (is_stored now true) ks m
+
+-- the dataset without them
+abbrev pub purged : ℤ → List Bytes → Dataset → Dataset
+purged now ks m = without (past now ks m) m

@@ -1,8 +1,8 @@
 use Rattle.std.proofs.Common.{◌∙◌, ap, sym, not, cond, true, ℕ, List}
 use Rattle.std.specs.Borrow.{Bor}
-use Rattle.mr_plan_keys.specs.Taken.{has, is_key}
-use Rattle.mr_plan_keys.proofs.TakenLemmas.{has-texts, cond_or}
-use Rattle.mr_plan_keys.proofs.taken.Taken.take.Goals as goal
+use Rattle.mr_turn.specs.Taken.{has, is_key}
+use Rattle.mr_turn.proofs.TakenLemmas.{has-texts, cond_or}
+use Rattle.mr_turn.proofs.taken.Taken.take.Goals as goal
 
 pub returns-clause-first : goal.returns-clause-first
 returns-clause-first c =

@@ -13,10 +13,10 @@ use Rattle.mr_data.proofs.Seeing.{get-seen}
 use Rattle.mr_data.specs.declared.value.Entry.{Entry}
 use Rattle.mr_effect.specs.declared.effect.Effect.{Effect}
 use Rattle.mr_effect.specs.declared.effect.Effect.TheVariants as effect
-use Rattle.mr_plan_keys.specs.Taken.{is_key, has}
-use Rattle.mr_plan_keys.specs.Keys.{chosen, without, dels, is_stored}
-use Rattle.mr_plan_keys.specs.Plans.{past, purged}
-use Rattle.mr_plan_keys.proofs.Maps.{is_key_itself, is_key_symm, same_key, get_remove, removed, remove_absent}
+use Rattle.mr_turn.specs.Taken.{is_key, has}
+use Rattle.mr_turn.specs.Keys.{chosen, without, dels, is_stored}
+use Rattle.mr_turn.specs.Keys.{past, purged}
+use Rattle.mr_turn.proofs.Maps.{is_key_itself, is_key_symm, same_key, get_remove, removed, remove_absent}
 
 -- ---- effects one after another
 pub apply_all-append : (xs ys : List Effect) (m : Dataset) → apply_all (xs ++ ys) m ≡ option_and_then (apply_all ys) (apply_all xs m)

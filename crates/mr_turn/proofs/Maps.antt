@@ -10,7 +10,7 @@ use Rattle.std.proofs.lemmas.Map.Lookups.{exact_bytes}
 use Rattle.mr_map.specs.Bytes.{Bytes}
 use Rattle.mr_data.specs.Dataset.{Dataset, put_at}
 use Rattle.mr_data.specs.declared.value.Entry.{Entry}
-use Rattle.mr_plan_keys.specs.Taken.{is_key}
+use Rattle.mr_turn.specs.Taken.{is_key}
 
 tied : (r : Ordering) → is_eq r ≡ true → r ≡ Equal
 tied Less p = cc
@@ -36,7 +36,7 @@ pub get_put : (m : Dataset) (k : Bytes) (o : Option Entry) → get (put_at m k o
 get_put m k None = removed m k
 get_put m k (Some e) = get-insert nat_list_cmp_total m k e k ∙ ap (λ b. cond b (Some e) (get m k)) (is_key_itself k)
 
-get_put_other : (m : Dataset) (k : Bytes) (o : Option Entry) (q : Bytes) → get (put_at m k o) q ≡ cond (is_key q k) o (get m q)
+pub get_put_other : (m : Dataset) (k : Bytes) (o : Option Entry) (q : Bytes) → get (put_at m k o) q ≡ cond (is_key q k) o (get m q)
 get_put_other m k None q = get_remove m k q
 get_put_other m k (Some e) q = get-insert nat_list_cmp_total m k e q
 
@@ -50,3 +50,10 @@ put_same m k o h = same_map nat_list_cmp_total exact_bytes _ _ (λ q.
 
 pub remove_absent : (m : Dataset) (k : Bytes) → get m k ≡ None → remove m k ≡ m
 remove_absent m k h = put_same m k None h
+
+-- what was put there last
+pub put_put : (m : Dataset) (k : Bytes) (o p : Option Entry) → put_at (put_at m k o) k p ≡ put_at m k p
+put_put m k o p = same_map nat_list_cmp_total exact_bytes _ _ (λ q.
+    get_put_other (put_at m k o) k p q ∙ ap (cond (is_key q k) p) (get_put_other m k o q)
+    ∙ elim (is_key q k) as (λ b. cond b p (cond b o (get m q)) ≡ cond b p (get m q)) [ true ↦ refl | false ↦ refl ]
+    ∙ sym (get_put_other m k p q))

@@ -1,0 +1,7 @@
+pub mod Maps
+pub mod KeyLists
+pub mod TakenLemmas
+pub mod Laws
+pub mod Running
+pub mod Cutting
+pub mod PlanLemmas

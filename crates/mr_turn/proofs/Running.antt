@@ -1,0 +1,97 @@
+-- Effects on one key, one after another.
+use Rattle.std.proofs.Common.{ℕ, ℤ, ◌≡◌, List, [], ◌∷◌, ◌++◌, map, Bool, true, false, ◌&&◌, cond, Option, Some, None, refl, sym, ◌∙◌, ap}
+use Rattle.std.specs.Prelude.{IsTrue, if◌then◌else◌, ◌≢◌}
+use Rattle.std.specs.List.{AllByRecursion}
+use Rattle.std.specs.Option.{option_map, option_and_then}
+use Rattle.std.specs.FinMap.{get}
+use Rattle.std.specs.Cmp.{eq_by_cmp_equiv}
+use Rattle.mr_map.specs.Bytes.{Bytes}
+use Rattle.mr_data.specs.Dataset.{Dataset, put_at}
+use Rattle.mr_data.specs.Steps.{Step, Kind, held, entry_of, deadline_of, on}
+use Rattle.mr_data.specs.Meaning.{apply, apply_all, change, at_key}
+use Rattle.mr_data.specs.declared.value.Entry.{Entry}
+use Rattle.mr_data.specs.declared.value.Value.{Value}
+use Rattle.mr_effect.specs.Effects.{words_fit, has_spelling}
+use Rattle.mr_effect.specs.declared.effect.Effect.{Effect}
+use Rattle.mr_turn.proofs.Maps.{get_put, put_same, put_put}
+
+-- steps at one key, one after another
+abbrev pub run : List Step → Step
+run [] before = Some before
+run (step ∷ steps) before = option_and_then (run steps) (step before)
+
+-- the effect is possible, and this is its step at the key
+pub record IsStep (k : Bytes) (e : Effect) (step : Step) : Type 0 where
+  pub possible : has_spelling e && words_fit e ≡ true
+  pub is : (m : Dataset) → change e m ≡ at_key step k m
+
+pub one_step : (k : Bytes) (e : Effect) (step : Step) (m : Dataset) → IsStep k e step → apply e m ≡ option_map (put_at m k) (step (get m k))
+unfolding apply
+one_step k e step m h = ap (λ b. if b then change e m else None) h.possible ∙ h.is m
+
+-- Each effect of a list is a step.
+abbrev pub AreSteps : Bytes → List Effect → List Step → Type 0
+AreSteps k [] [] = Unit {0}
+AreSteps k (e ∷ es) (s ∷ ss) = IsStep k e s × AreSteps k es ss
+AreSteps k _ _ = ⊥
+
+put_later : (m : Dataset) (k : Bytes) (o : Option Entry) (later : Option (Option Entry)) → option_map (put_at (put_at m k o) k) later ≡ option_map (put_at m k) later
+put_later m k o None = refl
+put_later m k o (Some p) = ap Some (put_put m k o p)
+
+pub run_leads : (k : Bytes) (es : List Effect) (ss : List Step) (m : Dataset) → AreSteps k es ss → apply_all es m ≡ option_map (put_at m k) (run ss (get m k))
+run_leads k [] [] m h = ap Some (sym (put_same m k (get m k) refl))
+run_leads k (e ∷ es) (s ∷ ss) m h = ap (option_and_then (apply_all es)) (one_step k e s m h.0) ∙ elim (s (get m k)) as (λ o. option_and_then (apply_all es) (option_map (put_at m k) o) ≡ option_map (put_at m k) (option_and_then (run ss) o)) [
+  | None ↦ refl
+  | Some o ↦ run_leads k es ss (put_at m k o) h.1 ∙ ap (λ x. option_map (put_at (put_at m k o) k) (run ss x)) (get_put m k o) ∙ put_later m k o (run ss o)
+]
+run_leads k [] (s ∷ ss) m h = absurd h
+run_leads k (e ∷ es) [] m h = absurd h
+
+-- ---- groups of items, each of which goes into one effect
+module _ {A : Type 0} (k : Bytes) (effect : List A → Effect) (step : List A → Step) where
+  pub steps_of : (gs : List (List A)) → AllByRecursion (λ g. IsStep k (effect g) (step g)) gs → AreSteps k (map effect gs) (map step gs)
+  steps_of [] h = tt
+  steps_of (g ∷ gs) h = (h.0, steps_of gs h.1)
+
+module _ {X : Type 0} (kind : Kind X) where
+  -- what each kind of collection keeps
+  pub record IsKind : Type 0 where
+    pub of_value : (x : X) → kind.of (kind.value x) ≡ Some x
+    pub value_of : (v : Value) (x : X) → kind.of v ≡ Some x → kind.value x ≡ v
+    pub none_is : (x : X) → kind.is_none x ≡ true → x ≡ kind.none
+    pub is_none : kind.is_none kind.none ≡ true
+
+  -- a collection at a key has an element
+  abbrev pub IsKept : Option Entry → Type 0
+  IsKept o = (e : Entry) → o ≡ Some e → (x : X) → kind.of e.value ≡ Some x → kind.is_none x ≡ false
+
+module _ {X : Type 0} (kind : Kind X) (laws : IsKind kind) where
+  -- the entry of the collection that is there
+  pub same_entry : (o : Option Entry) (x : X) → IsKept kind o → held kind o ≡ Some x → entry_of kind (deadline_of o) x ≡ o
+  same_entry None x h is = ap (λ b. let none : Option Entry = None in if b then none else Some (record { value = kind.value x; deadline = None })) (ap kind.is_none (sym (some_is is)) ∙ laws.is_none)
+    where
+      some_is : {x y : X} → Some x ≡ Some y → x ≡ y
+      some_is h = cc
+  same_entry (Some e) x h is =
+      ap (λ b. let none : Option Entry = None in if b then none else Some (record { value = kind.value x; deadline = e.deadline })) (h e refl x is)
+      ∙ ap (λ v. let f : Entry = record { value = v; deadline = e.deadline } in Some f) (laws.value_of e.value x is)
+
+  -- only that collection has this entry
+  entry_is : (d : Option ℤ) (y : X) (b : Bool) → kind.is_none y ≡ b → (o : Option Entry) → (if b then None else Some (record { value = kind.value y; deadline = d })) ≡ o → held kind o ≡ Some y
+  entry_is d y true n None e = ap Some (sym (laws.none_is y n))
+  entry_is d y true n (Some f) e = cc
+  entry_is d y false n None e = cc
+  entry_is d y false n (Some f) e = ap kind.of (sym (value_is e)) ∙ laws.of_value y
+    where
+      value_is : {f g : Entry} → Some f ≡ Some g → f.value ≡ g.value
+      value_is h = cc
+
+  pub held_entry : (d : Option ℤ) (y : X) (o : Option Entry) → entry_of kind d y ≡ o → held kind o ≡ Some y
+  held_entry d y o e = entry_is d y (kind.is_none y) refl o e
+
+  some_is : {x y : X} → Some x ≡ Some y → x ≡ y
+  some_is h = cc
+
+  pub same_collection : (o : Option Entry) (x y : X) → held kind o ≡ Some x → entry_of kind (deadline_of o) y ≡ o → y ≡ x
+  same_collection o x y is e = some_is (sym (held_entry (deadline_of o) y o e) ∙ is)

@@ -1,0 +1,7 @@
+pub mod Taken
+pub mod Keys
+pub mod Turns
+pub mod Outcomes
+pub mod Commands
+pub mod Cuts
+pub mod Collections

@@ -1,0 +1,9 @@
+//! What planners of commands share: the keys that a command names, what is seen there, and effects that own their words.
+#![tactic(auto)]
+
+mod effects;
+mod looking;
+mod taken;
+
+pub use effects::Effects;
+pub use looking::{look, push_dels};
