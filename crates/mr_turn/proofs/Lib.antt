@@ -4,4 +4,5 @@ pub mod TakenLemmas
 pub mod Laws
 pub mod Running
 pub mod Cutting
+pub mod KindLaws
 pub mod PlanLemmas
