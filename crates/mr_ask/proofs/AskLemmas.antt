@@ -1,5 +1,5 @@
 -- What is read is spelled by the words, and carries no others.
-use Rattle.std.proofs.Common.{ℕ, ℤ, ◌≡◌, List, [], ◌∷◌, map, Bool, true, false, ◌&&◌, Option, Some, None, refl, sym, ◌∙◌, ap, subst}
+use Rattle.std.proofs.Common.{ℕ, ◌≡◌, List, [], ◌∷◌, map, Bool, true, false, ◌&&◌, Option, Some, None, refl, sym, ◌∙◌, ap, subst}
 use Rattle.std.specs.Prelude.{IsTrue, IfOk, Result, Ok, Err}
 use Rattle.std.specs.List.{list_all}
 use Rattle.mr_value.specs.Words.{fits}
@@ -89,7 +89,7 @@ reading_carries name.Ping ws = of_kind_carries (ping ws) ask.Server _ (ping_carr
 reading_carries name.Echo ws = of_kind_carries (echo ws) ask.Server _ (echo_carries ws)
 reading_carries name.Select ws = of_kind_carries (select ws) ask.Server _ (select_carries ws)
 reading_carries name.Quit ws = of_kind_carries (quit ws) ask.Server _ (quit_carries ws)
-reading_carries name.Command ws = of_kind_carries (command ws) ask.Server _ (command_carries ws)
+reading_carries name.Command ws = of_kind_carries (command ws) ask.Server (Carries name.Command ws) (command_carries ws)
 reading_carries name.Client ws = of_kind_carries (client ws) ask.Server _ (client_carries ws)
 
 carried_by : (w : List ℕ) (o : Option Name) (ws : List (List ℕ)) → named (lowered w) ≡ o → IfOk (asked_by o ws) (Spells (w ∷ ws))

@@ -4,7 +4,7 @@ use Rattle.std.specs.Prelude.{IfOk}
 use Rattle.mr_ask.specs.Hashes.{set_fields, hsetnx, hget, hmget, list_hash, hdel, hexists, hlen, hstrlen, hincrby}
 use Rattle.mr_ask.specs.Called.{hash_name}
 use Rattle.mr_ask.specs.Spelled.{Word, AreParts}
-use Rattle.mr_ask.proofs.Carries.{Carries, HashCarries, all_words}
+use Rattle.mr_ask.proofs.Carries.{HashCarries, all_words}
 use Rattle.mr_ask.proofs.PartLemmas.{with_integer, with_pairs}
 use Rattle.mr_ask.specs.declared.name.Name.{Name}
 use Rattle.mr_ask.specs.declared.name.Name.TheVariants as name

@@ -1,8 +1,8 @@
 -- What is read of a command on strings and keys is spelled by the words.
-use Rattle.std.proofs.Common.{ℕ, ◌≡◌, List, [], ◌∷◌, map, refl}
+use Rattle.std.proofs.Common.{ℕ, List, [], ◌∷◌, refl}
 use Rattle.std.specs.Prelude.{IfOk}
 use Rattle.mr_ask.specs.Keys.{get, set, del, unlink, exists, key_type}
-use Rattle.mr_ask.proofs.Carries.{Carries, KeyCarries, all_words}
+use Rattle.mr_ask.proofs.Carries.{KeyCarries, all_words}
 use Rattle.mr_ask.specs.declared.name.Name.TheVariants as name
 
 pub get_carries : (ws : List (List ℕ)) → IfOk (get ws) (KeyCarries name.Get ws)

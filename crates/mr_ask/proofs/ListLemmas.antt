@@ -1,10 +1,10 @@
 -- What is read of a command on lists is spelled by the words.
-use Rattle.std.proofs.Common.{ℕ, ◌≡◌, List, [], ◌∷◌, map, refl, Option, Some, None}
+use Rattle.std.proofs.Common.{ℕ, ◌≡◌, List, [], ◌∷◌, refl, Option, Some, None}
 use Rattle.std.specs.Prelude.{IfOk}
 use Rattle.mr_value.specs.declared.ends.End.{End}
 use Rattle.mr_ask.specs.Lists.{push, pop, llen, lrange, lindex, lset, linsert, lrem, ltrim, lmove, rpoplpush}
 use Rattle.mr_ask.specs.Called.{list_name}
-use Rattle.mr_ask.proofs.Carries.{Carries, ListCarries, all_words}
+use Rattle.mr_ask.proofs.Carries.{ListCarries, all_words}
 use Rattle.mr_ask.proofs.PartLemmas.{with_count, with_end, with_integer, with_side}
 use Rattle.mr_ask.specs.declared.name.Name.{Name}
 use Rattle.mr_ask.specs.declared.name.Name.TheVariants as name

@@ -1,11 +1,11 @@
 -- What is read of a command to the server itself is spelled by the words.
-use Rattle.std.proofs.Common.{rules, ℕ, ℤ, pos, ◌≡◌, List, [], ◌∷◌, Bool, true, false, refl, ◌∙◌, ap}
+use Rattle.std.proofs.Common.{rules, ℕ, ℤ, pos, ◌≡◌, List, [], ◌∷◌, true, false, refl, ◌∙◌, ap}
 use Rattle.std.specs.Prelude.{IfOk, if◌then◌else◌, Ok, Err}
 use Rattle.std.specs.Ordering.{int_eq}
 use Rattle.std.specs.Fmt.{signed_decimal}
 use Rattle.std.proofs.lemmas.Bool.Decides.{Decides-int_eq}
 use Rattle.mr_ask.specs.Server.{ping, echo, select, quit, command, client, database, setname, setinfo}
-use Rattle.mr_ask.proofs.Carries.{Carries, ServerCarries, all_words}
+use Rattle.mr_ask.proofs.Carries.{ServerCarries, all_words}
 use Rattle.mr_ask.proofs.PartLemmas.{with_integer, with_keyword}
 use Rattle.mr_ask.specs.declared.name.Name.TheVariants as name
 use Rattle.mr_ask.specs.declared.server_ask.ServerAsk.TheVariants as server

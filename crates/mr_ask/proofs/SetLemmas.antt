@@ -1,9 +1,9 @@
 -- What is read of a command on sets is spelled by the words.
-use Rattle.std.proofs.Common.{ℕ, ◌≡◌, List, [], ◌∷◌, map, refl}
+use Rattle.std.proofs.Common.{ℕ, ◌≡◌, List, [], ◌∷◌, refl}
 use Rattle.std.specs.Prelude.{IfOk}
 use Rattle.mr_ask.specs.Sets.{sadd, srem, sismember, smismember, smembers, scard, spop, srandmember, smove, combine}
 use Rattle.mr_ask.specs.Called.{set_name}
-use Rattle.mr_ask.proofs.Carries.{Carries, SetCarries, all_words}
+use Rattle.mr_ask.proofs.Carries.{SetCarries, all_words}
 use Rattle.mr_ask.proofs.PartLemmas.{with_count}
 use Rattle.mr_ask.specs.declared.name.Name.{Name}
 use Rattle.mr_ask.specs.declared.name.Name.TheVariants as name

@@ -113,31 +113,31 @@ fn read_arguments<'a, 't>(name: Name, arguments: Arguments<'a, 't>) -> Reading<'
 }
 
 fn of_keys<'a, 't>(reading: Result<KeyAsk<'a, 't>, AskFault>) -> Reading<'a, 't>
-    ensures { result ≡ of_kind kind.Keys reading }
+    ensures { result ≡ of_kind kind.Keys reading.entry }
 {
     Ok(Ask::Keys(reading?))
 }
 
 fn of_hashes<'a, 't>(reading: Result<HashAsk<'a, 't>, AskFault>) -> Reading<'a, 't>
-    ensures { result ≡ of_kind kind.Hashes reading }
+    ensures { result ≡ of_kind kind.Hashes reading.entry }
 {
     Ok(Ask::Hashes(reading?))
 }
 
 fn of_lists<'a, 't>(reading: Result<ListAsk<'a, 't>, AskFault>) -> Reading<'a, 't>
-    ensures { result ≡ of_kind kind.Lists reading }
+    ensures { result ≡ of_kind kind.Lists reading.entry }
 {
     Ok(Ask::Lists(reading?))
 }
 
 fn of_sets<'a, 't>(reading: Result<SetAsk<'a, 't>, AskFault>) -> Reading<'a, 't>
-    ensures { result ≡ of_kind kind.Sets reading }
+    ensures { result ≡ of_kind kind.Sets reading.entry }
 {
     Ok(Ask::Sets(reading?))
 }
 
 fn of_server<'a, 't>(reading: Result<ServerAsk<'a, 't>, AskFault>) -> Reading<'a, 't>
-    ensures { result ≡ of_kind kind.Server reading }
+    ensures { result ≡ of_kind kind.Server reading.entry }
 {
     Ok(Ask::Server(reading?))
 }
