@@ -5,4 +5,5 @@ pub mod Laws
 pub mod Running
 pub mod Cutting
 pub mod KindLaws
+pub mod Changing
 pub mod PlanLemmas
