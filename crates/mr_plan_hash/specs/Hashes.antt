@@ -1,5 +1,5 @@
 -- What each command on hashes answers, makes of the hash at its key, and has as its effects.
-use Rattle.std.specs.Prelude.{◌≡◌, ℕ, ℤ, pos, ◌+ℤ◌, List, [], ◌∷◌, ◌++◌, map, length, filter, count_by, codes, Bool, true, false, not, if◌then◌else◌, Option, Some, None}
+use Rattle.std.specs.Prelude.{◌≡◌, ℕ, ℤ, pos, ◌+ℤ◌, List, [], ◌∷◌, ◌++◌, map, length, filter, codes, Bool, true, false, not, if◌then◌else◌, Option, Some, None}
 use Rattle.std.specs.List.{flat_map}
 use Rattle.std.specs.FinMap.{empty, get, contains_key, len, keys, values, entries}
 use Rattle.std.specs.Fmt.{signed_decimal}
@@ -91,7 +91,7 @@ changed pairs h = filter (λ p. not (is_value p.1 (get h p.0))) (entries (last_v
 
 -- how many of them the hash does not have
 abbrev pub count_new : List (Bytes × Bytes) → Hash → ℕ
-count_new pairs h = count_by (λ p. not (contains_key h p.0)) (entries (last_values pairs))
+count_new pairs h = length (filter (λ p. not (contains_key h p.0)) (entries (last_values pairs)))
 
 -- fields of the hash at a key get values, one after another
 abbrev pub set_pairs : Bytes → Tree → List (Bytes × Bytes) → Hash → Change Hash

@@ -3,7 +3,7 @@ ghost use Rattle.std.specs.Prelude.{◌≡◌, ◌<◌, ◌^◌, IfOk, option_co
 ghost use Rattle.mr_resp.specs.ReplyView.{view};
 ghost use Rattle.mr_plan_hash.specs.Hashes.{value_reply, get_field, get_fields, list_hash, has_field, count_fields, field_length};
 
-use crate::replies::integer;
+use crate::replies::{count, integer};
 use mr_ask::{Argument, HashPart, Words};
 use mr_resp::Reply;
 use mr_value::Hash;
@@ -59,7 +59,7 @@ pub fn has_field(field: &Argument<'_>, hash: &Hash) -> Reply
 pub fn count_fields(hash: &Hash) -> Reply
     ensures { view result ≡ (count_fields hash.now).reply }
 {
-    integer(hash.len() as i64)
+    count(hash.len())
 }
 
 /// `HSTRLEN`

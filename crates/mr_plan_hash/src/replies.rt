@@ -1,12 +1,11 @@
 // Replies that several commands share.
-ghost use Rattle.std.specs.Prelude.{◌≡◌};
+ghost use Rattle.std.specs.Prelude.{◌≡◌, ◌<◌, ◌^◌};
 ghost use Rattle.mr_resp.specs.Replies.{int};
 ghost use Rattle.mr_resp.specs.ReplyView.{view};
 ghost use Rattle.mr_turn.specs.Turns.{wrong_kind, done};
-ghost use Rattle.mr_plan_hash.specs.Hashes.{no_integer, overflow, value_reply, count_reply};
+ghost use Rattle.mr_plan_hash.specs.Hashes.{no_integer, overflow, count_reply};
 
 use mr_resp::Reply;
-use std::alloc::{AllocError, Global};
 use std::borrow::CowSlice;
 
 /// The key holds another kind of value.
@@ -45,4 +44,12 @@ pub fn integer(number: i64) -> Reply
     ensures { view result ≡ int number }
 {
     Reply::Int(number)
+}
+
+/// How many there are.
+pub fn count(number: usize) -> Reply
+    requires { number < 2 ^ 63 }
+    ensures { view result ≡ count_reply number }
+{
+    Reply::Int(number as i64)
 }

@@ -1,18 +1,21 @@
 // Fields that get values.
-ghost use Rattle.std.specs.Prelude.{◌≡◌, ◌++◌, pos, map, length, filter, count_by, not, IfOk, OnOk, option_copied};
+ghost use Rattle.std.specs.Prelude.{◌≡◌, ◌<◌, ◌^◌, [], ◌∷◌, ◌++◌, if◌then◌else◌, map, length, filter, not, IfOk, OnOk, option_copied};
 ghost use Rattle.std.specs.FinMap.{entries, get, contains_key};
 ghost use Rattle.mr_resp.specs.ReplyView.{view};
 ghost use Rattle.mr_effect.specs.declared.effect.Effect.TheVariants as made;
 ghost use Rattle.mr_turn.specs.Cuts.{cut};
-ghost use Rattle.mr_plan_hash.specs.Hashes.{is_value, last_values, set_fields, set_new_field, increase_field};
+ghost use Rattle.mr_plan_hash.specs.Hashes.{is_value, last_values, fields_reply, set_fields, set_new_field, number_at, increase_field};
 ghost use Rattle.mr_plan_hash.specs.Commands.{Makes};
 
-use crate::groups::{PairGroup, end_pairs};
+use crate::groups::{PairGroup, end_pairs, is_value};
+use crate::replies::{count, done, integer, no_integer, overflow};
 use mr_ask::{Argument, FieldsReply, Pairs};
 use mr_map::SliceMap;
+use itoa::Buffer;
+use mr_data::{Effect, Pairs as Group};
 use mr_resp::Reply;
 use mr_turn::Effects;
-use mr_value::Hash;
+use mr_value::{Hash, Word, read_i64};
 use std::alloc::{AllocError, Global};
 
 // The fields that pairs name, each with its last value. They are not copied.
@@ -36,8 +39,9 @@ fn push_changed(
     values: &SliceMap<'_, Argument<'_>>,
     hash: &Hash,
     effects: &mut Effects,
-) -> Result<i64, AllocError>
-    ensures new { IfOk result (λ new. new ≡ pos (count_by (λ p. not (contains_key hash.now p.0)) (entries values.now))) }
+) -> Result<usize, AllocError>
+    ensures new { IfOk result (λ new. new ≡ length (filter (λ p. not (contains_key hash.now p.0)) (entries values.now))) }
+    ensures small { IfOk result (λ new. new < 2 ^ 63) }
     ensures effects { OnOk result (effects.new ≡ effects.old ++ map (made.SetFields key.now) (cut (filter (λ p. not (is_value p.1 (get hash.now p.0))) (entries values.now)))) }
 {
     let mut group = PairGroup::new(alloc, key.as_slice());
@@ -48,5 +52,111 @@ fn push_changed(
         new -= usize::from(before.is_some());
     }
     end_pairs(group, effects)?;
-    Ok(new as i64)
+    Ok(new)
+}
+
+fn fields_reply(reply: FieldsReply, new: usize) -> Reply
+    requires { new < 2 ^ 63 }
+    ensures { view result ≡ fields_reply reply new }
+{
+    match reply {
+        FieldsReply::Added => count(new),
+        FieldsReply::Done => done(),
+    }
+}
+
+/// `HSET`, `HMSET`
+pub fn set_fields(
+    alloc: Global,
+    key: &Argument<'_>,
+    pairs: &Pairs<'_, '_>,
+    reply: FieldsReply,
+    hash: &Hash,
+    effects: &mut Effects,
+) -> Result<Reply, AllocError>
+    ensures { IfOk result (λ r. Makes (set_fields key.now reply pairs.now hash.now) (view r) effects.old effects.new) }
+{
+    let values = last_values(alloc, pairs)?;
+    let new = push_changed(alloc, key, &values, hash, effects)?;
+    Ok(fields_reply(reply, new))
+}
+
+// Puts the effect of one field that gets a value, unless it has it already.
+fn push_pair(
+    alloc: Global,
+    key: &Argument<'_>,
+    field: &[u8],
+    value: &[u8],
+    before: Option<&[u8]>,
+    effects: &mut Effects,
+) -> Result<(), AllocError>
+    ensures { OnOk result (effects.new ≡ effects.old ++ (if is_value value.now (option_copied before.entry) then [] else made.SetFields key.now ((field.now, value.now) ∷ []) ∷ [])) }
+{
+    if is_value(value, before) {
+        return Ok(());
+    }
+    let mut group = Group::new(alloc);
+    group.push(Word::copied(alloc, field)?, Word::copied(alloc, value)?)?;
+    let key = Word::copied(alloc, key.as_slice())?;
+    effects.push(Effect::SetFields { key, pairs: group })?;
+    Ok(())
+}
+
+/// `HSETNX`
+pub fn set_new_field(
+    alloc: Global,
+    key: &Argument<'_>,
+    field: &Argument<'_>,
+    value: &Argument<'_>,
+    hash: &Hash,
+    effects: &mut Effects,
+) -> Result<Reply, AllocError>
+    ensures { IfOk result (λ r. Makes (set_new_field key.now field.now value.now hash.now) (view r) effects.old effects.new) }
+{
+    if hash.contains(field.as_slice()) {
+        return Ok(integer(0));
+    }
+    push_pair(
+        alloc,
+        key,
+        field.as_slice(),
+        value.as_slice(),
+        None,
+        effects,
+    )?;
+    Ok(integer(1))
+}
+
+// The number that a field holds: 0 where it isn't there.
+fn number_at(before: Option<&[u8]>) -> Option<i64>
+    ensures { result ≡ number_at (option_copied before.entry) }
+{
+    match before {
+        None => Some(0),
+        Some(text) => read_i64(text),
+    }
+}
+
+/// `HINCRBY`
+pub fn increase_field(
+    alloc: Global,
+    key: &Argument<'_>,
+    field: &Argument<'_>,
+    by: i64,
+    hash: &Hash,
+    effects: &mut Effects,
+) -> Result<Reply, AllocError>
+    ensures { IfOk result (λ r. Makes (increase_field key.now field.now by hash.now) (view r) effects.old effects.new) }
+{
+    let before = hash.get(field.as_slice());
+    let Some(number) = number_at(before) else {
+        return Ok(no_integer());
+    };
+    let Some(sum) = number.checked_add(by) else {
+        return Ok(overflow());
+    };
+    let mut buffer = Buffer::new();
+    let text = buffer.format(sum).as_bytes();
+    push_pair(alloc, key, field.as_slice(), text, before, effects)?;
+    Ok(integer(sum))
 }
