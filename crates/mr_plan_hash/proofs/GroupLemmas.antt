@@ -21,7 +21,7 @@ module _ {X : Type 0} where
       ∙ ap (λ a. a ∷ cut (drop most_items (x ∷ xs ++ rest))) (ap (λ n. take n (x ∷ xs ++ rest)) (sym h) ∙ take-append_seam (x ∷ xs) rest)
       ∙ ap (λ b. (x ∷ xs) ∷ cut b) (ap (λ n. drop n (x ∷ xs ++ rest)) (sym h) ∙ drop-append_seam (x ∷ xs) rest)
 
-  one_group : (g : List X) → g ≢ [] → length g ≤ most_items → cut g ≡ g ∷ []
+  pub one_group : (g : List X) → g ≢ [] → length g ≤ most_items → cut g ≡ g ∷ []
   one_group [] n h = absurd (n refl)
   one_group (x ∷ xs) n h =
       cut_more x xs

@@ -1,2 +1,3 @@
 pub mod GroupLemmas
 pub mod Pushing
+pub mod Single
