@@ -67,3 +67,17 @@ module _ {X : Type 0} (effect : List X → Effect) (skipped known : X → Bool) 
   pub pushed_effects : (all : List X) (start es es2 : List Effect) (n : ℕ) (group rest : List X) → IsPushing all start es n group rest → rest ≡ [] → es2 ≡ es ++ map effect (cut group) → es2 ≡ start ++ map effect (cut (filter (λ x. not (skipped x)) all))
   pushed_effects all start es es2 n group rest p none put =
       put ∙ ap (λ g. es ++ map effect (cut g)) (sym (append-nil group)) ∙ ap (λ xs. es ++ map effect (cut (group ++ filter (λ x. not (skipped x)) xs))) (sym none) ∙ p.effects_are
+
+not_not : (b : Bool) → not (not b) ≡ b
+not_not true = refl
+not_not false = refl
+
+-- what does not fail a test passes it
+pub filter_passing : {X : Type 0} (p : X → Bool) (xs : List X) → filter (λ x. not (not (p x))) xs ≡ filter p xs
+filter_passing p [] = refl
+filter_passing p (x ∷ xs) = ap (λ b. cond b (x ∷ filter (λ y. not (not (p y))) xs) (filter (λ y. not (not (p y))) xs)) (not_not (p x)) ∙ ap (λ ys. cond (p x) (x ∷ ys) ys) (filter_passing p xs)
+
+-- an item that is taken where the test passes
+pub taken_passing : {X : Type 0} (effect : List X → Effect) (x : X) (b : Bool) (g g2 : List X) (es es2 : List Effect) → TakesItems effect (if b then x ∷ [] else []) g g2 es es2 → TakesItems effect (if not b then [] else x ∷ []) g g2 es es2
+taken_passing effect x true g g2 es es2 t = t
+taken_passing effect x false g g2 es es2 t = t

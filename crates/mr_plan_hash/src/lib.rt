@@ -2,6 +2,10 @@
 #![tactic(auto)]
 
 mod groups;
+mod planning;
 mod reading;
+mod removing;
 mod replies;
 mod setting;
+
+pub use planning::plan;

@@ -1,5 +1,5 @@
 // Fields that go, in groups.
-ghost use Rattle.std.specs.Prelude.{◌≡◌, ◌≤◌, [], ◌∷◌, ◌++◌, length, map, OnOk};
+ghost use Rattle.std.specs.Prelude.{◌≡◌, ◌≤◌, [], ◌∷◌, ◌++◌, length, map, if◌then◌else◌, OnOk};
 ghost use Rattle.mr_effect.specs.declared.effect.Effect.TheVariants as made;
 ghost use Rattle.mr_turn.specs.Cuts.{cut, most_items};
 ghost use Rattle.mr_plan_hash.specs.Groups.{TakesItems};
@@ -32,8 +32,24 @@ impl<'k> FieldGroup<'k> {
         }
     }
 
-    /// Takes a field.
-    pub fn push(&mut self, field: &[u8], effects: &mut Effects) -> Result<(), AllocError>
+    /// Takes a field that is there.
+    pub fn push(
+        &mut self,
+        field: &[u8],
+        there: bool,
+        effects: &mut Effects,
+    ) -> Result<(), AllocError>
+        ensures key { self.new.key.now ≡ self.old.key.now }
+        ensures takes { OnOk result (TakesItems (made.RemoveFields self.old.key.now) (if there then field.now ∷ [] else []) self.old.fields self.new.fields effects.old effects.new) }
+    {
+        if there {
+            self.push_field(field, effects)
+        } else {
+            Ok(())
+        }
+    }
+
+    fn push_field(&mut self, field: &[u8], effects: &mut Effects) -> Result<(), AllocError>
         ensures key { self.new.key.now ≡ self.old.key.now }
         ensures takes { OnOk result (TakesItems (made.RemoveFields self.old.key.now) (field.now ∷ []) self.old.fields self.new.fields effects.old effects.new) }
     {

@@ -3,8 +3,8 @@ use Rattle.std.proofs.lemmas.Grind.{common_steps}
 use Rattle.mr_effect.specs.declared.effect.Effect.TheVariants as made
 use Rattle.mr_turn.specs.Cuts.{most_items}
 use Rattle.mr_plan_hash.proofs.GroupLemmas.{takes_more, takes_first}
-use Rattle.mr_plan_hash.proofs.groups.fields.FieldGroup.push.Goals as goal
-use Rattle.mr_plan_hash.proofs.groups.fields.FieldGroup.push.Goals.{then-len-eq-MOST_ITEMS+in_ok-flush, else-len-eq-MOST_ITEMS}
+use Rattle.mr_plan_hash.proofs.groups.fields.FieldGroup.push_field.Goals as goal
+use Rattle.mr_plan_hash.proofs.groups.fields.FieldGroup.push_field.Goals.{then-len-eq-MOST_ITEMS+in_ok-flush, else-len-eq-MOST_ITEMS}
 
 pub returns-clause-takes : goal.returns-clause-takes
 returns-clause-takes c =
