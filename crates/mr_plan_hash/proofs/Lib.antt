@@ -1,3 +1,5 @@
 pub mod GroupLemmas
 pub mod Pushing
 pub mod Single
+pub mod Fields
+pub mod Gone

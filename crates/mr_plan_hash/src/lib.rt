@@ -2,6 +2,7 @@
 #![tactic(auto)]
 
 mod groups;
+mod looking;
 mod planning;
 mod reading;
 mod removing;

@@ -4,11 +4,13 @@ ghost use Rattle.std.specs.List.{list_all};
 ghost use Rattle.std.specs.FinMap.{empty};
 ghost use Rattle.mr_resp.specs.ReplyView.{view};
 ghost use Rattle.mr_value.specs.Words.{fits};
-ghost use Rattle.mr_data.specs.Steps.{hashes, hash_of, held};
+ghost use Rattle.mr_data.specs.Dataset.{IsDataset};
+ghost use Rattle.mr_data.specs.Steps.{hashes, held};
 ghost use Rattle.mr_ask.specs.Carried.{hash_words};
 ghost use Rattle.mr_turn.specs.Commands.{IsPlan, IsFaithful};
 ghost use Rattle.mr_plan_hash.specs.Commands.{key_of, change, command, Makes};
 
+use crate::looking::look;
 use crate::reading;
 use crate::removing;
 use crate::replies::wrong_kind;
@@ -16,7 +18,7 @@ use crate::setting;
 use mr_ask::{Argument, HashAsk};
 use mr_data::{Dataset, Entry, Given, Plan, Value};
 use mr_resp::Reply;
-use mr_turn::{Effects, look};
+use mr_turn::Effects;
 use mr_value::Hash;
 use std::alloc::{AllocError, Global};
 
@@ -35,13 +37,15 @@ pub fn plan(
     planned(alloc, held, ask, given)
 }
 
+// The plan, and what the dataset keeps.
 fn planned(
     alloc: Global,
     held: &Dataset,
     ask: &HashAsk<'_, '_>,
     given: Given,
 ) -> Result<Plan, AllocError>
-    ensures { IfOk result (λ p. IsPlan (command ask.now) given.now held.now (view p.reply) p.effects.items) }
+    ensures plan { IfOk result (λ p. IsPlan (command ask.now) given.now held.now (view p.reply) p.effects.items) }
+    ensures kept { IsDataset held.now }
 {
     let mut effects = Effects::new(alloc);
     let seen = look(alloc, held, key_of(ask), given, &mut effects)?;
