@@ -3,3 +3,5 @@ pub mod Pushing
 pub mod Single
 pub mod Fields
 pub mod Gone
+pub mod Laws
+pub mod TurnLemmas
