@@ -50,13 +50,13 @@ has_filter : (p : Bytes → Bool) (xs : List Bytes) (q : Bytes) → has (filter 
 has_filter p [] q = refl
 has_filter p (x ∷ xs) q = elim (p x) as (λ b. p x ≡ b → has (cond b (x ∷ filter p xs) (filter p xs)) q ≡ ((is_key q x || has xs q) && p q)) [
   | true ↦ λ t. ap (λ b. is_key q x || b) (has_filter p xs q) ∙ elim (is_key q x) as (λ b. is_key q x ≡ b → (b || (has xs q && p q)) ≡ ((b || has xs q) && p q)) [
-      | true ↦ λ s. sym (ap p (same_key q x s) ∙ t)
-      | false ↦ λ s. refl
-    ] refl
+    | true ↦ λ s. sym (ap p (same_key q x s) ∙ t)
+    | false ↦ λ s. refl
+  ] refl
   | false ↦ λ t. has_filter p xs q ∙ elim (is_key q x) as (λ b. is_key q x ≡ b → (has xs q && p q) ≡ ((b || has xs q) && p q)) [
-      | true ↦ λ s. let no : p q ≡ false = ap p (same_key q x s) ∙ t in neither (has xs q) (p q) no
-      | false ↦ λ s. refl
-    ] refl
+    | true ↦ λ s. let no : p q ≡ false = ap p (same_key q x s) ∙ t in neither (has xs q) (p q) no
+    | false ↦ λ s. refl
+  ] refl
 ] refl
   where
     neither : (a b : Bool) → b ≡ false → (a && b) ≡ b
@@ -100,6 +100,7 @@ one_fits (f ∷ fs) q fit h = elim (is_key q f) as (λ b. is_key q f ≡ b → (
     left : (a b : Bool) → IsTrue (a && b) → a ≡ true
     left true b h = refl
     left false b h = cc
+
     right : (a b : Bool) → IsTrue (a && b) → IsTrue b
     right true b h = h
     right false b h = cc
@@ -111,6 +112,7 @@ all_fit (x ∷ xs) h = both (fits x) (list_all fits xs) (h x (ap (λ b. b || has
     both : (a b : Bool) → a ≡ true → b ≡ true → (a && b) ≡ true
     both true b h i = i
     both false b h i = cc
+
     or_true : (b : Bool) → (b || true) ≡ true
     or_true true = refl
     or_true false = refl

@@ -37,9 +37,9 @@ module _ {X : Type 0} (effect : List X → Effect) where
   pub takes_first : (x : X) (g g2 : List X) (es es2 : List Effect) → length g ≡ most_items → g2 ≡ x ∷ [] → es2 ≡ es ++ effect g ∷ [] → TakesItems effect (x ∷ []) g g2 es es2
   takes_first x g g2 es es2 full first put = record {
     with_rest = λ rest.
-      ap (λ fs. fs ++ map effect (cut (g2 ++ rest))) put ∙ ap (λ ys. (es ++ effect g ∷ []) ++ map effect (cut (ys ++ rest))) first
-      ∙ append_assoc es (effect g ∷ []) (map effect (cut (x ∷ rest)))
-      ∙ ap (λ gs. es ++ map effect gs) (sym (cut_full g (x ∷ rest) full));
+        ap (λ fs. fs ++ map effect (cut (g2 ++ rest))) put ∙ ap (λ ys. (es ++ effect g ∷ []) ++ map effect (cut (ys ++ rest))) first
+        ∙ append_assoc es (effect g ∷ []) (map effect (cut (x ∷ rest)))
+        ∙ ap (λ gs. es ++ map effect gs) (sym (cut_full g (x ∷ rest) full));
   }
 
   last_group : (g : List X) (es es2 : List Effect) → g ≢ [] → length g ≤ most_items → es2 ≡ es ++ effect g ∷ [] → es2 ≡ es ++ map effect (cut g)

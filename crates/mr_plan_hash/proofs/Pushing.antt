@@ -56,9 +56,9 @@ module _ {X : Type 0} (effect : List X → Effect) (skipped known : X → Bool) 
   pushing_goes all start es es2 n group group2 rest rest2 x b before more is takes = record {
     new_is = ap (λ c. n - from_bool c) is ∙ one_less (known x) n _ (length (filter known rest2)) (before.new_is ∙ ap (λ xs. length (filter (λ x. not (known x)) all) + length (filter known xs)) more ∙ ap (λ m. length (filter (λ x. not (known x)) all) + m) (filter_counted known x rest2));
     effects_are = takes.with_rest (filter (λ x. not (skipped x)) rest2)
-      ∙ ap (λ xs. es ++ map effect (cut (group ++ xs))) (sym (filter_more skipped x rest2))
-      ∙ ap (λ xs. es ++ map effect (cut (group ++ filter (λ x. not (skipped x)) xs))) (sym more)
-      ∙ before.effects_are;
+        ∙ ap (λ xs. es ++ map effect (cut (group ++ xs))) (sym (filter_more skipped x rest2))
+        ∙ ap (λ xs. es ++ map effect (cut (group ++ filter (λ x. not (skipped x)) xs))) (sym more)
+        ∙ before.effects_are;
   }
 
   pub pushed_new : (all : List X) (start es : List Effect) (n : ℕ) (group rest : List X) → IsPushing all start es n group rest → rest ≡ [] → n ≡ length (filter (λ x. not (known x)) all)

@@ -1,6 +1,8 @@
 -- One field that gets a value.
-use Rattle.std.proofs.Common.{ℕ, suc, ℤ, ◌≡◌, ◌≤◌, List, [], ◌∷◌, ◌++◌, map, length, Bool, true, false, not, cond, Option, Some, None, FitsSigned, w64, refl, sym, ◌∙◌, ap, subst, arith}
-use Rattle.std.specs.Prelude.{pos, ◌+ℤ◌, filter, if◌then◌else◌, is_some}
+use Rattle.std.proofs.Common.{ℕ, suc, ℤ, ◌≡◌, ◌≤◌, List, [], ◌∷◌, ◌++◌, map, length, Bool, true, false, not, cond, Option, Some, None, FitsSigned, w64, append-nil, refl, sym, ◌∙◌, ap, subst, arith}
+use Rattle.std.specs.Prelude.{pos, ◌+ℤ◌, filter, if◌then◌else◌, is_some, is_none, option_copied}
+use Rattle.std.specs.Int.{from_bool}
+use Rattle.std.specs.Borrow.{Bor}
 use Rattle.std.specs.Fmt.{signed_decimal}
 use Rattle.std.specs.FinMap.{empty, get, insert, entries, contains_key, put, entries-insert, len-entries, len-empty}
 use Rattle.std.proofs.lemmas.Cmp.{nat_list_cmp_total}
@@ -13,7 +15,8 @@ use Rattle.mr_effect.specs.declared.effect.Effect.{Effect}
 use Rattle.mr_effect.specs.declared.effect.Effect.TheVariants as effect
 use Rattle.mr_turn.specs.Cuts.{cut}
 use Rattle.mr_turn.specs.Collections.{Change}
-use Rattle.mr_plan_hash.specs.Hashes.{Hash, is_value, changed, set_pairs, unchanged, count_reply, set_new_field, number_at, set_number, increase_from, increase_field, overflow, no_integer}
+use Rattle.mr_plan_hash.specs.Hashes.{Hash, is_value, changed, set_pairs, unchanged, count_reply, set_new_field, number_at, set_number, increase_from, increase_field, overflow, no_integer, fields_reply, count_new, set_fields, removed, remove_fields}
+use Rattle.mr_ask.specs.declared.hash_ask.FieldsReply.{FieldsReply}
 use Rattle.mr_plan_hash.specs.Commands.{Makes}
 use Rattle.mr_plan_hash.proofs.GroupLemmas.{one_group}
 
@@ -71,4 +74,41 @@ sum_set k f by n sum text r h o es es2 is number fits total spelled told put =
     subst (λ (x : Option ℤ). Makes (increase_from k f by x h) r es es2) (sym number ∙ ap number_at is)
     (subst (λ (b : Bool). Makes (if b then set_pairs k (reply.int (n +ℤ by)) ((f, signed_decimal (n +ℤ by)) ∷ []) h else unchanged overflow h) r es es2) (sym (is_i64-fits (n +ℤ by) fits))
     (one_set k f (signed_decimal (n +ℤ by)) (reply.int (n +ℤ by)) r h o es es2 is (told ∙ ap reply.int total)
-        (put ∙ ap (λ (x : Bytes). es ++ (if is_value x o then [] else effect.SetFields k ((f, x) ∷ []) ∷ [])) (spelled ∙ ap signed_decimal total))))
+    (put ∙ ap (λ (x : Bytes). es ++ (if is_value x o then [] else effect.SetFields k ((f, x) ∷ []) ∷ [])) (spelled ∙ ap signed_decimal total))))
+
+-- HSET of one field
+one_new : (f v : Bytes) (h : Hash) → count_new ((f, v) ∷ []) h ≡ cond (is_some (get h f)) 0 1
+one_new f v h = ap (λ es. length (filter (λ p. not (contains_key h p.0)) es)) (one_entry f v) ∙ kept (contains_key h f)
+  where
+    kept : (b : Bool) → length (cond {A = List (Bytes × Bytes)} (not b) ((f, v) ∷ []) []) ≡ cond b 0 1
+    kept true = refl
+    kept false = refl
+
+none_counted : {X : Type 0} (o : Option (Bor X)) → from_bool (is_none o) ≡ cond (is_some (option_copied o)) 0 1
+none_counted None = refl
+none_counted (Some x) = refl
+
+pub field_set : (k f v : Bytes) (answer : FieldsReply) (n : ℕ) (r : Tree) (h : Hash) (o : Option (Bor Bytes)) (es es2 : List Effect) → option_copied o ≡ get h f → n ≡ from_bool (is_none o) → r ≡ fields_reply answer n → es2 ≡ es ++ (if is_value v (option_copied o) then [] else effect.SetFields k ((f, v) ∷ []) ∷ []) → Makes (set_fields k answer ((f, v) ∷ []) h) r es es2
+field_set k f v answer n r h o es es2 is new told put =
+    one_set k f v (fields_reply answer (count_new ((f, v) ∷ []) h)) r h (option_copied o) es es2 is
+    (told ∙ ap (fields_reply answer) (new ∙ none_counted o ∙ ap (λ (x : Option Bytes). cond (is_some x) 0 1) is ∙ sym (one_new f v h))) put
+
+-- HDEL of one field
+one_removed : (f : Bytes) (h : Hash) → removed (f ∷ []) h ≡ (if contains_key h f then f ∷ [] else [])
+one_removed f h = ap (λ es. filter (contains_key h) (map (λ e. e.0) es)) (one_entry {X = Unit {0}} f tt)
+
+pub field_kept : (k f : Bytes) (r : Tree) (h : Hash) (es : List Effect) → contains_key h f ≡ false → r ≡ count_reply 0 → Makes (remove_fields k (f ∷ []) h) r es es
+field_kept k f r h es there told =
+    let none : removed (f ∷ []) h ≡ [] = one_removed f h ∙ ap (λ b. if b then f ∷ [] else []) there in
+    record {
+      reply_is = told ∙ sym (ap (λ (fs : List Bytes). count_reply (length fs)) none);
+      effects_are = sym (append-nil es) ∙ sym (ap (λ (fs : List Bytes). es ++ map (effect.RemoveFields k) (cut fs)) none);
+    }
+
+pub field_removed : (k f : Bytes) (r : Tree) (h : Hash) (es es2 : List Effect) → contains_key h f ≡ true → r ≡ count_reply 1 → es2 ≡ es ++ effect.RemoveFields k (f ∷ []) ∷ [] → Makes (remove_fields k (f ∷ []) h) r es es2
+field_removed k f r h es es2 there told put =
+    let one : removed (f ∷ []) h ≡ f ∷ [] = one_removed f h ∙ ap (λ b. if b then f ∷ [] else []) there in
+    record {
+      reply_is = told ∙ sym (ap (λ (fs : List Bytes). count_reply (length fs)) one);
+      effects_are = put ∙ ap (λ xs. es ++ xs) (sym (ap (λ (fs : List Bytes). map (effect.RemoveFields k) (cut fs)) one ∙ one_cut (effect.RemoveFields k) f));
+    }

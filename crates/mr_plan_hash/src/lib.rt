@@ -10,3 +10,6 @@ mod replies;
 mod setting;
 
 pub use planning::plan;
+
+#[cfg(test)]
+mod tests;

@@ -11,10 +11,8 @@ ghost use Rattle.mr_turn.specs.Commands.{IsPlan, IsFaithful};
 ghost use Rattle.mr_plan_hash.specs.Commands.{key_of, change, command, Makes};
 
 use crate::looking::look;
-use crate::reading;
-use crate::removing;
 use crate::replies::wrong_kind;
-use crate::setting;
+use crate::{reading, removing, setting};
 use mr_ask::{Argument, HashAsk};
 use mr_data::{Dataset, Entry, Given, Plan, Value};
 use mr_resp::Reply;

@@ -1,5 +1,5 @@
 // Fields that go.
-ghost use Rattle.std.specs.Prelude.{◌≡◌, ◌<◌, ◌^◌, ◌++◌, map, length, filter, IfOk, OnOk};
+ghost use Rattle.std.specs.Prelude.{◌≡◌, ◌<◌, ◌^◌, [], ◌∷◌, ◌++◌, map, length, filter, IfOk, OnOk};
 ghost use Rattle.std.specs.FinMap.{empty, keys, contains_key};
 ghost use Rattle.mr_resp.specs.ReplyView.{view};
 ghost use Rattle.mr_effect.specs.declared.effect.Effect.TheVariants as made;
@@ -11,10 +11,11 @@ ghost use Rattle.mr_plan_hash.specs.Commands.{Makes};
 use crate::groups::{FieldGroup, end_fields};
 use crate::replies::count;
 use mr_ask::{Argument, Words};
+use mr_data::{Effect, Words as Group};
 use mr_map::SliceMap;
 use mr_resp::Reply;
 use mr_turn::Effects;
-use mr_value::Hash;
+use mr_value::{Hash, Word};
 use std::alloc::{AllocError, Global};
 
 // Each field that is named, once. They are not copied.
@@ -51,6 +52,26 @@ fn push_removed(
     Ok(removed)
 }
 
+// One field goes, without putting fields in order.
+fn remove_field(
+    alloc: Global,
+    key: &Argument<'_>,
+    field: &[u8],
+    hash: &Hash,
+    effects: &mut Effects,
+) -> Result<Reply, AllocError>
+    ensures { IfOk result (λ r. Makes (remove_fields key.now (field.now ∷ []) hash.now) (view r) effects.old effects.new) }
+{
+    if !hash.contains(field) {
+        return Ok(count(0));
+    }
+    let mut fields = Group::new(alloc);
+    fields.push(Word::copied(alloc, field)?)?;
+    let key = Word::copied(alloc, key.as_slice())?;
+    effects.push(Effect::RemoveFields { key, fields })?;
+    Ok(count(1))
+}
+
 /// `HDEL`
 pub fn remove_fields(
     alloc: Global,
@@ -61,6 +82,9 @@ pub fn remove_fields(
 ) -> Result<Reply, AllocError>
     ensures { IfOk result (λ r. Makes (remove_fields key.now fields.now hash.now) (view r) effects.old effects.new) }
 {
+    if let [field] = fields.as_slice() {
+        return remove_field(alloc, key, field.as_slice(), hash, effects);
+    }
     let names = names(alloc, fields)?;
     let removed = push_removed(alloc, key, &names, hash, effects)?;
     Ok(count(removed))

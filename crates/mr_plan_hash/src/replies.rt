@@ -35,9 +35,7 @@ pub fn no_integer() -> Reply
 pub fn overflow() -> Reply
     ensures { view result ≡ overflow }
 {
-    Reply::Error(CowSlice::Borrowed(
-        b"ERR increment or decrement would overflow",
-    ))
+    Reply::Error(CowSlice::Borrowed(b"ERR increment or decrement would overflow"))
 }
 
 pub fn integer(number: i64) -> Reply

@@ -1,5 +1,5 @@
 // Fields that get values.
-ghost use Rattle.std.specs.Prelude.{◌≡◌, ◌<◌, ◌^◌, [], ◌∷◌, ◌++◌, if◌then◌else◌, map, length, filter, not, IfOk, OnOk, option_copied};
+ghost use Rattle.std.specs.Prelude.{◌≡◌, ◌<◌, ◌^◌, [], ◌∷◌, ◌++◌, if◌then◌else◌, map, length, filter, not, IfOk, IfSome, OnOk, option_copied};
 ghost use Rattle.std.specs.FinMap.{entries, get, contains_key};
 ghost use Rattle.mr_resp.specs.ReplyView.{view};
 ghost use Rattle.mr_effect.specs.declared.effect.Effect.TheVariants as made;
@@ -9,10 +9,10 @@ ghost use Rattle.mr_plan_hash.specs.Commands.{Makes};
 
 use crate::groups::{PairGroup, end_pairs, is_value};
 use crate::replies::{count, done, integer, no_integer, overflow};
-use mr_ask::{Argument, FieldsReply, Pairs};
-use mr_map::SliceMap;
 use itoa::Buffer;
+use mr_ask::{Argument, FieldsReply, Pairs};
 use mr_data::{Effect, Pairs as Group};
+use mr_map::SliceMap;
 use mr_resp::Reply;
 use mr_turn::Effects;
 use mr_value::{Hash, Word, read_i64};
@@ -65,20 +65,14 @@ fn fields_reply(reply: FieldsReply, new: usize) -> Reply
     }
 }
 
-/// `HSET`, `HMSET`
-pub fn set_fields(
-    alloc: Global,
-    key: &Argument<'_>,
-    pairs: &Pairs<'_, '_>,
-    reply: FieldsReply,
-    hash: &Hash,
-    effects: &mut Effects,
-) -> Result<Reply, AllocError>
-    ensures { IfOk result (λ r. Makes (set_fields key.now reply pairs.now hash.now) (view r) effects.old effects.new) }
+// The pair, where there is one alone.
+fn only_pair<'a>(pairs: &Pairs<'a, '_>) -> Option<(&'a [u8], &'a [u8])>
+    ensures { IfSome result (λ p. pairs.now ≡ (p.0.now, p.1.now) ∷ []) }
 {
-    let values = last_values(alloc, pairs)?;
-    let new = push_changed(alloc, key, &values, hash, effects)?;
-    Ok(fields_reply(reply, new))
+    if pairs.len() != 1 {
+        return None;
+    }
+    pairs.iter().next()
 }
 
 // Puts the effect of one field that gets a value, unless it has it already.
@@ -100,6 +94,42 @@ fn push_pair(
     let key = Word::copied(alloc, key.as_slice())?;
     effects.push(Effect::SetFields { key, pairs: group })?;
     Ok(())
+}
+
+// One field gets a value, without putting fields in order.
+fn set_field(
+    alloc: Global,
+    key: &Argument<'_>,
+    field: &[u8],
+    value: &[u8],
+    reply: FieldsReply,
+    hash: &Hash,
+    effects: &mut Effects,
+) -> Result<Reply, AllocError>
+    ensures { IfOk result (λ r. Makes (set_fields key.now reply ((field.now, value.now) ∷ []) hash.now) (view r) effects.old effects.new) }
+{
+    let before = hash.get(field);
+    push_pair(alloc, key, field, value, before, effects)?;
+    Ok(fields_reply(reply, usize::from(before.is_none())))
+}
+
+/// `HSET`, `HMSET`
+pub fn set_fields(
+    alloc: Global,
+    key: &Argument<'_>,
+    pairs: &Pairs<'_, '_>,
+    reply: FieldsReply,
+    hash: &Hash,
+    effects: &mut Effects,
+) -> Result<Reply, AllocError>
+    ensures { IfOk result (λ r. Makes (set_fields key.now reply pairs.now hash.now) (view r) effects.old effects.new) }
+{
+    if let Some((field, value)) = only_pair(pairs) {
+        return set_field(alloc, key, field, value, reply, hash, effects);
+    }
+    let values = last_values(alloc, pairs)?;
+    let new = push_changed(alloc, key, &values, hash, effects)?;
+    Ok(fields_reply(reply, new))
 }
 
 /// `HSETNX`

@@ -39,11 +39,11 @@ pub returns-clause-small : goal.returns-clause-small
 returns-clause-small c =
     let test = λ (f : Bytes). contains_key c.args.hash.now f in
     let removed : c.loop-field.removed ≡ length (filter test (keys c.args.names.now)) =
-        pushed_new _ _ _ _ _ _ _ _ _ c.loop-field.invariant.pushing (ap (map (λ e. e.0)) c.in-None.ensures.steps.0) ∙ ap length (filter_passing test (keys c.args.names.now)) in
+    pushed_new _ _ _ _ _ _ _ _ _ c.loop-field.invariant.pushing (ap (map (λ e. e.0)) c.in-None.ensures.steps.0) ∙ ap length (filter_passing test (keys c.args.names.now)) in
     omega (arith, removed, length-filter test (keys c.args.names.now), count_by-le-length test (keys c.args.names.now), length-map (entries c.args.names.now) (λ e. e.0), c.len-removed.ensures.len, len-entries c.args.names.now)
 
 pub returns-clause-effects : goal.returns-clause-effects
 returns-clause-effects c =
     pushed_effects _ _ _ _ _ _ _ _ _ _ c.loop-field.invariant.pushing (ap (map (λ e. e.0)) c.in-None.ensures.steps.0)
-      (c.in_ok-end_fields.ensures ∙ ap (λ (k : Bytes). c.loop-field.effects ++ map (made.RemoveFields k) (cut c.loop-field.group.fields)) c.loop-field.invariant.key)
+    (c.in_ok-end_fields.ensures ∙ ap (λ (k : Bytes). c.loop-field.effects ++ map (made.RemoveFields k) (cut c.loop-field.group.fields)) c.loop-field.invariant.key)
     ∙ ap (λ xs. c.args.effects.now ++ map (made.RemoveFields c.args.key.now) (cut xs)) (filter_passing (contains_key c.args.hash.now) (keys c.args.names.now))
