@@ -1,5 +1,5 @@
 -- A group of items grows, and goes into an effect when it is full.
-use Rattle.std.proofs.Common.{ℕ, ◌≡◌, ◌≤◌, List, [], ◌∷◌, ◌++◌, map, length, take, drop, refl, sym, ◌∙◌, ap, append_assoc, arith}
+use Rattle.std.proofs.Common.{ℕ, ◌≡◌, ◌≤◌, List, [], ◌∷◌, ◌++◌, map, length, take, drop, refl, sym, ◌∙◌, ap, append_assoc, append-nil, arith}
 use Rattle.std.specs.Prelude.{◌≢◌, ◌==◌, false, Result, Ok, Err, OnOk}
 use Rattle.std.proofs.Math.Seq.{take-append_seam, drop-append_seam}
 use Rattle.std.proofs.Math.ListN.{drop_of_length-le}
@@ -21,7 +21,7 @@ module _ {X : Type 0} where
       ∙ ap (λ a. a ∷ cut (drop most_items (x ∷ xs ++ rest))) (ap (λ n. take n (x ∷ xs ++ rest)) (sym h) ∙ take-append_seam (x ∷ xs) rest)
       ∙ ap (λ b. (x ∷ xs) ∷ cut b) (ap (λ n. drop n (x ∷ xs ++ rest)) (sym h) ∙ drop-append_seam (x ∷ xs) rest)
 
-  pub one_group : (g : List X) → g ≢ [] → length g ≤ most_items → cut g ≡ g ∷ []
+  one_group : (g : List X) → g ≢ [] → length g ≤ most_items → cut g ≡ g ∷ []
   one_group [] n h = absurd (n refl)
   one_group (x ∷ xs) n h =
       cut_more x xs
@@ -52,3 +52,9 @@ module _ {X : Type 0} (effect : List X → Effect) where
   pub last_put : {E : Type 0} (r : Result (Unit {0}) E) (g : List X) (es es2 : List Effect) → (length g == 0) ≡ false → length g ≤ most_items → OnOk r (es2 ≡ es ++ effect g ∷ []) → OnOk r (es2 ≡ es ++ map effect (cut g))
   last_put (Ok x) g es es2 some room put = last_group g es es2 (some_items g some) room put
   last_put (Err e) g es es2 some room put = tt
+
+  -- items that are taken into no group before them
+  pub alone : (items none group : List X) (es es1 es2 : List Effect) → none ≡ [] → TakesItems effect items none group es es1 → es2 ≡ es1 ++ map effect (cut group) → es2 ≡ es ++ map effect (cut items)
+  alone items none group es es1 es2 start t put =
+      put ∙ ap (λ g. es1 ++ map effect (cut g)) (sym (append-nil group)) ∙ t.with_rest []
+      ∙ ap (λ g. es ++ map effect (cut (g ++ (items ++ [])))) start ∙ ap (λ xs. es ++ map effect (cut xs)) (append-nil items)

@@ -18,7 +18,6 @@ use Rattle.mr_turn.specs.Collections.{Change}
 use Rattle.mr_plan_hash.specs.Hashes.{Hash, is_value, changed, set_pairs, unchanged, count_reply, set_new_field, number_at, set_number, increase_from, increase_field, overflow, no_integer, fields_reply, count_new, set_fields, removed, remove_fields}
 use Rattle.mr_ask.specs.declared.hash_ask.FieldsReply.{FieldsReply}
 use Rattle.mr_plan_hash.specs.Commands.{Makes}
-use Rattle.mr_plan_hash.proofs.GroupLemmas.{one_group}
 
 no_length : {A : Type 0} (xs : List A) → length xs ≡ 0 → xs ≡ []
 no_length [] h = refl
@@ -37,22 +36,10 @@ one_changed f v h = ap (filter (λ p. not (is_value p.1 (get h p.0)))) (one_entr
     kept true = refl
     kept false = refl
 
-pub one_cut : {X : Type 0} (make : List X → Effect) (x : X) → map make (cut (x ∷ [])) ≡ make (x ∷ []) ∷ []
-one_cut make x = ap (map make) (one_group (x ∷ []) (λ e. cc) (omega arith))
-
--- the effects of one field
-one_effect : (k f v : Bytes) (h : Hash) (o : Option Bytes) → o ≡ get h f → map (effect.SetFields k) (cut (changed ((f, v) ∷ []) h)) ≡ (if is_value v o then [] else effect.SetFields k ((f, v) ∷ []) ∷ [])
-one_effect k f v h o is =
-    ap (λ ps. map (effect.SetFields k) (cut ps)) (one_changed f v h ∙ ap (λ x. if is_value v x then [] else (f, v) ∷ []) (sym is))
-    ∙ elim (is_value v o) as (λ b. map (effect.SetFields k) (cut (if b then [] else (f, v) ∷ [])) ≡ (if b then [] else effect.SetFields k ((f, v) ∷ []) ∷ [])) [
-      | true ↦ refl
-      | false ↦ one_cut (effect.SetFields k) (f, v)
-    ]
-
-one_set : (k f v : Bytes) (answer r : Tree) (h : Hash) (o : Option Bytes) (es es2 : List Effect) → o ≡ get h f → r ≡ answer → es2 ≡ es ++ (if is_value v o then [] else effect.SetFields k ((f, v) ∷ []) ∷ []) → Makes (set_pairs k answer ((f, v) ∷ []) h) r es es2
+one_set : (k f v : Bytes) (answer r : Tree) (h : Hash) (o : Option Bytes) (es es2 : List Effect) → o ≡ get h f → r ≡ answer → es2 ≡ es ++ map (effect.SetFields k) (cut (if is_value v o then [] else (f, v) ∷ [])) → Makes (set_pairs k answer ((f, v) ∷ []) h) r es es2
 one_set k f v answer r h o es es2 is told put = record {
   reply_is = told;
-  effects_are = put ∙ ap (λ xs. es ++ xs) (sym (one_effect k f v h o is));
+  effects_are = put ∙ ap (λ ps. es ++ map (effect.SetFields k) (cut ps)) (ap (λ x. if is_value v x then [] else (f, v) ∷ []) is ∙ sym (one_changed f v h));
 }
 
 absent : {X : Type 0} (o : Option X) → is_some o ≡ false → None ≡ o
@@ -60,7 +47,7 @@ absent None h = refl
 absent (Some x) h = cc
 
 -- HSETNX of a field that isn't there
-pub new_set : (k f v : Bytes) (r : Tree) (h : Hash) (es es2 : List Effect) → contains_key h f ≡ false → r ≡ count_reply 1 → es2 ≡ es ++ effect.SetFields k ((f, v) ∷ []) ∷ [] → Makes (set_new_field k f v h) r es es2
+pub new_set : (k f v : Bytes) (r : Tree) (h : Hash) (es es2 : List Effect) → contains_key h f ≡ false → r ≡ count_reply 1 → es2 ≡ es ++ map (effect.SetFields k) (cut ((f, v) ∷ [])) → Makes (set_new_field k f v h) r es es2
 new_set k f v r h es es2 there told put =
     subst (λ (b : Bool). Makes (if b then unchanged (count_reply 0) h else set_pairs k (count_reply 1) ((f, v) ∷ []) h) r es es2) (sym there)
     (one_set k f v (count_reply 1) r h None es es2 (absent (get h f) there) told put)
@@ -69,12 +56,12 @@ pub is_i64-fits : (n : ℤ) → FitsSigned w64 n → is_i64 n ≡ true
 is_i64-fits n h = lt-ltb _ _ h.sfits
 
 -- HINCRBY of a number whose sum fits
-pub sum_set : (k f : Bytes) (by n sum : ℤ) (text : Bytes) (r : Tree) (h : Hash) (o : Option Bytes) (es es2 : List Effect) → o ≡ get h f → number_at o ≡ Some n → FitsSigned w64 (n +ℤ by) → sum ≡ n +ℤ by → text ≡ signed_decimal sum → r ≡ reply.int sum → es2 ≡ es ++ (if is_value text o then [] else effect.SetFields k ((f, text) ∷ []) ∷ []) → Makes (increase_field k f by h) r es es2
+pub sum_set : (k f : Bytes) (by n sum : ℤ) (text : Bytes) (r : Tree) (h : Hash) (o : Option Bytes) (es es2 : List Effect) → o ≡ get h f → number_at o ≡ Some n → FitsSigned w64 (n +ℤ by) → sum ≡ n +ℤ by → text ≡ signed_decimal sum → r ≡ reply.int sum → es2 ≡ es ++ map (effect.SetFields k) (cut (if is_value text o then [] else (f, text) ∷ [])) → Makes (increase_field k f by h) r es es2
 sum_set k f by n sum text r h o es es2 is number fits total spelled told put =
     subst (λ (x : Option ℤ). Makes (increase_from k f by x h) r es es2) (sym number ∙ ap number_at is)
     (subst (λ (b : Bool). Makes (if b then set_pairs k (reply.int (n +ℤ by)) ((f, signed_decimal (n +ℤ by)) ∷ []) h else unchanged overflow h) r es es2) (sym (is_i64-fits (n +ℤ by) fits))
     (one_set k f (signed_decimal (n +ℤ by)) (reply.int (n +ℤ by)) r h o es es2 is (told ∙ ap reply.int total)
-    (put ∙ ap (λ (x : Bytes). es ++ (if is_value x o then [] else effect.SetFields k ((f, x) ∷ []) ∷ [])) (spelled ∙ ap signed_decimal total))))
+    (put ∙ ap (λ (x : Bytes). es ++ map (effect.SetFields k) (cut (if is_value x o then [] else (f, x) ∷ []))) (spelled ∙ ap signed_decimal total))))
 
 -- HSET of one field
 one_new : (f v : Bytes) (h : Hash) → count_new ((f, v) ∷ []) h ≡ cond (is_some (get h f)) 0 1
@@ -88,7 +75,7 @@ none_counted : {X : Type 0} (o : Option (Bor X)) → from_bool (is_none o) ≡ c
 none_counted None = refl
 none_counted (Some x) = refl
 
-pub field_set : (k f v : Bytes) (answer : FieldsReply) (n : ℕ) (r : Tree) (h : Hash) (o : Option (Bor Bytes)) (es es2 : List Effect) → option_copied o ≡ get h f → n ≡ from_bool (is_none o) → r ≡ fields_reply answer n → es2 ≡ es ++ (if is_value v (option_copied o) then [] else effect.SetFields k ((f, v) ∷ []) ∷ []) → Makes (set_fields k answer ((f, v) ∷ []) h) r es es2
+pub field_set : (k f v : Bytes) (answer : FieldsReply) (n : ℕ) (r : Tree) (h : Hash) (o : Option (Bor Bytes)) (es es2 : List Effect) → option_copied o ≡ get h f → n ≡ from_bool (is_none o) → r ≡ fields_reply answer n → es2 ≡ es ++ map (effect.SetFields k) (cut (if is_value v (option_copied o) then [] else (f, v) ∷ [])) → Makes (set_fields k answer ((f, v) ∷ []) h) r es es2
 field_set k f v answer n r h o es es2 is new told put =
     one_set k f v (fields_reply answer (count_new ((f, v) ∷ []) h)) r h (option_copied o) es es2 is
     (told ∙ ap (fields_reply answer) (new ∙ none_counted o ∙ ap (λ (x : Option Bytes). cond (is_some x) 0 1) is ∙ sym (one_new f v h))) put
@@ -97,18 +84,14 @@ field_set k f v answer n r h o es es2 is new told put =
 one_removed : (f : Bytes) (h : Hash) → removed (f ∷ []) h ≡ (if contains_key h f then f ∷ [] else [])
 one_removed f h = ap (λ es. filter (contains_key h) (map (λ e. e.0) es)) (one_entry {X = Unit {0}} f tt)
 
-pub field_kept : (k f : Bytes) (r : Tree) (h : Hash) (es : List Effect) → contains_key h f ≡ false → r ≡ count_reply 0 → Makes (remove_fields k (f ∷ []) h) r es es
-field_kept k f r h es there told =
-    let none : removed (f ∷ []) h ≡ [] = one_removed f h ∙ ap (λ b. if b then f ∷ [] else []) there in
+pub field_gone : (k f : Bytes) (there : Bool) (n : ℕ) (r : Tree) (h : Hash) (es es2 : List Effect) → there ≡ contains_key h f → n ≡ from_bool there → r ≡ count_reply n → es2 ≡ es ++ map (effect.RemoveFields k) (cut (if there then f ∷ [] else [])) → Makes (remove_fields k (f ∷ []) h) r es es2
+field_gone k f there n r h es es2 is counted told put =
+    let gone : (if there then f ∷ [] else []) ≡ removed (f ∷ []) h = ap (λ b. if b then f ∷ [] else []) is ∙ sym (one_removed f h) in
     record {
-      reply_is = told ∙ sym (ap (λ (fs : List Bytes). count_reply (length fs)) none);
-      effects_are = sym (append-nil es) ∙ sym (ap (λ (fs : List Bytes). es ++ map (effect.RemoveFields k) (cut fs)) none);
+      reply_is = told ∙ ap count_reply (counted ∙ one_counted there) ∙ ap (λ (fs : List Bytes). count_reply (length fs)) gone;
+      effects_are = put ∙ ap (λ (fs : List Bytes). es ++ map (effect.RemoveFields k) (cut fs)) gone;
     }
-
-pub field_removed : (k f : Bytes) (r : Tree) (h : Hash) (es es2 : List Effect) → contains_key h f ≡ true → r ≡ count_reply 1 → es2 ≡ es ++ effect.RemoveFields k (f ∷ []) ∷ [] → Makes (remove_fields k (f ∷ []) h) r es es2
-field_removed k f r h es es2 there told put =
-    let one : removed (f ∷ []) h ≡ f ∷ [] = one_removed f h ∙ ap (λ b. if b then f ∷ [] else []) there in
-    record {
-      reply_is = told ∙ sym (ap (λ (fs : List Bytes). count_reply (length fs)) one);
-      effects_are = put ∙ ap (λ xs. es ++ xs) (sym (ap (λ (fs : List Bytes). map (effect.RemoveFields k) (cut fs)) one ∙ one_cut (effect.RemoveFields k) f));
-    }
+  where
+    one_counted : (b : Bool) → from_bool b ≡ length (if b then f ∷ [] else [])
+    one_counted true = refl
+    one_counted false = refl

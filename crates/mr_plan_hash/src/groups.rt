@@ -3,7 +3,7 @@ mod fields;
 mod pairs;
 
 pub use fields::{FieldGroup, end_fields};
-pub use pairs::{PairGroup, end_pairs, is_value};
+pub use pairs::{PairGroup, end_pairs};
 
 /// The most items of a group.
 pub const MOST_ITEMS: usize = 64;

@@ -67,8 +67,8 @@ pub fn field_length(field: &Argument<'_>, hash: &Hash) -> Reply
     ensures { view result ≡ (field_length field.now hash.now).reply }
 {
     match hash.get(field.as_slice()) {
-        None => integer(0),
-        Some(value) => integer(value.len() as i64),
+        None => count(0),
+        Some(value) => count(value.len()),
     }
 }
 

@@ -11,11 +11,10 @@ ghost use Rattle.mr_plan_hash.specs.Commands.{Makes};
 use crate::groups::{FieldGroup, end_fields};
 use crate::replies::count;
 use mr_ask::{Argument, Words};
-use mr_data::{Effect, Words as Group};
 use mr_map::SliceMap;
 use mr_resp::Reply;
 use mr_turn::Effects;
-use mr_value::{Hash, Word};
+use mr_value::Hash;
 use std::alloc::{AllocError, Global};
 
 // Each field that is named, once. They are not copied.
@@ -62,14 +61,11 @@ fn remove_field(
 ) -> Result<Reply, AllocError>
     ensures { IfOk result (λ r. Makes (remove_fields key.now (field.now ∷ []) hash.now) (view r) effects.old effects.new) }
 {
-    if !hash.contains(field) {
-        return Ok(count(0));
-    }
-    let mut fields = Group::new(alloc);
-    fields.push(Word::copied(alloc, field)?)?;
-    let key = Word::copied(alloc, key.as_slice())?;
-    effects.push(Effect::RemoveFields { key, fields })?;
-    Ok(count(1))
+    let there = hash.contains(field);
+    let mut group = FieldGroup::new(alloc, key.as_slice());
+    group.push(field, there, effects)?;
+    end_fields(group, effects)?;
+    Ok(count(usize::from(there)))
 }
 
 /// `HDEL`

@@ -1,5 +1,5 @@
 // Fields that get values.
-ghost use Rattle.std.specs.Prelude.{◌≡◌, ◌<◌, ◌^◌, [], ◌∷◌, ◌++◌, if◌then◌else◌, map, length, filter, not, IfOk, IfSome, OnOk, option_copied};
+ghost use Rattle.std.specs.Prelude.{◌≡◌, ◌≢◌, ◌<◌, ◌^◌, [], ◌∷◌, ◌++◌, if◌then◌else◌, map, length, filter, not, IfOk, IfSome, IfNone, OnOk, option_copied};
 ghost use Rattle.std.specs.FinMap.{entries, get, contains_key};
 ghost use Rattle.mr_resp.specs.ReplyView.{view};
 ghost use Rattle.mr_effect.specs.declared.effect.Effect.TheVariants as made;
@@ -7,15 +7,14 @@ ghost use Rattle.mr_turn.specs.Cuts.{cut};
 ghost use Rattle.mr_plan_hash.specs.Hashes.{is_value, last_values, fields_reply, set_fields, set_new_field, number_at, increase_field};
 ghost use Rattle.mr_plan_hash.specs.Commands.{Makes};
 
-use crate::groups::{PairGroup, end_pairs, is_value};
+use crate::groups::{PairGroup, end_pairs};
 use crate::replies::{count, done, integer, no_integer, overflow};
 use itoa::Buffer;
 use mr_ask::{Argument, FieldsReply, Pairs};
-use mr_data::{Effect, Pairs as Group};
 use mr_map::SliceMap;
 use mr_resp::Reply;
 use mr_turn::Effects;
-use mr_value::{Hash, Word, read_i64};
+use mr_value::{Hash, read_i64};
 use std::alloc::{AllocError, Global};
 
 // The fields that pairs name, each with its last value. They are not copied.
@@ -67,7 +66,8 @@ fn fields_reply(reply: FieldsReply, new: usize) -> Reply
 
 // The pair, where there is one alone.
 fn only_pair<'a>(pairs: &Pairs<'a, '_>) -> Option<(&'a [u8], &'a [u8])>
-    ensures { IfSome result (λ p. pairs.now ≡ (p.0.now, p.1.now) ∷ []) }
+    ensures one { IfSome result (λ p. pairs.now ≡ (p.0.now, p.1.now) ∷ []) }
+    ensures other { IfNone result (length pairs.now ≢ 1) }
 {
     if pairs.len() != 1 {
         return None;
@@ -84,15 +84,11 @@ fn push_pair(
     before: Option<&[u8]>,
     effects: &mut Effects,
 ) -> Result<(), AllocError>
-    ensures { OnOk result (effects.new ≡ effects.old ++ (if is_value value.now (option_copied before.entry) then [] else made.SetFields key.now ((field.now, value.now) ∷ []) ∷ [])) }
+    ensures { OnOk result (effects.new ≡ effects.old ++ map (made.SetFields key.now) (cut (if is_value value.now (option_copied before.entry) then [] else (field.now, value.now) ∷ []))) }
 {
-    if is_value(value, before) {
-        return Ok(());
-    }
-    let mut group = Group::new(alloc);
-    group.push(Word::copied(alloc, field)?, Word::copied(alloc, value)?)?;
-    let key = Word::copied(alloc, key.as_slice())?;
-    effects.push(Effect::SetFields { key, pairs: group })?;
+    let mut group = PairGroup::new(alloc, key.as_slice());
+    group.push(field, value, before, effects)?;
+    end_pairs(group, effects)?;
     Ok(())
 }
 

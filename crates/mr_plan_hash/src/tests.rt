@@ -20,13 +20,23 @@ fn words<'a>(alloc: Global, line: &'a str) -> Result<Vec<CowSlice<'a, u8>>, Fail
     Ok(words)
 }
 
-// A reply, and behind it the texts of effects, each of which is the words of a line.
-fn wanted(alloc: Global, reply: &str, effects: &[&str]) -> Result<Vec<u8>, Fail> {
+// Puts the text of an effect, which is the words of a line.
+fn push_effect(rt: &impl Abort, alloc: Global, line: &str, out: &mut Vec<u8>) -> Result<(), Fail> {
+    let mut words: Vec<&[u8]> = Vec::new(alloc);
+    for word in line.split(' ') {
+        words.push(word.as_bytes())?;
+    }
+    assert!(rt; words.len() > 0);
+    write_request(words.as_slice(), out)?;
+    Ok(())
+}
+
+// A reply, and behind it the texts of effects.
+fn wanted(rt: &impl Abort, alloc: Global, reply: &str, effects: &[&str]) -> Result<Vec<u8>, Fail> {
     let mut out = Vec::new(alloc);
     out.extend_from_slice(reply.as_bytes())?;
     for line in effects {
-        let words = words(alloc, line)?;
-        write_request(words.as_slice(), &mut out)?;
+        push_effect(rt, alloc, line, &mut out)?;
     }
     Ok(out)
 }
@@ -61,7 +71,7 @@ fn answers(
 ) -> Result<(), Fail> {
     for (line, reply, effects) in lines {
         let got = answered(rt, alloc, held, line)?;
-        let want = wanted(alloc, reply, effects)?;
+        let want = wanted(rt, alloc, reply, effects)?;
         assert!(rt; got.as_slice() == want.as_slice(), "{line}");
     }
     Ok(())
@@ -278,27 +288,50 @@ fn line_of(
     Ok(line)
 }
 
+// A line is answered 65, and has two effects.
+fn answers_65(
+    rt: &impl Abort,
+    alloc: Global,
+    held: &mut Dataset,
+    line: &str,
+    first: &str,
+    last: &str,
+) -> Result<(), Fail> {
+    let got = answered(rt, alloc, held, line)?;
+    let mut want = Vec::new(alloc);
+    want.extend_from_slice(b":65\r\n")?;
+    push_effect(rt, alloc, first, &mut want)?;
+    push_effect(rt, alloc, last, &mut want)?;
+    assert!(rt; got.as_slice() == want.as_slice());
+    Ok(())
+}
+
+// 65 fields get values.
+fn set_65(rt: &impl Abort, alloc: Global, held: &mut Dataset) -> Result<(), Fail> {
+    let line = line_of(alloc, "HSET k", 65, true, " v")?;
+    let first = line_of(alloc, "HSET k", 64, false, " v")?;
+    answers_65(
+        rt,
+        alloc,
+        held,
+        line.as_str(),
+        first.as_str(),
+        "HSET k f64 v",
+    )
+}
+
+// They go.
+fn remove_65(rt: &impl Abort, alloc: Global, held: &mut Dataset) -> Result<(), Fail> {
+    let line = line_of(alloc, "HDEL k", 65, true, "")?;
+    let first = line_of(alloc, "HDEL k", 64, false, "")?;
+    answers_65(rt, alloc, held, line.as_str(), first.as_str(), "HDEL k f64")
+}
+
 #[test]
 fn an_effect_has_64_fields_at_most(rt: HostRuntime) -> Result<(), Fail> {
-    let alloc = rt.alloc();
-    let mut held = Dataset::new(alloc, RandomState::new(&rt)?);
-    let set = line_of(alloc, "HSET k", 65, true, " v")?;
-    let first = line_of(alloc, "HSET k", 64, false, " v")?;
-    let gone = line_of(alloc, "HDEL k", 65, true, "")?;
-    let first_gone = line_of(alloc, "HDEL k", 64, false, "")?;
-    answers(
-        &rt,
-        alloc,
-        &mut held,
-        &[
-            (set.as_str(), ":65\r\n", &[first.as_str(), "HSET k f64 v"]),
-            ("HLEN k", ":65\r\n", &[]),
-            (
-                gone.as_str(),
-                ":65\r\n",
-                &[first_gone.as_str(), "HDEL k f64"],
-            ),
-            ("HLEN k", ":0\r\n", &[]),
-        ],
-    )
+    let mut held = Dataset::new(rt.alloc(), RandomState::new(&rt)?);
+    set_65(&rt, rt.alloc(), &mut held)?;
+    remove_65(&rt, rt.alloc(), &mut held)?;
+    assert!(&rt; held.is_empty());
+    Ok(())
 }

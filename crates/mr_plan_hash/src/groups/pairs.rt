@@ -90,8 +90,8 @@ pub fn end_pairs(mut group: PairGroup<'_>, effects: &mut Effects) -> Result<(), 
     group.flush(effects)
 }
 
-/// Whether this is the value.
-pub fn is_value(value: &[u8], before: Option<&[u8]>) -> bool
+// Whether this is the value.
+fn is_value(value: &[u8], before: Option<&[u8]>) -> bool
     ensures { result ≡ is_value value.now (option_copied before.entry) }
 {
     match before {

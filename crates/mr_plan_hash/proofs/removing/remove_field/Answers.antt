@@ -1,15 +1,15 @@
-use Rattle.std.proofs.Common.{rules, ◌≡◌, true, false}
-use Rattle.std.specs.FinMap.{contains_key}
-use Rattle.std.proofs.lemmas.Grind.{common_steps}
-use Rattle.mr_plan_hash.proofs.Single.{field_kept, field_removed}
+use Rattle.std.proofs.Common.{◌≡◌, ◌∙◌, ap, map, ◌++◌}
+use Rattle.mr_map.specs.Bytes.{Bytes}
+use Rattle.mr_effect.specs.declared.effect.Effect.TheVariants as made
+use Rattle.mr_turn.specs.Cuts.{cut}
+use Rattle.mr_plan_hash.proofs.GroupLemmas.{alone}
+use Rattle.mr_plan_hash.proofs.Single.{field_gone}
 use Rattle.mr_plan_hash.proofs.removing.remove_field.Goals as goal
-
-pub returns-then-not-contains : goal.returns-then-not-contains
-returns-then-not-contains c =
-    let there : contains_key c.args.hash.now c.args.field.now ≡ false = search rules in
-    field_kept _ _ _ _ _ there c.count.ensures
 
 pub returns : goal.returns
 returns c =
-    let there : contains_key c.args.hash.now c.args.field.now ≡ true = search rules in
-    field_removed _ _ _ _ _ _ there c.count-2.ensures (search rules)
+    let key : c.new-group.result.key.now ≡ c.args.key.now = c.new-group.ensures.key ∙ c.as_slice.ensures in
+    let takes = rw key at c.in_ok-push.ensures.takes in
+    field_gone _ _ c.contains-there.result _ _ _ _ _ c.contains-there.ensures c.from.ensures c.count.ensures
+    (alone (made.RemoveFields c.args.key.now) _ _ _ _ _ _ c.new-group.ensures.fields takes
+    (c.in_ok-end_fields.ensures ∙ ap (λ (k : Bytes). c.push.new.effects ++ map (made.RemoveFields k) (cut c.push.new.self.fields)) (c.push.ensures.key ∙ key)))
