@@ -1,4 +1,2 @@
 pub mod NameLemmas
-pub mod PairLemmas
-pub mod PartLemmas
 pub mod AskLemmas

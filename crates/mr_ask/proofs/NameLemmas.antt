@@ -1,11 +1,11 @@
 -- A name is found among those of its length.
-use Rattle.std.proofs.Common.{rules, ℕ, ◌≡◌, List, [], ◌∷◌, length, Bool, true, false, cond, Some, refl, sym, ◌∙◌, ap, subst}
-use Rattle.std.specs.Prelude.{find, filter, ◌==◌, ◌↔◌, IsTrue}
+use Rattle.std.proofs.Common.{rules, ℕ, ◌≡◌, List, [], ◌∷◌, length, Bool, true, false, cond, Some, refl, sym, ◌∙◌, ap}
+use Rattle.std.specs.Prelude.{find, filter, ◌==◌}
 use Rattle.std.specs.Str.{bytes_eq}
-use Rattle.mr_value.proofs.Numbers.{same_bytes, equal_bytes}
+use Rattle.std.proofs.lemmas.Slice.Eq.{bytes_eq-Decides}
 use Rattle.mr_ask.specs.Names.{lowered, text_of, names, is_named, named}
 use Rattle.mr_ask.specs.declared.name.Name.{Name}
-use Rattle.mr_ask.specs.declared.name.Name.TheVariants.{Get}
+use Rattle.mr_ask.specs.declared.name.Name.TheVariants.{Ping, Get, Set, Del}
 
 -- what can't be found may be left out
 find-filter : {A : Type 0} (p q : A → Bool) (xs : List A) → ((x : A) → p x ≡ true → q x ≡ true) → find p (filter q xs) ≡ find p xs
@@ -17,6 +17,9 @@ find-filter p q (x ∷ xs) h = elim (q x) as (λ b. q x ≡ b → find p (cond b
     | false ↦ λ s. refl
   ] refl
 ] refl
+
+same_bytes : (xs ys : List ℕ) → bytes_eq xs ys ≡ true → xs ≡ ys
+same_bytes xs ys h = search (rules, bytes_eq-Decides)
 
 length-lowered : (word : List ℕ) → length (lowered word) ≡ length word
 length-lowered [] = refl
@@ -32,8 +35,10 @@ named_by_length word = find-filter (is_named (lowered word)) _ names (of_its_len
 -- each name is found, so all of them stand in the list, and no two are the same
 pub named_itself : (name : Name) → named (text_of name) ≡ Some name
 unfolding named
+named_itself Ping = refl
 named_itself Get = refl
-named_itself _ = refl
+named_itself Set = refl
+named_itself Del = refl
 
 -- what was found has the name
 found : (w : List ℕ) (ns : List Name) (n : Name) → find (is_named w) ns ≡ Some n → w ≡ text_of n
@@ -46,19 +51,3 @@ found w (x ∷ ns) n h = elim (is_named w x) as (λ b. is_named w x ≡ b → co
 pub named_is : (w : List ℕ) (n : Name) → named w ≡ Some n → w ≡ text_of n
 unfolding named
 named_is w n h = found w names n h
-
--- names are written in lower case
-pub text_lowered : (name : Name) → lowered (text_of name) ≡ text_of name
-text_lowered Get = refl
-text_lowered _ = refl
-
--- two words are the same without regard to case where the one in lower case is the other in lower case
-same_lowered : (word text : List ℕ) (same : Bool) → lowered text ≡ text → (IsTrue same ↔ (lowered word ≡ lowered text)) → same ≡ bytes_eq text (lowered word)
-same_lowered word text true low test = sym (subst (λ (ys : List ℕ). bytes_eq text ys ≡ true) (sym (test.0 refl ∙ low)) (equal_bytes text))
-same_lowered word text false low test = elim (bytes_eq text (lowered word)) as (λ b. bytes_eq text (lowered word) ≡ b → false ≡ b) [
-  | true ↦ λ s. let no : false ≡ true = test.1 (sym (same_bytes _ _ s) ∙ sym low) in cc
-  | false ↦ λ s. refl
-] refl
-
-pub is_same : (name : Name) (word text : List ℕ) (same : Bool) → text ≡ text_of name → (IsTrue same ↔ (lowered word ≡ lowered text)) → same ≡ is_named (lowered word) name
-is_same name word text same e test = same_lowered word text same (ap lowered e ∙ text_lowered name ∙ sym e) test ∙ ap (λ (t : List ℕ). bytes_eq t (lowered word)) e

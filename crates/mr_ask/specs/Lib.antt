@@ -1,11 +1,3 @@
 pub mod Names
 pub mod Faults
-pub mod Pairing
-pub mod Parts
-pub mod Keys
-pub mod Hashes
-pub mod Lists
-pub mod Sets
-pub mod Server
 pub mod Asks
-pub mod Spelled

@@ -3,20 +3,15 @@
 
 mod ask;
 mod fault;
-mod group;
-mod laws;
 mod name;
-mod parts;
 mod reading;
 mod words;
 
-pub use ask::{Ask, FieldsReply, HashPart, PushTo, SetOperation};
-pub use fault::{AskFault, BadValue};
-pub use group::Group;
-pub use laws::names_are_found;
+pub use ask::Ask;
+pub use fault::AskFault;
 pub use name::Name;
 pub use reading::read;
-pub use words::{Argument, Pairs, PairsIter, Words};
+pub use words::{Argument, Words};
 
 #[cfg(test)]
 mod tests;

@@ -1,8 +1,6 @@
 // Words of a request that stay where they lie.
-ghost use Rattle.std.specs.Prelude.{◌≡◌, map, length};
+ghost use Rattle.std.specs.Prelude.{◌≡◌, map};
 ghost use Rattle.std.specs.Cow.{cow_slice_items};
-ghost use Rattle.std.specs.Iterator.{YieldsFirstBy, item_count};
-ghost use Rattle.mr_ask.specs.Pairing.{are_pairs, pairs_of, read_pair};
 
 use std::borrow::CowSlice;
 use std::marker::Model;
@@ -27,12 +25,6 @@ impl<'a> Argument<'a> {
         ensures { result ≡ bytes.now }
     {
         Argument { bytes }
-    }
-
-    pub(crate) fn of(word: &'a CowSlice<'_, u8>) -> Argument<'a>
-        ensures { result ≡ cow_slice_items word.now }
-    {
-        Argument::new(word.as_slice())
     }
 
     /// The bytes of the word.
@@ -71,89 +63,5 @@ impl<'a, 't> Words<'a, 't> {
         ensures { map cow_slice_items result.now ≡ self.now }
     {
         self.items
-    }
-}
-
-/// Words that follow one another in a request, taken two by two: fields with their values.
-#[derive(Drop)]
-pub struct Pairs<'a, 't> {
-    words: &'a [CowSlice<'t, u8>],
-}
-
-impl<'a, 't> Model for Pairs<'a, 't> {
-    ghost use Rattle.std.specs.Prelude.{ℕ, List, map};
-    ghost use Rattle.std.specs.Cow.{cow_slice_items};
-    ghost use Rattle.mr_ask.specs.Pairing.{paired};
-
-    ghost Value = { List (List ℕ × List ℕ) };
-
-    ghost view = { λ a. paired (map cow_slice_items a.words.now) };
-}
-
-impl<'a, 't> Pairs<'a, 't> {
-    /// These words as pairs, if no word is left over. They are not copied.
-    pub fn of(words: &'a [CowSlice<'t, u8>]) -> Option<Pairs<'a, 't>>
-        ensures { result ≡ pairs_of (map cow_slice_items words.now) }
-    {
-        if are_pairs(words) {
-            Some(Pairs { words })
-        } else {
-            None
-        }
-    }
-
-    /// How many there are.
-    pub fn len(&self) -> usize
-        ensures { result ≡ length self.now }
-    {
-        self.words.len() / 2
-    }
-
-    /// The pairs, in the order of the request.
-    pub fn iter(&self) -> PairsIter<'a, 't>
-        ensures { result ≡ self.now }
-    {
-        PairsIter { words: self.words }
-    }
-}
-
-// Whether no word is left over.
-fn are_pairs(words: &[CowSlice<'_, u8>]) -> bool
-    ensures { result ≡ are_pairs (map cow_slice_items words.now) }
-{
-    words.len() % 2 == 0
-}
-
-/// The pairs that are still to come, seen as a list.
-#[derive(Drop)]
-pub struct PairsIter<'a, 't> {
-    words: &'a [CowSlice<'t, u8>],
-}
-
-impl<'a, 't> Model for PairsIter<'a, 't> {
-    ghost use Rattle.std.specs.Prelude.{ℕ, List, map};
-    ghost use Rattle.std.specs.Cow.{cow_slice_items};
-    ghost use Rattle.mr_ask.specs.Pairing.{paired};
-
-    ghost Value = { List (List ℕ × List ℕ) };
-
-    ghost view = { λ a. paired (map cow_slice_items a.words.now) };
-}
-
-impl<'a, 't> Iterator for PairsIter<'a, 't> {
-    type Item = (&'a [u8], &'a [u8]);
-
-    ghost next_gives = { YieldsFirstBy read_pair (λ s. s) };
-
-    ghost remaining = { item_count (λ s. s) };
-
-    fn next(&mut self) -> Option<(&'a [u8], &'a [u8])> {
-        match self.words {
-            [field, value, rest @ ..] => {
-                self.words = rest;
-                Some((field.as_slice(), value.as_slice()))
-            }
-            _ => None,
-        }
     }
 }
