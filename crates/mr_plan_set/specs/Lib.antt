@@ -1,0 +1,5 @@
+pub mod Members
+pub mod Turns
+pub mod Moving
+pub mod Combining
+pub mod SetCommands
