@@ -1,5 +1,10 @@
 //! Plans of commands on sets: what is answered, and which effects the command has.
 #![tactic(auto)]
 
+mod changing;
+mod combining;
+mod drawing;
+mod grouping;
+mod moving;
 mod replies;
 mod telling;
