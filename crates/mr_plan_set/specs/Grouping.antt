@@ -1,5 +1,6 @@
 -- What words do to a set, and the effects that say so.
-use Rattle.std.specs.Prelude.{◌≡◌, List, ◌++◌, map, Bool, not, Option}
+use Rattle.std.specs.Prelude.{List, map, Bool, true, false, not}
+use Rattle.std.specs.List.{list_all}
 use Rattle.std.specs.FinMap.{contains_key, keys}
 use Rattle.std.specs.Borrow.{Bor}
 use Rattle.mr_map.specs.Bytes.{Bytes}
@@ -31,3 +32,14 @@ group_effects w k s = map (group_effect w k) (cut (keys s))
 -- what references point to
 abbrev pub texts : List (Bor Bytes) → List Bytes
 texts xs = map (λ (x : Bor Bytes). x.now) xs
+
+abbrev pub members_of : List (Bor Members) → List Members
+members_of ss = map (λ (s : Bor Members). s.now) ss
+
+-- each of the sets has the member, or lacks it
+abbrev pub agrees : Bool → Members → Bytes → Bool
+agrees true s x = contains_key s x
+agrees false s x = not (contains_key s x)
+
+abbrev pub is_wanted : Bool → List Members → Bytes → Bool
+is_wanted wanted ss x = list_all (λ s. agrees wanted s x) ss

@@ -1,11 +1,13 @@
 -- SMOVE: a member goes from one set into another.
-use Rattle.std.specs.Prelude.{List, [], ◌∷◌, if◌then◌else◌, is_some, Option, Some, None}
+use Rattle.std.specs.Prelude.{◌≡◌, List, [], ◌∷◌, ◌++◌, if◌then◌else◌, is_some, Option, Some, None}
 use Rattle.std.specs.FinMap.{get, contains_key, insert, remove}
 use Rattle.std.specs.Str.{bytes_eq}
 use Rattle.mr_map.specs.Bytes.{Bytes}
 use Rattle.mr_data.specs.Dataset.{Dataset, put_at}
 use Rattle.mr_data.specs.Steps.{sets, held, entry_of, deadline_of}
+use Rattle.mr_effect.specs.declared.effect.Effect.{Effect}
 use Rattle.mr_effect.specs.declared.effect.Effect.TheVariants as effect
+use Rattle.mr_resp.specs.Replies.{Tree}
 use Rattle.mr_turn.specs.Turns.{wrong_kind}
 use Rattle.mr_turn.specs.Outcomes.{Outcome, answered}
 use Rattle.mr_plan_set.specs.Members.{Members}
@@ -28,3 +30,8 @@ module _ (from to x : Bytes) (m : Dataset) where
   -- An absent source is answered first, and the target isn't looked at.
   abbrev pub move_member : Outcome
   move_member = if is_some (get m from) then moving (held sets (get m from)) (held sets (get m to)) else answered (number 0) m
+
+-- the reply is the outcome's, and its effects were put behind those that were there
+pub record Gives (outcome : Outcome) (reply : Tree) (old new : List Effect) : Type 0 where
+  pub reply_is : reply ≡ outcome.reply
+  pub effects_are : new ≡ old ++ outcome.effects

@@ -79,6 +79,10 @@ abbrev pub first_bulk : List Bytes → Tree
 first_bulk [] = reply.null_bulk
 first_bulk (x ∷ xs) = reply.bytes x
 
+abbrev pub one_bulk : Option Bytes → Tree
+one_bulk None = reply.null_bulk
+one_bulk (Some x) = reply.bytes x
+
 abbrev pub drawn_reply : Option ℕ → List Bytes → Tree
 drawn_reply None xs = first_bulk xs
 drawn_reply (Some n) xs = bulks xs

@@ -4,8 +4,9 @@ ghost use Rattle.std.specs.FinMap as map;
 ghost use Rattle.mr_resp.specs.ReplyView.{view};
 ghost use Rattle.mr_turn.specs.Turns.{Takes};
 ghost use Rattle.mr_plan_set.specs.Members.{drawn, as_set};
-ghost use Rattle.mr_plan_set.specs.Grouping.{texts};
-ghost use Rattle.mr_plan_set.specs.Turns.{draw_members_turn, take_members_turn, first_bulk, bulks};
+ghost use Rattle.mr_plan_set.specs.Grouping.{texts, group_effects};
+ghost use Rattle.mr_plan_set.specs.declared.grouping.Write.TheVariants as write;
+ghost use Rattle.mr_plan_set.specs.Turns.{draw_members_turn, take_members_turn, first_bulk, one_bulk, bulks};
 
 use crate::grouping::{Write, group_effect, push_groups};
 use crate::replies::{bulk, set_at, wrong_kind};
@@ -99,4 +100,93 @@ fn in_order<'d>(alloc: Global, drawn: &[&'d [u8]]) -> Result<SliceMap<'d, ()>, A
         members.insert(*member, ())?;
     }
     Ok(members)
+}
+
+/// `SRANDMEMBER`
+pub fn draw_members(
+    alloc: Global,
+    count: Option<usize>,
+    word: u64,
+    seen: Option<&Entry>,
+) -> Result<Reply, AllocError>
+    ensures { IfOk result (λ r. view r ≡ (draw_members_turn count word (option_copied seen.entry)).reply) }
+{
+    let empty = SetValue::new(alloc);
+    let Some(set) = set_at(seen, &empty) else {
+        return Ok(wrong_kind());
+    };
+    let Some(count) = count else {
+        return one_bulk(alloc, draw_one(set, word));
+    };
+    let drawn = draw(alloc, set, word, count)?;
+    bulks_of(alloc, drawn.items.as_slice())
+}
+
+// A member, or nil.
+fn one_bulk(alloc: Global, member: Option<&[u8]>) -> Result<Reply, AllocError>
+    ensures { IfOk result (λ r. view r ≡ one_bulk (option_copied member.entry)) }
+{
+    match member {
+        None => Ok(Reply::NullBulk),
+        Some(member) => bulk(alloc, member),
+    }
+}
+
+/// `SPOP`
+pub fn take_members(
+    alloc: Global,
+    key: &Argument<'_>,
+    count: Option<usize>,
+    word: u64,
+    seen: Option<&Entry>,
+    effects: &mut Effects,
+) -> Result<Reply, AllocError>
+    ensures { IfOk result (λ r. Takes (take_members_turn key.now count word (option_copied seen.entry)) (view r) effects.old effects.new) }
+{
+    let empty = SetValue::new(alloc);
+    let Some(set) = set_at(seen, &empty) else {
+        return Ok(wrong_kind());
+    };
+    match count {
+        None => take_one(alloc, key, word, set, effects),
+        Some(count) => take_some(alloc, key, count, word, set, effects),
+    }
+}
+
+fn take_one(
+    alloc: Global,
+    key: &Argument<'_>,
+    word: u64,
+    set: &SetValue,
+    effects: &mut Effects,
+) -> Result<Reply, AllocError>
+    ensures reply { IfOk result (λ r. view r ≡ first_bulk (drawn word 1 (map.keys set.now))) }
+    ensures effects { OnOk result (effects.new ≡ effects.old ++ group_effects write.Remove key.now (as_set (drawn word 1 (map.keys set.now)))) }
+{
+    let Some(member) = draw_one(set, word) else {
+        return Ok(Reply::NullBulk);
+    };
+    let mut members = Words::new(alloc);
+    members.push(Word::copied(alloc, member)?)?;
+    effects.push(group_effect(alloc, Write::Remove, key, members)?)?;
+    let reply = bulk(alloc, member)?;
+    Ok(reply)
+}
+
+fn take_some(
+    alloc: Global,
+    key: &Argument<'_>,
+    count: usize,
+    word: u64,
+    set: &SetValue,
+    effects: &mut Effects,
+) -> Result<Reply, AllocError>
+    ensures reply { IfOk result (λ r. view r ≡ bulks (drawn word count (map.keys set.now))) }
+    ensures effects { OnOk result (effects.new ≡ effects.old ++ group_effects write.Remove key.now (as_set (drawn word count (map.keys set.now)))) }
+{
+    let drawn = draw(alloc, set, word, count)?;
+    let members = in_order(alloc, drawn.items.as_slice())?;
+    push_groups(alloc, Write::Remove, key, &members, effects)?;
+    let reply = bulks_of(alloc, drawn.items.as_slice())?;
+    Ok(reply)
 }
