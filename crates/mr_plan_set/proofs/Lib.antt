@@ -1,3 +1,4 @@
 pub mod Sets
 pub mod Pushing
 pub mod Draws
+pub mod Combinations

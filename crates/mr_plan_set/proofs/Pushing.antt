@@ -3,10 +3,17 @@ use Rattle.std.specs.Prelude.{◌==◌}
 use Rattle.std.proofs.Common.{ℕ, ◌≡◌, ◌<◌, Bool, true, false, List, [], ◌∷◌, ◌++◌, map, length, take, drop, ◌≤◌, append_assoc, take_all, refl, sym, ◌∙◌, ap, arith}
 use Rattle.std.proofs.Math.Seq.{take-append_seam, drop-append_seam}
 use Rattle.std.proofs.Math.ListN.{drop_of_length-le}
-use Rattle.mr_map.specs.Bytes.{Bytes}
+use Rattle.std.specs.FinMap.{empty, keys, entries, len-entries, len-empty, entries-insert}
+use Rattle.std.specs.FinMap.Entries.{put}
+use Rattle.std.proofs.lemmas.List.{nil_from_length}
+use Rattle.std.proofs.lemmas.Cmp.{nat_list_cmp_total}
+use Rattle.mr_map.specs.Bytes.{Bytes, bytes_cmp}
 use Rattle.mr_effect.specs.declared.effect.Effect.{Effect}
 use Rattle.mr_turn.specs.Cuts.{most_items, cut}
 use Rattle.mr_turn.proofs.Cutting.{cut_more}
+use Rattle.mr_plan_set.specs.declared.grouping.Write.{Write}
+use Rattle.mr_plan_set.specs.Members.{as_set}
+use Rattle.mr_plan_set.specs.Grouping.{group_effect, group_effects}
 
 -- names of entries
 abbrev pub names : List (Bytes × Unit {0}) → List Bytes
@@ -67,3 +74,21 @@ module _ (f : List Bytes → Effect) (old : List Effect) (all : List Bytes) wher
 pub some_items : (xs : List Bytes) (b : Bool) → b ≡ (length xs == 0) → b ≡ false → 0 < length xs
 some_items [] b e f = cc
 some_items (x ∷ xs) b e f = omega arith
+
+-- ---- at most one member
+module _ (w : Write) (k : Bytes) (old : List Effect) where
+  append_nothing : (es : List Effect) → es ++ [] ≡ es
+  append_nothing [] = refl
+  append_nothing (e ∷ es) = ap (λ fs. e ∷ fs) (append_nothing es)
+
+  no_entries : entries {X = Unit {0}} (empty {R = bytes_cmp}) ≡ []
+  no_entries = nil_from_length (entries empty) (sym (len-entries empty) ∙ len-empty bytes_cmp (Unit {0}))
+
+  pub no_group : (xs : List Bytes) → xs ≡ [] → old ≡ old ++ group_effects w k (as_set xs)
+  no_group xs h = sym (ap (λ ys. old ++ group_effects w k (as_set ys)) h ∙ ap (λ (es : List (Bytes × Unit {0})). old ++ map (group_effect w k) (cut (names es))) no_entries ∙ append_nothing old)
+
+  one_key : (x : Bytes) → keys (as_set (x ∷ [])) ≡ x ∷ []
+  one_key x = ap names (entries-insert nat_list_cmp_total empty x tt ∙ ap (put bytes_cmp x tt) no_entries)
+
+  pub one_group : (xs : List Bytes) (x : Bytes) → xs ≡ x ∷ [] → old ++ group_effect w k (x ∷ []) ∷ [] ≡ old ++ group_effects w k (as_set xs)
+  one_group xs x h = sym (ap (λ ys. old ++ group_effects w k (as_set ys)) h ∙ ap (λ ks. old ++ map (group_effect w k) (cut ks)) (one_key x))

@@ -1,7 +1,7 @@
 -- Members of sets after each change.
 use Rattle.std.proofs.Common.{◌≡◌, ℕ, ◌+◌, ◌<◌, get_or, take, map, length, List, [], ◌∷◌, ◌++◌, Bool, true, false, ◌&&◌, cond, Option, Some, None, refl, sym, ◌∙◌, ap}
 use Rattle.std.specs.Prelude.{◌||◌, ◌==◌, not, is_some}
-use Rattle.std.specs.FinMap.{get, empty, insert, remove, keys, contains_key, retain_keys, get-empty, get-insert, get-remove, get-retain_keys, contains_key-keys, same_map, len, entries, len-entries}
+use Rattle.std.specs.FinMap.{get, empty, insert, remove, keys, contains_key, retain_keys, get-empty, get-insert, get-remove, get-retain_keys, contains_key-keys, same_map, len, entries, len-entries, len-empty}
 use Rattle.std.proofs.lemmas.Bool.{eqb-true}
 use Rattle.std.proofs.lemmas.List.{length-map, nil_from_length}
 use Rattle.std.proofs.lemmas.Cmp.{nat_list_cmp_total}
@@ -145,3 +145,6 @@ len_keys s = len-entries s ∙ sym (length-map (entries s) (λ e. e.0))
 
 pub no_keys : (s : Members) → (len s == 0) ≡ true → keys s ≡ []
 no_keys s h = nil_from_length (keys s) (sym (len_keys s) ∙ eqb-true (len s) 0 h)
+
+pub no_members : keys {X = Unit {0}} (empty {R = bytes_cmp}) ≡ []
+no_members = nil_from_length (keys empty) (sym (len_keys empty) ∙ len-empty bytes_cmp (Unit {0}))

@@ -41,5 +41,5 @@ abbrev pub agrees : Bool → Members → Bytes → Bool
 agrees true s x = contains_key s x
 agrees false s x = not (contains_key s x)
 
-abbrev pub is_wanted : Bool → List Members → Bytes → Bool
-is_wanted wanted ss x = list_all (λ s. agrees wanted s x) ss
+abbrev pub is_wanted : Bool → List (Bor Members) → Bytes → Bool
+is_wanted wanted ss x = list_all (λ (s : Bor Members). agrees wanted s.now x) ss

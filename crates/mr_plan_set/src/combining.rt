@@ -8,7 +8,7 @@ ghost use Rattle.mr_data.specs.Dataset.{live, seen};
 ghost use Rattle.mr_ask.specs.declared.set_ask.SetOperation.TheVariants as operation;
 ghost use Rattle.mr_plan_set.specs.Combining.{sets_at, combined, of_all, combined_reply};
 ghost use Rattle.mr_plan_set.specs.Members.{joined};
-ghost use Rattle.mr_plan_set.specs.Grouping.{members_of, is_wanted};
+ghost use Rattle.mr_plan_set.specs.Grouping.{members_of, agrees, is_wanted};
 ghost use Rattle.mr_plan_set.specs.Turns.{bulks};
 
 use crate::replies::{bulk, set_at};
@@ -41,7 +41,7 @@ pub fn sets_at<'d>(
         items: Vec::with_capacity(alloc, words.len())?,
     };
     for word in words {
-        let Some(set) = set_at(live(held, word.as_slice(), given.now()), empty) else {
+        let Some(set) = set_at(live(held, word.as_slice(), given), empty) else {
             return Ok(None);
         };
         sets.items.push(set)?;
@@ -50,12 +50,12 @@ pub fn sets_at<'d>(
 }
 
 // What is seen at a key.
-fn live<'d>(held: &'d Dataset, key: &[u8], now: i64) -> Option<&'d Entry>
-    ensures { option_copied result ≡ live now (map.get held.now key.now) }
+fn live<'d>(held: &'d Dataset, key: &[u8], given: Given) -> Option<&'d Entry>
+    ensures { option_copied result ≡ live given.now (map.get held.now key.now) }
 {
     let entry = held.entry(key)?;
     match entry.deadline {
-        Some(deadline) if deadline <= now => None,
+        Some(deadline) if deadline <= given.now() => None,
         _ => Some(entry),
     }
 }
@@ -85,7 +85,7 @@ fn members_where(
     others: &[&SetValue],
     wanted: bool,
 ) -> Result<Reply, AllocError>
-    ensures { IfOk result (λ r. view r ≡ bulks (filter (is_wanted wanted (members_of others.now)) (map.keys first.now))) }
+    ensures { IfOk result (λ r. view r ≡ bulks (filter (is_wanted wanted others.now) (map.keys first.now))) }
 {
     let mut replies = Vec::new(alloc);
     for member in first.members() {
@@ -98,11 +98,19 @@ fn members_where(
 
 // Whether each of the sets has the member, or lacks it.
 fn is_wanted(member: &[u8], others: &[&SetValue], wanted: bool) -> bool
-    ensures { result ≡ is_wanted wanted (members_of others.now) member.now }
+    ensures { result ≡ is_wanted wanted others.now member.now }
 {
-    others
-        .iter()
-        .all(|set| set.contains(member) == wanted)
+    others.iter().all(|set| agrees(set, member, wanted))
+}
+
+fn agrees(set: &SetValue, member: &[u8], wanted: bool) -> bool
+    ensures { result ≡ agrees wanted set.now member.now }
+{
+    if wanted {
+        set.contains(member)
+    } else {
+        !set.contains(member)
+    }
 }
 
 // The members of any.
