@@ -4,16 +4,17 @@ ghost use Rattle.std.specs.Option.{option_map};
 ghost use Rattle.std.specs.List.{list_all};
 ghost use Rattle.std.specs.FinMap as map;
 ghost use Rattle.mr_resp.specs.ReplyView.{view};
-ghost use Rattle.mr_data.specs.Dataset.{live, seen};
+ghost use Rattle.mr_data.specs.Dataset.{seen};
 ghost use Rattle.mr_ask.specs.declared.set_ask.SetOperation.TheVariants as operation;
 ghost use Rattle.mr_plan_set.specs.Combining.{sets_at, combined, of_all, combined_reply};
 ghost use Rattle.mr_plan_set.specs.Members.{joined};
 ghost use Rattle.mr_plan_set.specs.Grouping.{members_of, agrees, is_wanted};
 ghost use Rattle.mr_plan_set.specs.Turns.{bulks};
 
+use crate::looking::find;
 use crate::replies::{bulk, set_at};
 use mr_ask::{SetOperation, Words};
-use mr_data::{Dataset, Entry, Given};
+use mr_data::{Dataset, Given};
 use mr_map::SliceMap;
 use mr_resp::Reply;
 use mr_value::SetValue;
@@ -41,23 +42,12 @@ pub fn sets_at<'d>(
         items: Vec::with_capacity(alloc, words.len())?,
     };
     for word in words {
-        let Some(set) = set_at(live(held, word.as_slice(), given), empty) else {
+        let Some(set) = set_at(find(held, word.as_slice(), given), empty) else {
             return Ok(None);
         };
         sets.items.push(set)?;
     }
     Ok(Some(sets))
-}
-
-// What is seen at a key.
-fn live<'d>(held: &'d Dataset, key: &[u8], given: Given) -> Option<&'d Entry>
-    ensures { option_copied result ≡ live given.now (map.get held.now key.now) }
-{
-    let entry = held.entry(key)?;
-    match entry.deadline {
-        Some(deadline) if deadline <= given.now() => None,
-        _ => Some(entry),
-    }
 }
 
 /// What is made of these sets.

@@ -5,6 +5,10 @@ mod changing;
 mod combining;
 mod drawing;
 mod grouping;
+mod looking;
 mod moving;
+mod planning;
 mod replies;
 mod telling;
+
+pub use planning::plan;
