@@ -3,10 +3,11 @@ ghost use Rattle.std.specs.Prelude.{◌≡◌, [], ◌∷◌, IsTrue, IfOk};
 ghost use Rattle.std.specs.List.{list_all};
 ghost use Rattle.mr_value.specs.Words.{fits};
 ghost use Rattle.mr_resp.specs.ReplyView.{view};
+ghost use Rattle.mr_data.specs.Dataset.{IsDataset};
 ghost use Rattle.mr_ask.specs.Carried.{set_words};
 ghost use Rattle.mr_ask.specs.declared.set_ask.SetAsk.TheVariants as asks;
 ghost use Rattle.mr_turn.specs.Commands.{IsPlan, IsFaithful};
-ghost use Rattle.mr_plan_set.specs.SetCommands.{command};
+ghost use Rattle.mr_plan_set.specs.SetCommands.{command, RestsOn};
 
 use crate::changing;
 use crate::combining::{combined, sets_at};
@@ -33,6 +34,18 @@ pub fn plan(
     // The effects lead to what the command leaves, and its own ones are there exactly where it changes something.
     ensures faithful { IsTrue (list_all fits (set_words ask.now)) → IsFaithful (command ask.now given.word) given.now held.now }
 {
+    planned(alloc, held, ask, given)
+}
+
+fn planned(
+    alloc: Global,
+    held: &Dataset,
+    ask: &SetAsk<'_, '_>,
+    given: Given,
+) -> Result<Plan, AllocError>
+    ensures plan { IfOk result (λ p. IsPlan (command ask.now given.word) given.now held.now (view p.reply) p.effects.items) }
+    ensures rests { RestsOn ask.now held.now }
+{
     match ask {
         SetAsk::AddMembers { key, members } => add_members(alloc, held, key, members, given),
         SetAsk::RemoveMembers { key, members } => remove_members(alloc, held, key, members, given),
@@ -57,7 +70,7 @@ fn add_members(
     given: Given,
 ) -> Result<Plan, AllocError>
     ensures plan { IfOk result (λ p. IsPlan (command (asks.AddMembers key.now members.now) given.word) given.now held.now (view p.reply) p.effects.items) }
-    ensures faithful { IsTrue (list_all fits (set_words (asks.AddMembers key.now members.now))) → IsFaithful (command (asks.AddMembers key.now members.now) given.word) given.now held.now }
+    ensures kept { IsDataset held.now }
 {
     let mut effects = Effects::new(alloc);
     let seen = look(alloc, held, key, given, &mut effects)?;
@@ -73,7 +86,7 @@ fn remove_members(
     given: Given,
 ) -> Result<Plan, AllocError>
     ensures plan { IfOk result (λ p. IsPlan (command (asks.RemoveMembers key.now members.now) given.word) given.now held.now (view p.reply) p.effects.items) }
-    ensures faithful { IsTrue (list_all fits (set_words (asks.RemoveMembers key.now members.now))) → IsFaithful (command (asks.RemoveMembers key.now members.now) given.word) given.now held.now }
+    ensures kept { IsDataset held.now }
 {
     let mut effects = Effects::new(alloc);
     let seen = look(alloc, held, key, given, &mut effects)?;
@@ -89,7 +102,7 @@ fn has_member(
     given: Given,
 ) -> Result<Plan, AllocError>
     ensures plan { IfOk result (λ p. IsPlan (command (asks.HasMember key.now member.now) given.word) given.now held.now (view p.reply) p.effects.items) }
-    ensures faithful { IsTrue (list_all fits (set_words (asks.HasMember key.now member.now))) → IsFaithful (command (asks.HasMember key.now member.now) given.word) given.now held.now }
+    ensures kept { IsDataset held.now }
 {
     let mut effects = Effects::new(alloc);
     let seen = look(alloc, held, key, given, &mut effects)?;
@@ -105,7 +118,7 @@ fn have_members(
     given: Given,
 ) -> Result<Plan, AllocError>
     ensures plan { IfOk result (λ p. IsPlan (command (asks.HaveMembers key.now members.now) given.word) given.now held.now (view p.reply) p.effects.items) }
-    ensures faithful { IsTrue (list_all fits (set_words (asks.HaveMembers key.now members.now))) → IsFaithful (command (asks.HaveMembers key.now members.now) given.word) given.now held.now }
+    ensures kept { IsDataset held.now }
 {
     let mut effects = Effects::new(alloc);
     let seen = look(alloc, held, key, given, &mut effects)?;
@@ -120,7 +133,7 @@ fn list_members(
     given: Given,
 ) -> Result<Plan, AllocError>
     ensures plan { IfOk result (λ p. IsPlan (command (asks.ListMembers key.now) given.word) given.now held.now (view p.reply) p.effects.items) }
-    ensures faithful { IsTrue (list_all fits (set_words (asks.ListMembers key.now))) → IsFaithful (command (asks.ListMembers key.now) given.word) given.now held.now }
+    ensures kept { IsDataset held.now }
 {
     let mut effects = Effects::new(alloc);
     let seen = look(alloc, held, key, given, &mut effects)?;
@@ -135,7 +148,7 @@ fn count_members(
     given: Given,
 ) -> Result<Plan, AllocError>
     ensures plan { IfOk result (λ p. IsPlan (command (asks.CountMembers key.now) given.word) given.now held.now (view p.reply) p.effects.items) }
-    ensures faithful { IsTrue (list_all fits (set_words (asks.CountMembers key.now))) → IsFaithful (command (asks.CountMembers key.now) given.word) given.now held.now }
+    ensures kept { IsDataset held.now }
 {
     let mut effects = Effects::new(alloc);
     let seen = look(alloc, held, key, given, &mut effects)?;
@@ -151,7 +164,7 @@ fn take_members(
     given: Given,
 ) -> Result<Plan, AllocError>
     ensures plan { IfOk result (λ p. IsPlan (command (asks.TakeMembers key.now count) given.word) given.now held.now (view p.reply) p.effects.items) }
-    ensures faithful { IsTrue (list_all fits (set_words (asks.TakeMembers key.now count))) → IsFaithful (command (asks.TakeMembers key.now count) given.word) given.now held.now }
+    ensures kept { IsDataset held.now }
 {
     let mut effects = Effects::new(alloc);
     let seen = look(alloc, held, key, given, &mut effects)?;
@@ -167,7 +180,7 @@ fn draw_members(
     given: Given,
 ) -> Result<Plan, AllocError>
     ensures plan { IfOk result (λ p. IsPlan (command (asks.DrawMembers key.now count) given.word) given.now held.now (view p.reply) p.effects.items) }
-    ensures faithful { IsTrue (list_all fits (set_words (asks.DrawMembers key.now count))) → IsFaithful (command (asks.DrawMembers key.now count) given.word) given.now held.now }
+    ensures kept { IsDataset held.now }
 {
     let mut effects = Effects::new(alloc);
     let seen = look(alloc, held, key, given, &mut effects)?;
@@ -184,7 +197,7 @@ fn move_member(
     given: Given,
 ) -> Result<Plan, AllocError>
     ensures plan { IfOk result (λ p. IsPlan (command (asks.MoveMember from.now to.now member.now) given.word) given.now held.now (view p.reply) p.effects.items) }
-    ensures faithful { IsTrue (list_all fits (set_words (asks.MoveMember from.now to.now member.now))) → IsFaithful (command (asks.MoveMember from.now to.now member.now) given.word) given.now held.now }
+    ensures kept { IsDataset held.now }
 {
     let mut effects = Effects::new(alloc);
     let source = look(alloc, held, from, given, &mut effects)?;
@@ -205,7 +218,6 @@ fn combine(
     given: Given,
 ) -> Result<Plan, AllocError>
     ensures plan { IfOk result (λ p. IsPlan (command (asks.Combine operation keys.now) given.word) given.now held.now (view p.reply) p.effects.items) }
-    ensures faithful { IsTrue (list_all fits (set_words (asks.Combine operation keys.now))) → IsFaithful (command (asks.Combine operation keys.now) given.word) given.now held.now }
 {
     let mut effects = Effects::new(alloc);
     push_dels(alloc, held, keys, given, true, &mut effects)?;
