@@ -31,15 +31,15 @@ use Rattle.mr_plan_set.proofs.Sets.{same_set, contains_empty, contains_with, con
 use Rattle.mr_plan_set.proofs.Tells.{told_faithful}
 use Rattle.mr_plan_set.proofs.Groups.{group_change}
 
-first : (a b : Bool) → a && b ≡ true → a ≡ true
+pub first : (a b : Bool) → a && b ≡ true → a ≡ true
 first true b h = refl
 first false b h = cc
 
-second : (a b : Bool) → a && b ≡ true → b ≡ true
+pub second : (a b : Bool) → a && b ≡ true → b ≡ true
 second true b h = h
 second false b h = cc
 
-both : (a b : Bool) → a ≡ true → b ≡ true → a && b ≡ true
+pub both : (a b : Bool) → a ≡ true → b ≡ true → a && b ≡ true
 both true b p q = q
 both false b p q = cc
 
@@ -60,7 +60,7 @@ set_of_fits (value.Text t) s x i h c = cc
 set_of_fits (value.Hash t) s x i h c = cc
 set_of_fits (value.List t) s x i h c = cc
 
-held_fits : (m : Dataset) (k : Bytes) (o : Option Entry) (s : Members) (x : Bytes) → IsDataset m → get m k ≡ o → held sets o ≡ Some s → contains_key s x ≡ true → IsTrue (fits x)
+pub held_fits : (m : Dataset) (k : Bytes) (o : Option Entry) (s : Members) (x : Bytes) → IsDataset m → get m k ≡ o → held sets o ≡ Some s → contains_key s x ≡ true → IsTrue (fits x)
 held_fits m k None s x i g h c = let same : empty ≡ s = cc in let wrong : false ≡ true = sym (contains_empty x) ∙ ap (λ (u : Members). contains_key u x) same ∙ c in absurd (cc)
 held_fits m k (Some e) s x i g h c = set_of_fits e.value s x (i.entries k e g).value h c
 
@@ -107,7 +107,7 @@ has_turned p xs q h = elim (has (drop p xs) q) as (λ b. has (drop p xs) q ≡ b
   | false ↦ λ t i. has_take p xs q i
 ] refl (sym (has_append (drop p xs) (take p xs) q) ∙ h)
 
-taken_there : (count : Option ℕ) (word : ℕ) (s : Members) (q : Bytes) → has (taken count word s) q ≡ true → contains_key s q ≡ true
+pub taken_there : (count : Option ℕ) (word : ℕ) (s : Members) (q : Bytes) → has (taken count word s) q ≡ true → contains_key s q ≡ true
 taken_there count word s q h = sym (has_keys s q) ∙ has_turned (word % length (keys s)) (keys s) q (has_take (count_or_one count) (from_place (word % length (keys s)) (keys s)) q h)
 
 -- ---- no member
@@ -127,7 +127,7 @@ module _ (xs : List Bytes) (s : Members) where
   added_is : (q : Bytes) → contains_key (added xs s) q ≡ (has xs q && not (contains_key s q))
   added_is q = contains_retain (as_set xs) (λ x. not (contains_key s x)) q ∙ ap (λ b. b && not (contains_key s q)) (contains_as_set xs q)
 
-  with_added : with_members (keys (added xs s)) s ≡ with_members xs s
+  pub with_added : with_members (keys (added xs s)) s ≡ with_members xs s
   with_added = same_set _ _ (λ q.
       contains_with (keys (added xs s)) s q ∙ ap (λ b. b || contains_key s q) (has_keys (added xs s) q ∙ added_is q)
       ∙ joint (has xs q) (contains_key s q) ∙ sym (contains_with xs s q))
@@ -137,21 +137,21 @@ module _ (xs : List Bytes) (s : Members) where
       joint true false = refl
       joint false b = refl
 
-  added_none : with_members xs s ≡ s → added xs s ≡ empty
+  pub added_none : with_members xs s ≡ s → added xs s ≡ empty
   added_none h = none_there (added xs s) (λ q i.
       let there = sym (added_is q) ∙ i in
       let in_words = first (has xs q) (not (contains_key s q)) there in
       opposite (contains_key s q) (second (has xs q) (not (contains_key s q)) there)
       (ap (λ (t : Members). contains_key t q) (sym h) ∙ contains_with xs s q ∙ ap (λ b. b || contains_key s q) in_words))
 
-  added_fit : IsTrue (list_all fits xs) → IsTrue (list_all fits (keys (added xs s)))
+  pub added_fit : IsTrue (list_all fits xs) → IsTrue (list_all fits (keys (added xs s)))
   added_fit h = keys_fit (added xs s) (λ q i. has_fits xs q h (first (has xs q) (not (contains_key s q)) (sym (added_is q) ∙ i)))
 
   -- ---- SREM
   removed_is : (q : Bytes) → contains_key (removed xs s) q ≡ (has xs q && contains_key s q)
   removed_is q = contains_retain (as_set xs) (contains_key s) q ∙ ap (λ b. b && contains_key s q) (contains_as_set xs q)
 
-  without_removed : without_members (keys (removed xs s)) s ≡ without_members xs s
+  pub without_removed : without_members (keys (removed xs s)) s ≡ without_members xs s
   without_removed = same_set _ _ (λ q.
       contains_without (keys (removed xs s)) s q ∙ ap (λ b. not b && contains_key s q) (has_keys (removed xs s) q ∙ removed_is q)
       ∙ joint (has xs q) (contains_key s q) ∙ sym (contains_without xs s q))
@@ -161,32 +161,32 @@ module _ (xs : List Bytes) (s : Members) where
       joint true false = refl
       joint false b = refl
 
-  removed_none : without_members xs s ≡ s → removed xs s ≡ empty
+  pub removed_none : without_members xs s ≡ s → removed xs s ≡ empty
   removed_none h = none_there (removed xs s) (λ q i.
       let there = sym (removed_is q) ∙ i in
       let gone : contains_key s q ≡ false = ap (λ (t : Members). contains_key t q) (sym h) ∙ contains_without xs s q ∙ ap (λ b. not b && contains_key s q) (first (has xs q) (contains_key s q) there) in
       let wrong : false ≡ true = sym gone ∙ second (has xs q) (contains_key s q) there in absurd (cc))
 
-  removed_fit : IsTrue (list_all fits xs) → IsTrue (list_all fits (keys (removed xs s)))
+  pub removed_fit : IsTrue (list_all fits xs) → IsTrue (list_all fits (keys (removed xs s)))
   removed_fit h = keys_fit (removed xs s) (λ q i. has_fits xs q h (first (has xs q) (contains_key s q) (sym (removed_is q) ∙ i)))
 
 -- ---- SPOP
 module _ (xs : List Bytes) (s : Members) where
-  without_set : without_members (keys (as_set xs)) s ≡ without_members xs s
+  pub without_set : without_members (keys (as_set xs)) s ≡ without_members xs s
   without_set = same_set _ _ (λ q. contains_without (keys (as_set xs)) s q ∙ ap (λ b. not b && contains_key s q) (has_keys (as_set xs) q ∙ contains_as_set xs q) ∙ sym (contains_without xs s q))
 
-  set_none : ((q : Bytes) → has xs q ≡ true → contains_key s q ≡ true) → without_members xs s ≡ s → as_set xs ≡ empty
+  pub set_none : ((q : Bytes) → has xs q ≡ true → contains_key s q ≡ true) → without_members xs s ≡ s → as_set xs ≡ empty
   set_none there h = none_there (as_set xs) (λ q i.
       let named = sym (contains_as_set xs q) ∙ i in
       let gone : contains_key s q ≡ false = ap (λ (t : Members). contains_key t q) (sym h) ∙ contains_without xs s q ∙ ap (λ b. not b && contains_key s q) named in
       let wrong : false ≡ true = sym gone ∙ there q named in absurd (cc))
 
-  set_fits : ((q : Bytes) → has xs q ≡ true → IsTrue (fits q)) → IsTrue (list_all fits (keys (as_set xs)))
+  pub set_fits : ((q : Bytes) → has xs q ≡ true → IsTrue (fits q)) → IsTrue (list_all fits (keys (as_set xs)))
   set_fits h = keys_fit (as_set xs) (λ q i. h q (sym (contains_as_set xs q) ∙ i))
 
 -- ---- commands that change one set
 module _ (k : Bytes) (change : Members → Change Members) (now : ℤ) (m : Dataset) (kept : IsDataset m) where
-  changing_set : IsTrue (fits k) → ((n : Dataset) (s : Members) → IsDataset n → held sets (get n k) ≡ Some s → IsFaithfulChange sets (change s) s k (get n k)) → IsFaithful (on_key k (changing sets change)) now m
+  pub changing_set : IsTrue (fits k) → ((n : Dataset) (s : Members) → IsDataset n → held sets (get n k) ≡ Some s → IsFaithfulChange sets (change s) s k (get n k)) → IsFaithful (on_key k (changing sets change)) now m
   changing_set h f =
       let c = on_key k (changing sets change) in
       let n = before c now m in

@@ -5,3 +5,5 @@ pub mod Combinations
 pub mod Tells
 pub mod Groups
 pub mod Laws
+pub mod Moves
+pub mod CommandLaws
