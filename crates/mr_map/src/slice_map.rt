@@ -1,5 +1,5 @@
 // A map from byte strings that lie elsewhere.
-ghost use Rattle.std.specs.Prelude.{◌≡◌, ◌==◌, OnOk, OnErr, IfOk};
+ghost use Rattle.std.specs.Prelude.{◌≡◌, ◌==◌, ◌<◌, ◌^◌, OnOk, OnErr, IfOk};
 ghost use Rattle.std.specs.FinMap as map;
 
 use crate::slice_pairs::SlicePairs;
@@ -38,7 +38,8 @@ impl<'a, V> SliceMap<'a, V> {
 
     /// How many keys there are.
     pub fn len(&self) -> usize
-        ensures { result ≡ map.len self.now }
+        ensures len { result ≡ map.len self.now }
+        ensures small { result < 2 ^ 63 }
     {
         self.tree.len()
     }
