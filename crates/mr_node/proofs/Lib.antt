@@ -1,3 +1,4 @@
+pub mod Answering
 pub mod Ends
 pub mod Nodes
 pub mod Progressing

@@ -10,8 +10,11 @@ use Rattle.mr_data.specs.declared.plan.Plan.{Plan}
 use Rattle.mr_node.specs.State.{NodeState, EndState, end_of, put_end, open_end, shut_end, Agrees}
 use Rattle.mr_node.specs.Outs.{no_outs}
 use Rattle.mr_node.specs.Requests.{IsDoomedBy}
-use Rattle.mr_node.specs.Rows.{ClientRow, StepRow, Leaves, Stops}
-use Rattle.mr_node.specs.Parts.{Uses, Ran, fault_outs}
+use Rattle.mr_resp.specs.Replies.{error, reply_text}
+use Rattle.mr_resp.specs.Faults.{fault_text}
+use Rattle.mr_turn.specs.Turns.{done}
+use Rattle.mr_node.specs.Rows.{ClientRow, StepRow, Leaves, Ends, Stops}
+use Rattle.mr_node.specs.Parts.{Uses, Ran, Quits, last_outs}
 use Rattle.mr_node.specs.Parts.Ran.{commits, too_far}
 use Rattle.mr_node.specs.Parts.{Passes, Runs}
 use Rattle.mr_node.specs.declared.step.Step.{Step}
@@ -40,10 +43,15 @@ skip_row a b l given u used p uses ag =
     let e = used_end a b l u used ag uses in
     ClientRow.skips (record { rest = drop used u; asks = p.asks; core = ap (λ (s : NodeState). s.core) e; leaves = leaves_of a b l (drop used u) e; outs_are = refl })
 
-pub fault_row : (a b : NodeState) (l : LinkId) (given : Given) (u : List ℕ) (fault : Fault) → IsDoomedBy u fault → b ≡ put_end a l (shut_end)
-    → ClientRow a l u given b (fault_outs l fault)
-fault_row a b l given u fault d e =
-    ClientRow.faults (record { fault = fault; doomed = d; core = ap (λ (s : NodeState). s.core) e; shut = put_shut a b l e; others = put_others a b l _ e; outs_are = refl })
+pub fault_ends : (u : List ℕ) (fault : Fault) → IsDoomedBy u fault → Ends u (reply_text (error (fault_text fault)))
+fault_ends u fault d = Ends.doomed fault d refl
+
+pub quit_ends : (u : List ℕ) → Quits u → Ends u (reply_text done)
+quit_ends u q = Ends.quit q.words q.rest q.asks q.quit refl
+
+pub last_row : (a b : NodeState) (l : LinkId) (given : Given) (u last : List ℕ) → Ends u last → b ≡ put_end a l (shut_end) → ClientRow a l u given b (last_outs l last)
+last_row a b l given u last d e =
+    ClientRow.closes (record { last = last; ends = d; core = ap (λ (s : NodeState). s.core) e; shut = put_shut a b l e; others = put_others a b l _ e; outs_are = refl })
 
 pub run_row : (a b : NodeState) (l : LinkId) (given : Given) (u : List ℕ) (used : ℕ) (p : Plan) (s : Step) → Runs u given a.core.held used p
     → Ran a l used (view p.reply) p.effects.items b s → Agrees a l u → StepRow a l u given b s
@@ -58,6 +66,7 @@ run_row a b l given u used p s r (commits within c) ag =
       asks = r.asks;
       reply = view p.reply;
       effects = es;
+      goes_on = r.goes_on;
       planned = r.planned;
       within = within;
       held = c.held;
@@ -74,6 +83,7 @@ run_row a b l given u used p s r (too_far t) ag =
       asks = r.asks;
       reply = view p.reply;
       effects = p.effects.items;
+      goes_on = r.goes_on;
       planned = r.planned;
       beyond = t.beyond;
       core = ap (λ (z : NodeState). z.core) e;

@@ -13,7 +13,8 @@ use Rattle.mr_effect.specs.Spelling.{texts}
 use Rattle.mr_effect.specs.declared.effect.Effect.{Effect}
 use Rattle.mr_data.specs.declared.given.Given.{Given}
 use Rattle.mr_data.specs.declared.plan.Plan.{Plan}
-use Rattle.mr_plan_keys.specs.Requests.{IsPlanned}
+use Rattle.mr_turn.specs.Turns.{done}
+use Rattle.mr_plan.specs.Requests.{IsPlanned, quits}
 use Rattle.mr_node.specs.State.{NodeState, EndState, end_of, put_end, full}
 use Rattle.mr_node.specs.Outs.{OutsState}
 use Rattle.mr_node.specs.Requests.{Asks, AsksNothing, Waits, IsDoomedBy}
@@ -21,6 +22,8 @@ use Rattle.mr_node.specs.Progresses.{AgreesAlong}
 use Rattle.mr_node.specs.Rows.{offset_limit, limit_text}
 use Rattle.mr_node.specs.declared.step.Step.{Step}
 use Rattle.mr_node.specs.declared.step.Step.TheVariants.{Done}
+use Rattle.mr_plan.specs.declared.requests.Answer.{Answer}
+use Rattle.mr_plan.specs.declared.requests.Answer.TheVariants as answer
 use Rattle.mr_node.specs.declared.todo.Todo.{Todo}
 use Rattle.mr_node.specs.declared.todo.Todo.TheVariants as todo
 
@@ -45,6 +48,7 @@ pub record Runs (u : List ℕ) (given : Given) (m : Dataset) (used : ℕ) (p : P
   pub enough : used ≤ length u
   pub words : List (List ℕ)
   pub asks : Asks u words (drop used u)
+  pub goes_on : quits words ≡ false
   pub planned : IsPlanned words given m (view p.reply) p.effects.items
   pub leads : Leads p.effects.items m
 
@@ -53,17 +57,30 @@ pub record Passes (u : List ℕ) (used : ℕ) : Type 0 where
   pub enough : used ≤ length u
   pub asks : AsksNothing u (drop used u)
 
+-- The bytes begin with a client's wish that its link be closed.
+pub record Quits (u : List ℕ) : Type 0 where
+  pub words : List (List ℕ)
+  pub rest : List ℕ
+  pub asks : Asks u words rest
+  pub quit : quits words ≡ true
+
 abbrev pub IsTodo : List ℕ → Given → Dataset → Todo → Type 0
 IsTodo u given m (todo.Wait progress) = Waits u × (length u < full)
 IsTodo u given m (todo.Skip used) = Passes u used
 IsTodo u given m (todo.Refuse fault) = IsDoomedBy u fault
+IsTodo u given m todo.Quit = Quits u
 IsTodo u given m (todo.Run used plan) = Runs u given m used plan
+
+abbrev pub carry_out : Answer → ℕ → Todo
+carry_out (answer.Run plan) used = todo.Run used plan
+carry_out answer.Quit used = todo.Quit
 
 -- where more is waited for, the progress is over the unread bytes
 abbrev pub KeepsAlong : Todo → List ℕ → Type 0
 KeepsAlong (todo.Wait progress) unread = AgreesAlong progress unread
 KeepsAlong (todo.Skip used) unread = Unit {0}
 KeepsAlong (todo.Refuse fault) unread = Unit {0}
+KeepsAlong todo.Quit unread = Unit {0}
 KeepsAlong (todo.Run used plan) unread = Unit {0}
 
 -- so many bytes of the link are used, and nothing else has changed
@@ -74,8 +91,9 @@ Uses a l used b = (e : EndState) → end_of a l ≡ Some e → b ≡ put_end a l
 abbrev pub Hears : NodeState → LinkId → List ℕ → NodeState → Type 0
 Hears a l bytes b = (e : EndState) → end_of a l ≡ Some e → b ≡ put_end a l (record e { kept = e.kept ++ bytes })
 
-abbrev pub fault_outs : LinkId → Fault → OutsState
-fault_outs l fault = record { link = l; grown = []; reply = reply_text (error (fault_text fault)); closes = true }
+-- this is told last
+abbrev pub last_outs : LinkId → List ℕ → OutsState
+last_outs l last = record { link = l; grown = []; reply = last; closes = true }
 
 -- The effects are done, and all is told.
 pub record Commits (a : NodeState) (l : LinkId) (used : ℕ) (reply : Tree) (effects : List Effect) (b : NodeState) (s : Step) : Type 0 where

@@ -10,7 +10,8 @@ use Rattle.mr_data.specs.Meaning.{apply_all}
 use Rattle.mr_effect.specs.Spelling.{texts}
 use Rattle.mr_effect.specs.declared.effect.Effect.{Effect}
 use Rattle.mr_data.specs.declared.given.Given.{Given}
-use Rattle.mr_plan_keys.specs.Requests.{IsPlanned}
+use Rattle.mr_turn.specs.Turns.{done}
+use Rattle.mr_plan.specs.Requests.{IsPlanned, quits}
 use Rattle.mr_node.specs.State.{NodeState, Agrees, IsShut, OthersStay, full}
 use Rattle.mr_node.specs.Outs.{OutsState}
 use Rattle.mr_node.specs.Requests.{Asks, AsksNothing, Waits, IsDoomedBy}
@@ -36,6 +37,7 @@ pub record Replies (a : NodeState) (l : LinkId) (u : List ℕ) (given : Given) (
   pub asks : Asks u words rest
   pub reply : Tree
   pub effects : List Effect
+  pub goes_on : quits words ≡ false
   pub planned : IsPlanned words given a.core.held reply effects
   pub within : a.core.stream.offset + length (texts effects) ≤ offset_limit
   pub held : Dataset
@@ -51,6 +53,7 @@ pub record PassesLimit (a : NodeState) (l : LinkId) (u : List ℕ) (given : Give
   pub asks : Asks u words rest
   pub reply : Tree
   pub effects : List Effect
+  pub goes_on : quits words ≡ false
   pub planned : IsPlanned words given a.core.held reply effects
   pub beyond : offset_limit < a.core.stream.offset + length (texts effects)
   pub core : b.core ≡ a.core
@@ -65,20 +68,25 @@ pub record Skips (a : NodeState) (l : LinkId) (u : List ℕ) (b : NodeState) (ou
   pub leaves : Leaves a l b rest
   pub outs_are : outs ≡ record { link = l; grown = []; reply = []; closes = false }
 
--- Doomed bytes: the fault's text is sent, and the link is closed.
-pub record Faults (a : NodeState) (l : LinkId) (u : List ℕ) (b : NodeState) (outs : OutsState) : Type 0 where
-  pub fault : Fault
-  pub doomed : IsDoomedBy u fault
+-- These bytes end a link, and this is told last: they are doomed, or a client asks that its link be closed.
+pub data Ends (u last : List ℕ) : Type 0 where
+  doomed : (fault : Fault) → IsDoomedBy u fault → last ≡ reply_text (error (fault_text fault)) → Ends u last
+  quit : (words : List (List ℕ)) (rest : List ℕ) → Asks u words rest → quits words ≡ true → last ≡ reply_text done → Ends u last
+
+-- The last is told, and the link is closed.
+pub record Closes (a : NodeState) (l : LinkId) (u : List ℕ) (b : NodeState) (outs : OutsState) : Type 0 where
+  pub last : List ℕ
+  pub ends : Ends u last
   pub core : b.core ≡ a.core
   pub shut : IsShut b l
   pub others : OthersStay a b l
-  pub outs_are : outs ≡ record { link = l; grown = []; reply = reply_text (error (fault_text fault)); closes = true }
+  pub outs_are : outs ≡ record { link = l; grown = []; reply = last; closes = true }
 
 pub data ClientRow (a : NodeState) (l : LinkId) (u : List ℕ) (given : Given) (b : NodeState) (outs : OutsState) : Type 0 where
   replies : Replies a l u given b outs → ClientRow a l u given b outs
   passes_limit : PassesLimit a l u given b outs → ClientRow a l u given b outs
   skips : Skips a l u b outs → ClientRow a l u given b outs
-  faults : Faults a l u b outs → ClientRow a l u given b outs
+  closes : Closes a l u b outs → ClientRow a l u given b outs
 
 -- Nothing whole is there, and nothing changes. A full input is never left so.
 pub record Idles (a : NodeState) (u : List ℕ) (b : NodeState) : Type 0 where

@@ -2,14 +2,16 @@
 ghost use Rattle.std.specs.Prelude.{◌≡◌, ◌≢◌, ◌≤◌, ◌<◌, ◌+◌, ◌^◌, ◌++◌, ℕ, List, [], true, false, length, IsSome, Some, None, Ok, OnOk, OnErr, IfOk, IfErr, IfSome, IsErrOf, ◌↔◌, ◌⊎◌};
 ghost use Rattle.std.specs.FinMap as map;
 ghost use Rattle.mr_repl.specs.Backlog.{empty_at};
-ghost use Rattle.mr_resp.specs.Replies.{reply_text};
+ghost use Rattle.mr_resp.specs.Faults.{fault_text};
+ghost use Rattle.mr_resp.specs.Replies.{error, reply_text};
 ghost use Rattle.mr_resp.specs.ReplyView.{view};
 ghost use Rattle.mr_effect.specs.Spelling.{texts};
+ghost use Rattle.mr_turn.specs.Turns.{done};
 ghost use Rattle.mr_data.specs.Meaning.{apply_all};
 ghost use Rattle.mr_node.specs.State.{NodeState, Core, EndState, end_of, put_end, open_end, shut_end, Agrees, IsShut, OthersStay, Opens, stopped_as, shown, room_of, IsTooMuch};
 ghost use Rattle.mr_node.specs.Outs.{no_outs};
 ghost use Rattle.mr_node.specs.Progresses.{AgreesAlong};
-ghost use Rattle.mr_node.specs.Parts.{Leads, HasAhead, HasRoom, Uses, Hears, fault_outs, Ran, Commits, Tells, KeepsOn};
+ghost use Rattle.mr_node.specs.Parts.{Leads, HasAhead, HasRoom, Uses, Hears, last_outs, Ran, Commits, Tells, KeepsOn};
 ghost use Rattle.mr_node.specs.Rows.{StepRow, WhyStopped, offset_limit};
 
 use crate::config::Config;
@@ -162,23 +164,44 @@ impl Node {
         Step::Done(outs)
     }
 
+    /// Sends a last reply, and closes the link.
+    fn dismiss(&mut self, link: LinkId, reply: &Reply) -> Result<Step, NodeFault>
+        requires { IsSome (end_of self.old link) }
+        ensures step { IfOk result (λ s. s ≡ Step.Done (last_outs link (reply_text (view reply.now)))) }
+        ensures state { OnOk result (self.new ≡ put_end self.old link shut_end) }
+        ensures err { IfErr result (λ e. (e ≡ NodeFault.Memory) × (self.new ≡ self.old)) }
+    {
+        let mut outs = self.fresh_outs(link);
+        if outs.say(reply).is_err() {
+            return Err(NodeFault::Memory);
+        }
+        outs.close();
+        self.shut(link);
+        Ok(Step::Done(outs))
+    }
+
     /// Sends the text of a fault, and closes the link.
     fn refuse(&mut self, link: LinkId, fault: Fault) -> Result<Step, NodeFault>
         requires { IsSome (end_of self.old link) }
-        ensures step { IfOk result (λ s. s ≡ Step.Done (fault_outs link fault)) }
+        ensures step { IfOk result (λ s. s ≡ Step.Done (last_outs link (reply_text (error (fault_text fault))))) }
         ensures state { OnOk result (self.new ≡ put_end self.old link shut_end) }
         ensures err { IfErr result (λ e. (e ≡ NodeFault.Memory) × (self.new ≡ self.old)) }
     {
         let Ok(reply) = fault.reply(self.alloc) else {
             return Err(NodeFault::Memory);
         };
-        let mut outs = self.fresh_outs(link);
-        if outs.say(&reply).is_err() {
-            return Err(NodeFault::Memory);
-        }
-        outs.close();
-        self.shut(link);
-        Ok(Step::Done(outs))
+        self.dismiss(link, &reply)
+    }
+
+    /// Answers OK, and closes the link.
+    fn quit(&mut self, link: LinkId) -> Result<Step, NodeFault>
+        requires { IsSome (end_of self.old link) }
+        ensures step { IfOk result (λ s. s ≡ Step.Done (last_outs link (reply_text done))) }
+        ensures state { OnOk result (self.new ≡ put_end self.old link shut_end) }
+        ensures err { IfErr result (λ e. (e ≡ NodeFault.Memory) × (self.new ≡ self.old)) }
+    {
+        let reply = Reply::Simple(CowSlice::Borrowed(b"OK"));
+        self.dismiss(link, &reply)
     }
 
     /// Carries out a plan.
@@ -359,6 +382,7 @@ impl Node {
             }
             Ok(Todo::Skip { used }) => Ok(self.skip(link, used)),
             Ok(Todo::Refuse(fault)) => self.refuse(link, fault),
+            Ok(Todo::Quit) => self.quit(link),
             Ok(Todo::Run { used, plan }) => self.run(link, used, plan),
         }
     }

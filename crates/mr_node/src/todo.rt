@@ -1,10 +1,10 @@
 // What is to be done about unread bytes.
 ghost use Rattle.std.specs.Prelude.{◌≡◌, IfOk};
-ghost use Rattle.mr_node.specs.Parts.{IsTodo, KeepsAlong};
+ghost use Rattle.mr_node.specs.Parts.{IsTodo, KeepsAlong, carry_out};
 ghost use Rattle.mr_node.specs.Progresses.{AgreesAlong};
 
 use mr_data::{Dataset, Given, Plan};
-use mr_plan_keys::plan_words;
+use mr_plan::{Answer, plan_words};
 use mr_resp::{Fault, Limits, Progress, Scan, more_is_wanted, next_request_from, words_fit};
 use std::alloc::{AllocError, Global};
 
@@ -15,8 +15,10 @@ pub(crate) enum Todo {
     Wait(Progress),
     /// An empty request is used.
     Skip { used: usize },
-    /// The fault is told.
+    /// The fault is told, and the link closed.
     Refuse(Fault),
+    /// OK is told, and the link closed.
+    Quit,
     /// A request is used, and its plan carried out.
     Run { used: usize, plan: Plan },
 }
@@ -39,8 +41,8 @@ pub(crate) fn todo_of(
     match scan {
         Scan::Whole { words, used } => {
             words_fit();
-            let plan = plan_words(alloc, held, words.as_slice(), given)?;
-            Ok(Todo::Run { used, plan })
+            let answer = plan_words(alloc, held, words.as_slice(), given)?;
+            Ok(carry_out(answer, used))
         }
         Scan::Skip { used } => Ok(Todo::Skip { used }),
         Scan::More => {
@@ -48,5 +50,14 @@ pub(crate) fn todo_of(
             Ok(Todo::Wait(progress))
         }
         Scan::Bad(fault) => Ok(Todo::Refuse(fault)),
+    }
+}
+
+fn carry_out(answer: Answer, used: usize) -> Todo
+    ensures { result ≡ carry_out answer used }
+{
+    match answer {
+        Answer::Run(plan) => Todo::Run { used, plan },
+        Answer::Quit => Todo::Quit,
     }
 }

@@ -27,19 +27,19 @@ went : (a : NodeState) (l : LinkId) (u : List ℕ) (g : Given) (b : NodeState) (
 went a l u g b outs (ClientRow.replies r) e = record {
   rest = r.rest;
   agrees = r.leaves.agrees;
-  turn = Turn.replies r.words r.reply r.effects r.held r.asks r.planned r.within r.applied r.core (ap (λ (o : OutsState). o.reply) r.outs_are);
+  turn = Turn.replies r.words r.reply r.effects r.held r.asks r.goes_on r.planned r.within r.applied r.core (ap (λ (o : OutsState). o.reply) r.outs_are);
 }
 went a l u g b outs (ClientRow.passes_limit r) e = record {
   rest = r.rest;
   agrees = r.leaves.agrees;
-  turn = Turn.passes_limit r.words r.reply r.effects r.asks r.planned r.beyond r.core (ap (λ (o : OutsState). o.reply) r.outs_are);
+  turn = Turn.passes_limit r.words r.reply r.effects r.asks r.goes_on r.planned r.beyond r.core (ap (λ (o : OutsState). o.reply) r.outs_are);
 }
 went a l u g b outs (ClientRow.skips r) e = record {
   rest = r.rest;
   agrees = r.leaves.agrees;
   turn = Turn.skips r.asks r.core (ap (λ (o : OutsState). o.reply) r.outs_are);
 }
-went a l u g b outs (ClientRow.faults r) e = no_close (sym (ap (λ (o : OutsState). o.closes) r.outs_are) ∙ e)
+went a l u g b outs (ClientRow.closes r) e = no_close (sym (ap (λ (o : OutsState). o.closes) r.outs_are) ∙ e)
 
 abbrev pub starts : (g : Given) (a : NodeState) (l : LinkId) (u : List ℕ) (old : Option (List ℕ)) → Agrees a l u → Going g a l u old a old
 starts g a l u old ag = record { turns = []; rest = u; said = []; serves = (refl, refl, refl); told = Appends-nil old; agrees = ag }
@@ -75,12 +75,12 @@ drained g a l u old b mid d new w t =
 
 pub ended : (g : Given) (a : NodeState) (l : LinkId) (u : List ℕ) (old : Option (List ℕ)) (b : NodeState) (mid : Option (List ℕ)) (d : NodeState) (new : Option (List ℕ))
     → (w : Going g a l u old b mid) → (outs : OutsState) → ClientRow b l w.rest g d outs → outs.closes ≡ true → Appends mid new outs.reply → Ended g a l u old d new
-ended g a l u old b mid d new w outs (ClientRow.faults r) e n = record {
+ended g a l u old b mid d new w outs (ClientRow.closes r) e n = record {
   mid = b;
   before = mid;
   going = w;
-  fault = r.fault;
-  doomed = r.doomed;
+  last = r.last;
+  ends = r.ends;
   core = r.core;
   told = subst (λ (o : OutsState). Appends mid new o.reply) r.outs_are n;
   shut = r.shut;
@@ -109,8 +109,8 @@ drained_join g a l u old bytes n m n1 b new w same false d = record {
   mid = d.mid;
   before = d.before;
   going = going_join g a l u old bytes n m n1 d.mid d.before w same d.going;
-  fault = d.fault;
-  doomed = d.doomed;
+  last = d.last;
+  ends = d.ends;
   core = d.core;
   told = d.told;
   shut = d.shut;

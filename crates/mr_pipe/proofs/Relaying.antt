@@ -3,13 +3,11 @@ use Rattle.std.proofs.Common.{rules, ◌≡◌, ◌<◌, ℕ, List, [], ◌∷�
 use Rattle.std.specs.Io.KnownBytes.{Consumes, IsAtEnd, Appends, Keeps}
 use Rattle.std.proofs.KnownBytes.{Consumes-nil, Consumes-trans, Appends-trans, Appends-kept}
 use Rattle.mr_links.specs.declared.link_id.LinkId.{LinkId}
-use Rattle.mr_resp.specs.Faults.{fault_text}
-use Rattle.mr_resp.specs.Replies.{error, reply_text}
 use Rattle.mr_data.specs.declared.given.Given.{Given}
 use Rattle.mr_node.specs.State.{NodeState, Agrees}
 use Rattle.mr_node.specs.Requests.{Waits}
 use Rattle.mr_pipe.specs.Serving.{Going, Drained, Ended}
-use Rattle.mr_pipe.specs.Piped.{Relays, RelaysEnd, RelaysFault, IsRound, Session, Answers}
+use Rattle.mr_pipe.specs.Piped.{Relays, RelaysEnd, RelaysClose, IsRound, Session, Answers}
 use Rattle.mr_pipe.specs.declared.relay.Round.{Round}
 use Rattle.mr_pipe.specs.declared.relay.Round.TheVariants as round
 use Rattle.mr_pipe.proofs.Goings.{starts}
@@ -41,16 +39,15 @@ session_end g a l old x z b new r =
       answers = Answers.at_end w.turns b.core w.rest w.serves r.all.drained.waits r.at_end;
     }
 
-pub session_fault : (g : Given) (a : NodeState) (l : LinkId) (old x z : Option (List ℕ)) (b : NodeState) (new : Option (List ℕ)) → RelaysFault g a l [] old x z b new → Session g a.core x z old new
-session_fault g a l old x z b new r =
+pub session_close : (g : Given) (a : NodeState) (l : LinkId) (old x z : Option (List ℕ)) (b : NodeState) (new : Option (List ℕ)) → RelaysClose g a l [] old x z b new → Session g a.core x z old new
+session_close g a l old x z b new r =
     let w = r.ended.going in
-    let fault = reply_text (error (fault_text r.ended.fault)) in
     record {
       read = r.read;
       consumed = r.consumed;
-      said = w.said ++ fault;
-      told = Appends-trans old r.ended.before new w.said fault w.told r.ended.told;
-      answers = Answers.at_fault w.turns r.ended.mid.core w.rest w.said r.ended.fault w.serves r.ended.doomed refl;
+      said = w.said ++ r.ended.last;
+      told = Appends-trans old r.ended.before new w.said r.ended.last w.told r.ended.told;
+      answers = Answers.at_close w.turns r.ended.mid.core w.rest w.said r.ended.last w.serves r.ended.ends refl;
     }
 
 -- a flush changes nothing of this
@@ -64,10 +61,10 @@ ended_kept g a l u old b mid new e k = record {
   mid = e.mid;
   before = e.before;
   going = e.going;
-  fault = e.fault;
-  doomed = e.doomed;
+  last = e.last;
+  ends = e.ends;
   core = e.core;
-  told = Appends-kept e.before mid new (reply_text (error (fault_text e.fault))) e.told k;
+  told = Appends-kept e.before mid new e.last e.told k;
   shut = e.shut;
 }
 

@@ -24,8 +24,8 @@ asks_more : (u m rest : List ℕ) (words : List (List ℕ)) → Asks u words res
 asks_more u m rest words a = record { text = a.text; begins = ap (λ z. z ++ m) a.begins ∙ append_assoc a.text rest m; request = a.request }
 
 turn_more : (c : Core) (u m : List ℕ) (g : Given) (d : Core) (rest out : List ℕ) → Turn c u g d rest out → Turn c (u ++ m) g d (rest ++ m) out
-turn_more c u m g d rest out (Turn.replies words reply effects held a p w ap_ e o) = Turn.replies words reply effects held (asks_more u m rest words a) p w ap_ e o
-turn_more c u m g d rest out (Turn.passes_limit words reply effects a p w e o) = Turn.passes_limit words reply effects (asks_more u m rest words a) p w e o
+turn_more c u m g d rest out (Turn.replies words reply effects held a stays p w ap_ e o) = Turn.replies words reply effects held (asks_more u m rest words a) stays p w ap_ e o
+turn_more c u m g d rest out (Turn.passes_limit words reply effects a stays p w e o) = Turn.passes_limit words reply effects (asks_more u m rest words a) stays p w e o
 turn_more c u m g d rest out (Turn.skips a e o) =
     Turn.skips (record { text = a.text; begins = ap (λ z. z ++ m) a.begins ∙ append_assoc a.text rest m; empty = a.empty }) e o
 

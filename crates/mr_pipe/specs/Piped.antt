@@ -4,12 +4,10 @@ use Rattle.std.specs.FinMap.{empty}
 use Rattle.std.specs.Io.KnownBytes.{Appends, Consumes, IsAtEnd}
 use Rattle.mr_links.specs.declared.link_id.LinkId.{LinkId}
 use Rattle.mr_repl.specs.Backlog.{empty_at}
-use Rattle.mr_resp.specs.Faults.{fault_text}
-use Rattle.mr_resp.specs.Replies.{error, reply_text}
-use Rattle.mr_resp.specs.declared.fault.Fault.{Fault}
 use Rattle.mr_data.specs.declared.given.Given.{Given}
 use Rattle.mr_node.specs.State.{NodeState, Core}
-use Rattle.mr_node.specs.Requests.{Waits, IsDoomedBy}
+use Rattle.mr_node.specs.Requests.{Waits}
+use Rattle.mr_node.specs.Rows.{Ends}
 use Rattle.mr_pipe.specs.Sessions.{Moment, Serves}
 use Rattle.mr_pipe.specs.Serving.{Drained, Ended}
 use Rattle.mr_pipe.specs.declared.relay.Round.{Round}
@@ -23,9 +21,9 @@ fresh_core id = record { up = true; replica = false; port = 0; id = id; held = e
 pub data Answers (g : Given) (c : Core) (read said : List ℕ) (after : Option (List ℕ)) : Type 0 where
   -- .. and all was read: what is left over is less than a request and is dropped
   at_end : (turns : List Moment) (d : Core) (rest : List ℕ) → Serves g c read turns d rest said → Waits rest → IsAtEnd after → Answers g c read said after
-  -- .. and then the bytes were doomed: their fault was told last, and nothing behind them is answered
-  at_fault : (turns : List Moment) (d : Core) (rest replies : List ℕ) (fault : Fault) → Serves g c read turns d rest replies → IsDoomedBy rest fault
-      → said ≡ replies ++ reply_text (error (fault_text fault)) → Answers g c read said after
+  -- .. and then the link was closed, at doomed bytes or since the client asked for it: nothing behind is answered
+  at_close : (turns : List Moment) (d : Core) (rest replies last : List ℕ) → Serves g c read turns d rest replies → Ends rest last
+      → said ≡ replies ++ last → Answers g c read said after
 
 -- What was read of the input and written to the output is a session of a node that was c, with a fresh link.
 pub record Session (g : Given) (c : Core) (before after : Option (List ℕ)) (old new : Option (List ℕ)) : Type 0 where
@@ -41,8 +39,8 @@ pub record Relays (g : Given) (a : NodeState) (l : LinkId) (u : List ℕ) (old :
   pub consumed : Consumes before after read
   pub drained : Drained g a l (u ++ read) old b new
 
--- Bytes were read until they were doomed.
-pub record RelaysFault (g : Given) (a : NodeState) (l : LinkId) (u : List ℕ) (old : Option (List ℕ)) (before after : Option (List ℕ)) (b : NodeState) (new : Option (List ℕ)) : Type 0 where
+-- Bytes were read until the link was closed.
+pub record RelaysClose (g : Given) (a : NodeState) (l : LinkId) (u : List ℕ) (old : Option (List ℕ)) (before after : Option (List ℕ)) (b : NodeState) (new : Option (List ℕ)) : Type 0 where
   pub read : List ℕ
   pub consumed : Consumes before after read
   pub ended : Ended g a l (u ++ read) old b new
@@ -55,4 +53,4 @@ pub record RelaysEnd (g : Given) (a : NodeState) (l : LinkId) (u : List ℕ) (ol
 abbrev pub IsRound : Given → NodeState → LinkId → List ℕ → Option (List ℕ) → Option (List ℕ) → Option (List ℕ) → NodeState → Option (List ℕ) → Round → Type 0
 IsRound g a l u old before after b new round.On = Relays g a l u old before after b new
 IsRound g a l u old before after b new round.End = RelaysEnd g a l u old before after b new
-IsRound g a l u old before after b new round.Shut = RelaysFault g a l u old before after b new
+IsRound g a l u old before after b new round.Shut = RelaysClose g a l u old before after b new

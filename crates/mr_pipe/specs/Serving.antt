@@ -2,14 +2,11 @@
 use Rattle.std.specs.Prelude.{◌≡◌, ℕ, List, [], ◌++◌, Bool, true, false, Option}
 use Rattle.std.specs.Io.KnownBytes.{Appends}
 use Rattle.mr_links.specs.declared.link_id.LinkId.{LinkId}
-use Rattle.mr_resp.specs.Faults.{fault_text}
-use Rattle.mr_resp.specs.Replies.{error, reply_text}
-use Rattle.mr_resp.specs.declared.fault.Fault.{Fault}
 use Rattle.mr_data.specs.declared.given.Given.{Given}
 use Rattle.mr_node.specs.State.{NodeState, Agrees, IsShut}
 use Rattle.mr_node.specs.Outs.{OutsState}
-use Rattle.mr_node.specs.Requests.{Waits, IsDoomedBy}
-use Rattle.mr_node.specs.Rows.{ClientRow, Idles}
+use Rattle.mr_node.specs.Requests.{Waits}
+use Rattle.mr_node.specs.Rows.{ClientRow, Ends, Idles}
 use Rattle.mr_pipe.specs.Sessions.{Moment, Serves}
 use Rattle.mr_pipe.specs.declared.serve.Turned.{Turned}
 use Rattle.mr_pipe.specs.declared.serve.Turned.TheVariants as turned
@@ -28,15 +25,15 @@ pub record Drained (g : Given) (a : NodeState) (l : LinkId) (u : List ℕ) (old 
   pub going : Going g a l u old b new
   pub waits : Waits going.rest
 
--- All requests before a doomed beginning were served, its fault was told, and the link is closed.
+-- All requests were served before one that ends the link or before doomed bytes, the last was told, and the link is closed.
 pub record Ended (g : Given) (a : NodeState) (l : LinkId) (u : List ℕ) (old : Option (List ℕ)) (b : NodeState) (new : Option (List ℕ)) : Type 0 where
   pub mid : NodeState
   pub before : Option (List ℕ)
   pub going : Going g a l u old mid before
-  pub fault : Fault
-  pub doomed : IsDoomedBy going.rest fault
+  pub last : List ℕ
+  pub ends : Ends going.rest last
   pub core : b.core ≡ mid.core
-  pub told : Appends before new (reply_text (error (fault_text fault)))
+  pub told : Appends before new last
   pub shut : IsShut b l
 
 abbrev pub IsDrained : Given → NodeState → LinkId → List ℕ → Option (List ℕ) → NodeState → Option (List ℕ) → Bool → Type 0

@@ -1,5 +1,5 @@
 -- What a client's requests get, one after another.
-use Rattle.std.specs.Prelude.{◌≡◌, ◌≤◌, ◌<◌, ◌+◌, ℕ, List, [], ◌∷◌, ◌++◌, Some, length}
+use Rattle.std.specs.Prelude.{◌≡◌, ◌≤◌, ◌<◌, ◌+◌, ℕ, List, [], ◌∷◌, ◌++◌, false, Some, length}
 use Rattle.mr_repl.specs.Backlog.{after_bytes}
 use Rattle.mr_resp.specs.Replies.{Tree, error, reply_text}
 use Rattle.mr_data.specs.Dataset.{Dataset}
@@ -7,7 +7,7 @@ use Rattle.mr_data.specs.Meaning.{apply_all}
 use Rattle.mr_effect.specs.Spelling.{texts}
 use Rattle.mr_effect.specs.declared.effect.Effect.{Effect}
 use Rattle.mr_data.specs.declared.given.Given.{Given}
-use Rattle.mr_plan_keys.specs.Requests.{IsPlanned}
+use Rattle.mr_plan.specs.Requests.{IsPlanned, quits}
 use Rattle.mr_node.specs.State.{Core}
 use Rattle.mr_node.specs.Requests.{Asks, AsksNothing}
 use Rattle.mr_node.specs.Rows.{offset_limit, limit_text}
@@ -15,11 +15,11 @@ use Rattle.mr_node.specs.Rows.{offset_limit, limit_text}
 -- The request at the front of the unread bytes u: what it makes of the node, what is left, and what is sent.
 pub data Turn (c : Core) (u : List ℕ) (g : Given) (d : Core) (rest out : List ℕ) : Type 0 where
   -- it is answered at the node's dataset, and its effects are applied and put behind the stream
-  replies : (words : List (List ℕ)) (reply : Tree) (effects : List Effect) (held : Dataset) → Asks u words rest → IsPlanned words g c.held reply effects
+  replies : (words : List (List ℕ)) (reply : Tree) (effects : List Effect) (held : Dataset) → Asks u words rest → quits words ≡ false → IsPlanned words g c.held reply effects
       → c.stream.offset + length (texts effects) ≤ offset_limit → apply_all effects c.held ≡ Some held
       → d ≡ record c { held = held; stream = after_bytes c.stream (texts effects) } → out ≡ reply_text reply → Turn c u g d rest out
   -- its effects would carry the offset past its limit
-  passes_limit : (words : List (List ℕ)) (reply : Tree) (effects : List Effect) → Asks u words rest → IsPlanned words g c.held reply effects
+  passes_limit : (words : List (List ℕ)) (reply : Tree) (effects : List Effect) → Asks u words rest → quits words ≡ false → IsPlanned words g c.held reply effects
       → offset_limit < c.stream.offset + length (texts effects) → d ≡ c → out ≡ reply_text (error limit_text) → Turn c u g d rest out
   -- it is an empty request
   skips : AsksNothing u rest → d ≡ c → out ≡ [] → Turn c u g d rest out

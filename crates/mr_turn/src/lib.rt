@@ -7,3 +7,6 @@ mod taken;
 
 pub use effects::Effects;
 pub use looking::{find, look, push_dels};
+
+#[cfg(test)]
+mod tests;

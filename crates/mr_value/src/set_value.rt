@@ -1,5 +1,5 @@
 // Sets of byte strings.
-ghost use Rattle.std.specs.Prelude.{◌≡◌, ◌==◌, not, drop, slice_get, IfOk, OnOk, OnErr, option_copied};
+ghost use Rattle.std.specs.Prelude.{◌≡◌, ◌==◌, ◌<◌, ◌^◌, not, drop, slice_get, IfOk, OnOk, OnErr, option_copied};
 ghost use Rattle.std.specs.FinMap as map;
 
 use crate::bytes::Bytes;
@@ -39,7 +39,8 @@ impl SetValue {
 
     /// How many members there are.
     pub fn len(&self) -> usize
-        ensures { result ≡ map.len self.now }
+        ensures len { result ≡ map.len self.now }
+        ensures small { result < 2 ^ 63 }
     {
         self.members.len()
     }

@@ -8,8 +8,9 @@ use Rattle.mr_resp.specs.ReplyView.{view}
 use Rattle.mr_resp.specs.Usual.{usual, usual-word}
 use Rattle.std.specs.List.{list_all}
 use Rattle.mr_value.specs.Words.{fits}
-use Rattle.mr_plan_keys.specs.Requests.{IsPlanned}
-use Rattle.mr_node.specs.Parts.{Leads}
+use Rattle.mr_plan.specs.Requests.{IsAnswer, Leads}
+use Rattle.mr_node.specs.Parts.{IsTodo, KeepsAlong}
+use Rattle.mr_node.proofs.Answering.{answer_todo, answer_along}
 use Rattle.mr_node.proofs.Progressing.{agrees_now, not_le, all_fit}
 use Rattle.mr_node.proofs.todo.todo_of.Goals as goal
 
@@ -17,24 +18,20 @@ pub next_request_from-requires : goal.next_request_from-requires
 next_request_from-requires c =
     subst (λ limits. Agrees limits c.args.progress c.args.unread.now) (sym c.usual-limits.ensures.same) (agrees_now c.args.progress c.args.unread.now c.requires)
 
-pub returns-in_ok-plan-in-Whole : goal.returns-in_ok-plan-in-Whole
-returns-in_ok-plan-in-Whole c =
+pub returns-in_ok-answer-in-Whole : goal.returns-in_ok-answer-in-Whole
+returns-in_ok-answer-in-Whole c =
     let input = c.args.unread.now in
     let r = subst (λ limits. Reads limits input (Whole c.in-Whole.words c.in-Whole.used)) c.usual-limits.ensures.same (subst (λ s. Reads c.usual-limits.result input s) c.in-Whole.is c.in_ok-scan.ensures.found) in
-    let p = c.in_ok-plan-in-Whole.plan in
+    let a = c.in_ok-answer-in-Whole.answer in
     let ws = map cow_slice_items c.in-Whole.words.items in
     let slices = c.as_slice.ensures.value in
-    record {
-      todo = record {
-        enough = r.0;
-        words = ws;
-        asks = record { text = take c.in-Whole.used input; begins = sym (take-append-drop c.in-Whole.used input); request = r.1 };
-        planned = subst (λ xs. IsPlanned (map cow_slice_items xs) c.args.given c.args.held.now (view p.reply) p.effects.items) slices c.in_ok-plan-in-Whole.ensures.planned;
-        leads = subst (λ xs. IsTrue (list_all fits (map cow_slice_items xs)) → Leads p.effects.items c.args.held.now) slices c.in_ok-plan-in-Whole.ensures.leads
-            (all_fit ws (subst (λ n. All (λ w. length w ≤ n) ws) usual-word (c.words_fit.ensures (take c.in-Whole.used input) ws r.1)));
-      };
-      along = tt;
-    }
+    let is = subst (λ xs. IsAnswer (map cow_slice_items xs) c.args.given c.args.held.now a) slices c.in_ok-answer-in-Whole.ensures.answer in
+    let leads = subst (λ xs. IsTrue (list_all fits (map cow_slice_items xs)) → Leads a c.args.held.now) slices c.in_ok-answer-in-Whole.ensures.leads
+    (all_fit ws (subst (λ n. All (λ w. length w ≤ n) ws) usual-word (c.words_fit.ensures (take c.in-Whole.used input) ws r.1))) in
+    rw c.carry_out.ensures (record {
+      todo = answer_todo input c.args.given c.args.held.now a c.in-Whole.used ws r.0 (record { text = take c.in-Whole.used input; begins = sym (take-append-drop c.in-Whole.used input); request = r.1 }) is leads;
+      along = answer_along input a c.in-Whole.used;
+    })
 
 pub returns-in-More : goal.returns-in-More
 returns-in-More c =

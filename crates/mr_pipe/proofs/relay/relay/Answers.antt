@@ -1,7 +1,7 @@
 use Rattle.std.proofs.Common.{◌≡◌, ℕ, List, [], subst}
 use Rattle.mr_pipe.specs.Piped.{Relays, IsRound}
 use Rattle.mr_pipe.specs.declared.relay.Round.TheVariants as round
-use Rattle.mr_pipe.proofs.Relaying.{after_round, no_round, session_end, session_fault}
+use Rattle.mr_pipe.proofs.Relaying.{after_round, no_round, session_end, session_close}
 use Rattle.mr_pipe.proofs.relay.relay.Goals as goal
 
 pub loop-turn-init : goal.loop-turn-init
@@ -32,6 +32,6 @@ returns-in-Shut g c = λ ag.
     let old = told c.args.output.now in let mid = told c.loop-turn.output in let new = told c.serve_piece.new.output in
     let x = left c.args.input.now in let y = left c.loop-turn.input in let z = left c.serve_piece.new.input in
     let w : Relays c.args.given c.args.node.now c.args.link [] old x y n mid = c.loop-turn.invariant ag in
-    session_fault c.args.given c.args.node.now c.args.link old x z m new
+    session_close c.args.given c.args.node.now c.args.link old x z m new
     (after_round c.args.given c.args.node.now c.args.link old x y z n mid m new round.Shut w
     (subst (λ t. IsRound c.args.given c.args.node.now c.args.link w.read old y z m new t) c.in-Shut.is (c.in_ok-serve_piece.ensures c.args.node.now w.read old w.drained)))

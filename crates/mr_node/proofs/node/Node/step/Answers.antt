@@ -1,11 +1,13 @@
 use Rattle.std.proofs.Common.{rules, ◌≡◌, true, Some, sym, ap, subst, ◌∙◌}
 use Rattle.mr_node.specs.State.{NodeState, end_of}
 use Rattle.mr_node.specs.Rows.{StepRow, WhyStopped}
-use Rattle.mr_node.specs.Parts.{fault_outs}
-use Rattle.mr_node.specs.Parts.{Passes, Runs}
+use Rattle.mr_resp.specs.Faults.{fault_text}
+use Rattle.mr_resp.specs.Replies.{error, reply_text}
+use Rattle.mr_turn.specs.Turns.{done}
+use Rattle.mr_node.specs.Parts.{last_outs, Passes, Quits, Runs}
 use Rattle.mr_node.specs.Requests.{IsDoomedBy}
 use Rattle.mr_node.specs.declared.step.Step.TheVariants.{Done}
-use Rattle.mr_node.proofs.Steps.{ok_map, ok_is, kept_is, skip_row, fault_row, run_row, stops_of}
+use Rattle.mr_node.proofs.Steps.{ok_map, ok_is, kept_is, skip_row, last_row, fault_ends, quit_ends, run_row, stops_of}
 use Rattle.mr_node.proofs.node.Node.step.Goals as goal
 
 pub run-requires-clause-leads : goal.run-requires-clause-leads
@@ -27,8 +29,16 @@ returns-in-Ok-Refuse-clause-row c =
     let a = c.args.self.now in let l = c.args.link in
     let found : end_of a l ≡ Some c.in-Some.end.now = ap (λ (s : NodeState). end_of s l) (sym c.self.view_is) ∙ sym c.in-Some.ensures in
     let p : IsDoomedBy c.unread.result.now c.in-Ok-Refuse.fault = search rules in
-    ok_is c.refuse.result (Done (fault_outs l c.in-Ok-Refuse.fault)) _ _ c.refuse.ensures.step c.refuse.ensures.state
-    (λ e u ag. fault_row a c.refuse.new.self l c.args.given u c.in-Ok-Refuse.fault (subst (λ z. IsDoomedBy z c.in-Ok-Refuse.fault) (c.unread.ensures ∙ kept_is a l u _ ag found) p) e)
+    ok_is c.refuse.result (Done (last_outs l (reply_text (error (fault_text c.in-Ok-Refuse.fault))))) _ _ c.refuse.ensures.step c.refuse.ensures.state
+    (λ e u ag. last_row a c.refuse.new.self l c.args.given u _ (fault_ends u c.in-Ok-Refuse.fault (subst (λ z. IsDoomedBy z c.in-Ok-Refuse.fault) (c.unread.ensures ∙ kept_is a l u _ ag found) p)) e)
+
+pub returns-in-Ok-Quit-clause-row : goal.returns-in-Ok-Quit-clause-row
+returns-in-Ok-Quit-clause-row c =
+    let a = c.args.self.now in let l = c.args.link in
+    let found : end_of a l ≡ Some c.in-Some.end.now = ap (λ (s : NodeState). end_of s l) (sym c.self.view_is) ∙ sym c.in-Some.ensures in
+    let p : Quits c.unread.result.now = search rules in
+    ok_is c.quit.result (Done (last_outs l (reply_text done))) _ _ c.quit.ensures.step c.quit.ensures.state
+    (λ e u ag. last_row a c.quit.new.self l c.args.given u _ (quit_ends u (subst Quits (c.unread.ensures ∙ kept_is a l u _ ag found) p)) e)
 
 pub returns-in-Ok-Run-clause-row : goal.returns-in-Ok-Run-clause-row
 returns-in-Ok-Run-clause-row c =

@@ -10,6 +10,6 @@ loop-preserved c = stepped c.loop.members c.next.new.self c.next.result c.next.e
 pub returns : goal.returns
 returns c =
     let m = c.args.self.now in
-    let all : c.len.result ≡ length (keys m) = c.len.ensures ∙ len-entries m ∙ sym (length-map (entries m) (λ e. e.0)) in
+    let all : c.len.result ≡ length (keys m) = c.len.ensures.len ∙ len-entries m ∙ sym (length-map (entries m) (λ e. e.0)) in
     let passed : c.loop.counter ≡ min c.args.place (length (keys m)) = omega (arith, all, c.min-end.ensures) in
     c.loop.invariant ∙ drop_min c.args.place c.loop.counter (keys m) passed

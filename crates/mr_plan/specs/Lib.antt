@@ -1,0 +1,2 @@
+pub mod PlannedCommands
+pub mod Requests

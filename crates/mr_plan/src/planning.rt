@@ -1,0 +1,31 @@
+// The plan of a command.
+ghost use Rattle.std.specs.Prelude.{◌≡◌, IfOk};
+ghost use Rattle.mr_resp.specs.ReplyView.{view};
+ghost use Rattle.mr_ask.specs.Carried.{AskFits};
+ghost use Rattle.mr_turn.specs.Commands.{IsPlan, IsFaithful};
+ghost use Rattle.mr_plan.specs.PlannedCommands.{command_of};
+
+use mr_ask::Ask;
+use mr_data::{Dataset, Given, Plan};
+use std::alloc::{AllocError, Global};
+
+/// What a command is answered, and its effects. The dataset isn't changed, and the plan owns what it holds.
+pub fn plan(
+    alloc: Global,
+    held: &Dataset,
+    ask: &Ask<'_, '_>,
+    given: Given,
+) -> Result<Plan, AllocError>
+    ensures plan { IfOk result (λ p. IsPlan (command_of ask.now given.word) given.now held.now (view p.reply) p.effects.items) }
+
+    // The effects lead to what the command leaves, and its own ones are there exactly where it changes something.
+    ensures faithful { AskFits ask.now → IsFaithful (command_of ask.now given.word) given.now held.now }
+{
+    match ask {
+        Ask::Keys(ask) => mr_plan_keys::plan(alloc, held, ask, given),
+        Ask::Hashes(ask) => mr_plan_hash::plan(alloc, held, ask, given),
+        Ask::Lists(ask) => mr_plan_list::plan(alloc, held, ask, given),
+        Ask::Sets(ask) => mr_plan_set::plan(alloc, held, ask, given),
+        Ask::Server(ask) => mr_plan_keys::plan_server(alloc, held, ask, given),
+    }
+}

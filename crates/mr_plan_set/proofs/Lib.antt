@@ -1,0 +1,9 @@
+pub mod Sets
+pub mod Pushing
+pub mod Draws
+pub mod Combinations
+pub mod Tells
+pub mod Groups
+pub mod Laws
+pub mod Moves
+pub mod CommandLaws

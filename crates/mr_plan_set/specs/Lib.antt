@@ -1,0 +1,6 @@
+pub mod Members
+pub mod Turns
+pub mod Grouping
+pub mod Moving
+pub mod Combining
+pub mod SetCommands

@@ -1,0 +1,52 @@
+// Commands that put named members to a set, or take them out.
+ghost use Rattle.std.specs.Prelude.{IfOk, option_copied};
+ghost use Rattle.mr_resp.specs.ReplyView.{view};
+ghost use Rattle.mr_turn.specs.Turns.{Takes};
+ghost use Rattle.mr_plan_set.specs.Turns.{add_members_turn, remove_members_turn};
+
+use crate::grouping::{Write, changed_by, push_groups};
+use crate::replies::{number, set_at, wrong_kind};
+use mr_ask::{Argument, Words};
+use mr_data::Entry;
+use mr_resp::Reply;
+use mr_turn::Effects;
+use mr_value::SetValue;
+use std::alloc::{AllocError, Global};
+
+/// `SADD`
+pub fn add_members(
+    alloc: Global,
+    key: &Argument<'_>,
+    members: &Words<'_, '_>,
+    seen: Option<&Entry>,
+    effects: &mut Effects,
+) -> Result<Reply, AllocError>
+    ensures { IfOk result (λ r. Takes (add_members_turn key.now members.now (option_copied seen.entry)) (view r) effects.old effects.new) }
+{
+    let empty = SetValue::new(alloc);
+    let Some(set) = set_at(seen, &empty) else {
+        return Ok(wrong_kind());
+    };
+    let added = changed_by(alloc, Write::Add, members, set)?;
+    push_groups(alloc, Write::Add, key, &added, effects)?;
+    Ok(number(added.len()))
+}
+
+/// `SREM`
+pub fn remove_members(
+    alloc: Global,
+    key: &Argument<'_>,
+    members: &Words<'_, '_>,
+    seen: Option<&Entry>,
+    effects: &mut Effects,
+) -> Result<Reply, AllocError>
+    ensures { IfOk result (λ r. Takes (remove_members_turn key.now members.now (option_copied seen.entry)) (view r) effects.old effects.new) }
+{
+    let empty = SetValue::new(alloc);
+    let Some(set) = set_at(seen, &empty) else {
+        return Ok(wrong_kind());
+    };
+    let removed = changed_by(alloc, Write::Remove, members, set)?;
+    push_groups(alloc, Write::Remove, key, &removed, effects)?;
+    Ok(number(removed.len()))
+}

@@ -1,0 +1,14 @@
+//! Plans of commands on sets: what is answered, and which effects the command has.
+#![tactic(auto)]
+
+mod changing;
+mod combining;
+mod drawing;
+mod grouping;
+mod looking;
+mod moving;
+mod planning;
+mod replies;
+mod telling;
+
+pub use planning::plan;
