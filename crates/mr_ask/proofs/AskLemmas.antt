@@ -1,296 +1,96 @@
 -- What is read is spelled by the words, and carries no others.
-use Rattle.std.proofs.Common.{rules, ℕ, ℤ, pos, ◌≡◌, List, [], ◌∷◌, map, Bool, true, false, ◌&&◌, Option, Some, None, refl, sym, ◌∙◌, ap, subst}
-use Rattle.std.specs.Prelude.{IsTrue, IfOk, if◌then◌else◌, Result, Ok, Err}
+use Rattle.std.proofs.Common.{ℕ, ◌≡◌, List, [], ◌∷◌, map, Bool, true, false, ◌&&◌, Option, Some, None, refl, sym, ◌∙◌, ap, subst}
+use Rattle.std.specs.Prelude.{IsTrue, IfOk, Result, Ok, Err}
 use Rattle.std.specs.List.{list_all}
-use Rattle.std.specs.Ordering.{int_eq}
-use Rattle.std.specs.Fmt.{signed_decimal}
-use Rattle.std.proofs.lemmas.Bool.Decides.{Decides-int_eq}
 use Rattle.mr_value.specs.Words.{fits}
-use Rattle.mr_value.specs.declared.ends.End.{End}
 use Rattle.mr_value.specs.declared.ends.End.TheVariants.{Left, Right}
 use Rattle.mr_ask.specs.Names.{lowered, text_of, named}
 use Rattle.mr_ask.specs.Keys.{get, set, del, unlink, exists, key_type}
 use Rattle.mr_ask.specs.Hashes.{set_fields, hsetnx, hget, hmget, list_hash, hdel, hexists, hlen, hstrlen, hincrby}
 use Rattle.mr_ask.specs.Lists.{push, pop, llen, lrange, lindex, lset, linsert, lrem, ltrim, lmove, rpoplpush}
 use Rattle.mr_ask.specs.Sets.{sadd, srem, sismember, smismember, smembers, scard, spop, srandmember, smove, combine}
-use Rattle.mr_ask.specs.Server.{ping, echo, database, select, quit, command, client, setname, setinfo}
-use Rattle.mr_ask.specs.Asks.{asked, asked_by, reading, words_of, AskFits}
-use Rattle.mr_ask.specs.Spelled.{name_of, Part, Word, Number, Keyword, parts_of, AreParts, Spells}
+use Rattle.mr_ask.specs.Server.{ping, echo, select, quit, command, client}
+use Rattle.mr_ask.specs.Asks.{asked, asked_by, reading}
+use Rattle.mr_ask.specs.Carried.{key_words, hash_words, list_words, set_words, server_words, words_of, AskFits}
+use Rattle.mr_ask.specs.Spelled.{Part, Word, Number, Keyword, hash_parts, list_parts, set_parts, server_parts, parts_of, AreParts, Spells}
 use Rattle.mr_ask.proofs.NameLemmas.{named_is}
-use Rattle.mr_ask.proofs.PartLemmas.{with_integer, with_count, with_end, with_side, with_pairs, with_keyword}
+use Rattle.mr_ask.proofs.Carries.{Carries, of_kind_carries}
+use Rattle.mr_ask.proofs.KeyLemmas.{get_carries, set_carries, del_carries, unlink_carries, exists_carries, key_type_carries}
+use Rattle.mr_ask.proofs.HashLemmas.{set_fields_carries, hsetnx_carries, hget_carries, hmget_carries, list_hash_carries, hdel_carries, hexists_carries, hlen_carries, hstrlen_carries, hincrby_carries}
+use Rattle.mr_ask.proofs.ListLemmas.{push_carries, pop_carries, llen_carries, lrange_carries, lindex_carries, lset_carries, linsert_carries, lrem_carries, ltrim_carries, lmove_carries, rpoplpush_carries}
+use Rattle.mr_ask.proofs.SetLemmas.{sadd_carries, srem_carries, sismember_carries, smismember_carries, smembers_carries, scard_carries, spop_carries, srandmember_carries, smove_carries, combine_carries}
+use Rattle.mr_ask.proofs.ServerLemmas.{ping_carries, echo_carries, select_carries, quit_carries, command_carries, client_carries}
 use Rattle.mr_ask.specs.declared.name.Name.{Name}
 use Rattle.mr_ask.specs.declared.name.Name.TheVariants as name
+use Rattle.mr_ask.specs.declared.hash_ask.HashAsk.{HashAsk}
+use Rattle.mr_ask.specs.declared.hash_ask.HashAsk.TheVariants as hash
+use Rattle.mr_ask.specs.declared.hash_ask.FieldsReply.TheVariants.{Added, Done}
+use Rattle.mr_ask.specs.declared.hash_ask.HashPart.TheVariants.{Pairs, Fields, Values}
+use Rattle.mr_ask.specs.declared.list_ask.ListAsk.{ListAsk}
+use Rattle.mr_ask.specs.declared.list_ask.ListAsk.TheVariants as list
+use Rattle.mr_ask.specs.declared.list_ask.PushTo.TheVariants.{AnyKey, ExistingKey}
+use Rattle.mr_ask.specs.declared.set_ask.SetAsk.{SetAsk}
+use Rattle.mr_ask.specs.declared.set_ask.SetAsk.TheVariants as sets
+use Rattle.mr_ask.specs.declared.set_ask.SetOperation.TheVariants.{Intersection, Union, Difference}
+use Rattle.mr_ask.specs.declared.server_ask.ServerAsk.{ServerAsk}
+use Rattle.mr_ask.specs.declared.server_ask.ServerAsk.TheVariants as server
 use Rattle.mr_ask.specs.declared.ask.Ask.{Ask}
 use Rattle.mr_ask.specs.declared.ask.Ask.TheVariants as ask
-use Rattle.mr_ask.specs.declared.ask.FieldsReply.{FieldsReply}
-use Rattle.mr_ask.specs.declared.ask.FieldsReply.TheVariants.{Added, Done}
-use Rattle.mr_ask.specs.declared.ask.HashPart.{HashPart}
-use Rattle.mr_ask.specs.declared.ask.HashPart.TheVariants.{Pairs, Fields, Values}
-use Rattle.mr_ask.specs.declared.ask.PushTo.{PushTo}
-use Rattle.mr_ask.specs.declared.ask.PushTo.TheVariants.{AnyKey, ExistingKey}
-use Rattle.mr_ask.specs.declared.ask.SetOperation.{SetOperation}
-use Rattle.mr_ask.specs.declared.ask.SetOperation.TheVariants.{Intersection, Union, Difference}
 use Rattle.mr_ask.specs.declared.fault.AskFault.{AskFault}
-use Rattle.mr_ask.specs.declared.fault.AskFault.TheVariants.{Arity, Other}
-use Rattle.mr_ask.specs.declared.fault.BadValue.TheVariants.{Database}
-
--- the command has this name, and these are its arguments
-record Carries (n : Name) (arguments : List (List ℕ)) (command : Ask) : Type 0 where
-  pub name_is : name_of command ≡ n
-  pub parts : AreParts arguments (parts_of command)
-
-all_words : (ws : List (List ℕ)) → AreParts ws (map Word ws)
-all_words [] = tt
-all_words (w ∷ ws) = (refl, all_words ws)
-
-same_number : (m n : ℤ) → int_eq m n ≡ true → m ≡ n
-same_number m n h = search (rules, Decides-int_eq)
-
-get_carries : (ws : List (List ℕ)) → IfOk (get ws) (Carries name.Get ws)
-get_carries (k ∷ []) = record { name_is = refl; parts = (refl, tt) }
-get_carries _ = tt
-
-set_carries : (ws : List (List ℕ)) → IfOk (set ws) (Carries name.Set ws)
-set_carries (k ∷ v ∷ []) = record { name_is = refl; parts = (refl, (refl, tt)) }
-set_carries _ = tt
-
-del_carries : (ws : List (List ℕ)) → IfOk (del ws) (Carries name.Del ws)
-del_carries [] = tt
-del_carries (k ∷ ks) = record { name_is = refl; parts = all_words (k ∷ ks) }
-
-unlink_carries : (ws : List (List ℕ)) → IfOk (unlink ws) (Carries name.Unlink ws)
-unlink_carries [] = tt
-unlink_carries (k ∷ ks) = record { name_is = refl; parts = all_words (k ∷ ks) }
-
-exists_carries : (ws : List (List ℕ)) → IfOk (exists ws) (Carries name.Exists ws)
-exists_carries [] = tt
-exists_carries (k ∷ ks) = record { name_is = refl; parts = all_words (k ∷ ks) }
-
-key_type_carries : (ws : List (List ℕ)) → IfOk (key_type ws) (Carries name.KeyType ws)
-key_type_carries (k ∷ []) = record { name_is = refl; parts = (refl, tt) }
-key_type_carries _ = tt
-
-set_fields_carries : (n : Name) (r : FieldsReply) → ((k : List ℕ) (ps : List (List ℕ × List ℕ)) → name_of (ask.SetFields k ps r) ≡ n) → (ws : List (List ℕ)) → IfOk (set_fields n r ws) (Carries n ws)
-set_fields_carries n r is [] = tt
-set_fields_carries n r is (k ∷ []) = tt
-set_fields_carries n r is (k ∷ w ∷ ws) = with_pairs (w ∷ ws) (Arity n) _ _ (λ pairs e. record {
-  name_is = is k pairs;
-  parts = (refl, subst (λ (xs : List (List ℕ)). AreParts (w ∷ ws) (map Word xs)) e (all_words (w ∷ ws)));
-})
-
-hsetnx_carries : (ws : List (List ℕ)) → IfOk (hsetnx ws) (Carries name.HSetNx ws)
-hsetnx_carries (k ∷ f ∷ v ∷ []) = record { name_is = refl; parts = (refl, (refl, (refl, tt))) }
-hsetnx_carries _ = tt
-
-hget_carries : (ws : List (List ℕ)) → IfOk (hget ws) (Carries name.HGet ws)
-hget_carries (k ∷ f ∷ []) = record { name_is = refl; parts = (refl, (refl, tt)) }
-hget_carries _ = tt
-
-hmget_carries : (ws : List (List ℕ)) → IfOk (hmget ws) (Carries name.HMGet ws)
-hmget_carries [] = tt
-hmget_carries (k ∷ []) = tt
-hmget_carries (k ∷ w ∷ ws) = record { name_is = refl; parts = (refl, all_words (w ∷ ws)) }
-
-list_hash_carries : (n : Name) (p : HashPart) → ((k : List ℕ) → name_of (ask.ListHash k p) ≡ n) → (ws : List (List ℕ)) → IfOk (list_hash n p ws) (Carries n ws)
-list_hash_carries n p is (k ∷ []) = record { name_is = is k; parts = (refl, tt) }
-list_hash_carries n p is _ = tt
-
-hdel_carries : (ws : List (List ℕ)) → IfOk (hdel ws) (Carries name.HDel ws)
-hdel_carries [] = tt
-hdel_carries (k ∷ []) = tt
-hdel_carries (k ∷ w ∷ ws) = record { name_is = refl; parts = (refl, all_words (w ∷ ws)) }
-
-hexists_carries : (ws : List (List ℕ)) → IfOk (hexists ws) (Carries name.HExists ws)
-hexists_carries (k ∷ f ∷ []) = record { name_is = refl; parts = (refl, (refl, tt)) }
-hexists_carries _ = tt
-
-hlen_carries : (ws : List (List ℕ)) → IfOk (hlen ws) (Carries name.HLen ws)
-hlen_carries (k ∷ []) = record { name_is = refl; parts = (refl, tt) }
-hlen_carries _ = tt
-
-hstrlen_carries : (ws : List (List ℕ)) → IfOk (hstrlen ws) (Carries name.HStrLen ws)
-hstrlen_carries (k ∷ f ∷ []) = record { name_is = refl; parts = (refl, (refl, tt)) }
-hstrlen_carries _ = tt
-
-hincrby_carries : (ws : List (List ℕ)) → IfOk (hincrby ws) (Carries name.HIncrBy ws)
-hincrby_carries (k ∷ f ∷ by ∷ []) = with_integer by _ _ (λ n e. record { name_is = refl; parts = (refl, (refl, (e, tt))) })
-hincrby_carries _ = tt
-
-push_carries : (n : Name) (end : End) (to : PushTo) → ((k : List ℕ) (items : List (List ℕ)) → name_of (ask.Push k end to items) ≡ n) → (ws : List (List ℕ)) → IfOk (push n end to ws) (Carries n ws)
-push_carries n end to is [] = tt
-push_carries n end to is (k ∷ []) = tt
-push_carries n end to is (k ∷ w ∷ ws) = record { name_is = is k (w ∷ ws); parts = (refl, all_words (w ∷ ws)) }
-
-pop_carries : (n : Name) (end : End) → ((k : List ℕ) (c : Option ℕ) → name_of (ask.Pop k end c) ≡ n) → (ws : List (List ℕ)) → IfOk (pop n end ws) (Carries n ws)
-pop_carries n end is (k ∷ []) = record { name_is = is k None; parts = (refl, tt) }
-pop_carries n end is (k ∷ w ∷ []) = with_count w _ _ (λ m e. record { name_is = is k (Some m); parts = (refl, (e, tt)) })
-pop_carries n end is _ = tt
-
-llen_carries : (ws : List (List ℕ)) → IfOk (llen ws) (Carries name.LLen ws)
-llen_carries (k ∷ []) = record { name_is = refl; parts = (refl, tt) }
-llen_carries _ = tt
-
-lrange_carries : (ws : List (List ℕ)) → IfOk (lrange ws) (Carries name.LRange ws)
-lrange_carries (k ∷ a ∷ b ∷ []) = with_integer a _ _ (λ m e. with_integer b _ _ (λ n d. record { name_is = refl; parts = (refl, (e, (d, tt))) }))
-lrange_carries _ = tt
-
-lindex_carries : (ws : List (List ℕ)) → IfOk (lindex ws) (Carries name.LIndex ws)
-lindex_carries (k ∷ i ∷ []) = with_integer i _ _ (λ n e. record { name_is = refl; parts = (refl, (e, tt)) })
-lindex_carries _ = tt
-
-lset_carries : (ws : List (List ℕ)) → IfOk (lset ws) (Carries name.LSet ws)
-lset_carries (k ∷ i ∷ v ∷ []) = with_integer i _ _ (λ n e. record { name_is = refl; parts = (refl, (e, (refl, tt))) })
-lset_carries _ = tt
-
-linsert_carries : (ws : List (List ℕ)) → IfOk (linsert ws) (Carries name.LInsert ws)
-linsert_carries (k ∷ s ∷ p ∷ v ∷ []) = with_side s _ _ (λ n e. record { name_is = refl; parts = (refl, (e, (refl, (refl, tt)))) })
-linsert_carries _ = tt
-
-lrem_carries : (ws : List (List ℕ)) → IfOk (lrem ws) (Carries name.LRem ws)
-lrem_carries (k ∷ c ∷ v ∷ []) = with_integer c _ _ (λ n e. record { name_is = refl; parts = (refl, (e, (refl, tt))) })
-lrem_carries _ = tt
-
-ltrim_carries : (ws : List (List ℕ)) → IfOk (ltrim ws) (Carries name.LTrim ws)
-ltrim_carries (k ∷ a ∷ b ∷ []) = with_integer a _ _ (λ m e. with_integer b _ _ (λ n d. record { name_is = refl; parts = (refl, (e, (d, tt))) }))
-ltrim_carries _ = tt
-
-lmove_carries : (ws : List (List ℕ)) → IfOk (lmove ws) (Carries name.LMove ws)
-lmove_carries (from ∷ to ∷ a ∷ b ∷ []) = with_end a _ _ (λ m e. with_end b _ _ (λ n d. record { name_is = refl; parts = (refl, (refl, (e, (d, tt)))) }))
-lmove_carries _ = tt
-
-rpoplpush_carries : (ws : List (List ℕ)) → IfOk (rpoplpush ws) (Carries name.RPopLPush ws)
-rpoplpush_carries (from ∷ to ∷ []) = record { name_is = refl; parts = (refl, (refl, tt)) }
-rpoplpush_carries _ = tt
-
-sadd_carries : (ws : List (List ℕ)) → IfOk (sadd ws) (Carries name.SAdd ws)
-sadd_carries [] = tt
-sadd_carries (k ∷ []) = tt
-sadd_carries (k ∷ w ∷ ws) = record { name_is = refl; parts = (refl, all_words (w ∷ ws)) }
-
-srem_carries : (ws : List (List ℕ)) → IfOk (srem ws) (Carries name.SRem ws)
-srem_carries [] = tt
-srem_carries (k ∷ []) = tt
-srem_carries (k ∷ w ∷ ws) = record { name_is = refl; parts = (refl, all_words (w ∷ ws)) }
-
-sismember_carries : (ws : List (List ℕ)) → IfOk (sismember ws) (Carries name.SIsMember ws)
-sismember_carries (k ∷ m ∷ []) = record { name_is = refl; parts = (refl, (refl, tt)) }
-sismember_carries _ = tt
-
-smismember_carries : (ws : List (List ℕ)) → IfOk (smismember ws) (Carries name.SMIsMember ws)
-smismember_carries [] = tt
-smismember_carries (k ∷ []) = tt
-smismember_carries (k ∷ w ∷ ws) = record { name_is = refl; parts = (refl, all_words (w ∷ ws)) }
-
-smembers_carries : (ws : List (List ℕ)) → IfOk (smembers ws) (Carries name.SMembers ws)
-smembers_carries (k ∷ []) = record { name_is = refl; parts = (refl, tt) }
-smembers_carries _ = tt
-
-scard_carries : (ws : List (List ℕ)) → IfOk (scard ws) (Carries name.SCard ws)
-scard_carries (k ∷ []) = record { name_is = refl; parts = (refl, tt) }
-scard_carries _ = tt
-
-spop_carries : (ws : List (List ℕ)) → IfOk (spop ws) (Carries name.SPop ws)
-spop_carries (k ∷ []) = record { name_is = refl; parts = (refl, tt) }
-spop_carries (k ∷ w ∷ []) = with_count w _ _ (λ m e. record { name_is = refl; parts = (refl, (e, tt)) })
-spop_carries _ = tt
-
-srandmember_carries : (ws : List (List ℕ)) → IfOk (srandmember ws) (Carries name.SRandMember ws)
-srandmember_carries (k ∷ []) = record { name_is = refl; parts = (refl, tt) }
-srandmember_carries (k ∷ w ∷ []) = with_count w _ _ (λ m e. record { name_is = refl; parts = (refl, (e, tt)) })
-srandmember_carries _ = tt
-
-smove_carries : (ws : List (List ℕ)) → IfOk (smove ws) (Carries name.SMove ws)
-smove_carries (from ∷ to ∷ m ∷ []) = record { name_is = refl; parts = (refl, (refl, (refl, tt))) }
-smove_carries _ = tt
-
-combine_carries : (n : Name) (o : SetOperation) → ((ks : List (List ℕ)) → name_of (ask.Combine o ks) ≡ n) → (ws : List (List ℕ)) → IfOk (combine n o ws) (Carries n ws)
-combine_carries n o is [] = tt
-combine_carries n o is (k ∷ ks) = record { name_is = is (k ∷ ks); parts = all_words (k ∷ ks) }
-
-ping_carries : (ws : List (List ℕ)) → IfOk (ping ws) (Carries name.Ping ws)
-ping_carries [] = record { name_is = refl; parts = tt }
-ping_carries (m ∷ []) = record { name_is = refl; parts = (refl, tt) }
-ping_carries _ = tt
-
-echo_carries : (ws : List (List ℕ)) → IfOk (echo ws) (Carries name.Echo ws)
-echo_carries (m ∷ []) = record { name_is = refl; parts = (refl, tt) }
-echo_carries _ = tt
-
-database_carries : (w : List ℕ) (n : ℤ) → w ≡ signed_decimal n → IfOk (database n) (Carries name.Select (w ∷ []))
-database_carries w n e = elim (int_eq n (pos 0)) as (λ b. int_eq n (pos 0) ≡ b → IfOk {E = AskFault} (if b then Ok ask.Select else Err (Other Database)) (Carries name.Select (w ∷ []))) [
-  | true ↦ λ s. record { name_is = refl; parts = (e ∙ ap signed_decimal (same_number n (pos 0) s), tt) }
-  | false ↦ λ s. tt
-] refl
-
-select_carries : (ws : List (List ℕ)) → IfOk (select ws) (Carries name.Select ws)
-select_carries (w ∷ []) = with_integer w _ _ (database_carries w)
-select_carries _ = tt
-
-quit_carries : (ws : List (List ℕ)) → IfOk (quit ws) (Carries name.Quit ws)
-quit_carries [] = record { name_is = refl; parts = tt }
-quit_carries _ = tt
-
-command_carries : (ws : List (List ℕ)) → IfOk (command ws) (Carries name.Command ws)
-command_carries ws = record { name_is = refl; parts = all_words ws }
-
-client_carries : (ws : List (List ℕ)) → IfOk (client ws) (Carries name.Client ws)
-client_carries (o ∷ x ∷ []) = with_keyword o setname _ _ (λ e. record { name_is = refl; parts = (e, (refl, tt)) })
-client_carries (o ∷ x ∷ y ∷ []) = with_keyword o setinfo _ _ (λ e. record { name_is = refl; parts = (e, (refl, (refl, tt))) })
-client_carries _ = tt
 
 reading_carries : (n : Name) (ws : List (List ℕ)) → IfOk (reading n ws) (Carries n ws)
-reading_carries name.Get ws = get_carries ws
-reading_carries name.Set ws = set_carries ws
-reading_carries name.Del ws = del_carries ws
-reading_carries name.Unlink ws = unlink_carries ws
-reading_carries name.Exists ws = exists_carries ws
-reading_carries name.KeyType ws = key_type_carries ws
-reading_carries name.HSet ws = set_fields_carries name.HSet Added (λ k ps. refl) ws
-reading_carries name.HMSet ws = set_fields_carries name.HMSet Done (λ k ps. refl) ws
-reading_carries name.HSetNx ws = hsetnx_carries ws
-reading_carries name.HGet ws = hget_carries ws
-reading_carries name.HMGet ws = hmget_carries ws
-reading_carries name.HGetAll ws = list_hash_carries name.HGetAll Pairs (λ k. refl) ws
-reading_carries name.HKeys ws = list_hash_carries name.HKeys Fields (λ k. refl) ws
-reading_carries name.HVals ws = list_hash_carries name.HVals Values (λ k. refl) ws
-reading_carries name.HDel ws = hdel_carries ws
-reading_carries name.HExists ws = hexists_carries ws
-reading_carries name.HLen ws = hlen_carries ws
-reading_carries name.HStrLen ws = hstrlen_carries ws
-reading_carries name.HIncrBy ws = hincrby_carries ws
-reading_carries name.LPush ws = push_carries name.LPush Left AnyKey (λ k items. refl) ws
-reading_carries name.RPush ws = push_carries name.RPush Right AnyKey (λ k items. refl) ws
-reading_carries name.LPushX ws = push_carries name.LPushX Left ExistingKey (λ k items. refl) ws
-reading_carries name.RPushX ws = push_carries name.RPushX Right ExistingKey (λ k items. refl) ws
-reading_carries name.LPop ws = pop_carries name.LPop Left (λ k c. refl) ws
-reading_carries name.RPop ws = pop_carries name.RPop Right (λ k c. refl) ws
-reading_carries name.LLen ws = llen_carries ws
-reading_carries name.LRange ws = lrange_carries ws
-reading_carries name.LIndex ws = lindex_carries ws
-reading_carries name.LSet ws = lset_carries ws
-reading_carries name.LInsert ws = linsert_carries ws
-reading_carries name.LRem ws = lrem_carries ws
-reading_carries name.LTrim ws = ltrim_carries ws
-reading_carries name.LMove ws = lmove_carries ws
-reading_carries name.RPopLPush ws = rpoplpush_carries ws
-reading_carries name.SAdd ws = sadd_carries ws
-reading_carries name.SRem ws = srem_carries ws
-reading_carries name.SIsMember ws = sismember_carries ws
-reading_carries name.SMIsMember ws = smismember_carries ws
-reading_carries name.SMembers ws = smembers_carries ws
-reading_carries name.SCard ws = scard_carries ws
-reading_carries name.SPop ws = spop_carries ws
-reading_carries name.SRandMember ws = srandmember_carries ws
-reading_carries name.SMove ws = smove_carries ws
-reading_carries name.SInter ws = combine_carries name.SInter Intersection (λ ks. refl) ws
-reading_carries name.SUnion ws = combine_carries name.SUnion Union (λ ks. refl) ws
-reading_carries name.SDiff ws = combine_carries name.SDiff Difference (λ ks. refl) ws
-reading_carries name.Ping ws = ping_carries ws
-reading_carries name.Echo ws = echo_carries ws
-reading_carries name.Select ws = select_carries ws
-reading_carries name.Quit ws = quit_carries ws
-reading_carries name.Command ws = command_carries ws
-reading_carries name.Client ws = client_carries ws
+reading_carries name.Get ws = of_kind_carries (get ws) ask.Keys _ (get_carries ws)
+reading_carries name.Set ws = of_kind_carries (set ws) ask.Keys _ (set_carries ws)
+reading_carries name.Del ws = of_kind_carries (del ws) ask.Keys _ (del_carries ws)
+reading_carries name.Unlink ws = of_kind_carries (unlink ws) ask.Keys _ (unlink_carries ws)
+reading_carries name.Exists ws = of_kind_carries (exists ws) ask.Keys _ (exists_carries ws)
+reading_carries name.KeyType ws = of_kind_carries (key_type ws) ask.Keys _ (key_type_carries ws)
+reading_carries name.HSet ws = of_kind_carries (set_fields name.HSet Added ws) ask.Hashes _ (set_fields_carries name.HSet Added (λ k ps. refl) ws)
+reading_carries name.HMSet ws = of_kind_carries (set_fields name.HMSet Done ws) ask.Hashes _ (set_fields_carries name.HMSet Done (λ k ps. refl) ws)
+reading_carries name.HSetNx ws = of_kind_carries (hsetnx ws) ask.Hashes _ (hsetnx_carries ws)
+reading_carries name.HGet ws = of_kind_carries (hget ws) ask.Hashes _ (hget_carries ws)
+reading_carries name.HMGet ws = of_kind_carries (hmget ws) ask.Hashes _ (hmget_carries ws)
+reading_carries name.HGetAll ws = of_kind_carries (list_hash name.HGetAll Pairs ws) ask.Hashes _ (list_hash_carries name.HGetAll Pairs (λ k. refl) ws)
+reading_carries name.HKeys ws = of_kind_carries (list_hash name.HKeys Fields ws) ask.Hashes _ (list_hash_carries name.HKeys Fields (λ k. refl) ws)
+reading_carries name.HVals ws = of_kind_carries (list_hash name.HVals Values ws) ask.Hashes _ (list_hash_carries name.HVals Values (λ k. refl) ws)
+reading_carries name.HDel ws = of_kind_carries (hdel ws) ask.Hashes _ (hdel_carries ws)
+reading_carries name.HExists ws = of_kind_carries (hexists ws) ask.Hashes _ (hexists_carries ws)
+reading_carries name.HLen ws = of_kind_carries (hlen ws) ask.Hashes _ (hlen_carries ws)
+reading_carries name.HStrLen ws = of_kind_carries (hstrlen ws) ask.Hashes _ (hstrlen_carries ws)
+reading_carries name.HIncrBy ws = of_kind_carries (hincrby ws) ask.Hashes _ (hincrby_carries ws)
+reading_carries name.LPush ws = of_kind_carries (push name.LPush Left AnyKey ws) ask.Lists _ (push_carries name.LPush Left AnyKey (λ k items. refl) ws)
+reading_carries name.RPush ws = of_kind_carries (push name.RPush Right AnyKey ws) ask.Lists _ (push_carries name.RPush Right AnyKey (λ k items. refl) ws)
+reading_carries name.LPushX ws = of_kind_carries (push name.LPushX Left ExistingKey ws) ask.Lists _ (push_carries name.LPushX Left ExistingKey (λ k items. refl) ws)
+reading_carries name.RPushX ws = of_kind_carries (push name.RPushX Right ExistingKey ws) ask.Lists _ (push_carries name.RPushX Right ExistingKey (λ k items. refl) ws)
+reading_carries name.LPop ws = of_kind_carries (pop name.LPop Left ws) ask.Lists _ (pop_carries name.LPop Left (λ k c. refl) ws)
+reading_carries name.RPop ws = of_kind_carries (pop name.RPop Right ws) ask.Lists _ (pop_carries name.RPop Right (λ k c. refl) ws)
+reading_carries name.LLen ws = of_kind_carries (llen ws) ask.Lists _ (llen_carries ws)
+reading_carries name.LRange ws = of_kind_carries (lrange ws) ask.Lists _ (lrange_carries ws)
+reading_carries name.LIndex ws = of_kind_carries (lindex ws) ask.Lists _ (lindex_carries ws)
+reading_carries name.LSet ws = of_kind_carries (lset ws) ask.Lists _ (lset_carries ws)
+reading_carries name.LInsert ws = of_kind_carries (linsert ws) ask.Lists _ (linsert_carries ws)
+reading_carries name.LRem ws = of_kind_carries (lrem ws) ask.Lists _ (lrem_carries ws)
+reading_carries name.LTrim ws = of_kind_carries (ltrim ws) ask.Lists _ (ltrim_carries ws)
+reading_carries name.LMove ws = of_kind_carries (lmove ws) ask.Lists _ (lmove_carries ws)
+reading_carries name.RPopLPush ws = of_kind_carries (rpoplpush ws) ask.Lists _ (rpoplpush_carries ws)
+reading_carries name.SAdd ws = of_kind_carries (sadd ws) ask.Sets _ (sadd_carries ws)
+reading_carries name.SRem ws = of_kind_carries (srem ws) ask.Sets _ (srem_carries ws)
+reading_carries name.SIsMember ws = of_kind_carries (sismember ws) ask.Sets _ (sismember_carries ws)
+reading_carries name.SMIsMember ws = of_kind_carries (smismember ws) ask.Sets _ (smismember_carries ws)
+reading_carries name.SMembers ws = of_kind_carries (smembers ws) ask.Sets _ (smembers_carries ws)
+reading_carries name.SCard ws = of_kind_carries (scard ws) ask.Sets _ (scard_carries ws)
+reading_carries name.SPop ws = of_kind_carries (spop ws) ask.Sets _ (spop_carries ws)
+reading_carries name.SRandMember ws = of_kind_carries (srandmember ws) ask.Sets _ (srandmember_carries ws)
+reading_carries name.SMove ws = of_kind_carries (smove ws) ask.Sets _ (smove_carries ws)
+reading_carries name.SInter ws = of_kind_carries (combine name.SInter Intersection ws) ask.Sets _ (combine_carries name.SInter Intersection (λ ks. refl) ws)
+reading_carries name.SUnion ws = of_kind_carries (combine name.SUnion Union ws) ask.Sets _ (combine_carries name.SUnion Union (λ ks. refl) ws)
+reading_carries name.SDiff ws = of_kind_carries (combine name.SDiff Difference ws) ask.Sets _ (combine_carries name.SDiff Difference (λ ks. refl) ws)
+reading_carries name.Ping ws = of_kind_carries (ping ws) ask.Server _ (ping_carries ws)
+reading_carries name.Echo ws = of_kind_carries (echo ws) ask.Server _ (echo_carries ws)
+reading_carries name.Select ws = of_kind_carries (select ws) ask.Server _ (select_carries ws)
+reading_carries name.Quit ws = of_kind_carries (quit ws) ask.Server _ (quit_carries ws)
+reading_carries name.Command ws = of_kind_carries (command ws) ask.Server (Carries name.Command ws) (command_carries ws)
+reading_carries name.Client ws = of_kind_carries (client ws) ask.Server _ (client_carries ws)
 
 carried_by : (w : List ℕ) (o : Option Name) (ws : List (List ℕ)) → named (lowered w) ≡ o → IfOk (asked_by o ws) (Spells (w ∷ ws))
 carried_by w None ws h = tt
@@ -316,26 +116,45 @@ unfolding carried
 carried-words [] = refl
 carried-words (w ∷ ws) = ap (λ (xs : List (List ℕ)). w ∷ xs) (carried-words ws)
 
-carried_parts : (a : Ask) → carried (parts_of a) ≡ words_of a
+carried_hashes : (a : HashAsk) → carried (hash_parts a) ≡ hash_words a
 unfolding carried
-carried_parts (ask.IncreaseField key field by) = refl
-carried_parts (ask.Pop key end None) = refl
-carried_parts (ask.Pop key end (Some n)) = refl
-carried_parts (ask.Range key first last) = refl
-carried_parts (ask.GetItem key index) = refl
-carried_parts (ask.SetItem key index item) = refl
-carried_parts (ask.InsertItem key side pivot item) = refl
-carried_parts (ask.RemoveItems key count item) = refl
-carried_parts (ask.Trim key first last) = refl
-carried_parts (ask.MoveItem from to taken put) = refl
-carried_parts (ask.TakeMembers key None) = refl
-carried_parts (ask.TakeMembers key (Some n)) = refl
-carried_parts (ask.DrawMembers key None) = refl
-carried_parts (ask.DrawMembers key (Some n)) = refl
-carried_parts ask.Select = refl
-carried_parts (ask.SetClientName name) = refl
-carried_parts (ask.SetClientInfo attribute value) = refl
-carried_parts a = carried-words (words_of a)
+carried_hashes (hash.IncreaseField key field by) = refl
+carried_hashes a = carried-words (hash_words a)
+
+carried_lists : (a : ListAsk) → carried (list_parts a) ≡ list_words a
+unfolding carried
+carried_lists (list.Pop key end None) = refl
+carried_lists (list.Pop key end (Some n)) = refl
+carried_lists (list.Range key first last) = refl
+carried_lists (list.GetItem key index) = refl
+carried_lists (list.SetItem key index item) = refl
+carried_lists (list.InsertItem key side pivot item) = refl
+carried_lists (list.RemoveItems key count item) = refl
+carried_lists (list.Trim key first last) = refl
+carried_lists (list.MoveItem from to taken put) = refl
+carried_lists a = carried-words (list_words a)
+
+carried_sets : (a : SetAsk) → carried (set_parts a) ≡ set_words a
+unfolding carried
+carried_sets (sets.TakeMembers key None) = refl
+carried_sets (sets.TakeMembers key (Some n)) = refl
+carried_sets (sets.DrawMembers key None) = refl
+carried_sets (sets.DrawMembers key (Some n)) = refl
+carried_sets a = carried-words (set_words a)
+
+carried_server : (a : ServerAsk) → carried (server_parts a) ≡ server_words a
+unfolding carried
+carried_server server.Select = refl
+carried_server (server.SetClientName name) = refl
+carried_server (server.SetClientInfo attribute value) = refl
+carried_server a = carried-words (server_words a)
+
+carried_parts : (a : Ask) → carried (parts_of a) ≡ words_of a
+carried_parts (ask.Keys a) = carried-words (key_words a)
+carried_parts (ask.Hashes a) = carried_hashes a
+carried_parts (ask.Lists a) = carried_lists a
+carried_parts (ask.Sets a) = carried_sets a
+carried_parts (ask.Server a) = carried_server a
 
 first : (a b : Bool) → IsTrue (a && b) → IsTrue a
 first true b h = refl

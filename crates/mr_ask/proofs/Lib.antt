@@ -1,4 +1,10 @@
 pub mod NameLemmas
 pub mod PairLemmas
 pub mod PartLemmas
+pub mod Carries
+pub mod KeyLemmas
+pub mod HashLemmas
+pub mod ListLemmas
+pub mod SetLemmas
+pub mod ServerLemmas
 pub mod AskLemmas

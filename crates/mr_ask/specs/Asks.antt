@@ -1,10 +1,8 @@
 -- Which words are which command.
-use Rattle.std.specs.Prelude.{ℕ, List, [], ◌∷◌, IsTrue, Option, Some, None, Result, Err}
-use Rattle.std.specs.List.{list_all}
-use Rattle.mr_value.specs.Words.{fits}
+use Rattle.std.specs.Prelude.{ℕ, List, [], ◌∷◌, Option, Some, None, Result, Ok, Err}
 use Rattle.mr_value.specs.declared.ends.End.TheVariants.{Left, Right}
 use Rattle.mr_ask.specs.Names.{lowered, named}
-use Rattle.mr_ask.specs.Pairing.{unpaired}
+use Rattle.mr_ask.specs.Parts.{with}
 use Rattle.mr_ask.specs.Keys.{get, set, del, unlink, exists, key_type}
 use Rattle.mr_ask.specs.Hashes.{set_fields, hsetnx, hget, hmget, list_hash, hdel, hexists, hlen, hstrlen, hincrby}
 use Rattle.mr_ask.specs.Lists.{push, pop, llen, lrange, lindex, lset, linsert, lrem, ltrim, lmove, rpoplpush}
@@ -14,69 +12,73 @@ use Rattle.mr_ask.specs.declared.name.Name.{Name}
 use Rattle.mr_ask.specs.declared.name.Name.TheVariants as name
 use Rattle.mr_ask.specs.declared.fault.AskFault.{AskFault}
 use Rattle.mr_ask.specs.declared.fault.AskFault.TheVariants.{Unknown}
-use Rattle.mr_ask.specs.declared.ask.FieldsReply.TheVariants.{Added, Done}
-use Rattle.mr_ask.specs.declared.ask.HashPart.TheVariants.{Pairs, Fields, Values}
-use Rattle.mr_ask.specs.declared.ask.PushTo.TheVariants.{AnyKey, ExistingKey}
-use Rattle.mr_ask.specs.declared.ask.SetOperation.TheVariants.{Intersection, Union, Difference}
+use Rattle.mr_ask.specs.declared.hash_ask.FieldsReply.TheVariants.{Added, Done}
+use Rattle.mr_ask.specs.declared.hash_ask.HashPart.TheVariants.{Pairs, Fields, Values}
+use Rattle.mr_ask.specs.declared.list_ask.PushTo.TheVariants.{AnyKey, ExistingKey}
+use Rattle.mr_ask.specs.declared.set_ask.SetOperation.TheVariants.{Intersection, Union, Difference}
 use Rattle.mr_ask.specs.declared.group.Group.{Group}
 use Rattle.mr_ask.specs.declared.group.Group.TheVariants as group
 use Rattle.mr_ask.specs.declared.ask.Ask.{Ask}
 use Rattle.mr_ask.specs.declared.ask.Ask.TheVariants as ask
 
+-- what is read of one kind, as a command
+abbrev pub of_kind : {A : Type 0} → (A → Ask) → Result A AskFault → Result Ask AskFault
+of_kind kind reading = with reading (λ command. Ok (kind command))
+
 -- the table: how the arguments of each command are read
 abbrev pub reading : Name → List (List ℕ) → Result Ask AskFault
-reading name.Get = get
-reading name.Set = set
-reading name.Del = del
-reading name.Unlink = unlink
-reading name.Exists = exists
-reading name.KeyType = key_type
-reading name.HSet = set_fields name.HSet Added
-reading name.HMSet = set_fields name.HMSet Done
-reading name.HSetNx = hsetnx
-reading name.HGet = hget
-reading name.HMGet = hmget
-reading name.HGetAll = list_hash name.HGetAll Pairs
-reading name.HKeys = list_hash name.HKeys Fields
-reading name.HVals = list_hash name.HVals Values
-reading name.HDel = hdel
-reading name.HExists = hexists
-reading name.HLen = hlen
-reading name.HStrLen = hstrlen
-reading name.HIncrBy = hincrby
-reading name.LPush = push name.LPush Left AnyKey
-reading name.RPush = push name.RPush Right AnyKey
-reading name.LPushX = push name.LPushX Left ExistingKey
-reading name.RPushX = push name.RPushX Right ExistingKey
-reading name.LPop = pop name.LPop Left
-reading name.RPop = pop name.RPop Right
-reading name.LLen = llen
-reading name.LRange = lrange
-reading name.LIndex = lindex
-reading name.LSet = lset
-reading name.LInsert = linsert
-reading name.LRem = lrem
-reading name.LTrim = ltrim
-reading name.LMove = lmove
-reading name.RPopLPush = rpoplpush
-reading name.SAdd = sadd
-reading name.SRem = srem
-reading name.SIsMember = sismember
-reading name.SMIsMember = smismember
-reading name.SMembers = smembers
-reading name.SCard = scard
-reading name.SPop = spop
-reading name.SRandMember = srandmember
-reading name.SMove = smove
-reading name.SInter = combine name.SInter Intersection
-reading name.SUnion = combine name.SUnion Union
-reading name.SDiff = combine name.SDiff Difference
-reading name.Ping = ping
-reading name.Echo = echo
-reading name.Select = select
-reading name.Quit = quit
-reading name.Command = command
-reading name.Client = client
+reading name.Get arguments = of_kind ask.Keys (get arguments)
+reading name.Set arguments = of_kind ask.Keys (set arguments)
+reading name.Del arguments = of_kind ask.Keys (del arguments)
+reading name.Unlink arguments = of_kind ask.Keys (unlink arguments)
+reading name.Exists arguments = of_kind ask.Keys (exists arguments)
+reading name.KeyType arguments = of_kind ask.Keys (key_type arguments)
+reading name.HSet arguments = of_kind ask.Hashes (set_fields name.HSet Added arguments)
+reading name.HMSet arguments = of_kind ask.Hashes (set_fields name.HMSet Done arguments)
+reading name.HSetNx arguments = of_kind ask.Hashes (hsetnx arguments)
+reading name.HGet arguments = of_kind ask.Hashes (hget arguments)
+reading name.HMGet arguments = of_kind ask.Hashes (hmget arguments)
+reading name.HGetAll arguments = of_kind ask.Hashes (list_hash name.HGetAll Pairs arguments)
+reading name.HKeys arguments = of_kind ask.Hashes (list_hash name.HKeys Fields arguments)
+reading name.HVals arguments = of_kind ask.Hashes (list_hash name.HVals Values arguments)
+reading name.HDel arguments = of_kind ask.Hashes (hdel arguments)
+reading name.HExists arguments = of_kind ask.Hashes (hexists arguments)
+reading name.HLen arguments = of_kind ask.Hashes (hlen arguments)
+reading name.HStrLen arguments = of_kind ask.Hashes (hstrlen arguments)
+reading name.HIncrBy arguments = of_kind ask.Hashes (hincrby arguments)
+reading name.LPush arguments = of_kind ask.Lists (push name.LPush Left AnyKey arguments)
+reading name.RPush arguments = of_kind ask.Lists (push name.RPush Right AnyKey arguments)
+reading name.LPushX arguments = of_kind ask.Lists (push name.LPushX Left ExistingKey arguments)
+reading name.RPushX arguments = of_kind ask.Lists (push name.RPushX Right ExistingKey arguments)
+reading name.LPop arguments = of_kind ask.Lists (pop name.LPop Left arguments)
+reading name.RPop arguments = of_kind ask.Lists (pop name.RPop Right arguments)
+reading name.LLen arguments = of_kind ask.Lists (llen arguments)
+reading name.LRange arguments = of_kind ask.Lists (lrange arguments)
+reading name.LIndex arguments = of_kind ask.Lists (lindex arguments)
+reading name.LSet arguments = of_kind ask.Lists (lset arguments)
+reading name.LInsert arguments = of_kind ask.Lists (linsert arguments)
+reading name.LRem arguments = of_kind ask.Lists (lrem arguments)
+reading name.LTrim arguments = of_kind ask.Lists (ltrim arguments)
+reading name.LMove arguments = of_kind ask.Lists (lmove arguments)
+reading name.RPopLPush arguments = of_kind ask.Lists (rpoplpush arguments)
+reading name.SAdd arguments = of_kind ask.Sets (sadd arguments)
+reading name.SRem arguments = of_kind ask.Sets (srem arguments)
+reading name.SIsMember arguments = of_kind ask.Sets (sismember arguments)
+reading name.SMIsMember arguments = of_kind ask.Sets (smismember arguments)
+reading name.SMembers arguments = of_kind ask.Sets (smembers arguments)
+reading name.SCard arguments = of_kind ask.Sets (scard arguments)
+reading name.SPop arguments = of_kind ask.Sets (spop arguments)
+reading name.SRandMember arguments = of_kind ask.Sets (srandmember arguments)
+reading name.SMove arguments = of_kind ask.Sets (smove arguments)
+reading name.SInter arguments = of_kind ask.Sets (combine name.SInter Intersection arguments)
+reading name.SUnion arguments = of_kind ask.Sets (combine name.SUnion Union arguments)
+reading name.SDiff arguments = of_kind ask.Sets (combine name.SDiff Difference arguments)
+reading name.Ping arguments = of_kind ask.Server (ping arguments)
+reading name.Echo arguments = of_kind ask.Server (echo arguments)
+reading name.Select arguments = of_kind ask.Server (select arguments)
+reading name.Quit arguments = of_kind ask.Server (quit arguments)
+reading name.Command arguments = of_kind ask.Server (command arguments)
+reading name.Client arguments = of_kind ask.Server (client arguments)
 
 abbrev pub asked_by : Option Name → List (List ℕ) → Result Ask AskFault
 asked_by None arguments = Err Unknown
@@ -89,69 +91,8 @@ asked (name ∷ arguments) = asked_by (named (lowered name)) arguments
 
 -- what a command is about: strings and keys, collections, or the server itself
 abbrev pub group_of : Ask → Group
-group_of (ask.Get key) = group.Keys
-group_of (ask.Set key value) = group.Keys
-group_of (ask.Del keys) = group.Keys
-group_of (ask.Unlink keys) = group.Keys
-group_of (ask.Exists keys) = group.Keys
-group_of (ask.KeyType key) = group.Keys
-group_of (ask.Ping message) = group.Server
-group_of (ask.Echo message) = group.Server
-group_of ask.Select = group.Server
-group_of ask.Quit = group.Server
-group_of (ask.Command arguments) = group.Server
-group_of (ask.SetClientName label) = group.Server
-group_of (ask.SetClientInfo attribute value) = group.Server
-group_of _ = group.Collections
-
--- the words that a command carries
-abbrev pub words_of : Ask → List (List ℕ)
-words_of (ask.Get key) = key ∷ []
-words_of (ask.Set key value) = key ∷ value ∷ []
-words_of (ask.Del keys) = keys
-words_of (ask.Unlink keys) = keys
-words_of (ask.Exists keys) = keys
-words_of (ask.KeyType key) = key ∷ []
-words_of (ask.SetFields key pairs reply) = key ∷ unpaired pairs
-words_of (ask.SetNewField key field value) = key ∷ field ∷ value ∷ []
-words_of (ask.GetField key field) = key ∷ field ∷ []
-words_of (ask.GetFields key fields) = key ∷ fields
-words_of (ask.ListHash key part) = key ∷ []
-words_of (ask.RemoveFields key fields) = key ∷ fields
-words_of (ask.HasField key field) = key ∷ field ∷ []
-words_of (ask.CountFields key) = key ∷ []
-words_of (ask.FieldLength key field) = key ∷ field ∷ []
-words_of (ask.IncreaseField key field by) = key ∷ field ∷ []
-words_of (ask.Push key end to items) = key ∷ items
-words_of (ask.Pop key end count) = key ∷ []
-words_of (ask.CountItems key) = key ∷ []
-words_of (ask.Range key first last) = key ∷ []
-words_of (ask.GetItem key index) = key ∷ []
-words_of (ask.SetItem key index item) = key ∷ item ∷ []
-words_of (ask.InsertItem key side pivot item) = key ∷ pivot ∷ item ∷ []
-words_of (ask.RemoveItems key count item) = key ∷ item ∷ []
-words_of (ask.Trim key first last) = key ∷ []
-words_of (ask.MoveItem from to taken put) = from ∷ to ∷ []
-words_of (ask.MoveLastToFront from to) = from ∷ to ∷ []
-words_of (ask.AddMembers key members) = key ∷ members
-words_of (ask.RemoveMembers key members) = key ∷ members
-words_of (ask.HasMember key member) = key ∷ member ∷ []
-words_of (ask.HaveMembers key members) = key ∷ members
-words_of (ask.ListMembers key) = key ∷ []
-words_of (ask.CountMembers key) = key ∷ []
-words_of (ask.TakeMembers key count) = key ∷ []
-words_of (ask.DrawMembers key count) = key ∷ []
-words_of (ask.MoveMember from to member) = from ∷ to ∷ member ∷ []
-words_of (ask.Combine operation keys) = keys
-words_of (ask.Ping None) = []
-words_of (ask.Ping (Some message)) = message ∷ []
-words_of (ask.Echo message) = message ∷ []
-words_of ask.Select = []
-words_of ask.Quit = []
-words_of (ask.Command arguments) = arguments
-words_of (ask.SetClientName label) = label ∷ []
-words_of (ask.SetClientInfo attribute value) = attribute ∷ value ∷ []
-
--- .. are within the word limit
-abbrev pub AskFits : Ask → Type 0
-AskFits command = IsTrue (list_all fits (words_of command))
+group_of (ask.Keys command) = group.Keys
+group_of (ask.Hashes command) = group.Collections
+group_of (ask.Lists command) = group.Collections
+group_of (ask.Sets command) = group.Collections
+group_of (ask.Server command) = group.Server

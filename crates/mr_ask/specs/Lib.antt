@@ -8,4 +8,6 @@ pub mod Lists
 pub mod Sets
 pub mod Server
 pub mod Asks
+pub mod Carried
+pub mod Called
 pub mod Spelled

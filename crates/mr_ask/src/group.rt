@@ -21,20 +21,9 @@ impl Ask<'_, '_> {
         ensures { result ≡ group_of self.now }
     {
         match self {
-            Ask::Get { .. }
-            | Ask::Set { .. }
-            | Ask::Del { .. }
-            | Ask::Unlink { .. }
-            | Ask::Exists { .. }
-            | Ask::KeyType { .. } => Group::Keys,
-            Ask::Ping { .. }
-            | Ask::Echo { .. }
-            | Ask::Select
-            | Ask::Quit
-            | Ask::Command { .. }
-            | Ask::SetClientName { .. }
-            | Ask::SetClientInfo { .. } => Group::Server,
-            _ => Group::Collections,
+            Ask::Keys(_) => Group::Keys,
+            Ask::Hashes(_) | Ask::Lists(_) | Ask::Sets(_) => Group::Collections,
+            Ask::Server(_) => Group::Server,
         }
     }
 }

@@ -4,18 +4,28 @@
 mod ask;
 mod fault;
 mod group;
+mod hash_ask;
+mod key_ask;
 mod laws;
+mod list_ask;
 mod name;
 mod parts;
 mod reading;
+mod server_ask;
+mod set_ask;
 mod words;
 
-pub use ask::{Ask, FieldsReply, HashPart, PushTo, SetOperation};
+pub use ask::Ask;
 pub use fault::{AskFault, BadValue};
 pub use group::Group;
+pub use hash_ask::{FieldsReply, HashAsk, HashPart};
+pub use key_ask::KeyAsk;
 pub use laws::names_are_found;
+pub use list_ask::{ListAsk, PushTo};
 pub use name::Name;
 pub use reading::read;
+pub use server_ask::ServerAsk;
+pub use set_ask::{SetAsk, SetOperation};
 pub use words::{Argument, Pairs, PairsIter, Words};
 
 #[cfg(test)]

@@ -3,8 +3,10 @@ ghost use Rattle.std.specs.Prelude.{◌≡◌, ◌<◌, length, map, IsTrue, IfO
 ghost use Rattle.std.specs.List.{list_all};
 ghost use Rattle.std.specs.Cow.{cow_slice_items};
 ghost use Rattle.mr_value.specs.Words.{fits};
-ghost use Rattle.mr_ask.specs.Asks.{asked, reading, AskFits};
+ghost use Rattle.mr_ask.specs.Asks.{asked, reading, of_kind};
+ghost use Rattle.mr_ask.specs.Carried.{AskFits};
 ghost use Rattle.mr_ask.specs.Spelled.{Spells};
+ghost use Rattle.mr_ask.specs.declared.ask.Ask.TheVariants as kind;
 
 mod hashes;
 mod keys;
@@ -12,9 +14,14 @@ mod lists;
 mod server;
 mod sets;
 
-use crate::ask::{Ask, FieldsReply, HashPart, PushTo, SetOperation};
+use crate::ask::Ask;
 use crate::fault::AskFault;
+use crate::hash_ask::{FieldsReply, HashAsk, HashPart};
+use crate::key_ask::KeyAsk;
+use crate::list_ask::{ListAsk, PushTo};
 use crate::name::Name;
+use crate::server_ask::ServerAsk;
+use crate::set_ask::{SetAsk, SetOperation};
 use mr_value::End;
 use std::borrow::CowSlice;
 
@@ -50,57 +57,87 @@ fn read_arguments<'a, 't>(name: Name, arguments: Arguments<'a, 't>) -> Reading<'
     ensures { result ≡ reading name (map cow_slice_items arguments.now) }
 {
     match name {
-        Name::Get => keys::get(arguments),
-        Name::Set => keys::set(arguments),
-        Name::Del => keys::del(arguments),
-        Name::Unlink => keys::unlink(arguments),
-        Name::Exists => keys::exists(arguments),
-        Name::KeyType => keys::key_type(arguments),
-        Name::HSet => hashes::set_fields(name, FieldsReply::Added, arguments),
-        Name::HMSet => hashes::set_fields(name, FieldsReply::Done, arguments),
-        Name::HSetNx => hashes::hsetnx(arguments),
-        Name::HGet => hashes::hget(arguments),
-        Name::HMGet => hashes::hmget(arguments),
-        Name::HGetAll => hashes::list_hash(name, HashPart::Pairs, arguments),
-        Name::HKeys => hashes::list_hash(name, HashPart::Fields, arguments),
-        Name::HVals => hashes::list_hash(name, HashPart::Values, arguments),
-        Name::HDel => hashes::hdel(arguments),
-        Name::HExists => hashes::hexists(arguments),
-        Name::HLen => hashes::hlen(arguments),
-        Name::HStrLen => hashes::hstrlen(arguments),
-        Name::HIncrBy => hashes::hincrby(arguments),
-        Name::LPush => lists::push(name, End::Left, PushTo::AnyKey, arguments),
-        Name::RPush => lists::push(name, End::Right, PushTo::AnyKey, arguments),
-        Name::LPushX => lists::push(name, End::Left, PushTo::ExistingKey, arguments),
-        Name::RPushX => lists::push(name, End::Right, PushTo::ExistingKey, arguments),
-        Name::LPop => lists::pop(name, End::Left, arguments),
-        Name::RPop => lists::pop(name, End::Right, arguments),
-        Name::LLen => lists::llen(arguments),
-        Name::LRange => lists::lrange(arguments),
-        Name::LIndex => lists::lindex(arguments),
-        Name::LSet => lists::lset(arguments),
-        Name::LInsert => lists::linsert(arguments),
-        Name::LRem => lists::lrem(arguments),
-        Name::LTrim => lists::ltrim(arguments),
-        Name::LMove => lists::lmove(arguments),
-        Name::RPopLPush => lists::rpoplpush(arguments),
-        Name::SAdd => sets::sadd(arguments),
-        Name::SRem => sets::srem(arguments),
-        Name::SIsMember => sets::sismember(arguments),
-        Name::SMIsMember => sets::smismember(arguments),
-        Name::SMembers => sets::smembers(arguments),
-        Name::SCard => sets::scard(arguments),
-        Name::SPop => sets::spop(arguments),
-        Name::SRandMember => sets::srandmember(arguments),
-        Name::SMove => sets::smove(arguments),
-        Name::SInter => sets::combine(name, SetOperation::Intersection, arguments),
-        Name::SUnion => sets::combine(name, SetOperation::Union, arguments),
-        Name::SDiff => sets::combine(name, SetOperation::Difference, arguments),
-        Name::Ping => server::ping(arguments),
-        Name::Echo => server::echo(arguments),
-        Name::Select => server::select(arguments),
-        Name::Quit => server::quit(arguments),
-        Name::Command => server::command(arguments),
-        Name::Client => server::client(arguments),
+        Name::Get => of_keys(keys::get(arguments)),
+        Name::Set => of_keys(keys::set(arguments)),
+        Name::Del => of_keys(keys::del(arguments)),
+        Name::Unlink => of_keys(keys::unlink(arguments)),
+        Name::Exists => of_keys(keys::exists(arguments)),
+        Name::KeyType => of_keys(keys::key_type(arguments)),
+        Name::HSet => of_hashes(hashes::set_fields(name, FieldsReply::Added, arguments)),
+        Name::HMSet => of_hashes(hashes::set_fields(name, FieldsReply::Done, arguments)),
+        Name::HSetNx => of_hashes(hashes::hsetnx(arguments)),
+        Name::HGet => of_hashes(hashes::hget(arguments)),
+        Name::HMGet => of_hashes(hashes::hmget(arguments)),
+        Name::HGetAll => of_hashes(hashes::list_hash(name, HashPart::Pairs, arguments)),
+        Name::HKeys => of_hashes(hashes::list_hash(name, HashPart::Fields, arguments)),
+        Name::HVals => of_hashes(hashes::list_hash(name, HashPart::Values, arguments)),
+        Name::HDel => of_hashes(hashes::hdel(arguments)),
+        Name::HExists => of_hashes(hashes::hexists(arguments)),
+        Name::HLen => of_hashes(hashes::hlen(arguments)),
+        Name::HStrLen => of_hashes(hashes::hstrlen(arguments)),
+        Name::HIncrBy => of_hashes(hashes::hincrby(arguments)),
+        Name::LPush => of_lists(lists::push(name, End::Left, PushTo::AnyKey, arguments)),
+        Name::RPush => of_lists(lists::push(name, End::Right, PushTo::AnyKey, arguments)),
+        Name::LPushX => of_lists(lists::push(name, End::Left, PushTo::ExistingKey, arguments)),
+        Name::RPushX => of_lists(lists::push(name, End::Right, PushTo::ExistingKey, arguments)),
+        Name::LPop => of_lists(lists::pop(name, End::Left, arguments)),
+        Name::RPop => of_lists(lists::pop(name, End::Right, arguments)),
+        Name::LLen => of_lists(lists::llen(arguments)),
+        Name::LRange => of_lists(lists::lrange(arguments)),
+        Name::LIndex => of_lists(lists::lindex(arguments)),
+        Name::LSet => of_lists(lists::lset(arguments)),
+        Name::LInsert => of_lists(lists::linsert(arguments)),
+        Name::LRem => of_lists(lists::lrem(arguments)),
+        Name::LTrim => of_lists(lists::ltrim(arguments)),
+        Name::LMove => of_lists(lists::lmove(arguments)),
+        Name::RPopLPush => of_lists(lists::rpoplpush(arguments)),
+        Name::SAdd => of_sets(sets::sadd(arguments)),
+        Name::SRem => of_sets(sets::srem(arguments)),
+        Name::SIsMember => of_sets(sets::sismember(arguments)),
+        Name::SMIsMember => of_sets(sets::smismember(arguments)),
+        Name::SMembers => of_sets(sets::smembers(arguments)),
+        Name::SCard => of_sets(sets::scard(arguments)),
+        Name::SPop => of_sets(sets::spop(arguments)),
+        Name::SRandMember => of_sets(sets::srandmember(arguments)),
+        Name::SMove => of_sets(sets::smove(arguments)),
+        Name::SInter => of_sets(sets::combine(name, SetOperation::Intersection, arguments)),
+        Name::SUnion => of_sets(sets::combine(name, SetOperation::Union, arguments)),
+        Name::SDiff => of_sets(sets::combine(name, SetOperation::Difference, arguments)),
+        Name::Ping => of_server(server::ping(arguments)),
+        Name::Echo => of_server(server::echo(arguments)),
+        Name::Select => of_server(server::select(arguments)),
+        Name::Quit => of_server(server::quit(arguments)),
+        Name::Command => of_server(server::command(arguments)),
+        Name::Client => of_server(server::client(arguments)),
     }
+}
+
+fn of_keys<'a, 't>(reading: Result<KeyAsk<'a, 't>, AskFault>) -> Reading<'a, 't>
+    ensures { result ≡ of_kind kind.Keys reading.entry }
+{
+    Ok(Ask::Keys(reading?))
+}
+
+fn of_hashes<'a, 't>(reading: Result<HashAsk<'a, 't>, AskFault>) -> Reading<'a, 't>
+    ensures { result ≡ of_kind kind.Hashes reading.entry }
+{
+    Ok(Ask::Hashes(reading?))
+}
+
+fn of_lists<'a, 't>(reading: Result<ListAsk<'a, 't>, AskFault>) -> Reading<'a, 't>
+    ensures { result ≡ of_kind kind.Lists reading.entry }
+{
+    Ok(Ask::Lists(reading?))
+}
+
+fn of_sets<'a, 't>(reading: Result<SetAsk<'a, 't>, AskFault>) -> Reading<'a, 't>
+    ensures { result ≡ of_kind kind.Sets reading.entry }
+{
+    Ok(Ask::Sets(reading?))
+}
+
+fn of_server<'a, 't>(reading: Result<ServerAsk<'a, 't>, AskFault>) -> Reading<'a, 't>
+    ensures { result ≡ of_kind kind.Server reading.entry }
+{
+    Ok(Ask::Server(reading?))
 }

@@ -1,4 +1,4 @@
-use crate::{Ask, AskFault, FieldsReply, Group, Name, Pairs, Words, read};
+use crate::{Ask, AskFault, FieldsReply, Group, HashAsk, ListAsk, Name, Pairs, Words, read};
 use mr_resp::write_reply;
 use mr_value::{End, Side};
 use std::alloc::Global;
@@ -245,7 +245,7 @@ fn not_read() -> Result<(), Fail> {
 fn numbers_and_ends(rt: HostRuntime) -> Result<(), Fail> {
     let line = words(rt.alloc(), "rpop l 3")?;
     assert!(rt; line.len() > 0);
-    let Ok(Ask::Pop { key, end, count }) = read(line.as_slice()) else {
+    let Ok(Ask::Lists(ListAsk::Pop { key, end, count })) = read(line.as_slice()) else {
         return not_read();
     };
     assert_eq!(rt; key.as_slice(), b"l".as_slice());
@@ -259,12 +259,14 @@ fn sides(rt: HostRuntime) -> Result<(), Fail> {
     let line = words(rt.alloc(), "linsert l After p v")?;
     assert!(rt; line.len() > 0);
     let Ok(
-        Ask::InsertItem {
-            key: _,
-            side,
-            pivot,
-            item,
-        },
+        Ask::Lists(
+            ListAsk::InsertItem {
+                key: _,
+                side,
+                pivot,
+                item,
+            },
+        ),
     ) = read(line.as_slice())
     else {
         return not_read();
@@ -280,11 +282,13 @@ fn fields_with_their_values(rt: HostRuntime) -> Result<(), Fail> {
     let line = words(rt.alloc(), "hmset h f v g w")?;
     assert!(rt; line.len() > 0);
     let Ok(
-        Ask::SetFields {
-            key: _,
-            pairs,
-            reply,
-        },
+        Ask::Hashes(
+            HashAsk::SetFields {
+                key: _,
+                pairs,
+                reply,
+            },
+        ),
     ) = read(line.as_slice())
     else {
         return not_read();

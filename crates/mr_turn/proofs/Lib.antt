@@ -4,4 +4,6 @@ pub mod TakenLemmas
 pub mod Laws
 pub mod Running
 pub mod Cutting
+pub mod KindLaws
+pub mod Changing
 pub mod PlanLemmas

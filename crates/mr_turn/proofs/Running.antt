@@ -1,7 +1,7 @@
 -- Effects on one key, one after another.
 use Rattle.std.proofs.Common.{ℕ, ℤ, ◌≡◌, List, [], ◌∷◌, ◌++◌, map, Bool, true, false, ◌&&◌, cond, Option, Some, None, refl, sym, ◌∙◌, ap}
 use Rattle.std.specs.Prelude.{IsTrue, if◌then◌else◌, ◌≢◌}
-use Rattle.std.specs.List.{AllByRecursion}
+use Rattle.std.specs.List.{AllByRecursion, flat_map}
 use Rattle.std.specs.Option.{option_map, option_and_then}
 use Rattle.std.specs.FinMap.{get}
 use Rattle.std.specs.Cmp.{eq_by_cmp_equiv}
@@ -95,3 +95,50 @@ module _ {X : Type 0} (kind : Kind X) (laws : IsKind kind) where
 
   pub same_collection : (o : Option Entry) (x y : X) → held kind o ≡ Some x → entry_of kind (deadline_of o) y ≡ o → y ≡ x
   same_collection o x y is e = some_is (sym (held_entry (deadline_of o) y o e) ∙ is)
+
+-- ---- groups of items, each of which goes into one effect
+module _ {X : Type 0} (kind : Kind X) where
+  -- once nothing is left, nothing more is left either
+  abbrev pub StaysNone : {A : Type 0} → (List A → X → X) → X → Type 0
+  StaysNone {A} f x = kind.is_none x ≡ true → (xs : List A) → kind.is_none (f xs kind.none) ≡ true
+
+  -- what items do to a collection, one after another
+  pub record IsFold {A : Type 0} (f : List A → X → X) : Type 0 where
+    pub nothing : (x : X) → f [] x ≡ x
+    pub more : (xs ys : List A) (x : X) → f (xs ++ ys) x ≡ f ys (f xs x)
+    pub gone : (xs : List A) (x : X) → xs ≢ [] → StaysNone f (f xs x)
+
+module _ {A X : Type 0} (kind : Kind X) (laws : IsKind kind) (f : List A → X → X) (fold : IsFold kind f) where
+  -- the step of a group
+  abbrev pub group_step : List A → Step
+  group_step xs = on kind (λ x. Some (f xs x))
+
+  no_entry : (d : Option ℤ) (x : X) → kind.is_none x ≡ true → entry_of kind d x ≡ None
+  no_entry d x h = ap (λ b. let none : Option Entry = None in if b then none else Some (record { value = kind.value x; deadline = d })) h
+
+  some_entry : (d : Option ℤ) (x : X) → kind.is_none x ≡ false → entry_of kind d x ≡ Some (record { value = kind.value x; deadline = d })
+  some_entry d x h = ap (λ b. let none : Option Entry = None in if b then none else Some (record { value = kind.value x; deadline = d })) h
+
+  -- a group on what another group left
+  next_step : (d : Option ℤ) (x : X) (xs : List A) (b : Bool) → kind.is_none x ≡ b → StaysNone kind f x → group_step xs (entry_of kind d x) ≡ Some (entry_of kind d (f xs x))
+  next_step d x xs true none stays =
+      ap (group_step xs) (no_entry d x none)
+      ∙ ap Some (no_entry None (f xs kind.none) (stays none xs) ∙ sym (no_entry d (f xs x) (ap (λ y. kind.is_none (f xs y)) (laws.none_is x none) ∙ stays none xs)))
+  next_step d x xs false some stays =
+      ap (group_step xs) (some_entry d x some)
+      ∙ ap (option_and_then (λ y. option_map (entry_of kind d) (Some (f xs y)))) (laws.of_value x)
+
+  rest_runs : (d : Option ℤ) (x : X) (gs : List (List A)) → StaysNone kind f x → AllByRecursion (λ (g : List A). g ≢ []) gs → run (map group_step gs) (entry_of kind d x) ≡ Some (entry_of kind d (f (flat_map (λ g. g) gs) x))
+  rest_runs d x [] stays h = ap (λ y. Some (entry_of kind d y)) (sym (fold.nothing x))
+  rest_runs d x (g ∷ gs) stays h =
+      ap (option_and_then (run (map group_step gs))) (next_step d x g (kind.is_none x) refl stays)
+      ∙ rest_runs d (f g x) gs (fold.gone g x h.0) h.1
+      ∙ ap (λ y. Some (entry_of kind d y)) (sym (fold.more g (flat_map (λ g. g) gs) x))
+
+  -- The groups do what all items do.
+  pub groups_run : (o : Option Entry) (x : X) (gs : List (List A)) → held kind o ≡ Some x → gs ≢ [] → AllByRecursion (λ (g : List A). g ≢ []) gs → run (map group_step gs) o ≡ Some (entry_of kind (deadline_of o) (f (flat_map (λ g. g) gs) x))
+  groups_run o x [] is some h = absurd (some refl)
+  groups_run o x (g ∷ gs) is some h =
+      ap (λ y. option_and_then (run (map group_step gs)) (option_and_then (λ z. option_map (entry_of kind (deadline_of o)) (Some (f g z))) y)) is
+      ∙ rest_runs (deadline_of o) (f g x) gs (fold.gone g x h.0) h.1
+      ∙ ap (λ y. Some (entry_of kind (deadline_of o) y)) (sym (fold.more g (flat_map (λ g. g) gs) x))

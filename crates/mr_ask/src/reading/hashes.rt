@@ -3,12 +3,14 @@ ghost use Rattle.std.specs.Prelude.{◌≡◌, map};
 ghost use Rattle.std.specs.Cow.{cow_slice_items};
 ghost use Rattle.mr_ask.specs.Hashes.{set_fields, hsetnx, hget, hmget, list_hash, hdel, hexists, hlen, hstrlen, hincrby};
 
-use crate::ask::{Ask, FieldsReply, HashPart};
 use crate::fault::AskFault;
+use crate::hash_ask::{FieldsReply, HashAsk, HashPart};
 use crate::name::Name;
 use crate::parts::integer;
-use crate::reading::{Arguments, Reading};
+use crate::reading::Arguments;
 use crate::words::{Argument, Pairs, Words};
+
+type Reading<'a, 't> = Result<HashAsk<'a, 't>, AskFault>;
 
 /// `HSET key field value [field value ..]`, `HMSET` the same
 pub(crate) fn set_fields<'a, 't>(
@@ -20,7 +22,7 @@ pub(crate) fn set_fields<'a, 't>(
 {
     match arguments {
         [] | [_] => Err(AskFault::Arity(name)),
-        [key, words @ ..] => Ok(Ask::SetFields {
+        [key, words @ ..] => Ok(HashAsk::SetFields {
             key: Argument::of(key),
             pairs: Pairs::of(words).ok_or(AskFault::Arity(name))?,
             reply,
@@ -33,7 +35,7 @@ pub(crate) fn hsetnx<'a, 't>(arguments: Arguments<'a, 't>) -> Reading<'a, 't>
     ensures { result ≡ hsetnx (map cow_slice_items arguments.now) }
 {
     match arguments {
-        [key, field, value] => Ok(Ask::SetNewField {
+        [key, field, value] => Ok(HashAsk::SetNewField {
             key: Argument::of(key),
             field: Argument::of(field),
             value: Argument::of(value),
@@ -47,7 +49,7 @@ pub(crate) fn hget<'a, 't>(arguments: Arguments<'a, 't>) -> Reading<'a, 't>
     ensures { result ≡ hget (map cow_slice_items arguments.now) }
 {
     match arguments {
-        [key, field] => Ok(Ask::GetField {
+        [key, field] => Ok(HashAsk::GetField {
             key: Argument::of(key),
             field: Argument::of(field),
         }),
@@ -61,7 +63,7 @@ pub(crate) fn hmget<'a, 't>(arguments: Arguments<'a, 't>) -> Reading<'a, 't>
 {
     match arguments {
         [] | [_] => Err(AskFault::Arity(Name::HMGet)),
-        [key, fields @ ..] => Ok(Ask::GetFields {
+        [key, fields @ ..] => Ok(HashAsk::GetFields {
             key: Argument::of(key),
             fields: Words::new(fields),
         }),
@@ -77,7 +79,7 @@ pub(crate) fn list_hash<'a, 't>(
     ensures { result ≡ list_hash name part (map cow_slice_items arguments.now) }
 {
     match arguments {
-        [key] => Ok(Ask::ListHash {
+        [key] => Ok(HashAsk::ListHash {
             key: Argument::of(key),
             part,
         }),
@@ -91,7 +93,7 @@ pub(crate) fn hdel<'a, 't>(arguments: Arguments<'a, 't>) -> Reading<'a, 't>
 {
     match arguments {
         [] | [_] => Err(AskFault::Arity(Name::HDel)),
-        [key, fields @ ..] => Ok(Ask::RemoveFields {
+        [key, fields @ ..] => Ok(HashAsk::RemoveFields {
             key: Argument::of(key),
             fields: Words::new(fields),
         }),
@@ -103,7 +105,7 @@ pub(crate) fn hexists<'a, 't>(arguments: Arguments<'a, 't>) -> Reading<'a, 't>
     ensures { result ≡ hexists (map cow_slice_items arguments.now) }
 {
     match arguments {
-        [key, field] => Ok(Ask::HasField {
+        [key, field] => Ok(HashAsk::HasField {
             key: Argument::of(key),
             field: Argument::of(field),
         }),
@@ -116,7 +118,7 @@ pub(crate) fn hlen<'a, 't>(arguments: Arguments<'a, 't>) -> Reading<'a, 't>
     ensures { result ≡ hlen (map cow_slice_items arguments.now) }
 {
     match arguments {
-        [key] => Ok(Ask::CountFields {
+        [key] => Ok(HashAsk::CountFields {
             key: Argument::of(key),
         }),
         _ => Err(AskFault::Arity(Name::HLen)),
@@ -128,7 +130,7 @@ pub(crate) fn hstrlen<'a, 't>(arguments: Arguments<'a, 't>) -> Reading<'a, 't>
     ensures { result ≡ hstrlen (map cow_slice_items arguments.now) }
 {
     match arguments {
-        [key, field] => Ok(Ask::FieldLength {
+        [key, field] => Ok(HashAsk::FieldLength {
             key: Argument::of(key),
             field: Argument::of(field),
         }),
@@ -141,7 +143,7 @@ pub(crate) fn hincrby<'a, 't>(arguments: Arguments<'a, 't>) -> Reading<'a, 't>
     ensures { result ≡ hincrby (map cow_slice_items arguments.now) }
 {
     match arguments {
-        [key, field, by] => Ok(Ask::IncreaseField {
+        [key, field, by] => Ok(HashAsk::IncreaseField {
             key: Argument::of(key),
             field: Argument::of(field),
             by: integer(by)?,

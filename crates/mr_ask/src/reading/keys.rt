@@ -3,18 +3,20 @@ ghost use Rattle.std.specs.Prelude.{◌≡◌, map};
 ghost use Rattle.std.specs.Cow.{cow_slice_items};
 ghost use Rattle.mr_ask.specs.Keys.{get, set, del, unlink, exists, key_type};
 
-use crate::ask::Ask;
 use crate::fault::AskFault;
+use crate::key_ask::KeyAsk;
 use crate::name::Name;
-use crate::reading::{Arguments, Reading};
+use crate::reading::Arguments;
 use crate::words::{Argument, Words};
+
+type Reading<'a, 't> = Result<KeyAsk<'a, 't>, AskFault>;
 
 /// `GET key`
 pub(crate) fn get<'a, 't>(arguments: Arguments<'a, 't>) -> Reading<'a, 't>
     ensures { result ≡ get (map cow_slice_items arguments.now) }
 {
     match arguments {
-        [key] => Ok(Ask::Get {
+        [key] => Ok(KeyAsk::Get {
             key: Argument::of(key),
         }),
         _ => Err(AskFault::Arity(Name::Get)),
@@ -27,7 +29,7 @@ pub(crate) fn set<'a, 't>(arguments: Arguments<'a, 't>) -> Reading<'a, 't>
 {
     match arguments {
         [] | [_] => Err(AskFault::Arity(Name::Set)),
-        [key, value] => Ok(Ask::Set {
+        [key, value] => Ok(KeyAsk::Set {
             key: Argument::of(key),
             value: Argument::of(value),
         }),
@@ -41,7 +43,7 @@ pub(crate) fn del<'a, 't>(arguments: Arguments<'a, 't>) -> Reading<'a, 't>
 {
     match arguments {
         [] => Err(AskFault::Arity(Name::Del)),
-        _ => Ok(Ask::Del {
+        _ => Ok(KeyAsk::Del {
             keys: Words::new(arguments),
         }),
     }
@@ -53,7 +55,7 @@ pub(crate) fn unlink<'a, 't>(arguments: Arguments<'a, 't>) -> Reading<'a, 't>
 {
     match arguments {
         [] => Err(AskFault::Arity(Name::Unlink)),
-        _ => Ok(Ask::Unlink {
+        _ => Ok(KeyAsk::Unlink {
             keys: Words::new(arguments),
         }),
     }
@@ -65,7 +67,7 @@ pub(crate) fn exists<'a, 't>(arguments: Arguments<'a, 't>) -> Reading<'a, 't>
 {
     match arguments {
         [] => Err(AskFault::Arity(Name::Exists)),
-        _ => Ok(Ask::Exists {
+        _ => Ok(KeyAsk::Exists {
             keys: Words::new(arguments),
         }),
     }
@@ -76,7 +78,7 @@ pub(crate) fn key_type<'a, 't>(arguments: Arguments<'a, 't>) -> Reading<'a, 't>
     ensures { result ≡ key_type (map cow_slice_items arguments.now) }
 {
     match arguments {
-        [key] => Ok(Ask::KeyType {
+        [key] => Ok(KeyAsk::KeyType {
             key: Argument::of(key),
         }),
         _ => Err(AskFault::Arity(Name::KeyType)),

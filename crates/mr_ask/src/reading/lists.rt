@@ -3,13 +3,15 @@ ghost use Rattle.std.specs.Prelude.{◌≡◌, map};
 ghost use Rattle.std.specs.Cow.{cow_slice_items};
 ghost use Rattle.mr_ask.specs.Lists.{push, pop, llen, lrange, lindex, lset, linsert, lrem, ltrim, lmove, rpoplpush};
 
-use crate::ask::{Ask, PushTo};
 use crate::fault::AskFault;
+use crate::list_ask::{ListAsk, PushTo};
 use crate::name::Name;
 use crate::parts::{count, end_of, integer, side_of};
-use crate::reading::{Arguments, Reading};
+use crate::reading::Arguments;
 use crate::words::{Argument, Words};
 use mr_value::End;
+
+type Reading<'a, 't> = Result<ListAsk<'a, 't>, AskFault>;
 
 /// `LPUSH key item [item ..]`, `RPUSH`, `LPUSHX`, `RPUSHX` the same
 pub(crate) fn push<'a, 't>(
@@ -22,7 +24,7 @@ pub(crate) fn push<'a, 't>(
 {
     match arguments {
         [] | [_] => Err(AskFault::Arity(name)),
-        [key, items @ ..] => Ok(Ask::Push {
+        [key, items @ ..] => Ok(ListAsk::Push {
             key: Argument::of(key),
             end,
             to,
@@ -36,12 +38,12 @@ pub(crate) fn pop<'a, 't>(name: Name, end: End, arguments: Arguments<'a, 't>) ->
     ensures { result ≡ pop name end (map cow_slice_items arguments.now) }
 {
     match arguments {
-        [key] => Ok(Ask::Pop {
+        [key] => Ok(ListAsk::Pop {
             key: Argument::of(key),
             end,
             count: None,
         }),
-        [key, most] => Ok(Ask::Pop {
+        [key, most] => Ok(ListAsk::Pop {
             key: Argument::of(key),
             end,
             count: Some(count(most)?),
@@ -55,7 +57,7 @@ pub(crate) fn llen<'a, 't>(arguments: Arguments<'a, 't>) -> Reading<'a, 't>
     ensures { result ≡ llen (map cow_slice_items arguments.now) }
 {
     match arguments {
-        [key] => Ok(Ask::CountItems {
+        [key] => Ok(ListAsk::CountItems {
             key: Argument::of(key),
         }),
         _ => Err(AskFault::Arity(Name::LLen)),
@@ -67,7 +69,7 @@ pub(crate) fn lrange<'a, 't>(arguments: Arguments<'a, 't>) -> Reading<'a, 't>
     ensures { result ≡ lrange (map cow_slice_items arguments.now) }
 {
     match arguments {
-        [key, first, last] => Ok(Ask::Range {
+        [key, first, last] => Ok(ListAsk::Range {
             key: Argument::of(key),
             first: integer(first)?,
             last: integer(last)?,
@@ -81,7 +83,7 @@ pub(crate) fn lindex<'a, 't>(arguments: Arguments<'a, 't>) -> Reading<'a, 't>
     ensures { result ≡ lindex (map cow_slice_items arguments.now) }
 {
     match arguments {
-        [key, index] => Ok(Ask::GetItem {
+        [key, index] => Ok(ListAsk::GetItem {
             key: Argument::of(key),
             index: integer(index)?,
         }),
@@ -94,7 +96,7 @@ pub(crate) fn lset<'a, 't>(arguments: Arguments<'a, 't>) -> Reading<'a, 't>
     ensures { result ≡ lset (map cow_slice_items arguments.now) }
 {
     match arguments {
-        [key, index, item] => Ok(Ask::SetItem {
+        [key, index, item] => Ok(ListAsk::SetItem {
             key: Argument::of(key),
             index: integer(index)?,
             item: Argument::of(item),
@@ -108,7 +110,7 @@ pub(crate) fn linsert<'a, 't>(arguments: Arguments<'a, 't>) -> Reading<'a, 't>
     ensures { result ≡ linsert (map cow_slice_items arguments.now) }
 {
     match arguments {
-        [key, side, pivot, item] => Ok(Ask::InsertItem {
+        [key, side, pivot, item] => Ok(ListAsk::InsertItem {
             key: Argument::of(key),
             side: side_of(side)?,
             pivot: Argument::of(pivot),
@@ -123,7 +125,7 @@ pub(crate) fn lrem<'a, 't>(arguments: Arguments<'a, 't>) -> Reading<'a, 't>
     ensures { result ≡ lrem (map cow_slice_items arguments.now) }
 {
     match arguments {
-        [key, most, item] => Ok(Ask::RemoveItems {
+        [key, most, item] => Ok(ListAsk::RemoveItems {
             key: Argument::of(key),
             count: integer(most)?,
             item: Argument::of(item),
@@ -137,7 +139,7 @@ pub(crate) fn ltrim<'a, 't>(arguments: Arguments<'a, 't>) -> Reading<'a, 't>
     ensures { result ≡ ltrim (map cow_slice_items arguments.now) }
 {
     match arguments {
-        [key, first, last] => Ok(Ask::Trim {
+        [key, first, last] => Ok(ListAsk::Trim {
             key: Argument::of(key),
             first: integer(first)?,
             last: integer(last)?,
@@ -151,7 +153,7 @@ pub(crate) fn lmove<'a, 't>(arguments: Arguments<'a, 't>) -> Reading<'a, 't>
     ensures { result ≡ lmove (map cow_slice_items arguments.now) }
 {
     match arguments {
-        [from, to, taken, put] => Ok(Ask::MoveItem {
+        [from, to, taken, put] => Ok(ListAsk::MoveItem {
             from: Argument::of(from),
             to: Argument::of(to),
             taken: end_of(taken)?,
@@ -166,7 +168,7 @@ pub(crate) fn rpoplpush<'a, 't>(arguments: Arguments<'a, 't>) -> Reading<'a, 't>
     ensures { result ≡ rpoplpush (map cow_slice_items arguments.now) }
 {
     match arguments {
-        [from, to] => Ok(Ask::MoveLastToFront {
+        [from, to] => Ok(ListAsk::MoveLastToFront {
             from: Argument::of(from),
             to: Argument::of(to),
         }),

@@ -5,21 +5,23 @@ ghost use Rattle.std.specs.Str.{bytes_eq};
 ghost use Rattle.mr_ask.specs.Names.{lowered};
 ghost use Rattle.mr_ask.specs.Server.{ping, echo, select, quit, command, client, setname, setinfo};
 
-use crate::ask::Ask;
 use crate::fault::{AskFault, BadValue};
 use crate::name::Name;
 use crate::parts::integer;
-use crate::reading::{Arguments, Reading};
+use crate::reading::Arguments;
+use crate::server_ask::ServerAsk;
 use crate::words::{Argument, Words};
 use std::borrow::CowSlice;
+
+type Reading<'a, 't> = Result<ServerAsk<'a, 't>, AskFault>;
 
 /// `PING [message]`
 pub(crate) fn ping<'a, 't>(arguments: Arguments<'a, 't>) -> Reading<'a, 't>
     ensures { result ≡ ping (map cow_slice_items arguments.now) }
 {
     match arguments {
-        [] => Ok(Ask::Ping { message: None }),
-        [message] => Ok(Ask::Ping {
+        [] => Ok(ServerAsk::Ping { message: None }),
+        [message] => Ok(ServerAsk::Ping {
             message: Some(Argument::of(message)),
         }),
         _ => Err(AskFault::Arity(Name::Ping)),
@@ -31,7 +33,7 @@ pub(crate) fn echo<'a, 't>(arguments: Arguments<'a, 't>) -> Reading<'a, 't>
     ensures { result ≡ echo (map cow_slice_items arguments.now) }
 {
     match arguments {
-        [message] => Ok(Ask::Echo {
+        [message] => Ok(ServerAsk::Echo {
             message: Argument::of(message),
         }),
         _ => Err(AskFault::Arity(Name::Echo)),
@@ -47,7 +49,7 @@ pub(crate) fn select<'a, 't>(arguments: Arguments<'a, 't>) -> Reading<'a, 't>
             if integer(index)? != 0 {
                 return Err(AskFault::Other(BadValue::Database));
             }
-            Ok(Ask::Select)
+            Ok(ServerAsk::Select)
         }
         _ => Err(AskFault::Arity(Name::Select)),
     }
@@ -58,7 +60,7 @@ pub(crate) fn quit<'a, 't>(arguments: Arguments<'a, 't>) -> Reading<'a, 't>
     ensures { result ≡ quit (map cow_slice_items arguments.now) }
 {
     match arguments {
-        [] => Ok(Ask::Quit),
+        [] => Ok(ServerAsk::Quit),
         _ => Err(AskFault::Arity(Name::Quit)),
     }
 }
@@ -67,7 +69,7 @@ pub(crate) fn quit<'a, 't>(arguments: Arguments<'a, 't>) -> Reading<'a, 't>
 pub(crate) fn command<'a, 't>(arguments: Arguments<'a, 't>) -> Reading<'a, 't>
     ensures { result ≡ command (map cow_slice_items arguments.now) }
 {
-    Ok(Ask::Command {
+    Ok(ServerAsk::Command {
         arguments: Words::new(arguments),
     })
 }
@@ -77,10 +79,10 @@ pub(crate) fn client<'a, 't>(arguments: Arguments<'a, 't>) -> Reading<'a, 't>
     ensures { result ≡ client (map cow_slice_items arguments.now) }
 {
     match arguments {
-        [option, name] if is_setname(option) => Ok(Ask::SetClientName {
+        [option, name] if is_setname(option) => Ok(ServerAsk::SetClientName {
             name: Argument::of(name),
         }),
-        [option, attribute, value] if is_setinfo(option) => Ok(Ask::SetClientInfo {
+        [option, attribute, value] if is_setinfo(option) => Ok(ServerAsk::SetClientInfo {
             attribute: Argument::of(attribute),
             value: Argument::of(value),
         }),

@@ -3,12 +3,14 @@ ghost use Rattle.std.specs.Prelude.{◌≡◌, map};
 ghost use Rattle.std.specs.Cow.{cow_slice_items};
 ghost use Rattle.mr_ask.specs.Sets.{sadd, srem, sismember, smismember, smembers, scard, spop, srandmember, smove, combine};
 
-use crate::ask::{Ask, SetOperation};
 use crate::fault::AskFault;
 use crate::name::Name;
 use crate::parts::count;
-use crate::reading::{Arguments, Reading};
+use crate::reading::Arguments;
+use crate::set_ask::{SetAsk, SetOperation};
 use crate::words::{Argument, Words};
+
+type Reading<'a, 't> = Result<SetAsk<'a, 't>, AskFault>;
 
 /// `SADD key member [member ..]`
 pub(crate) fn sadd<'a, 't>(arguments: Arguments<'a, 't>) -> Reading<'a, 't>
@@ -16,7 +18,7 @@ pub(crate) fn sadd<'a, 't>(arguments: Arguments<'a, 't>) -> Reading<'a, 't>
 {
     match arguments {
         [] | [_] => Err(AskFault::Arity(Name::SAdd)),
-        [key, members @ ..] => Ok(Ask::AddMembers {
+        [key, members @ ..] => Ok(SetAsk::AddMembers {
             key: Argument::of(key),
             members: Words::new(members),
         }),
@@ -29,7 +31,7 @@ pub(crate) fn srem<'a, 't>(arguments: Arguments<'a, 't>) -> Reading<'a, 't>
 {
     match arguments {
         [] | [_] => Err(AskFault::Arity(Name::SRem)),
-        [key, members @ ..] => Ok(Ask::RemoveMembers {
+        [key, members @ ..] => Ok(SetAsk::RemoveMembers {
             key: Argument::of(key),
             members: Words::new(members),
         }),
@@ -41,7 +43,7 @@ pub(crate) fn sismember<'a, 't>(arguments: Arguments<'a, 't>) -> Reading<'a, 't>
     ensures { result ≡ sismember (map cow_slice_items arguments.now) }
 {
     match arguments {
-        [key, member] => Ok(Ask::HasMember {
+        [key, member] => Ok(SetAsk::HasMember {
             key: Argument::of(key),
             member: Argument::of(member),
         }),
@@ -55,7 +57,7 @@ pub(crate) fn smismember<'a, 't>(arguments: Arguments<'a, 't>) -> Reading<'a, 't
 {
     match arguments {
         [] | [_] => Err(AskFault::Arity(Name::SMIsMember)),
-        [key, members @ ..] => Ok(Ask::HaveMembers {
+        [key, members @ ..] => Ok(SetAsk::HaveMembers {
             key: Argument::of(key),
             members: Words::new(members),
         }),
@@ -67,7 +69,7 @@ pub(crate) fn smembers<'a, 't>(arguments: Arguments<'a, 't>) -> Reading<'a, 't>
     ensures { result ≡ smembers (map cow_slice_items arguments.now) }
 {
     match arguments {
-        [key] => Ok(Ask::ListMembers {
+        [key] => Ok(SetAsk::ListMembers {
             key: Argument::of(key),
         }),
         _ => Err(AskFault::Arity(Name::SMembers)),
@@ -79,7 +81,7 @@ pub(crate) fn scard<'a, 't>(arguments: Arguments<'a, 't>) -> Reading<'a, 't>
     ensures { result ≡ scard (map cow_slice_items arguments.now) }
 {
     match arguments {
-        [key] => Ok(Ask::CountMembers {
+        [key] => Ok(SetAsk::CountMembers {
             key: Argument::of(key),
         }),
         _ => Err(AskFault::Arity(Name::SCard)),
@@ -91,11 +93,11 @@ pub(crate) fn spop<'a, 't>(arguments: Arguments<'a, 't>) -> Reading<'a, 't>
     ensures { result ≡ spop (map cow_slice_items arguments.now) }
 {
     match arguments {
-        [key] => Ok(Ask::TakeMembers {
+        [key] => Ok(SetAsk::TakeMembers {
             key: Argument::of(key),
             count: None,
         }),
-        [key, most] => Ok(Ask::TakeMembers {
+        [key, most] => Ok(SetAsk::TakeMembers {
             key: Argument::of(key),
             count: Some(count(most)?),
         }),
@@ -108,11 +110,11 @@ pub(crate) fn srandmember<'a, 't>(arguments: Arguments<'a, 't>) -> Reading<'a, '
     ensures { result ≡ srandmember (map cow_slice_items arguments.now) }
 {
     match arguments {
-        [key] => Ok(Ask::DrawMembers {
+        [key] => Ok(SetAsk::DrawMembers {
             key: Argument::of(key),
             count: None,
         }),
-        [key, most] => Ok(Ask::DrawMembers {
+        [key, most] => Ok(SetAsk::DrawMembers {
             key: Argument::of(key),
             count: Some(count(most)?),
         }),
@@ -125,7 +127,7 @@ pub(crate) fn smove<'a, 't>(arguments: Arguments<'a, 't>) -> Reading<'a, 't>
     ensures { result ≡ smove (map cow_slice_items arguments.now) }
 {
     match arguments {
-        [from, to, member] => Ok(Ask::MoveMember {
+        [from, to, member] => Ok(SetAsk::MoveMember {
             from: Argument::of(from),
             to: Argument::of(to),
             member: Argument::of(member),
@@ -144,7 +146,7 @@ pub(crate) fn combine<'a, 't>(
 {
     match arguments {
         [] => Err(AskFault::Arity(name)),
-        _ => Ok(Ask::Combine {
+        _ => Ok(SetAsk::Combine {
             operation,
             keys: Words::new(arguments),
         }),

@@ -1,0 +1,67 @@
+// Commands on sets, with their arguments.
+use crate::words::{Argument, Words};
+
+/// A command on sets, with its arguments.
+#[derive(Drop)]
+pub enum SetAsk<'a, 't> {
+    /// `SADD key member [member ..]`
+    AddMembers {
+        key: Argument<'a>,
+        members: Words<'a, 't>,
+    },
+    /// `SREM key member [member ..]`
+    RemoveMembers {
+        key: Argument<'a>,
+        members: Words<'a, 't>,
+    },
+    /// `SISMEMBER key member`
+    HasMember {
+        key: Argument<'a>,
+        member: Argument<'a>,
+    },
+    /// `SMISMEMBER key member [member ..]`
+    HaveMembers {
+        key: Argument<'a>,
+        members: Words<'a, 't>,
+    },
+    /// `SMEMBERS key`
+    ListMembers {
+        key: Argument<'a>,
+    },
+    /// `SCARD key`
+    CountMembers {
+        key: Argument<'a>,
+    },
+    /// `SPOP key [count]`
+    TakeMembers {
+        key: Argument<'a>,
+        count: Option<usize>,
+    },
+    /// `SRANDMEMBER key [count]`
+    DrawMembers {
+        key: Argument<'a>,
+        count: Option<usize>,
+    },
+    /// `SMOVE from to member`
+    MoveMember {
+        from: Argument<'a>,
+        to: Argument<'a>,
+        member: Argument<'a>,
+    },
+    /// `SINTER key [key ..]`, `SUNION`, `SDIFF` the same
+    Combine {
+        operation: SetOperation,
+        keys: Words<'a, 't>,
+    },
+}
+
+/// What is made of several sets.
+#[derive(Clone, Copy, Debug, PartialEq, Eq)]
+pub enum SetOperation {
+    /// The members of all.
+    Intersection,
+    /// The members of any.
+    Union,
+    /// The members of the first that are in no other.
+    Difference,
+}
