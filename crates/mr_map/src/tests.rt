@@ -1,5 +1,5 @@
 // Each call once with ample memory. Keys are expected in the order of their bytes: a beginning of a key comes before it.
-use super::{ByteMap, KeyedMap};
+use super::{ByteMap, KeyedMap, SliceMap};
 use std::alloc::{AllocError, Global};
 use std::hash::RandomState;
 use std::test::Fail;
@@ -103,5 +103,26 @@ fn a_hashes_value(rt: HostRuntime) -> Result<(), Fail> {
     map.clear();
     assert!(rt; map.is_empty() && map.get(b"a").is_none());
     assert_eq!(rt; map.keys().next(), None);
+    Ok(())
+}
+
+#[test]
+fn names_in_order(rt: HostRuntime) -> Result<(), Fail> {
+    let mut map = SliceMap::new(rt.alloc());
+    assert!(rt; map.is_empty());
+    for (key, value) in ADDED {
+        assert_eq!(rt; map.insert(key, value)?, None);
+    }
+    assert_eq!(rt; map.insert(b"ab", 12)?, Some(2));
+    assert_eq!(rt; map.len(), 5);
+    assert_eq!(rt; map.iter().count(), 5);
+    for (place, (key, value)) in map.iter().enumerate() {
+        let (wanted, number) = IN_ORDER[place % 5];
+        let number = if number == 2 { 12 } else { number };
+        assert!(rt;
+            place < 5 && key == wanted && *value == number,
+            "pair {place}"
+        );
+    }
     Ok(())
 }

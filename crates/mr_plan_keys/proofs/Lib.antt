@@ -1,5 +1,2 @@
-pub mod Maps
-pub mod KeyLists
-pub mod TakenLemmas
 pub mod Laws
 pub mod PlanLemmas

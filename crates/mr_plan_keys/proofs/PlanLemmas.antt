@@ -1,62 +1,58 @@
--- Plans from what was seen.
-use Rattle.std.proofs.Common.{◌≡◌, List, [], ◌∷◌, ◌++◌, length, Bool, true, false, cond, Option, Some, refl, sym, ◌∙◌, ap}
-use Rattle.std.specs.Prelude.{◌||◌, ℤ, pos, Ok, Err, Result, IfOk}
+-- Plans from what was seen at several keys.
+use Rattle.std.proofs.Common.{◌≡◌, List, [], ◌∷◌, ◌++◌, length, true, ℤ, pos, refl, sym, ◌∙◌, ap, arith}
+use Rattle.std.specs.Prelude.{is_some, Option, false, Bool, ℕ, ◌+◌, ◌<◌, ◌≤◌, map, take, get_or}
+use Rattle.mr_data.specs.declared.value.Entry.{Entry}
 use Rattle.std.specs.FinMap.{get}
 use Rattle.mr_map.specs.Bytes.{Bytes}
 use Rattle.mr_resp.specs.Replies as reply
-use Rattle.mr_resp.specs.Replies.{Tree}
-use Rattle.mr_data.specs.Dataset.{Dataset, live}
-use Rattle.mr_data.specs.Meaning.{apply_all}
+use Rattle.mr_data.specs.Dataset.{Dataset, live, seen}
 use Rattle.mr_data.proofs.Seeing.{get-seen}
-use Rattle.mr_data.specs.declared.given.Given.{Given}
-use Rattle.mr_data.specs.declared.value.Entry.{Entry}
 use Rattle.mr_effect.specs.declared.effect.Effect.{Effect}
-use Rattle.mr_ask.specs.Asks.{AskFits}
-use Rattle.mr_ask.specs.declared.ask.Ask.{Ask}
-use Rattle.mr_ask.specs.declared.ask.Ask.TheVariants as ask
-use Rattle.mr_plan_keys.specs.Turns.{get_reply, set_turn, Takes}
-use Rattle.mr_plan_keys.specs.Keys.{chosen, dels, is_stored}
-use Rattle.mr_plan_keys.specs.Plans.{IsPlan, past, purged}
-use Rattle.mr_plan_keys.proofs.Maps.{is_key_itself}
-use Rattle.mr_plan_keys.proofs.KeyLists.{get_purged, present_seen, present_purged}
-use Rattle.mr_plan_keys.proofs.Laws.{plan_leads}
-
-purged_at : (now : ℤ) (k : Bytes) (m : Dataset) → get (purged now (k ∷ []) m) k ≡ live now (get m k)
-purged_at now k m = get_purged now (k ∷ []) m k ∙ ap (λ b. cond b (live now (get m k)) (get m k)) (one (is_key_itself k))
-  where
-    one : {b : Bool} → b ≡ true → (b || false) ≡ true
-    one {b} h = ap (λ c. c || false) h
+use Rattle.mr_ask.specs.declared.key_ask.KeyAsk.TheVariants as ask
+use Rattle.mr_turn.specs.Keys.{chosen, dels, is_stored, past}
+use Rattle.mr_turn.specs.Commands.{IsPlan}
+use Rattle.mr_turn.proofs.KeyLists.{present_seen, present_purged, more_words}
+use Rattle.mr_plan_keys.specs.Outcomes.{one_if, present, present_at}
+use Rattle.mr_plan_keys.specs.Commands.{command}
 
 append_none : {A : Type 0} (xs : List A) → xs ++ [] ≡ xs
 append_none [] = refl
 append_none (x ∷ xs) = ap (λ ys. x ∷ ys) (append_none xs)
 
-pub get_plan : (k : Bytes) (given : Given) (m : Dataset) (o : Option Entry) (r : Tree) (none looked list : List Effect) → o ≡ live given.now (get m k) → none ≡ [] → looked ≡ none ++ dels (past given.now (k ∷ []) m) → list ≡ looked → r ≡ get_reply o → IsPlan (ask.Get k) given m r list
-get_plan k given m o r none looked list is start look all told = record {
-  reply_is = told ∙ ap get_reply (is ∙ sym (get-seen given.now m k));
-  effects_are = all ∙ look ∙ ap (λ xs. xs ++ dels (past given.now (k ∷ []) m)) start ∙ sym (append_none _);
-}
-
-pub set_plan : (k text : Bytes) (given : Given) (m : Dataset) (o : Option Entry) (r : Tree) (none looked set list : List Effect) → o ≡ live given.now (get m k) → none ≡ [] → looked ≡ none ++ dels (past given.now (k ∷ []) m) → list ≡ set → Takes (set_turn k text o) r looked set → IsPlan (ask.Set k text) given m r list
-set_plan k text given m o r none looked set list is start look all t = record {
-  reply_is = t.reply_is;
-  effects_are = all ∙ t.effects_are
-      ∙ ap (λ xs. xs ++ (set_turn k text o).effects) (look ∙ ap (λ xs. xs ++ dels (past given.now (k ∷ []) m)) start)
-      ∙ ap (λ (x : Option Entry). dels (past given.now (k ∷ []) m) ++ (set_turn k text x).effects) (is ∙ sym (purged_at given.now k m));
-}
-
-pub del_plan : (ks : List Bytes) (given : Given) (m : Dataset) (n : ℤ) (none first second list : List Effect) → none ≡ [] → first ≡ none ++ dels (chosen (is_stored given.now true) ks m) → n ≡ pos (length (chosen (is_stored given.now false) ks m)) → second ≡ first ++ dels (chosen (is_stored given.now false) ks m) → list ≡ second → IsPlan (ask.Del ks) given m (reply.int n) list
-del_plan ks given m n none first second list start es count more all = record {
-  reply_is = ap reply.int (count ∙ ap (λ (xs : List Bytes). pos (length xs)) (sym (present_seen given.now ks m)));
+pub del_plan : (ks : List Bytes) (now : ℤ) (m : Dataset) (n : ℤ) (none first second list : List Effect) → none ≡ [] → first ≡ none ++ dels (chosen (is_stored now true) ks m) → n ≡ pos (length (chosen (is_stored now false) ks m)) → second ≡ first ++ dels (chosen (is_stored now false) ks m) → list ≡ second → IsPlan (command (ask.Del ks)) now m (reply.int n) list
+del_plan ks now m n none first second list start es count more all = record {
+  reply_is = ap reply.int (count ∙ ap (λ (xs : List Bytes). pos (length xs)) (sym (present_seen now ks m)));
   effects_are = all ∙ more
-      ∙ ap (λ xs. xs ++ dels (chosen (is_stored given.now false) ks m)) (es ∙ ap (λ xs. xs ++ dels (past given.now ks m)) start)
-      ∙ ap (λ (xs : List Bytes). dels (past given.now ks m) ++ dels xs) (sym (present_seen given.now ks m) ∙ sym (present_purged given.now ks m));
+      ∙ ap (λ xs. xs ++ dels (chosen (is_stored now false) ks m)) (es ∙ ap (λ xs. xs ++ dels (past now ks m)) start)
+      ∙ ap (λ (xs : List Bytes). dels (past now ks m) ++ dels xs) (sym (present_seen now ks m) ∙ sym (present_purged now ks m));
 }
 
--- the effects of a plan lead somewhere
-pub planned_leads : (command : Ask) (given : Given) (m : Dataset) (r : Tree) (list : List Effect) → IsPlan command given m r list → AskFits command → (n : Dataset) × (apply_all list m ≡ Some n)
-planned_leads command given m r list p h = (_, ap (λ (xs : List Effect). apply_all xs m) p.effects_are ∙ plan_leads command given m h)
+seen_count : (now : ℤ) (m : Dataset) (ks : List Bytes) → present_at now m ks ≡ present (seen now m) ks
+seen_count now m [] = refl
+seen_count now m (k ∷ ks) = ap (λ (o : Option Entry). one_if (is_some o) + present_at now m ks) (sym (get-seen now m k)) ∙ ap (λ n. one_if (is_some (get (seen now m) k)) + n) (seen_count now m ks)
 
-pub if_ok : {T E : Type 0} {P Q : T → Type 0} (r : Result T E) → ((x : T) → P x → Q x) → IfOk r P → IfOk r Q
-if_ok (Ok x) f h = f x h
-if_ok (Err e) f h = tt
+present-push : (now : ℤ) (m : Dataset) (ks : List Bytes) (k : Bytes) → present_at now m (ks ++ k ∷ []) ≡ present_at now m ks + one_if (is_some (live now (get m k)))
+present-push now m [] k = omega arith
+present-push now m (x ∷ ks) k = omega (arith, present-push now m ks k)
+
+-- how many of the first keys are there
+module _ {A : Type 0} (f : A → Bytes) (now : ℤ) (m : Dataset) (xs : List A) where
+  pub record Counts (n i : ℕ) : Type 0 where
+    pub count : n ≡ present_at now m (map f (take i xs))
+    pub few : n ≤ i
+
+  pub counts_word : (i : ℕ) (x : A) (k : Bytes) (n : ℕ) (b : Bool) → i < length xs → x ≡ get_or xs i x → k ≡ f x → is_some (live now (get m k)) ≡ b → Counts n i → Counts (n + one_if b) (i + 1)
+  counts_word i x k n b here is key there so_far = record {
+    count =
+        ap (λ c. n + one_if c) (sym there ∙ ap (λ y. is_some (live now (get m y))) key)
+        ∙ ap (λ c. c + one_if (is_some (live now (get m (f x))))) so_far.count
+        ∙ sym (present-push now m (map f (take i xs)) (f x))
+        ∙ ap (present_at now m) (sym (more_words f xs i x here is));
+    few = elim b as (λ c. n + one_if c ≤ i + 1) [ true ↦ omega (arith, so_far.few) | false ↦ omega (arith, so_far.few) ];
+  }
+
+pub exists_plan : (ks : List Bytes) (now : ℤ) (m : Dataset) (n : ℤ) (none first list : List Effect) → none ≡ [] → first ≡ none ++ dels (chosen (is_stored now true) ks m) → n ≡ pos (present_at now m ks) → list ≡ first → IsPlan (command (ask.Exists ks)) now m (reply.int n) list
+exists_plan ks now m n none first list start es count all = record {
+  reply_is = ap reply.int (count ∙ ap pos (seen_count now m ks));
+  effects_are = all ∙ es ∙ ap (λ xs. xs ++ dels (past now ks m)) start ∙ sym (append_none _);
+}

@@ -1,6 +1,4 @@
-pub mod Taken
 pub mod Turns
-pub mod Keys
 pub mod Outcomes
-pub mod Plans
-pub mod Requests
+pub mod Server
+pub mod Commands

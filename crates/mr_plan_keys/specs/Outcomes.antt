@@ -1,40 +1,13 @@
--- What a command does to a dataset in which no key that it names is past.
-use Rattle.std.specs.Prelude.{pos, List, [], length, codes, Option, Some, None, is_some}
+-- What commands on several keys do to a dataset in which none of them is past.
+use Rattle.std.specs.Prelude.{ℕ, ℤ, pos, ◌+◌, List, [], ◌∷◌, length, Bool, true, false, is_some}
 use Rattle.std.specs.FinMap.{get}
 use Rattle.mr_map.specs.Bytes.{Bytes}
 use Rattle.mr_resp.specs.Replies as reply
-use Rattle.mr_resp.specs.Replies.{Tree}
-use Rattle.mr_data.specs.Dataset.{Dataset, put_at}
-use Rattle.mr_data.specs.declared.value.Entry.{Entry}
-use Rattle.mr_effect.specs.declared.effect.Effect.{Effect}
-use Rattle.mr_ask.specs.declared.ask.Ask.{Ask}
-use Rattle.mr_ask.specs.declared.ask.Ask.TheVariants as ask
-use Rattle.mr_plan_keys.specs.Turns.{Turn, get_turn, set_turn}
-use Rattle.mr_plan_keys.specs.Keys.{chosen, without, dels}
+use Rattle.mr_data.specs.Dataset.{Dataset, live}
+use Rattle.mr_turn.specs.Keys.{chosen, without, dels}
+use Rattle.mr_turn.specs.Outcomes.{Outcome, answered}
 
-pub record Outcome : Type 0 where
-  pub reply : Tree
-  pub after : Dataset
-  pub effects : List Effect
-
--- a command that names no key
-abbrev pub answered : Tree → Dataset → Outcome
-answered answer m = record { reply = answer; after = m; effects = [] }
-
--- a command on one key, by its turn
-abbrev pub at_key : Bytes → (Option Entry → Turn) → Dataset → Outcome
-at_key k turn m = record {
-  reply = (turn (get m k)).reply;
-  after = put_at m k (turn (get m k)).entry;
-  effects = (turn (get m k)).effects;
-}
-
--- PING [message]
-abbrev pub pong : Option Bytes → Tree
-pong None = reply.simple (codes "PONG")
-pong (Some message) = reply.bytes message
-
--- DEL key [key ..]: those that are there go, and are counted
+-- DEL key [key ..], UNLINK the same: those that are there go, and are counted
 abbrev pub deleted : List Bytes → Dataset → Outcome
 deleted ks m = record {
   reply = reply.int (pos (length (chosen is_some ks m)));
@@ -42,8 +15,21 @@ deleted ks m = record {
   effects = dels (chosen is_some ks m);
 }
 
-abbrev pub outcome : Ask → Dataset → Outcome
-outcome (ask.Ping message) = answered (pong message)
-outcome (ask.Get k) = at_key k get_turn
-outcome (ask.Set k text) = at_key k (set_turn k text)
-outcome (ask.Del ks) = deleted ks
+-- one for a key that is there
+abbrev pub one_if : Bool → ℕ
+one_if true = 1
+one_if false = 0
+
+-- so many of the keys are there, one that is named twice counted twice
+abbrev pub present : Dataset → List Bytes → ℕ
+present m [] = 0
+present m (k ∷ ks) = one_if (is_some (get m k)) + present m ks
+
+-- .. at a moment, past ones left out
+abbrev pub present_at : ℤ → Dataset → List Bytes → ℕ
+present_at now m [] = 0
+present_at now m (k ∷ ks) = one_if (is_some (live now (get m k))) + present_at now m ks
+
+-- EXISTS key [key ..]: those that are there are counted
+abbrev pub counted : List Bytes → Dataset → Outcome
+counted ks m = answered (reply.int (pos (present m ks))) m

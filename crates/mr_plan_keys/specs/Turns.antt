@@ -1,5 +1,5 @@
--- What a command on one key answers, makes of the entry there, and has as its effects.
-use Rattle.std.specs.Prelude.{◌≡◌, List, [], ◌∷◌, ◌++◌, codes, Bool, false, ◌&&◌, if◌then◌else◌, Option, Some, None, is_none}
+-- The turns of the commands on one key.
+use Rattle.std.specs.Prelude.{[], ◌∷◌, codes, Bool, false, ◌&&◌, if◌then◌else◌, Option, Some, None, is_none}
 use Rattle.std.specs.Str.{bytes_eq}
 use Rattle.mr_map.specs.Bytes.{Bytes}
 use Rattle.mr_resp.specs.Replies as reply
@@ -7,21 +7,8 @@ use Rattle.mr_resp.specs.Replies.{Tree}
 use Rattle.mr_data.specs.declared.value.Value.{Value}
 use Rattle.mr_data.specs.declared.value.Value.TheVariants as value
 use Rattle.mr_data.specs.declared.value.Entry.{Entry}
-use Rattle.mr_effect.specs.declared.effect.Effect.{Effect}
+use Rattle.mr_turn.specs.Turns.{Turn, kept, wrong_kind, done}
 use Rattle.mr_effect.specs.declared.effect.Effect.TheVariants as effect
-
-pub record Turn : Type 0 where
-  pub reply : Tree
-  pub entry : Option Entry
-  pub effects : List Effect
-
--- nothing changes
-abbrev pub kept : Tree → Option Entry → Turn
-kept answer before = record { reply = answer; entry = before; effects = [] }
-
--- a value of another kind than the command is for
-abbrev pub wrong_kind : Tree
-wrong_kind = reply.error (codes "WRONGTYPE Operation against a key holding the wrong kind of value")
 
 -- ---- GET key: its text
 abbrev pub text_reply : Value → Tree
@@ -50,12 +37,21 @@ is_plain text (Some e) = is_none e.deadline && is_text text e.value
 
 abbrev pub set_turn : Bytes → Bytes → Option Entry → Turn
 set_turn k text before = record {
-  reply = reply.simple (codes "OK");
+  reply = done;
   entry = Some (plain text);
   effects = if is_plain text before then [] else effect.Set k text ∷ [];
 }
 
--- the reply is the turn's, and its effects were put behind those that were there
-pub record Takes (turn : Turn) (reply : Tree) (old new : List Effect) : Type 0 where
-  pub reply_is : reply ≡ turn.reply
-  pub effects_are : new ≡ old ++ turn.effects
+-- ---- TYPE key: the kind of its value
+abbrev pub kind_name : Value → Tree
+kind_name (value.Text text) = reply.simple (codes "string")
+kind_name (value.Hash fields) = reply.simple (codes "hash")
+kind_name (value.List items) = reply.simple (codes "list")
+kind_name (value.Set members) = reply.simple (codes "set")
+
+abbrev pub type_reply : Option Entry → Tree
+type_reply None = reply.simple (codes "none")
+type_reply (Some e) = kind_name e.value
+
+abbrev pub type_turn : Option Entry → Turn
+type_turn before = kept (type_reply before) before

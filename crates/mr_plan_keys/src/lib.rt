@@ -1,15 +1,13 @@
-//! Plans of commands on strings and keys: what is answered, and which effects the command has.
+//! Plans of commands on strings and on keys whatever they hold, and of those to the server itself.
 #![tactic(auto)]
 
-mod dels;
-mod effects;
+mod counting;
 mod planning;
-mod requests;
-mod taken;
+mod server;
 mod turns;
 
 pub use planning::plan;
-pub use requests::plan_words;
+pub use server::plan_server;
 
 #[cfg(test)]
 mod tests;

@@ -1,33 +1,32 @@
-// The plan of a command.
-ghost use Rattle.std.specs.Prelude.{◌≡◌, ◌↔◌, [], Some, IfOk, option_map};
+// The plan of a command on strings and keys.
+ghost use Rattle.std.specs.Prelude.{◌≡◌, IfOk, IsTrue};
+ghost use Rattle.std.specs.List.{list_all};
+ghost use Rattle.mr_value.specs.Words.{fits};
 ghost use Rattle.mr_resp.specs.Replies.{int};
 ghost use Rattle.mr_resp.specs.ReplyView.{view};
-ghost use Rattle.mr_data.specs.Meaning.{apply_all};
-ghost use Rattle.mr_ask.specs.Asks.{AskFits};
-ghost use Rattle.mr_ask.specs.declared.ask.Ask.TheVariants as asks;
-ghost use Rattle.mr_plan_keys.specs.Plans.{IsPlan, before, after, effects, own_effects};
+ghost use Rattle.mr_ask.specs.Carried.{key_words};
+ghost use Rattle.mr_ask.specs.declared.key_ask.KeyAsk.TheVariants as asks;
+ghost use Rattle.mr_turn.specs.Commands.{IsPlan, IsFaithful, on_key};
+ghost use Rattle.mr_plan_keys.specs.Commands.{command};
+ghost use Rattle.mr_plan_keys.specs.Turns.{get_turn, set_turn, type_turn};
 
-use crate::dels::{look, push_dels};
-use crate::effects::Effects;
+use crate::counting::count_present;
 use crate::turns;
-use mr_ask::{Argument, Ask, Words};
+use mr_ask::{Argument, KeyAsk, Words};
 use mr_data::{Dataset, Given, Plan};
 use mr_resp::Reply;
+use mr_turn::{Effects, look, push_dels};
 use std::alloc::{AllocError, Global};
-use std::borrow::CowSlice;
 
 /// What a command is answered, and its effects. The dataset isn't changed, and the plan owns what it holds.
 pub fn plan(
     alloc: Global,
     held: &Dataset,
-    ask: &Ask<'_, '_>,
+    ask: &KeyAsk<'_, '_>,
     given: Given,
 ) -> Result<Plan, AllocError>
-    ensures plan { IfOk result (λ p. IsPlan ask.now given held.now (view p.reply) p.effects.items) }
-
-    // The effects lead to what the command leaves, and its own ones are there exactly where it changes something.
-    ensures leads { AskFits ask.now → apply_all (effects ask.now given held.now) held.now ≡ Some (after ask.now given held.now) }
-    ensures changes { (own_effects ask.now given held.now ≡ []) ↔ (after ask.now given held.now ≡ before ask.now given held.now) }
+    ensures plan { IfOk result (λ p. IsPlan (command ask.now) given.now held.now (view p.reply) p.effects.items) }
+    ensures faithful { IsTrue (list_all fits (key_words ask.now)) → IsFaithful (command ask.now) given.now held.now }
 {
     planned(alloc, held, ask, given)
 }
@@ -35,36 +34,23 @@ pub fn plan(
 fn planned(
     alloc: Global,
     held: &Dataset,
-    ask: &Ask<'_, '_>,
+    ask: &KeyAsk<'_, '_>,
     given: Given,
 ) -> Result<Plan, AllocError>
-    ensures { IfOk result (λ p. IsPlan ask.now given held.now (view p.reply) p.effects.items) }
+    ensures { IfOk result (λ p. IsPlan (command ask.now) given.now held.now (view p.reply) p.effects.items) }
 {
     match ask {
-        Ask::Ping { message } => ping(alloc, held, message, given),
-        Ask::Get { key } => get(alloc, held, key, given),
-        Ask::Set { key, value } => set(alloc, held, key, value, given),
-        Ask::Del { keys } => del(alloc, held, keys, given),
+        KeyAsk::Get { key } => get(alloc, held, key, given),
+        KeyAsk::Set { key, value } => set(alloc, held, key, value, given),
+        KeyAsk::Del { keys } => delete(alloc, held, keys, given),
+        KeyAsk::Unlink { keys } => delete(alloc, held, keys, given),
+        KeyAsk::Exists { keys } => exists(alloc, held, keys, given),
+        KeyAsk::KeyType { key } => key_type(alloc, held, key, given),
     }
 }
 
-fn ping(
-    alloc: Global,
-    _held: &Dataset,
-    message: &Option<Argument<'_>>,
-    _given: Given,
-) -> Result<Plan, AllocError>
-    ensures { IfOk result (λ p. IsPlan (asks.Ping message.now) _given _held.now (view p.reply) p.effects.items) }
-{
-    let reply = match message {
-        None => Reply::Simple(CowSlice::Borrowed(b"PONG")),
-        Some(message) => Reply::Bulk(Vec::from_slice(alloc, message.as_slice())?),
-    };
-    Ok(Effects::new(alloc).into_plan(reply))
-}
-
 fn get(alloc: Global, held: &Dataset, key: &Argument<'_>, given: Given) -> Result<Plan, AllocError>
-    ensures { IfOk result (λ p. IsPlan (asks.Get key.now) given held.now (view p.reply) p.effects.items) }
+    ensures { IfOk result (λ p. IsPlan (on_key key.now get_turn) given.now held.now (view p.reply) p.effects.items) }
 {
     let mut effects = Effects::new(alloc);
     let seen = look(alloc, held, key, given, &mut effects)?;
@@ -79,7 +65,7 @@ fn set(
     value: &Argument<'_>,
     given: Given,
 ) -> Result<Plan, AllocError>
-    ensures { IfOk result (λ p. IsPlan (asks.Set key.now value.now) given held.now (view p.reply) p.effects.items) }
+    ensures { IfOk result (λ p. IsPlan (on_key key.now (set_turn key.now value.now)) given.now held.now (view p.reply) p.effects.items) }
 {
     let mut effects = Effects::new(alloc);
     let seen = look(alloc, held, key, given, &mut effects)?;
@@ -87,18 +73,46 @@ fn set(
     Ok(effects.into_plan(reply))
 }
 
-fn del(
+fn key_type(
+    alloc: Global,
+    held: &Dataset,
+    key: &Argument<'_>,
+    given: Given,
+) -> Result<Plan, AllocError>
+    ensures { IfOk result (λ p. IsPlan (on_key key.now type_turn) given.now held.now (view p.reply) p.effects.items) }
+{
+    let mut effects = Effects::new(alloc);
+    let seen = look(alloc, held, key, given, &mut effects)?;
+    let reply = turns::key_type(seen);
+    Ok(effects.into_plan(reply))
+}
+
+fn delete(
     alloc: Global,
     held: &Dataset,
     keys: &Words<'_, '_>,
     given: Given,
 ) -> Result<Plan, AllocError>
-    ensures { IfOk result (λ p. IsPlan (asks.Del keys.now) given held.now (view p.reply) p.effects.items) }
+    ensures { IfOk result (λ p. IsPlan (command (asks.Del keys.now)) given.now held.now (view p.reply) p.effects.items) }
 {
     let mut effects = Effects::new(alloc);
     push_dels(alloc, held, keys, given, true, &mut effects)?;
     let count = push_dels(alloc, held, keys, given, false, &mut effects)?;
     Ok(effects.into_plan(integer(count)))
+}
+
+fn exists(
+    alloc: Global,
+    held: &Dataset,
+    keys: &Words<'_, '_>,
+    given: Given,
+) -> Result<Plan, AllocError>
+    ensures { IfOk result (λ p. IsPlan (command (asks.Exists keys.now)) given.now held.now (view p.reply) p.effects.items) }
+{
+    let mut effects = Effects::new(alloc);
+    push_dels(alloc, held, keys, given, true, &mut effects)?;
+    let count = count_present(held, keys.as_slice(), given);
+    Ok(effects.into_plan(integer(count as i64)))
 }
 
 fn integer(number: i64) -> Reply

@@ -1,12 +1,13 @@
 // One function for each command on one key, over the entry that is seen there.
 ghost use Rattle.std.specs.Prelude.{◌≡◌, IfOk, option_copied};
 ghost use Rattle.mr_resp.specs.ReplyView.{view};
-ghost use Rattle.mr_plan_keys.specs.Turns.{get_reply, wrong_kind, set_turn, is_text, is_plain, Takes};
+ghost use Rattle.mr_turn.specs.Turns.{wrong_kind, Takes};
+ghost use Rattle.mr_plan_keys.specs.Turns.{get_reply, set_turn, is_text, is_plain, kind_name, type_reply};
 
-use crate::effects::Effects;
 use mr_ask::Argument;
 use mr_data::{Effect, Entry, Value};
 use mr_resp::Reply;
+use mr_turn::Effects;
 use mr_value::Word;
 use std::alloc::{AllocError, Global};
 use std::borrow::CowSlice;
@@ -66,5 +67,25 @@ fn is_text(text: &[u8], value: &Value) -> bool
     match value {
         Value::Text(held) => held.as_slice() == text,
         Value::Hash(_) | Value::List(_) | Value::Set(_) => false,
+    }
+}
+
+pub fn key_type(seen: Option<&Entry>) -> Reply
+    ensures { view result ≡ type_reply (option_copied seen.entry) }
+{
+    match seen {
+        None => Reply::Simple(CowSlice::Borrowed(b"none")),
+        Some(entry) => kind_name(&entry.value),
+    }
+}
+
+fn kind_name(value: &Value) -> Reply
+    ensures { view result ≡ kind_name value.now }
+{
+    match value {
+        Value::Text(_) => Reply::Simple(CowSlice::Borrowed(b"string")),
+        Value::Hash(_) => Reply::Simple(CowSlice::Borrowed(b"hash")),
+        Value::List(_) => Reply::Simple(CowSlice::Borrowed(b"list")),
+        Value::Set(_) => Reply::Simple(CowSlice::Borrowed(b"set")),
     }
 }

@@ -32,3 +32,11 @@ key_plan k turn now m o r none looked taken list is start look all t = record {
 pub if_ok : {T E : Type 0} {P Q : T → Type 0} (r : Result T E) → ((x : T) → P x → Q x) → IfOk r P → IfOk r Q
 if_ok (Ok x) f h = f x h
 if_ok (Err e) f h = tt
+
+append_none : {A : Type 0} (xs : List A) → xs ++ [] ≡ xs
+append_none [] = refl
+append_none (x ∷ xs) = ap (λ ys. x ∷ ys) (append_none xs)
+
+-- a command that only tells of what is there
+pub told : (turn : Turn) {r : Tree} (old : List Effect) → turn.effects ≡ [] → r ≡ turn.reply → Takes turn r old old
+told turn old none is = record { reply_is = is; effects_are = sym (append_none old) ∙ ap (λ xs. old ++ xs) (sym none) }

@@ -6,4 +6,4 @@ mod looking;
 mod taken;
 
 pub use effects::Effects;
-pub use looking::{look, push_dels};
+pub use looking::{find, look, push_dels};

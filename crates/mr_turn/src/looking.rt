@@ -2,8 +2,7 @@
 ghost use Rattle.std.specs.Prelude.{◌≡◌, [], ◌∷◌, ◌++◌, pos, length, IfOk, option_copied};
 ghost use Rattle.std.specs.FinMap as map;
 ghost use Rattle.mr_data.specs.Dataset.{is_past, live};
-ghost use Rattle.mr_turn.specs.Keys.{chosen, dels, is_stored};
-ghost use Rattle.mr_turn.specs.Keys.{past};
+ghost use Rattle.mr_turn.specs.Keys.{chosen, dels, is_stored, past};
 
 use crate::effects::Effects;
 use crate::taken::Taken;
@@ -20,6 +19,17 @@ fn is_past(now: i64, deadline: Option<i64>) -> bool
         None => false,
         Some(deadline) => deadline <= now,
     }
+}
+
+/// What is seen at a key. It takes no memory.
+pub fn find<'d>(held: &'d Dataset, key: &[u8], now: i64) -> Option<&'d Entry>
+    ensures { option_copied result ≡ live now (map.get held.now key.now) }
+{
+    let entry = held.entry(key)?;
+    if is_past(now, entry.deadline) {
+        return None;
+    }
+    Some(entry)
 }
 
 /// What is seen at a key. A past one gets its DEL.

@@ -1,8 +1,5 @@
-use Rattle.mr_plan_keys.proofs.Laws.{plan_leads, plan_changes}
+use Rattle.mr_plan_keys.proofs.Laws.{keys_faithful}
 use Rattle.mr_plan_keys.proofs.planning.plan.Goals as goal
 
-pub returns-clause-leads : goal.returns-clause-leads
-returns-clause-leads c = plan_leads c.args.ask.now c.args.given c.args.held.now
-
-pub returns-clause-changes : goal.returns-clause-changes
-returns-clause-changes c = plan_changes c.args.ask.now c.args.given c.args.held.now
+pub returns-clause-faithful : goal.returns-clause-faithful
+returns-clause-faithful c = keys_faithful c.args.ask.now c.args.given.now c.args.held.now

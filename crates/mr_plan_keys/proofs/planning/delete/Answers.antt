@@ -2,7 +2,7 @@ use Rattle.std.proofs.Common.{rules, ◌≡◌, ◌∙◌}
 use Rattle.mr_resp.specs.Replies as reply
 use Rattle.mr_resp.specs.ReplyView.{view}
 use Rattle.mr_plan_keys.proofs.PlanLemmas.{del_plan}
-use Rattle.mr_plan_keys.proofs.planning.del.Goals as goal
+use Rattle.mr_plan_keys.proofs.planning.delete.Goals as goal
 
 pub returns : goal.returns
 returns c =

@@ -1,0 +1,51 @@
+// Commands to the server itself.
+ghost use Rattle.std.specs.Prelude.{◌≡◌, IfOk};
+ghost use Rattle.mr_resp.specs.Replies.{bytes};
+ghost use Rattle.mr_resp.specs.ReplyView.{view};
+ghost use Rattle.mr_turn.specs.Commands.{IsPlan, IsFaithful};
+ghost use Rattle.mr_plan_keys.specs.Commands.{server_command};
+ghost use Rattle.mr_plan_keys.specs.Server.{server_reply};
+
+use mr_ask::{Argument, ServerAsk};
+use mr_data::{Dataset, Given, Plan};
+use mr_resp::Reply;
+use mr_turn::Effects;
+use std::alloc::{AllocError, Global};
+use std::borrow::CowSlice;
+
+/// What a command to the server itself is answered. It names no key and has no effect.
+pub fn plan_server(
+    alloc: Global,
+    _held: &Dataset,
+    ask: &ServerAsk<'_, '_>,
+    _given: Given,
+) -> Result<Plan, AllocError>
+    ensures plan { IfOk result (λ p. IsPlan (server_command ask.now) _given.now _held.now (view p.reply) p.effects.items) }
+    ensures faithful { IsFaithful (server_command ask.now) _given.now _held.now }
+{
+    let reply = reply_to(alloc, ask)?;
+    Ok(Effects::new(alloc).into_plan(reply))
+}
+
+fn reply_to(alloc: Global, ask: &ServerAsk<'_, '_>) -> Result<Reply, AllocError>
+    ensures { IfOk result (λ r. view r ≡ server_reply ask.now) }
+{
+    match ask {
+        ServerAsk::Ping { message: None } => Ok(Reply::Simple(CowSlice::Borrowed(b"PONG"))),
+        ServerAsk::Ping {
+            message: Some(message),
+        } => copied(alloc, message),
+        ServerAsk::Echo { message } => copied(alloc, message),
+        ServerAsk::Command { .. } => Ok(Reply::Array(Vec::new(alloc))),
+        ServerAsk::Select
+        | ServerAsk::Quit
+        | ServerAsk::SetClientName { .. }
+        | ServerAsk::SetClientInfo { .. } => Ok(Reply::Simple(CowSlice::Borrowed(b"OK"))),
+    }
+}
+
+fn copied(alloc: Global, word: &Argument<'_>) -> Result<Reply, AllocError>
+    ensures { IfOk result (λ r. view r ≡ bytes word.now) }
+{
+    Ok(Reply::Bulk(Vec::from_slice(alloc, word.as_slice())?))
+}
