@@ -1,3 +1,6 @@
 pub mod PushLemmas
 pub mod PopLemmas
 pub mod MoveLemmas
+pub mod NumberLemmas
+pub mod OneEffect
+pub mod PushLaws

@@ -5,3 +5,4 @@ pub mod Pops
 pub mod Edits
 pub mod Moves
 pub mod Commands
+pub mod Numbers

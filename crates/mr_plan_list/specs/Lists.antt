@@ -1,12 +1,10 @@
 -- Commands on the list at a key, which have an answer of their own where the key is absent.
-use Rattle.std.specs.Prelude.{ℕ, ◌<◌, ◌^◌, List, [], ◌∷◌, map, length, codes, Bool, if◌then◌else◌, Option, Some, None}
+use Rattle.std.specs.Prelude.{List, [], ◌∷◌, map, codes, Bool, if◌then◌else◌, Option, Some, None}
 use Rattle.mr_map.specs.Bytes.{Bytes}
 use Rattle.mr_resp.specs.Replies as reply
 use Rattle.mr_resp.specs.Replies.{Tree}
 use Rattle.mr_resp.specs.ReplyView.{trees_of}
 use Rattle.mr_data.specs.Steps.{lists}
-use Rattle.mr_data.specs.declared.value.Value.{Value}
-use Rattle.mr_data.specs.declared.value.Value.TheVariants as value
 use Rattle.mr_data.specs.declared.value.Entry.{Entry}
 use Rattle.mr_effect.specs.declared.effect.Effect.{Effect}
 use Rattle.mr_turn.specs.Turns.{Turn, kept}
@@ -45,19 +43,3 @@ no_such_key = reply.error (codes "ERR no such key")
 
 abbrev pub out_of_range : Tree
 out_of_range = reply.error (codes "ERR index out of range")
-
--- ---- lengths
-
-abbrev pub HasFewItems : Value → Type 0
-HasFewItems (value.List items) = length items < 2 ^ 63
-HasFewItems _ = Unit {0}
-
--- a list there is short enough that a number of 64 bits can say each of its places
-abbrev pub IsShort : Option Entry → Type 0
-IsShort None = Unit {0}
-IsShort (Some e) = HasFewItems e.value
-
--- .. where as many items are asked for
-abbrev pub IsShortFor : Option ℕ → Option Entry → Type 0
-IsShortFor None o = Unit {0}
-IsShortFor (Some most) o = IsShort o

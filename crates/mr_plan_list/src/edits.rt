@@ -3,7 +3,7 @@ ghost use Rattle.std.specs.Prelude.{◌≡◌, ◌<◌, ◌^◌, IfOk, option_co
 ghost use Rattle.mr_resp.specs.ReplyView.{view};
 ghost use Rattle.mr_value.specs.Lists.{removed_count, count_of};
 ghost use Rattle.mr_turn.specs.Turns.{Takes};
-ghost use Rattle.mr_plan_list.specs.Lists.{IsShort};
+ghost use Rattle.mr_plan_list.specs.Numbers.{IsShort, IsNumberFor};
 ghost use Rattle.mr_plan_list.specs.Edits.{set_turn, insert_turn, remove_turn, trim_turn, is_item};
 
 use crate::replies::{done, integer, no_such_key, out_of_range, wrong_kind};
@@ -24,7 +24,7 @@ pub fn set(
     effects: &mut Effects,
 ) -> Result<Reply, AllocError>
     ensures takes { IfOk result (λ r. Takes (set_turn key.now index item.now (option_copied seen.entry)) (view r) effects.old effects.new) }
-    ensures short { IfOk result (λ _. IsShort (option_copied seen.entry)) }
+    ensures short { IsShort (option_copied seen.entry) }
 {
     let Some(entry) = seen else {
         return Ok(no_such_key());
@@ -94,7 +94,8 @@ pub fn remove(
     seen: Option<&Entry>,
     effects: &mut Effects,
 ) -> Result<Reply, AllocError>
-    ensures { IfOk result (λ r. Takes (remove_turn key.now count item.now (option_copied seen.entry)) (view r) effects.old effects.new) }
+    ensures number { IsNumberFor count (option_copied seen.entry) }
+    ensures takes { IfOk result (λ r. Takes (remove_turn key.now count item.now (option_copied seen.entry)) (view r) effects.old effects.new) }
 {
     let Some(entry) = seen else {
         return Ok(integer(0));
@@ -134,7 +135,7 @@ pub fn trim(
     effects: &mut Effects,
 ) -> Result<Reply, AllocError>
     ensures takes { IfOk result (λ r. Takes (trim_turn key.now first last (option_copied seen.entry)) (view r) effects.old effects.new) }
-    ensures short { IfOk result (λ _. IsShort (option_copied seen.entry)) }
+    ensures short { IsShort (option_copied seen.entry) }
 {
     let Some(entry) = seen else {
         return Ok(done());

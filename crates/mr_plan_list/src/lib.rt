@@ -3,6 +3,7 @@
 
 mod edits;
 mod ends;
+mod looking;
 mod moves;
 mod planning;
 mod pops;

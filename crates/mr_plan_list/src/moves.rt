@@ -2,17 +2,19 @@
 ghost use Rattle.std.specs.Prelude.{◌≡◌, ◌++◌, is_some, IfOk, option_copied};
 ghost use Rattle.std.specs.Str.{bytes_eq};
 ghost use Rattle.mr_resp.specs.ReplyView.{view};
+ghost use Rattle.mr_data.specs.Dataset.{IsDataset};
 ghost use Rattle.mr_data.specs.Steps.{lists, held};
 ghost use Rattle.mr_turn.specs.Turns.{Takes};
 ghost use Rattle.mr_turn.specs.Commands.{IsPlan};
 ghost use Rattle.mr_plan_list.specs.Moves.{turn_turn, carry, moving};
 
 use crate::ends::{end_item, is_same_end};
+use crate::looking::look;
 use crate::replies::{bulk, wrong_kind};
 use mr_ask::Argument;
 use mr_data::{Dataset, Effect, Entry, Given, Plan, Value};
 use mr_resp::Reply;
-use mr_turn::{Effects, look};
+use mr_turn::Effects;
 use mr_value::{End, Word};
 use std::alloc::{AllocError, Global};
 
@@ -26,7 +28,8 @@ pub fn move_item(
     put: End,
     given: Given,
 ) -> Result<Plan, AllocError>
-    ensures { IfOk result (λ p. IsPlan (moving from.now to.now taken put) given.now held.now (view p.reply) p.effects.items) }
+    ensures plan { IfOk result (λ p. IsPlan (moving from.now to.now taken put) given.now held.now (view p.reply) p.effects.items) }
+    ensures kept { IsDataset held.now }
 {
     let mut effects = Effects::new(alloc);
     let source = look(alloc, held, from, given, &mut effects)?;

@@ -1,15 +1,22 @@
 // The plan of a command.
-ghost use Rattle.std.specs.Prelude.{◌≡◌, IfOk, option_copied};
+ghost use Rattle.std.specs.Prelude.{IsTrue, IfOk, option_copied};
+ghost use Rattle.std.specs.List.{list_all};
+ghost use Rattle.std.specs.FinMap.{get};
+ghost use Rattle.mr_value.specs.Words.{fits};
 ghost use Rattle.mr_resp.specs.ReplyView.{view};
+ghost use Rattle.mr_data.specs.Dataset.{IsDataset, live};
+ghost use Rattle.mr_ask.specs.Carried.{list_words};
 ghost use Rattle.mr_turn.specs.Turns.{Takes};
-ghost use Rattle.mr_turn.specs.Commands.{on_key, IsPlan};
+ghost use Rattle.mr_turn.specs.Commands.{on_key, IsPlan, IsFaithful};
+ghost use Rattle.mr_plan_list.specs.Numbers.{HasNumbers, HasNumbersIn};
 ghost use Rattle.mr_plan_list.specs.Commands.{turn, command};
 
+use crate::looking::look;
 use crate::{edits, moves, pops, pushes, telling};
 use mr_ask::{Argument, ListAsk};
 use mr_data::{Dataset, Entry, Given, Plan};
 use mr_resp::Reply;
-use mr_turn::{Effects, look};
+use mr_turn::Effects;
 use mr_value::End;
 use std::alloc::{AllocError, Global};
 
@@ -21,6 +28,23 @@ pub fn plan(
     given: Given,
 ) -> Result<Plan, AllocError>
     ensures plan { IfOk result (λ p. IsPlan (command ask.now) given.now held.now (view p.reply) p.effects.items) }
+
+    // The effects lead to what the command leaves, and its own ones are there exactly where it changes something.
+    ensures faithful { IsTrue (list_all fits (list_words ask.now)) → IsFaithful (command ask.now) given.now held.now }
+{
+    planned(alloc, held, ask, given)
+}
+
+// The plan, and what is known of the dataset.
+fn planned(
+    alloc: Global,
+    held: &Dataset,
+    ask: &ListAsk<'_, '_>,
+    given: Given,
+) -> Result<Plan, AllocError>
+    ensures plan { IfOk result (λ p. IsPlan (command ask.now) given.now held.now (view p.reply) p.effects.items) }
+    ensures kept { IsDataset held.now }
+    ensures numbers { HasNumbersIn ask.now given.now held.now }
 {
     match ask {
         ListAsk::Push { key, .. } => at_key(alloc, held, key, ask, given),
@@ -53,6 +77,8 @@ fn at_key(
     given: Given,
 ) -> Result<Plan, AllocError>
     ensures plan { IfOk result (λ p. IsPlan (on_key key.now (turn ask.now)) given.now held.now (view p.reply) p.effects.items) }
+    ensures kept { IsDataset held.now }
+    ensures numbers { HasNumbers ask.now (live given.now (get held.now key.now)) }
 {
     let mut effects = Effects::new(alloc);
     let seen = look(alloc, held, key, given, &mut effects)?;
@@ -67,7 +93,8 @@ fn turn(
     seen: Option<&Entry>,
     effects: &mut Effects,
 ) -> Result<Reply, AllocError>
-    ensures { IfOk result (λ r. Takes (turn ask.now (option_copied seen.entry)) (view r) effects.old effects.new) }
+    ensures numbers { HasNumbers ask.now (option_copied seen.entry) }
+    ensures takes { IfOk result (λ r. Takes (turn ask.now (option_copied seen.entry)) (view r) effects.old effects.new) }
 {
     match ask {
         ListAsk::Push {

@@ -2,7 +2,8 @@
 ghost use Rattle.std.specs.Prelude.{◌≡◌, ◌≤◌, min, length, map, IfOk, option_copied};
 ghost use Rattle.mr_resp.specs.ReplyView.{view};
 ghost use Rattle.mr_turn.specs.Turns.{Takes};
-ghost use Rattle.mr_plan_list.specs.Lists.{IsShort, IsShortFor, items_reply};
+ghost use Rattle.mr_plan_list.specs.Lists.{items_reply};
+ghost use Rattle.mr_plan_list.specs.Numbers.{IsShort, IsShortFor};
 ghost use Rattle.mr_plan_list.specs.Pops.{pop_turn, taken_items};
 
 use crate::ends::end_item;
@@ -23,7 +24,7 @@ pub fn pop(
     effects: &mut Effects,
 ) -> Result<Reply, AllocError>
     ensures takes { IfOk result (λ r. Takes (pop_turn key.now end count (option_copied seen.entry)) (view r) effects.old effects.new) }
-    ensures short { IfOk result (λ _. IsShortFor count (option_copied seen.entry)) }
+    ensures short { IsShortFor count (option_copied seen.entry) }
 {
     match count {
         None => pop_one(alloc, key, end, seen, effects),
@@ -67,7 +68,7 @@ fn pop_some(
     effects: &mut Effects,
 ) -> Result<Reply, AllocError>
     ensures takes { IfOk result (λ r. Takes (pop_turn key.now end (Some most) (option_copied seen.entry)) (view r) effects.old effects.new) }
-    ensures short { IfOk result (λ _. IsShort (option_copied seen.entry)) }
+    ensures short { IsShort (option_copied seen.entry) }
 {
     let Some(entry) = seen else {
         return Ok(Reply::NullArray);
