@@ -4,3 +4,8 @@ pub mod MoveLemmas
 pub mod NumberLemmas
 pub mod OneEffect
 pub mod PushLaws
+pub mod Sizes
+pub mod PopLaws
+pub mod EditLaws
+pub mod MoveLaws
+pub mod Laws

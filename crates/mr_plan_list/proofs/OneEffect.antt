@@ -27,10 +27,10 @@ module _ (change : List Bytes → Change (List Bytes)) (k : Bytes) (m : Dataset)
   pub changing_list : ((xs : List Bytes) → held lists (get m k) ≡ Some xs → IsFaithfulChange lists (change xs) xs k (get m k)) → IsFaithfulTurn (changing lists change (get m k)) k m
   changing_list f = changing_faithful lists lists_are change k m (lists_kept m k kept) f
 
-  pub on_list_faithful : (absent : Tree) → ((xs : List Bytes) → held lists (get m k) ≡ Some xs → IsFaithfulChange lists (change xs) xs k (get m k)) → IsFaithfulTurn (on_list absent change (get m k)) k m
+  pub on_list_faithful : (absent : Tree) → ((e : Entry) → get m k ≡ Some e → (xs : List Bytes) → held lists (get m k) ≡ Some xs → IsFaithfulChange lists (change xs) xs k (get m k)) → IsFaithfulTurn (on_list absent change (get m k)) k m
   on_list_faithful absent f = elim (get m k) as (λ o. get m k ≡ o → IsFaithfulTurn (on_list absent change o) k m) [
     | None ↦ λ is. kept_faithful _ k m (sym is) refl
-    | Some e ↦ λ is. subst (λ o. IsFaithfulTurn (changing lists change o) k m) is (changing_list f)
+    | Some e ↦ λ is. subst (λ o. IsFaithfulTurn (changing lists change o) k m) is (changing_list (f e is))
   ] refl
 
 -- ---- no effect, or one
