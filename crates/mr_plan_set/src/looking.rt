@@ -1,8 +1,8 @@
 // What is seen at a key.
-ghost use Rattle.std.specs.Prelude.{◌≡◌, [], ◌∷◌, ◌++◌, IfOk, option_copied};
+ghost use Rattle.std.specs.Prelude.{◌≡◌, [], ◌∷◌, ◌++◌, true, IfOk, option_copied};
 ghost use Rattle.std.specs.FinMap as map;
 ghost use Rattle.mr_data.specs.Dataset.{IsDataset, is_past, live};
-ghost use Rattle.mr_turn.specs.Keys.{dels, past};
+ghost use Rattle.mr_turn.specs.Keys.{dels, is_stored, past};
 
 use mr_ask::Argument;
 use mr_data::{Dataset, Effect, Entry, Given};
@@ -34,15 +34,16 @@ pub fn look<'d>(
     Ok(None)
 }
 
-/// What is seen at a key. It takes no memory.
-pub fn find<'d>(held: &'d Dataset, key: &[u8], given: Given) -> Option<&'d Entry>
-    ensures { option_copied result ≡ live given.now (map.get held.now key.now) }
+/// What is seen at a key, and whether the key is past.
+pub fn see<'d>(held: &'d Dataset, key: &[u8], given: Given) -> (Option<&'d Entry>, bool)
+    ensures seen { option_copied result.0 ≡ live given.now (map.get held.now key.now) }
+    ensures past { result.1 ≡ is_stored given.now true (map.get held.now key.now) }
 {
-    let entry = held.entry(key)?;
-    if is_past(given.now(), entry.deadline) {
-        return None;
+    match held.entry(key) {
+        None => (None, false),
+        Some(entry) if is_past(given.now(), entry.deadline) => (None, true),
+        Some(entry) => (Some(entry), false),
     }
-    Some(entry)
 }
 
 // Whether an entry with this deadline is past.

@@ -36,11 +36,7 @@ pub fn have_members(
     }
 }
 
-fn flags_of(
-    alloc: Global,
-    members: &Words<'_, '_>,
-    set: &SetValue,
-) -> Result<Reply, AllocError>
+fn flags_of(alloc: Global, members: &Words<'_, '_>, set: &SetValue) -> Result<Reply, AllocError>
     ensures { IfOk result (λ r. view r ≡ flags members.now set.now) }
 {
     let words = members.as_slice();
