@@ -12,3 +12,6 @@ mod replies;
 mod telling;
 
 pub use planning::plan;
+
+#[cfg(test)]
+mod tests;

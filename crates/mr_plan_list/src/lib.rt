@@ -1,0 +1,17 @@
+//! Plans of commands on lists: what is answered, and which effects the command has.
+#![tactic(auto)]
+
+mod edits;
+mod ends;
+mod looking;
+mod moves;
+mod planning;
+mod pops;
+mod pushes;
+mod replies;
+mod telling;
+
+pub use planning::plan;
+
+#[cfg(test)]
+mod tests;
