@@ -9,12 +9,10 @@ ghost use Rattle.mr_turn.specs.Commands.{IsPlan};
 ghost use Rattle.mr_plan_list.specs.Moves.{turn_turn, carry, moving};
 
 use crate::ends::{end_item, is_same_end};
-use crate::looking::look;
-use crate::replies::{bulk, wrong_kind};
 use mr_ask::Argument;
 use mr_data::{Dataset, Effect, Entry, Given, Plan, Value};
 use mr_resp::Reply;
-use mr_turn::Effects;
+use mr_turn::{Effects, bulk, look, wrong_kind};
 use mr_value::{End, Word};
 use std::alloc::{AllocError, Global};
 
