@@ -20,6 +20,7 @@ use Rattle.mr_turn.proofs.Running.{AreSteps, IsStep, IsFold, StaysNone, run, ste
 use Rattle.mr_turn.proofs.KindLaws.{lists_are}
 use Rattle.mr_turn.proofs.Changing.{IsFaithfulChange}
 use Rattle.mr_plan_list.specs.Pushes.{push_effects, push_change}
+use Rattle.mr_plan_list.proofs.Sizes.{not_both}
 
 -- ---- one after another
 pushed-append : (end : End) (xs ys zs : List Bytes) → pushed end (xs ++ ys) zs ≡ pushed end ys (pushed end xs zs)
@@ -29,9 +30,6 @@ pushed-append end (x ∷ xs) ys zs = pushed-append end xs ys (put_item end x zs)
 some_of : (xs : List Bytes) → xs ≢ [] → IsTrue (is_some_of xs)
 some_of [] h = absurd (h refl)
 some_of (x ∷ xs) h = refl
-
-not_both : {b : Bool} → b ≡ true → b ≡ false → ⊥
-not_both h i = cc
 
 pushing : (end : End) → IsFold lists (pushed end)
 pushing end = record {

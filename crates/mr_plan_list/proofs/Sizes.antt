@@ -22,6 +22,9 @@ both a b p q = rw (p, q) refl
 pub three : (a b c : Bool) → a ≡ true → b ≡ true → c ≡ true → a && b && c ≡ true
 three a b c p q r = rw (p, q, r) refl
 
+pub not_both : {b : Bool} → b ≡ true → b ≡ false → ⊥
+not_both h i = cc
+
 pub small : (n : ℕ) → n < 2 ^ 63 → is_i64 (pos n) ≡ true
 small n h = lt-ltb n (2 ^ 63) h
 
