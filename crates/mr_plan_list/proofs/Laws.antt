@@ -1,13 +1,12 @@
 -- The effects of commands on lists are faithful.
-use Rattle.std.proofs.Common.{ℕ, ℤ, ◌<◌, ◌≤◌, ◌^◌, ◌≡◌, List, [], ◌∷◌, length, min, Bool, true, false, cond, ◌&&◌, Option, Some, None, refl, sym, ◌∙◌, ap, subst, arith}
-use Rattle.std.specs.Prelude.{◌==◌, IsTrue, if◌then◌else◌}
+use Rattle.std.proofs.Common.{ℕ, ℤ, ◌<◌, ◌^◌, ◌≡◌, List, [], ◌∷◌, length, min, Bool, true, false, cond, ◌&&◌, Option, Some, None, refl, sym, ◌∙◌, ap, subst, arith}
+use Rattle.std.specs.Prelude.{IsTrue, if◌then◌else◌}
 use Rattle.std.specs.List.{list_all}
 use Rattle.std.specs.FinMap.{get}
 use Rattle.std.specs.Str.{bytes_eq}
 use Rattle.std.proofs.Math.Nat.{min-le_right}
 use Rattle.mr_map.specs.Bytes.{Bytes}
 use Rattle.mr_value.specs.Words.{fits}
-use Rattle.mr_value.specs.Number.{is_i64}
 use Rattle.mr_value.specs.declared.ends.End.{End}
 use Rattle.mr_value.specs.declared.ends.End.TheVariants.{Left, Right}
 use Rattle.mr_data.specs.Dataset.{Dataset, IsDataset, is_past, live}
@@ -24,15 +23,15 @@ use Rattle.mr_turn.specs.Taken.{has}
 use Rattle.mr_turn.specs.Keys.{purged}
 use Rattle.mr_turn.specs.Turns.{Turn}
 use Rattle.mr_turn.specs.Outcomes.{at_key}
-use Rattle.mr_turn.specs.Commands.{Command, on_key, before, IsFaithful}
+use Rattle.mr_turn.specs.Commands.{on_key, IsFaithful}
 use Rattle.mr_turn.proofs.KeyLists.{get_purged}
 use Rattle.mr_turn.proofs.PlanLemmas.{purged_at}
 use Rattle.mr_turn.proofs.Laws.{faithful, IsFaithfulAt, IsFaithfulTurn, at_key_faithful}
 use Rattle.mr_turn.proofs.KindLaws.{lists_kept}
-use Rattle.mr_plan_list.specs.Numbers.{HasFewItems, IsShort, IsShortFor, IsNumberFor, HasNumbers, HasNumbersIn}
+use Rattle.mr_plan_list.specs.Numbers.{HasFewItems, IsShort, IsShortFor, IsNumberFor, HasNumbersIn}
 use Rattle.mr_plan_list.specs.Pushes.{push_change, push_turn}
 use Rattle.mr_plan_list.specs.Pops.{pop_turn}
-use Rattle.mr_plan_list.specs.Moves.{rotate_turn, carry, carried, moved, moving}
+use Rattle.mr_plan_list.specs.Moves.{rotate_turn, carry, carried, moving}
 use Rattle.mr_plan_list.specs.Commands.{turn, command}
 use Rattle.mr_plan_list.proofs.Sizes.{both}
 use Rattle.mr_plan_list.proofs.OneEffect.{of_list_faithful, changing_list, on_list_faithful}

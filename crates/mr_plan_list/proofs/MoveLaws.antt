@@ -1,5 +1,5 @@
 -- Moves have faithful effects.
-use Rattle.std.proofs.Common.{ℕ, ◌+◌, ◌-◌, ◌<◌, ◌≡◌, pos, List, [], ◌∷◌, ◌++◌, length, take, drop, Bool, true, false, cond, ◌&&◌, Option, Some, None, refl, sym, ◌∙◌, ap, subst, arith}
+use Rattle.std.proofs.Common.{◌<◌, ◌≡◌, pos, List, [], ◌∷◌, ◌++◌, length, take, drop, true, false, cond, Option, Some, None, refl, sym, ◌∙◌, ap, subst, arith}
 use Rattle.std.specs.Prelude.{◌≢◌, ◌||◌, IsTrue, if◌then◌else◌}
 use Rattle.std.specs.Option.{option_map, option_and_then}
 use Rattle.std.specs.FinMap.{get}
@@ -10,9 +10,9 @@ use Rattle.mr_value.specs.Lists.{are_equal}
 use Rattle.mr_value.specs.declared.ends.End.{End}
 use Rattle.mr_value.specs.declared.ends.End.TheVariants.{Left, Right}
 use Rattle.mr_value.proofs.Uniform.{turns_left, turns_right}
-use Rattle.mr_data.specs.Dataset.{Dataset, IsDataset, put_at}
+use Rattle.mr_data.specs.Dataset.{Dataset, put_at}
 use Rattle.mr_data.specs.Collections.{end_item, popped, put_item, turned, may_take}
-use Rattle.mr_data.specs.Steps.{Step, lists, held, entry_of, deadline_of, on, turn_step, pop_step, push_step}
+use Rattle.mr_data.specs.Steps.{lists, held, entry_of, deadline_of, turn_step, pop_step, push_step}
 use Rattle.mr_data.specs.Meaning.{apply, apply_all, change, at_key, item_at, carry_item as carry_in, move_item}
 use Rattle.mr_data.specs.declared.value.Entry.{Entry}
 use Rattle.mr_data.proofs.Ends.{turned_same, turned_right_left}

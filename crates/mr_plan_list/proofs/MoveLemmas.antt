@@ -1,6 +1,6 @@
 -- Plans of commands that name two keys.
-use Rattle.std.proofs.Common.{ℤ, ◌≡◌, List, [], ◌∷◌, ◌++◌, Bool, true, false, cond, Option, Some, None, refl, sym, ◌∙◌, ap, subst, append_assoc}
-use Rattle.std.specs.Prelude.{◌||◌, if◌then◌else◌, map}
+use Rattle.std.proofs.Common.{ℤ, ◌≡◌, List, [], ◌∷◌, ◌++◌, Bool, true, false, cond, Option, None, refl, sym, ◌∙◌, ap}
+use Rattle.std.specs.Prelude.{◌||◌, if◌then◌else◌}
 use Rattle.std.specs.FinMap.{get, remove}
 use Rattle.std.specs.Str.{bytes_eq}
 use Rattle.std.proofs.lemmas.List.{map-append}
@@ -14,14 +14,12 @@ use Rattle.mr_effect.specs.declared.effect.Effect.{Effect}
 use Rattle.mr_effect.specs.declared.effect.Effect.TheVariants as effect
 use Rattle.mr_turn.specs.Taken.{is_key}
 use Rattle.mr_turn.specs.Keys.{chosen, dels, past, purged, without, is_stored}
-use Rattle.mr_turn.specs.Turns.{Turn, Takes}
 use Rattle.mr_turn.specs.Outcomes.{Outcome, at_key}
 use Rattle.mr_turn.specs.Commands.{on_key, IsPlan}
 use Rattle.mr_turn.proofs.Maps.{is_key_itself, same_key, get_remove, removed}
 use Rattle.mr_turn.proofs.KeyLists.{get_purged}
-use Rattle.mr_turn.proofs.PlanLemmas.{key_plan}
 use Rattle.mr_plan_list.proofs.Sizes.{same_bytes, bytes_itself}
-use Rattle.mr_plan_list.specs.Moves.{Carry, rotate_turn, carry, carried, moved, moving}
+use Rattle.mr_plan_list.specs.Moves.{rotate_turn, carry, carried, moved, moving}
 
 pub apart_key : (s d : Bytes) → bytes_eq s d ≡ false → is_key d s ≡ false
 apart_key s d apart = elim (is_key d s) as (λ b. is_key d s ≡ b → b ≡ false) [

@@ -1,6 +1,6 @@
 -- Pops have faithful effects.
-use Rattle.std.proofs.Common.{ℕ, ◌<◌, ◌≤◌, ◌^◌, ◌≡◌, pos, List, [], ◌∷◌, length, Bool, true, false, Option, Some, None, refl, ◌∙◌, ap, arith}
-use Rattle.std.specs.Prelude.{◌==◌, IsTrue, unsigned_abs, if◌then◌else◌}
+use Rattle.std.proofs.Common.{ℕ, ◌<◌, ◌≤◌, ◌^◌, ◌≡◌, pos, List, length, Option, Some, None, refl, ◌∙◌, ap, arith}
+use Rattle.std.specs.Prelude.{◌==◌, IsTrue, if◌then◌else◌}
 use Rattle.mr_map.specs.Bytes.{Bytes}
 use Rattle.mr_value.specs.Words.{fits}
 use Rattle.mr_value.specs.Number.{is_i64}
