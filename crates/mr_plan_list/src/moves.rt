@@ -6,7 +6,7 @@ ghost use Rattle.mr_data.specs.Dataset.{IsDataset};
 ghost use Rattle.mr_data.specs.Steps.{lists, held};
 ghost use Rattle.mr_turn.specs.Turns.{Takes};
 ghost use Rattle.mr_turn.specs.Commands.{IsPlan};
-ghost use Rattle.mr_plan_list.specs.Moves.{turn_turn, carry, moving};
+ghost use Rattle.mr_plan_list.specs.Moves.{rotate_turn, carry, moving};
 
 use crate::ends::{end_item, is_same_end};
 use mr_ask::Argument;
@@ -32,7 +32,7 @@ pub fn move_item(
     let mut effects = Effects::new(alloc);
     let source = look(alloc, held, from, given, &mut effects)?;
     if is_same_key(from, to) {
-        let reply = turn(alloc, from, taken, put, source, &mut effects)?;
+        let reply = rotate(alloc, from, taken, put, source, &mut effects)?;
         return Ok(effects.into_plan(reply));
     }
     let target = look(alloc, held, to, given, &mut effects)?;
@@ -47,7 +47,7 @@ fn is_same_key(key: &Argument<'_>, other: &Argument<'_>) -> bool
 }
 
 /// From one end of a list to another of the same.
-pub fn turn(
+pub fn rotate(
     alloc: Global,
     key: &Argument<'_>,
     taken: End,
@@ -55,7 +55,7 @@ pub fn turn(
     seen: Option<&Entry>,
     effects: &mut Effects,
 ) -> Result<Reply, AllocError>
-    ensures { IfOk result (λ r. Takes (turn_turn key.now taken put (option_copied seen.entry)) (view r) effects.old effects.new) }
+    ensures { IfOk result (λ r. Takes (rotate_turn key.now taken put (option_copied seen.entry)) (view r) effects.old effects.new) }
 {
     let Some(entry) = seen else {
         return Ok(Reply::NullBulk);

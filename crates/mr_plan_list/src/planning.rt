@@ -130,9 +130,9 @@ fn turn(
             to: _,
             taken,
             put,
-        } => moves::turn(alloc, from, *taken, *put, seen, effects),
+        } => moves::rotate(alloc, from, *taken, *put, seen, effects),
         ListAsk::MoveLastToFront { from, to: _ } => {
-            moves::turn(alloc, from, End::Right, End::Left, seen, effects)
+            moves::rotate(alloc, from, End::Right, End::Left, seen, effects)
         }
     }
 }
