@@ -6,6 +6,7 @@ import tempfile
 import unittest
 
 from program import LATE, PROGRAM, compiler, request, run
+from test_collections import HASHES, LISTS, SETS, asked
 
 SHIM = os.path.join(os.path.dirname(os.path.abspath(__file__)), "refusing_malloc.c")
 ASKED = b"".join(
@@ -54,18 +55,26 @@ class Memory(unittest.TestCase):
                 return call - 1
         self.fail("each of 100,000 runs was refused an allocation")
 
-    def test_replies_are_a_beginning_of_the_ample_run(self):
-        self.assertEqual(run(ASKED, "pipe").stdout, ANSWERED)
+    def beginnings(self, data, wanted):
+        """Whichever allocation is refused, the replies are a beginning of these."""
+        self.assertEqual(run(data, "pipe").stdout, wanted)
 
         def check(ran, was_refused):
             if ran.returncode == 0:
-                self.assertEqual((ran.stdout, ran.stderr), (ANSWERED, b""))
+                self.assertEqual((ran.stdout, ran.stderr), (wanted, b""))
             else:
                 self.assertTrue(was_refused)
                 self.assertEqual((ran.returncode, ran.stderr), (3, b"minired: out of memory\n"))
-                self.assertEqual(ran.stdout, ANSWERED[: len(ran.stdout)])
+                self.assertEqual(ran.stdout, wanted[: len(ran.stdout)])
 
-        self.assertGreater(self.each_refusal(ASKED, ["pipe"], check), 10)
+        self.assertGreater(self.each_refusal(data, ["pipe"], check), 10)
+
+    def test_replies_are_a_beginning_of_the_ample_run(self):
+        self.beginnings(ASKED, ANSWERED)
+
+    def test_replies_of_collections_are_too(self):
+        for rows in (HASHES, LISTS, SETS):
+            self.beginnings(asked(line for line, _ in rows), b"".join(reply for _, reply in rows))
 
     def test_a_bad_line_is_refused_or_memory_is_out(self):
         def check(ran, was_refused):
