@@ -51,9 +51,13 @@ def many_keys(file):
 
 def large_value(file):
     """A value of 16 MiB, set and got."""
-    value = b"x" * (16 * MIB)
-    file.write(set_of(key(0), value) + get_of(key(0)))
-    return 2, len(b"+OK\r\n$%d\r\n" % len(value)) + len(value) + 2
+    # in pieces: the memory of this program would count for the one that it starts
+    size = 16 * MIB
+    file.write(b"*3\r\n$3\r\nSET\r\n" + bulk(key(0)) + b"$%d\r\n" % size)
+    for _ in range(16):
+        file.write(b"x" * MIB)
+    file.write(b"\r\n" + get_of(key(0)))
+    return 2, len(b"+OK\r\n$%d\r\n" % size) + size + 2
 
 
 def request(*words):
@@ -131,7 +135,7 @@ def asked(count, reply, *words):
 HUNDRED = b"*100\r\n" + 100 * bulk(VALUE)
 ONE_KEY = bulk(key(0))
 
-# what is measured, and what is done before it, the time of which is taken off
+# what is measured, what is done before it, the time of which is taken off, and options of the program
 RUNS = [
     ("SET, GET of one key", None, one_key),
     ("SET, GET of a million keys", None, many_keys),
@@ -144,18 +148,18 @@ RUNS = [
     ("HGET of 100,000 fields", many(b"HSET", 100_000, b":1\r\n", VALUE), many(b"HGET", 100_000, bulk(VALUE))),
     ("SADD of 100,000 members", None, many(b"SADD", 100_000, b":1\r\n")),
     ("SISMEMBER of 100,000", added(100_000), many(b"SISMEMBER", 100_000, b":1\r\n")),
-    ("SPOP of 1,000 members", added(1_000), asked(1_000, ONE_KEY, b"SPOP", b"k")),
-    ("SPOP of a million members", added(1_000_000), asked(1_000, ONE_KEY, b"SPOP", b"k")),
+    ("SPOP of 100,000, the first", added(100_000), asked(100_000, ONE_KEY, b"SPOP", b"k")),
+    ("SPOP of a million, halfway", added(1_000_000), asked(1_000, ONE_KEY, b"SPOP", b"k"), "--word", "500000"),
     ("LRANGE of the first 100", items(1_000_000), asked(10_000, HUNDRED, b"LRANGE", b"l", b"0", b"99")),
     ("LRANGE of the last 100", items(1_000_000), asked(10_000, HUNDRED, b"LRANGE", b"l", b"-100", b"-1")),
 ]
 
 
-def minired(path, wanted, room):
+def minired(path, wanted, room, words=()):
     """Nanoseconds of processor time and bytes of peak memory of the program on a file of requests."""
     out = os.path.join(room, "replies")
     with open(path, "rb") as asked, open(out, "wb") as replies:
-        child = subprocess.Popen([LAUNCHER, "pipe"], stdin=asked, stdout=replies)
+        child = subprocess.Popen([LAUNCHER, "pipe", *words], stdin=asked, stdout=replies)
         _, status, used = os.wait4(child.pid, 0)
         child.returncode = os.waitstatus_to_exitcode(status)
     size = os.path.getsize(out)
@@ -214,7 +218,7 @@ def line(*cells):
     print("{:<28}{:>12}{:>16}{:>14}{:>16}{:>14}".format(*cells), flush=True)
 
 
-def measured(room, start, has_redis, before, write):
+def measured(room, start, has_redis, before, write, words):
     """How many requests, and nanoseconds a request and peak MiB of both programs."""
     path, first = os.path.join(room, "requests"), os.path.join(room, "before")
     with open(first, "wb") as file:
@@ -224,8 +228,8 @@ def measured(room, start, has_redis, before, write):
             before(file)
         count, wanted = write(file)
     if before:
-        start, _ = minired(first, ready, room)
-    nanoseconds, peak = minired(path, ready + wanted, room)
+        start, _ = minired(first, ready, room, words)
+    nanoseconds, peak = minired(path, ready + wanted, room, words)
     cells = [f"{count:,}", f"{(nanoseconds - start) / count:,.0f}", f"{peak / MIB:,.1f}"]
     if not has_redis:
         return cells + ["-", "-"]
@@ -243,8 +247,8 @@ def main():
         start, _ = minired(empty, 0, room)
         line("", "requests", "minired", "", "redis", "")
         line("", "", "ns a request", "peak MiB", "ns a request", "peak MiB")
-        for name, before, write in RUNS:
-            cells = measured(room, start, has_redis, before, write)
+        for name, before, write, *words in RUNS:
+            cells = measured(room, start, has_redis, before, write, words)
             line(name, *cells)
     if not has_redis:
         print("redis-server and redis-cli are not installed (Debian's redis-server and redis-tools)")

@@ -2,7 +2,6 @@
 #![tactic(auto)]
 
 mod groups;
-mod looking;
 mod planning;
 mod reading;
 mod removing;

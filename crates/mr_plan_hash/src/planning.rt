@@ -10,13 +10,11 @@ ghost use Rattle.mr_ask.specs.Carried.{hash_words};
 ghost use Rattle.mr_turn.specs.Commands.{IsPlan, IsFaithful};
 ghost use Rattle.mr_plan_hash.specs.Commands.{key_of, change, command, Makes};
 
-use crate::looking::look;
-use crate::replies::wrong_kind;
 use crate::{reading, removing, setting};
 use mr_ask::{Argument, HashAsk};
 use mr_data::{Dataset, Entry, Given, Plan, Value};
 use mr_resp::Reply;
-use mr_turn::Effects;
+use mr_turn::{Effects, look, wrong_kind};
 use mr_value::Hash;
 use std::alloc::{AllocError, Global};
 

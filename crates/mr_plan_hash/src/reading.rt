@@ -3,9 +3,9 @@ ghost use Rattle.std.specs.Prelude.{◌≡◌, ◌<◌, ◌^◌, IfOk, option_co
 ghost use Rattle.mr_resp.specs.ReplyView.{view};
 ghost use Rattle.mr_plan_hash.specs.Hashes.{value_reply, get_field, get_fields, list_hash, has_field, count_fields, field_length};
 
-use crate::replies::{count, integer};
 use mr_ask::{Argument, HashPart, Words};
 use mr_resp::Reply;
+use mr_turn::{count, integer};
 use mr_value::Hash;
 use std::alloc::{AllocError, Global};
 

@@ -9,11 +9,10 @@ ghost use Rattle.mr_plan_hash.specs.Hashes.{remove_fields};
 ghost use Rattle.mr_plan_hash.specs.Commands.{Makes};
 
 use crate::groups::{FieldGroup, end_fields};
-use crate::replies::count;
 use mr_ask::{Argument, Words};
 use mr_map::SliceMap;
 use mr_resp::Reply;
-use mr_turn::Effects;
+use mr_turn::{Effects, count};
 use mr_value::Hash;
 use std::alloc::{AllocError, Global};
 

@@ -8,12 +8,12 @@ ghost use Rattle.mr_plan_hash.specs.Hashes.{is_value, last_values, fields_reply,
 ghost use Rattle.mr_plan_hash.specs.Commands.{Makes};
 
 use crate::groups::{PairGroup, end_pairs};
-use crate::replies::{count, done, integer, no_integer, overflow};
+use crate::replies::{no_integer, overflow};
 use itoa::Buffer;
 use mr_ask::{Argument, FieldsReply, Pairs};
 use mr_map::SliceMap;
 use mr_resp::Reply;
-use mr_turn::Effects;
+use mr_turn::{Effects, count, done, integer};
 use mr_value::{Hash, read_i64};
 use std::alloc::{AllocError, Global};
 

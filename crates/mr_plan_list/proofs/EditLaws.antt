@@ -1,6 +1,6 @@
 -- Commands that replace, insert and remove items have faithful effects.
-use Rattle.std.proofs.Common.{ℕ, zero, suc, ◌+◌, ◌-◌, ◌<◌, ◌≤◌, ◌^◌, ◌≡◌, ℤ, pos, negsuc, List, [], ◌∷◌, ◌++◌, length, take, drop, get_or, min, Bool, true, false, cond, ◌&&◌, Option, Some, None, refl, sym, ◌∙◌, ap, arith, eqb-true}
-use Rattle.std.specs.Prelude.{◌≢◌, ◌==◌, IsTrue, not, filter, nat_lt, unsigned_abs, slice_get, slice_set, slice_range, insert, if◌then◌else◌}
+use Rattle.std.proofs.Common.{ℕ, zero, suc, ◌+◌, ◌-◌, ◌<◌, ◌≤◌, ◌^◌, ◌≡◌, ℤ, pos, negsuc, List, [], ◌∷◌, length, take, drop, min, Bool, true, false, cond, ◌&&◌, Option, Some, None, refl, sym, ◌∙◌, ap, arith, eqb-true}
+use Rattle.std.specs.Prelude.{◌≢◌, ◌==◌, IsTrue, not, nat_lt, slice_get, slice_set, slice_range, insert, if◌then◌else◌}
 use Rattle.std.specs.Option.{option_map}
 use Rattle.std.specs.Str.{bytes_eq}
 use Rattle.std.proofs.lemmas.Bool.{lt-ltb, le-leb, eq-eqb}
@@ -22,7 +22,7 @@ use Rattle.mr_effect.specs.declared.effect.Effect.TheVariants as effect
 use Rattle.mr_turn.proofs.Running.{IsStep}
 use Rattle.mr_turn.proofs.Changing.{IsFaithfulChange}
 use Rattle.mr_plan_list.specs.Edits.{is_item, with_item, with_inserted, without_equal, is_whole, trimmed}
-use Rattle.mr_plan_list.proofs.Sizes.{both, three, small, positive, none_of, same_bytes, bytes_itself, place_within, window_within}
+use Rattle.mr_plan_list.proofs.Sizes.{not_both, both, three, small, positive, none_of, same_bytes, bytes_itself, place_within, window_within}
 use Rattle.mr_plan_list.proofs.OneEffect.{no_effect, by_step, one_effect, unless_same}
 
 -- ---- an item in another's place
@@ -32,9 +32,6 @@ there_already item xs place (Some x) is h = ap (slice_set xs place) (sym (same_b
 
 got_back : (item : Bytes) (xs : List Bytes) (place : ℕ) → place < length xs → slice_get (slice_set xs place item) place ≡ Some item
 got_back item xs place below = slice_get-get_or (slice_set xs place item) place item (omega (arith, length-set xs place item)) ∙ ap Some (get_or-set_same xs place item item below)
-
-not_both : {b : Bool} → b ≡ true → b ≡ false → ⊥
-not_both h i = cc
 
 another_item : (item : Bytes) (xs : List Bytes) (place : ℕ) → place < length xs → is_item item (slice_get xs place) ≡ false → slice_set xs place item ≢ xs
 another_item item xs place below other h =

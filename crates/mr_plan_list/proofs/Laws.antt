@@ -1,13 +1,12 @@
 -- The effects of commands on lists are faithful.
-use Rattle.std.proofs.Common.{ℕ, ℤ, ◌<◌, ◌≤◌, ◌^◌, ◌≡◌, List, [], ◌∷◌, length, min, Bool, true, false, cond, ◌&&◌, Option, Some, None, refl, sym, ◌∙◌, ap, subst, arith}
-use Rattle.std.specs.Prelude.{◌==◌, IsTrue, if◌then◌else◌}
+use Rattle.std.proofs.Common.{ℕ, ℤ, ◌<◌, ◌^◌, ◌≡◌, List, [], ◌∷◌, length, min, Bool, true, false, cond, ◌&&◌, Option, Some, None, refl, sym, ◌∙◌, ap, subst, arith}
+use Rattle.std.specs.Prelude.{IsTrue, if◌then◌else◌}
 use Rattle.std.specs.List.{list_all}
 use Rattle.std.specs.FinMap.{get}
 use Rattle.std.specs.Str.{bytes_eq}
 use Rattle.std.proofs.Math.Nat.{min-le_right}
 use Rattle.mr_map.specs.Bytes.{Bytes}
 use Rattle.mr_value.specs.Words.{fits}
-use Rattle.mr_value.specs.Number.{is_i64}
 use Rattle.mr_value.specs.declared.ends.End.{End}
 use Rattle.mr_value.specs.declared.ends.End.TheVariants.{Left, Right}
 use Rattle.mr_data.specs.Dataset.{Dataset, IsDataset, is_past, live}
@@ -24,16 +23,17 @@ use Rattle.mr_turn.specs.Taken.{has}
 use Rattle.mr_turn.specs.Keys.{purged}
 use Rattle.mr_turn.specs.Turns.{Turn}
 use Rattle.mr_turn.specs.Outcomes.{at_key}
-use Rattle.mr_turn.specs.Commands.{Command, on_key, before, IsFaithful}
+use Rattle.mr_turn.specs.Commands.{on_key, IsFaithful}
 use Rattle.mr_turn.proofs.KeyLists.{get_purged}
 use Rattle.mr_turn.proofs.PlanLemmas.{purged_at}
 use Rattle.mr_turn.proofs.Laws.{faithful, IsFaithfulAt, IsFaithfulTurn, at_key_faithful}
 use Rattle.mr_turn.proofs.KindLaws.{lists_kept}
-use Rattle.mr_plan_list.specs.Numbers.{HasFewItems, IsShort, IsShortFor, IsNumberFor, HasNumbers, HasNumbersIn}
+use Rattle.mr_plan_list.specs.Numbers.{HasFewItems, IsShort, IsShortFor, IsNumberFor, HasNumbersIn}
 use Rattle.mr_plan_list.specs.Pushes.{push_change, push_turn}
 use Rattle.mr_plan_list.specs.Pops.{pop_turn}
-use Rattle.mr_plan_list.specs.Moves.{turn_turn, carry, carried, moved, moving}
+use Rattle.mr_plan_list.specs.Moves.{rotate_turn, carry, carried, moving}
 use Rattle.mr_plan_list.specs.Commands.{turn, command}
+use Rattle.mr_plan_list.proofs.Sizes.{both}
 use Rattle.mr_plan_list.proofs.OneEffect.{of_list_faithful, changing_list, on_list_faithful}
 use Rattle.mr_plan_list.proofs.PushLaws.{push_faithful}
 use Rattle.mr_plan_list.proofs.PopLaws.{pop_one_faithful, pop_some_faithful}
@@ -72,7 +72,7 @@ pops : (k : Bytes) (end : End) (count : Option ℕ) (m : Dataset) → IsDataset 
 pops k end None m kept named short = on_list_faithful _ k m kept _ (λ e is xs there. pop_one_faithful k end xs (get m k) named there)
 pops k end (Some most) m kept named short = on_list_faithful _ k m kept _ (λ e is xs there. pop_some_faithful k end xs (get m k) named there (min most (length xs)) (min-le_right most (length xs)) (is_short (get m k) xs short there))
 
-turned_in_place : (k : Bytes) (taken put : End) (m : Dataset) → IsDataset m → IsTrue (fits k) → IsFaithfulTurn (turn_turn k taken put (get m k)) k m
+turned_in_place : (k : Bytes) (taken put : End) (m : Dataset) → IsDataset m → IsTrue (fits k) → IsFaithfulTurn (rotate_turn k taken put (get m k)) k m
 turned_in_place k taken put m kept named = on_list_faithful _ k m kept _ (λ e is xs there. turn_faithful k xs (get m k) named there taken put)
 
 left : (a b : Bool) → a && b ≡ true → a ≡ true
@@ -86,9 +86,6 @@ right false b h = cc
 all_words : (k : Bytes) (words : List Bytes) → IsTrue (list_all fits (k ∷ words)) → IsTrue (fits k) × IsTrue (list_all fits words)
 all_words k words h = (left (fits k) (list_all fits words) h, right (fits k) (list_all fits words) h)
 
-both : (a b : Bool) → a ≡ true → b ≡ true → a && b ≡ true
-both a b p q = rw (p, q) refl
-
 one_fits : (k : Bytes) → IsTrue (fits k) → IsTrue (list_all fits (k ∷ []))
 one_fits k h = both (fits k) true h refl
 
@@ -99,8 +96,8 @@ at_one k t now m named f kept =
     faithful (on_key k t) now m (one_fits k named) (at_key_faithful k t n (f n (purged_at now k m) (kept_purged now (k ∷ []) m kept)))
 
 moves_in : (s d : Bytes) (taken put : End) (n : Dataset) → IsDataset n → IsTrue (fits s) → IsTrue (fits d) → (b : Bool) → bytes_eq s d ≡ b
-    → IsFaithfulAt (if b then at_key s (turn_turn s taken put) n else carried s d (carry s d taken put (get n s) (get n d)) n) n
-moves_in s d taken put n kept named_s named_d true h = at_key_faithful s (turn_turn s taken put) n (turned_in_place s taken put n kept named_s)
+    → IsFaithfulAt (if b then at_key s (rotate_turn s taken put) n else carried s d (carry s d taken put (get n s) (get n d)) n) n
+moves_in s d taken put n kept named_s named_d true h = at_key_faithful s (rotate_turn s taken put) n (turned_in_place s taken put n kept named_s)
 moves_in s d taken put n kept named_s named_d false h = carry_faithful s d taken put h n named_s named_d
 
 moves : (s d : Bytes) (taken put : End) (now : ℤ) (m : Dataset) → IsDataset m → IsTrue (list_all fits (s ∷ d ∷ [])) → IsFaithful (moving s d taken put) now m

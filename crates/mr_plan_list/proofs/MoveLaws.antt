@@ -1,5 +1,5 @@
 -- Moves have faithful effects.
-use Rattle.std.proofs.Common.{ℕ, ◌+◌, ◌-◌, ◌<◌, ◌≡◌, pos, List, [], ◌∷◌, ◌++◌, length, take, drop, Bool, true, false, cond, ◌&&◌, Option, Some, None, refl, sym, ◌∙◌, ap, subst, arith}
+use Rattle.std.proofs.Common.{◌<◌, ◌≡◌, pos, List, [], ◌∷◌, ◌++◌, length, take, drop, true, false, cond, Option, Some, None, refl, sym, ◌∙◌, ap, subst, arith}
 use Rattle.std.specs.Prelude.{◌≢◌, ◌||◌, IsTrue, if◌then◌else◌}
 use Rattle.std.specs.Option.{option_map, option_and_then}
 use Rattle.std.specs.FinMap.{get}
@@ -10,9 +10,9 @@ use Rattle.mr_value.specs.Lists.{are_equal}
 use Rattle.mr_value.specs.declared.ends.End.{End}
 use Rattle.mr_value.specs.declared.ends.End.TheVariants.{Left, Right}
 use Rattle.mr_value.proofs.Uniform.{turns_left, turns_right}
-use Rattle.mr_data.specs.Dataset.{Dataset, IsDataset, put_at}
+use Rattle.mr_data.specs.Dataset.{Dataset, put_at}
 use Rattle.mr_data.specs.Collections.{end_item, popped, put_item, turned, may_take}
-use Rattle.mr_data.specs.Steps.{Step, lists, held, entry_of, deadline_of, on, turn_step, pop_step, push_step}
+use Rattle.mr_data.specs.Steps.{lists, held, entry_of, deadline_of, turn_step, pop_step, push_step}
 use Rattle.mr_data.specs.Meaning.{apply, apply_all, change, at_key, item_at, carry_item as carry_in, move_item}
 use Rattle.mr_data.specs.declared.value.Entry.{Entry}
 use Rattle.mr_data.proofs.Ends.{turned_same, turned_right_left}
@@ -24,8 +24,8 @@ use Rattle.mr_turn.proofs.Laws.{IsFaithfulAt}
 use Rattle.mr_turn.proofs.Running.{IsStep, same_collection}
 use Rattle.mr_turn.proofs.KindLaws.{lists_are}
 use Rattle.mr_turn.proofs.Changing.{IsFaithfulChange}
-use Rattle.mr_plan_list.specs.Moves.{is_same_end, with_turned, Carry, carry, carry_from, carry_to, carry_item, carried}
-use Rattle.mr_plan_list.proofs.Sizes.{both, bytes_itself, end_some, may_take_some, popped_less}
+use Rattle.mr_plan_list.specs.Moves.{is_same_end, with_rotated, Carry, carry, carry_from, carry_to, carry_item, carried}
+use Rattle.mr_plan_list.proofs.Sizes.{not_both, both, bytes_itself, end_some, may_take_some, popped_less}
 use Rattle.mr_plan_list.proofs.MoveLemmas.{apart_key}
 use Rattle.mr_plan_list.proofs.OneEffect.{no_effect, unless_same}
 
@@ -47,9 +47,6 @@ stays Right Right item xs is h = same_some (sym (made Right Right item xs is) �
 stays Left Right item xs is h = same_some (sym (made Left Right item xs is) ∙ turned_left_right xs (end_some Left xs item is)) ∙ (turns_left xs).0 h
 stays Right Left item xs is h = same_some (sym (made Right Left item xs is) ∙ turned_right_left xs (end_some Right xs item is)) ∙ (turns_right xs).0 h
 
-not_both : {b : Bool} → b ≡ true → b ≡ false → ⊥
-not_both h i = cc
-
 turns : (taken put : End) (item : Bytes) (xs : List Bytes) → end_item taken xs ≡ Some item → (is_same_end taken put || are_equal xs) ≡ false → put_item put item (popped taken 1 xs) ≢ xs
 turns Left Left item xs is h same = cc
 turns Right Right item xs is h same = cc
@@ -61,8 +58,8 @@ unfolding change
 turn_is_step k taken put named = record { possible = both (fits k) (fits k) named named; is = λ m. ap (λ b. if b then at_key (turn_step taken put) k m else carry_in k k taken put m) (bytes_itself k) }
 
 module _ (k : Bytes) (x : List Bytes) (o : Option Entry) (named : IsTrue (fits k)) (there : held lists o ≡ Some x) where
-  pub turn_faithful : (taken put : End) → IsFaithfulChange lists (with_turned k taken put (end_item taken x) x) x k o
-  turn_faithful taken put = elim (end_item taken x) as (λ i. end_item taken x ≡ i → IsFaithfulChange lists (with_turned k taken put i x) x k o) [
+  pub turn_faithful : (taken put : End) → IsFaithfulChange lists (with_rotated k taken put (end_item taken x) x) x k o
+  turn_faithful taken put = elim (end_item taken x) as (λ i. end_item taken x ≡ i → IsFaithfulChange lists (with_rotated k taken put i x) x k o) [
     | None ↦ λ is. no_effect _ x k o refl refl
     | Some item ↦ λ is.
         unless_same _ x k o (turned taken put) there (effect.MoveItem k k taken put) (is_same_end taken put || are_equal x) refl (turn_is_step k taken put named)

@@ -1,10 +1,9 @@
 -- Plans of commands that name two keys.
-use Rattle.std.proofs.Common.{rules, ℤ, ◌≡◌, List, [], ◌∷◌, ◌++◌, Bool, true, false, cond, Option, Some, None, refl, sym, ◌∙◌, ap, subst, append_assoc}
-use Rattle.std.specs.Prelude.{◌||◌, if◌then◌else◌, map}
+use Rattle.std.proofs.Common.{ℤ, ◌≡◌, List, [], ◌∷◌, ◌++◌, Bool, true, false, cond, Option, None, refl, sym, ◌∙◌, ap}
+use Rattle.std.specs.Prelude.{◌||◌, if◌then◌else◌}
 use Rattle.std.specs.FinMap.{get, remove}
 use Rattle.std.specs.Str.{bytes_eq}
 use Rattle.std.proofs.lemmas.List.{map-append}
-use Rattle.std.proofs.lemmas.Slice.Eq.{bytes_eq-Decides}
 use Rattle.mr_map.specs.Bytes.{Bytes}
 use Rattle.mr_resp.specs.Replies.{Tree}
 use Rattle.mr_value.specs.declared.ends.End.{End}
@@ -15,23 +14,16 @@ use Rattle.mr_effect.specs.declared.effect.Effect.{Effect}
 use Rattle.mr_effect.specs.declared.effect.Effect.TheVariants as effect
 use Rattle.mr_turn.specs.Taken.{is_key}
 use Rattle.mr_turn.specs.Keys.{chosen, dels, past, purged, without, is_stored}
-use Rattle.mr_turn.specs.Turns.{Turn, Takes}
 use Rattle.mr_turn.specs.Outcomes.{Outcome, at_key}
 use Rattle.mr_turn.specs.Commands.{on_key, IsPlan}
 use Rattle.mr_turn.proofs.Maps.{is_key_itself, same_key, get_remove, removed}
 use Rattle.mr_turn.proofs.KeyLists.{get_purged}
-use Rattle.mr_turn.proofs.PlanLemmas.{key_plan}
-use Rattle.mr_plan_list.specs.Moves.{Carry, turn_turn, carry, carried, moved, moving}
-
-pub same_bytes : (xs ys : Bytes) → bytes_eq xs ys ≡ true → xs ≡ ys
-same_bytes xs ys h = search (rules, bytes_eq-Decides)
-
-equal : (xs ys : Bytes) → xs ≡ ys → bytes_eq xs ys ≡ true
-equal xs ys h = search (rules, bytes_eq-Decides)
+use Rattle.mr_plan_list.proofs.Sizes.{same_bytes, bytes_itself}
+use Rattle.mr_plan_list.specs.Moves.{rotate_turn, carry, carried, moved, moving}
 
 pub apart_key : (s d : Bytes) → bytes_eq s d ≡ false → is_key d s ≡ false
 apart_key s d apart = elim (is_key d s) as (λ b. is_key d s ≡ b → b ≡ false) [
-  | true ↦ λ t. let both : false ≡ true = sym apart ∙ equal s d (sym (same_key d s t)) in cc
+  | true ↦ λ t. let both : false ≡ true = sym apart ∙ ap (bytes_eq s) (same_key d s t) ∙ bytes_itself s in cc
   | false ↦ λ t. refl
 ] refl
 
@@ -48,17 +40,17 @@ past_twice : (now : ℤ) (k : Bytes) (m : Dataset) → past now (k ∷ k ∷ [])
 past_twice now k m = twice (is_stored now true) k m refl
 
 module _ (s d : Bytes) (taken put : End) (same : bytes_eq s d ≡ true) where
-  at_one : (m : Dataset) → moved s d taken put m ≡ at_key s (turn_turn s taken put) m
-  at_one m = ap (λ b. if b then at_key s (turn_turn s taken put) m else carried s d (carry s d taken put (get m s) (get m d)) m) same
+  at_one : (m : Dataset) → moved s d taken put m ≡ at_key s (rotate_turn s taken put) m
+  at_one m = ap (λ b. if b then at_key s (rotate_turn s taken put) m else carried s d (carry s d taken put (get m s) (get m d)) m) same
 
   past_one : (now : ℤ) (m : Dataset) → past now (s ∷ d ∷ []) m ≡ past now (s ∷ []) m
   past_one now m = ap (λ (q : Bytes). past now (s ∷ q ∷ []) m) (sym (same_bytes s d same)) ∙ past_twice now s m
 
-  pub turned_plan : (now : ℤ) (m : Dataset) (r : Tree) (list : List Effect) → IsPlan (on_key s (turn_turn s taken put)) now m r list → IsPlan (moving s d taken put) now m r list
+  pub turned_plan : (now : ℤ) (m : Dataset) (r : Tree) (list : List Effect) → IsPlan (on_key s (rotate_turn s taken put)) now m r list → IsPlan (moving s d taken put) now m r list
   turned_plan now m r list p = record {
     reply_is = p.reply_is ∙ sym (ap (λ (o : Outcome). o.reply) (at_one (seen now m)));
     effects_are = p.effects_are
-        ∙ ap (λ (ks : List Bytes). dels ks ++ (at_key s (turn_turn s taken put) (without ks m)).effects) (sym (past_one now m))
+        ∙ ap (λ (ks : List Bytes). dels ks ++ (at_key s (rotate_turn s taken put) (without ks m)).effects) (sym (past_one now m))
         ∙ ap (λ (o : Outcome). dels (past now (s ∷ d ∷ []) m) ++ o.effects) (sym (at_one (purged now (s ∷ d ∷ []) m)));
   }
 
@@ -90,7 +82,7 @@ module _ (s d : Bytes) (now : ℤ) (m : Dataset) where
 
 module _ (s d : Bytes) (taken put : End) (apart : bytes_eq s d ≡ false) where
   pub at_two : (m : Dataset) → moved s d taken put m ≡ carried s d (carry s d taken put (get m s) (get m d)) m
-  at_two m = ap (λ b. if b then at_key s (turn_turn s taken put) m else carried s d (carry s d taken put (get m s) (get m d)) m) apart
+  at_two m = ap (λ b. if b then at_key s (rotate_turn s taken put) m else carried s d (carry s d taken put (get m s) (get m d)) m) apart
 
   pub carried_plan : (now : ℤ) (m : Dataset) (o p : Option Entry) (r : Tree) (none first second list : List Effect)
       → o ≡ live now (get m s) → p ≡ live now (get m d)

@@ -1,5 +1,5 @@
 -- The numbers in effects.
-use Rattle.std.proofs.Common.{ℕ, ◌<◌, ◌^◌, ◌≡◌, Option, Some, None, sym, subst}
+use Rattle.std.proofs.Common.{ℕ, ◌≡◌, Option, Some, None, sym, subst}
 use Rattle.mr_data.specs.declared.value.Entry.{Entry}
 use Rattle.mr_ask.specs.declared.list_ask.ListAsk.{ListAsk}
 use Rattle.mr_ask.specs.declared.list_ask.ListAsk.TheVariants as ask

@@ -1,6 +1,6 @@
 -- Commands with one effect at most.
 use Rattle.std.proofs.Common.{◌≡◌, List, [], ◌∷◌, Bool, true, false, Option, Some, None, refl, sym, ◌∙◌, ap, subst}
-use Rattle.std.specs.Prelude.{◌≢◌, if◌then◌else◌}
+use Rattle.std.specs.Prelude.{◌≢◌}
 use Rattle.std.specs.Option.{option_map, option_and_then}
 use Rattle.std.specs.FinMap.{get}
 use Rattle.mr_map.specs.Bytes.{Bytes}
@@ -11,7 +11,7 @@ use Rattle.mr_data.specs.declared.value.Entry.{Entry}
 use Rattle.mr_effect.specs.declared.effect.Effect.{Effect}
 use Rattle.mr_turn.specs.Collections.{Change, telling, changing}
 use Rattle.mr_turn.proofs.Laws.{IsFaithfulTurn, kept_faithful}
-use Rattle.mr_turn.proofs.Running.{AreSteps, IsStep, IsKept, run}
+use Rattle.mr_turn.proofs.Running.{AreSteps, IsStep, run}
 use Rattle.mr_turn.proofs.KindLaws.{lists_are, lists_kept}
 use Rattle.mr_turn.proofs.Changing.{IsFaithfulChange, changing_faithful, telling_faithful}
 use Rattle.mr_plan_list.specs.Lists.{of_list, on_list, unless}

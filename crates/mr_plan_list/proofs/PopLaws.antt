@@ -1,6 +1,6 @@
 -- Pops have faithful effects.
-use Rattle.std.proofs.Common.{ℕ, ◌<◌, ◌≤◌, ◌^◌, ◌≡◌, pos, List, [], ◌∷◌, length, Bool, true, false, Option, Some, None, refl, ◌∙◌, ap, arith}
-use Rattle.std.specs.Prelude.{◌==◌, IsTrue, unsigned_abs, if◌then◌else◌}
+use Rattle.std.proofs.Common.{ℕ, ◌<◌, ◌≤◌, ◌^◌, ◌≡◌, pos, List, length, Option, Some, None, refl, ◌∙◌, ap, arith}
+use Rattle.std.specs.Prelude.{◌==◌, IsTrue, if◌then◌else◌}
 use Rattle.mr_map.specs.Bytes.{Bytes}
 use Rattle.mr_value.specs.Words.{fits}
 use Rattle.mr_value.specs.Number.{is_i64}
@@ -21,9 +21,6 @@ unfolding change
 pop_is_step k end n named short = record { possible = both (is_i64 (pos n)) (fits k) (small n short) named; is = λ m. refl }
 
 -- what so many items at an end leave
-left_by : (end : End) (n : ℕ) → List Bytes → Option (List Bytes)
-left_by end n xs = if may_take (pos n) (length xs) then Some (popped end (unsigned_abs (pos n)) xs) else None
-
 left_is : (end : End) (n : ℕ) (xs : List Bytes) → 0 < n → n ≤ length xs → (if may_take (pos n) (length xs) then Some (popped end n xs) else None) ≡ Some (popped end n xs)
 left_is end n xs some few = ap (λ b. if b then Some (popped end n xs) else None) (may_take_some n (length xs) some few)
 

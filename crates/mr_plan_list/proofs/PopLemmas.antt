@@ -1,5 +1,5 @@
 -- Items in the order in which they are taken.
-use Rattle.std.proofs.Common.{ℕ, ◌+◌, ◌-◌, ◌<◌, ◌≡◌, List, [], ◌∷◌, ◌++◌, length, take, get_or, refl, sym, ◌∙◌, ap, arith}
+use Rattle.std.proofs.Common.{ℕ, ◌+◌, ◌-◌, ◌<◌, ◌≡◌, List, [], ◌∷◌, ◌++◌, length, take, sym, ◌∙◌, ap, arith}
 use Rattle.std.specs.Prelude.{map, reverse, slice_get, Some}
 use Rattle.std.proofs.lemmas.List.{take_more, map-append, get_or-reverse, length-reverse}
 use Rattle.std.proofs.lemmas.Option.{get_or_from_slice_get, slice_get_within}
@@ -7,7 +7,6 @@ use Rattle.mr_map.specs.Bytes.{Bytes}
 use Rattle.mr_resp.specs.Replies as reply
 use Rattle.mr_resp.specs.ReplyView.{view}
 use Rattle.mr_resp.specs.declared.reply.Reply.{Reply}
-use Rattle.mr_value.specs.declared.ends.End.{End}
 use Rattle.mr_value.specs.declared.ends.End.TheVariants.{Left, Right}
 use Rattle.mr_plan_list.specs.Pops.{taken_items}
 

@@ -1,25 +1,25 @@
 -- Pushes have faithful effects.
-use Rattle.std.proofs.Common.{ℕ, zero, suc, ◌+◌, ◌≡◌, List, [], ◌∷◌, ◌++◌, length, Bool, true, false, ◌&&◌, Option, Some, None, refl, sym, ◌∙◌, ap, subst, arith, length-append}
-use Rattle.std.specs.Prelude.{◌≢◌, ◌==◌, IsTrue, map}
-use Rattle.std.specs.List.{AllByRecursion, flat_map, list_all}
+use Rattle.std.proofs.Common.{◌+◌, ◌≡◌, List, [], ◌∷◌, ◌++◌, length, Bool, true, ◌&&◌, Option, Some, refl, ◌∙◌, ap, arith, length-append}
+use Rattle.std.specs.Prelude.{◌≢◌, IsTrue, map}
+use Rattle.std.specs.List.{AllByRecursion, list_all}
 use Rattle.mr_map.specs.Bytes.{Bytes}
 use Rattle.mr_value.specs.Words.{fits}
 use Rattle.mr_value.specs.declared.ends.End.{End}
 use Rattle.mr_value.specs.declared.ends.End.TheVariants.{Left, Right}
 use Rattle.mr_data.specs.Collections.{put_item, pushed}
-use Rattle.mr_data.specs.Steps.{Step, lists, held, entry_of, deadline_of, push_step}
+use Rattle.mr_data.specs.Steps.{lists, held, entry_of, deadline_of, push_step}
 use Rattle.mr_data.specs.Meaning.{change}
 use Rattle.mr_data.specs.declared.value.Entry.{Entry}
 use Rattle.mr_data.proofs.Nonempty.{pushed_some}
 use Rattle.mr_effect.specs.Effects.{is_some_of}
-use Rattle.mr_effect.specs.declared.effect.Effect.{Effect}
 use Rattle.mr_effect.specs.declared.effect.Effect.TheVariants as effect
 use Rattle.mr_turn.specs.Cuts.{cut}
 use Rattle.mr_turn.proofs.Cutting.{IsGroup, cut_groups, cut_whole, no_cut}
-use Rattle.mr_turn.proofs.Running.{AreSteps, IsStep, IsFold, StaysNone, run, steps_of, groups_run}
+use Rattle.mr_turn.proofs.Running.{IsStep, IsFold, steps_of, groups_run}
 use Rattle.mr_turn.proofs.KindLaws.{lists_are}
 use Rattle.mr_turn.proofs.Changing.{IsFaithfulChange}
 use Rattle.mr_plan_list.specs.Pushes.{push_effects, push_change}
+use Rattle.mr_plan_list.proofs.Sizes.{not_both}
 
 -- ---- one after another
 pushed-append : (end : End) (xs ys zs : List Bytes) → pushed end (xs ++ ys) zs ≡ pushed end ys (pushed end xs zs)
@@ -29,9 +29,6 @@ pushed-append end (x ∷ xs) ys zs = pushed-append end xs ys (put_item end x zs)
 some_of : (xs : List Bytes) → xs ≢ [] → IsTrue (is_some_of xs)
 some_of [] h = absurd (h refl)
 some_of (x ∷ xs) h = refl
-
-not_both : {b : Bool} → b ≡ true → b ≡ false → ⊥
-not_both h i = cc
 
 pushing : (end : End) → IsFold lists (pushed end)
 pushing end = record {

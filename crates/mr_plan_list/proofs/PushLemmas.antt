@@ -1,5 +1,5 @@
 -- Items pushed in groups.
-use Rattle.std.proofs.Common.{ℕ, zero, suc, ◌+◌, ◌-◌, ◌<◌, ◌≤◌, ◌≡◌, min, List, [], ◌∷◌, ◌++◌, length, take, drop, refl, sym, ◌∙◌, ap, subst, arith, append_assoc, ◌⊎◌, inl, inr, ⊎_elim}
+use Rattle.std.proofs.Common.{ℕ, ◌+◌, ◌-◌, ◌<◌, ◌≤◌, ◌≡◌, min, List, [], ◌∷◌, ◌++◌, length, take, drop, sym, ◌∙◌, ap, arith, append_assoc, ⊎_elim}
 use Rattle.std.specs.Prelude.{map, slice_range}
 use Rattle.std.proofs.lemmas.List.{length-drop, length-map, take_all, drop-drop, take-map, drop-map}
 use Rattle.std.proofs.lemmas.Bool.{cases_lt}

@@ -1,6 +1,6 @@
 -- Numbers and tests, and lists that differ in length.
-use Rattle.std.proofs.Common.{rules, ℕ, zero, suc, ◌+◌, ◌-◌, ◌<◌, ◌≤◌, ◌^◌, ◌≡◌, ℤ, pos, negsuc, ◌+ℤ◌, ◌<ℤ◌, ◌≤ℤ◌, List, [], ◌∷◌, ◌++◌, length, take, drop, Bool, true, false, ◌&&◌, Option, Some, None, refl, sym, ◌∙◌, ap, arith, eqb-true}
-use Rattle.std.specs.Prelude.{◌≢◌, ◌==◌, ◌||◌, IsTrue, T, int_lt, int_le, unsigned_abs, slice_get, if◌then◌else◌}
+use Rattle.std.proofs.Common.{rules, ℕ, zero, suc, ◌-◌, ◌<◌, ◌≤◌, ◌^◌, ◌≡◌, ℤ, pos, negsuc, ◌+ℤ◌, ◌<ℤ◌, ◌≤ℤ◌, List, length, Bool, true, false, ◌&&◌, Some, None, refl, ap, arith, eqb-true}
+use Rattle.std.specs.Prelude.{◌≢◌, ◌==◌, ◌||◌, int_lt, int_le, unsigned_abs, if◌then◌else◌}
 use Rattle.std.specs.Int.{int_min, int_max}
 use Rattle.std.specs.Str.{bytes_eq}
 use Rattle.std.proofs.lemmas.Int.{ints, clamps}
@@ -10,7 +10,7 @@ use Rattle.std.proofs.lemmas.Option.{slice_get_within}
 use Rattle.std.proofs.lemmas.Slice.Eq.{bytes_eq-Decides}
 use Rattle.mr_map.specs.Bytes.{Bytes}
 use Rattle.mr_value.specs.Number.{is_i64}
-use Rattle.mr_value.specs.Window.{place_of, named_place, from_to, window_of}
+use Rattle.mr_value.specs.Window.{place_of, named_place, window_of}
 use Rattle.mr_value.specs.declared.ends.End.{End}
 use Rattle.mr_value.specs.declared.ends.End.TheVariants.{Left, Right}
 use Rattle.mr_value.proofs.Windows.{in_order}
@@ -21,6 +21,9 @@ both a b p q = rw (p, q) refl
 
 pub three : (a b c : Bool) → a ≡ true → b ≡ true → c ≡ true → a && b && c ≡ true
 three a b c p q r = rw (p, q, r) refl
+
+pub not_both : {b : Bool} → b ≡ true → b ≡ false → ⊥
+not_both h i = cc
 
 pub small : (n : ℕ) → n < 2 ^ 63 → is_i64 (pos n) ≡ true
 small n h = lt-ltb n (2 ^ 63) h

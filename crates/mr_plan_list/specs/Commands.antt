@@ -10,7 +10,7 @@ use Rattle.mr_plan_list.specs.Telling.{length_turn, range_turn, index_turn}
 use Rattle.mr_plan_list.specs.Pushes.{push_turn}
 use Rattle.mr_plan_list.specs.Pops.{pop_turn}
 use Rattle.mr_plan_list.specs.Edits.{set_turn, insert_turn, remove_turn, trim_turn}
-use Rattle.mr_plan_list.specs.Moves.{turn_turn, moving}
+use Rattle.mr_plan_list.specs.Moves.{rotate_turn, moving}
 
 -- what a command does at a key, where it names no other
 abbrev pub turn : ListAsk → Option Entry → Turn
@@ -23,8 +23,8 @@ turn (ask.SetItem k index item) = set_turn k index item
 turn (ask.InsertItem k side pivot item) = insert_turn k side pivot item
 turn (ask.RemoveItems k count item) = remove_turn k count item
 turn (ask.Trim k first last) = trim_turn k first last
-turn (ask.MoveItem from to taken put) = turn_turn from taken put
-turn (ask.MoveLastToFront from to) = turn_turn from Right Left
+turn (ask.MoveItem from to taken put) = rotate_turn from taken put
+turn (ask.MoveLastToFront from to) = rotate_turn from Right Left
 
 abbrev pub command : ListAsk → Command
 command (ask.Push k end to items) = on_key k (turn (ask.Push k end to items))

@@ -1,7 +1,6 @@
 -- The numbers that the effects of a command carry.
 use Rattle.std.specs.Prelude.{ℕ, ℤ, ◌<◌, ◌^◌, length, IsTrue, Option, Some, None}
 use Rattle.std.specs.FinMap.{get}
-use Rattle.mr_map.specs.Bytes.{Bytes}
 use Rattle.mr_value.specs.Number.{is_i64}
 use Rattle.mr_data.specs.Dataset.{Dataset, live}
 use Rattle.mr_data.specs.declared.value.Value.{Value}

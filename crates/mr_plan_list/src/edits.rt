@@ -6,11 +6,11 @@ ghost use Rattle.mr_turn.specs.Turns.{Takes};
 ghost use Rattle.mr_plan_list.specs.Numbers.{IsShort, IsNumberFor};
 ghost use Rattle.mr_plan_list.specs.Edits.{set_turn, insert_turn, remove_turn, trim_turn, is_item};
 
-use crate::replies::{done, integer, no_such_key, out_of_range, wrong_kind};
+use crate::replies::{no_such_key, out_of_range};
 use mr_ask::Argument;
 use mr_data::{Effect, Entry, Value};
 use mr_resp::Reply;
-use mr_turn::Effects;
+use mr_turn::{Effects, done, integer, wrong_kind};
 use mr_value::{ListValue, Side, Word, place, window};
 use std::alloc::{AllocError, Global};
 

@@ -3,7 +3,6 @@
 
 mod edits;
 mod ends;
-mod looking;
 mod moves;
 mod planning;
 mod pops;

@@ -6,15 +6,13 @@ ghost use Rattle.mr_data.specs.Dataset.{IsDataset};
 ghost use Rattle.mr_data.specs.Steps.{lists, held};
 ghost use Rattle.mr_turn.specs.Turns.{Takes};
 ghost use Rattle.mr_turn.specs.Commands.{IsPlan};
-ghost use Rattle.mr_plan_list.specs.Moves.{turn_turn, carry, moving};
+ghost use Rattle.mr_plan_list.specs.Moves.{rotate_turn, carry, moving};
 
 use crate::ends::{end_item, is_same_end};
-use crate::looking::look;
-use crate::replies::{bulk, wrong_kind};
 use mr_ask::Argument;
 use mr_data::{Dataset, Effect, Entry, Given, Plan, Value};
 use mr_resp::Reply;
-use mr_turn::Effects;
+use mr_turn::{Effects, bulk, look, wrong_kind};
 use mr_value::{End, Word};
 use std::alloc::{AllocError, Global};
 
@@ -34,7 +32,7 @@ pub fn move_item(
     let mut effects = Effects::new(alloc);
     let source = look(alloc, held, from, given, &mut effects)?;
     if is_same_key(from, to) {
-        let reply = turn(alloc, from, taken, put, source, &mut effects)?;
+        let reply = rotate(alloc, from, taken, put, source, &mut effects)?;
         return Ok(effects.into_plan(reply));
     }
     let target = look(alloc, held, to, given, &mut effects)?;
@@ -49,7 +47,7 @@ fn is_same_key(key: &Argument<'_>, other: &Argument<'_>) -> bool
 }
 
 /// From one end of a list to another of the same.
-pub fn turn(
+pub fn rotate(
     alloc: Global,
     key: &Argument<'_>,
     taken: End,
@@ -57,7 +55,7 @@ pub fn turn(
     seen: Option<&Entry>,
     effects: &mut Effects,
 ) -> Result<Reply, AllocError>
-    ensures { IfOk result (λ r. Takes (turn_turn key.now taken put (option_copied seen.entry)) (view r) effects.old effects.new) }
+    ensures { IfOk result (λ r. Takes (rotate_turn key.now taken put (option_copied seen.entry)) (view r) effects.old effects.new) }
 {
     let Some(entry) = seen else {
         return Ok(Reply::NullBulk);

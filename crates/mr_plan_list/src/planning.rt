@@ -11,12 +11,11 @@ ghost use Rattle.mr_turn.specs.Commands.{on_key, IsPlan, IsFaithful};
 ghost use Rattle.mr_plan_list.specs.Numbers.{HasNumbers, HasNumbersIn};
 ghost use Rattle.mr_plan_list.specs.Commands.{turn, command};
 
-use crate::looking::look;
 use crate::{edits, moves, pops, pushes, telling};
 use mr_ask::{Argument, ListAsk};
 use mr_data::{Dataset, Entry, Given, Plan};
 use mr_resp::Reply;
-use mr_turn::Effects;
+use mr_turn::{Effects, look};
 use mr_value::End;
 use std::alloc::{AllocError, Global};
 
@@ -131,9 +130,9 @@ fn turn(
             to: _,
             taken,
             put,
-        } => moves::turn(alloc, from, *taken, *put, seen, effects),
+        } => moves::rotate(alloc, from, *taken, *put, seen, effects),
         ListAsk::MoveLastToFront { from, to: _ } => {
-            moves::turn(alloc, from, End::Right, End::Left, seen, effects)
+            moves::rotate(alloc, from, End::Right, End::Left, seen, effects)
         }
     }
 }

@@ -7,11 +7,10 @@ ghost use Rattle.mr_plan_list.specs.Numbers.{IsShort, IsShortFor};
 ghost use Rattle.mr_plan_list.specs.Pops.{pop_turn, taken_items};
 
 use crate::ends::end_item;
-use crate::replies::{bulk, wrong_kind};
 use mr_ask::Argument;
 use mr_data::{Effect, Entry, Value};
 use mr_resp::Reply;
-use mr_turn::Effects;
+use mr_turn::{Effects, bulk, wrong_kind};
 use mr_value::{End, ListValue, Word};
 use std::alloc::{AllocError, Global};
 

@@ -7,11 +7,10 @@ ghost use Rattle.mr_turn.specs.Cuts.{cut};
 ghost use Rattle.mr_turn.specs.Turns.{Takes};
 ghost use Rattle.mr_plan_list.specs.Pushes.{push_turn, push_effects};
 
-use crate::replies::{integer, wrong_kind};
 use mr_ask::{Argument, PushTo, Words};
 use mr_data::{Effect, Entry, Value};
 use mr_resp::Reply;
-use mr_turn::Effects;
+use mr_turn::{Effects, integer, wrong_kind};
 use mr_value::{End, Word};
 use std::alloc::{AllocError, Global};
 use std::borrow::CowSlice;

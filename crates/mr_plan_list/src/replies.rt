@@ -1,29 +1,13 @@
 // Replies, and what they are made of.
 ghost use Rattle.std.specs.Prelude.{◌≡◌, [], IfOk};
-ghost use Rattle.mr_resp.specs.Replies.{int, bytes};
 ghost use Rattle.mr_resp.specs.ReplyView.{view};
-ghost use Rattle.mr_turn.specs.Turns.{done, wrong_kind};
 ghost use Rattle.mr_plan_list.specs.Lists.{items_reply, no_such_key, out_of_range};
 
 use mr_resp::Reply;
+use mr_turn::bulk;
 use mr_value::Items;
 use std::alloc::{AllocError, Global};
 use std::borrow::CowSlice;
-
-pub fn done() -> Reply
-    ensures { view result ≡ done }
-{
-    Reply::Simple(CowSlice::Borrowed(b"OK"))
-}
-
-/// What is answered where a key holds another kind of value.
-pub fn wrong_kind() -> Reply
-    ensures { view result ≡ wrong_kind }
-{
-    Reply::Error(CowSlice::Borrowed(
-        b"WRONGTYPE Operation against a key holding the wrong kind of value",
-    ))
-}
 
 pub fn no_such_key() -> Reply
     ensures { view result ≡ no_such_key }
@@ -35,19 +19,6 @@ pub fn out_of_range() -> Reply
     ensures { view result ≡ out_of_range }
 {
     Reply::Error(CowSlice::Borrowed(b"ERR index out of range"))
-}
-
-pub fn integer(number: i64) -> Reply
-    ensures { view result ≡ int number }
-{
-    Reply::Int(number)
-}
-
-/// An item, copied.
-pub fn bulk(alloc: Global, item: &[u8]) -> Result<Reply, AllocError>
-    ensures { IfOk result (λ r. view r ≡ bytes item.now) }
-{
-    Ok(Reply::Bulk(Vec::from_slice(alloc, item)?))
 }
 
 /// The items, of which there are so many, copied.

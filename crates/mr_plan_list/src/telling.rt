@@ -3,9 +3,10 @@ ghost use Rattle.std.specs.Prelude.{◌≡◌, IfOk, option_copied};
 ghost use Rattle.mr_resp.specs.ReplyView.{view};
 ghost use Rattle.mr_plan_list.specs.Telling.{length_turn, range_turn, index_turn};
 
-use crate::replies::{bulk, integer, listed, none_listed, wrong_kind};
+use crate::replies::{listed, none_listed};
 use mr_data::{Entry, Value};
 use mr_resp::Reply;
+use mr_turn::{bulk, integer, wrong_kind};
 use mr_value::{place, window};
 use std::alloc::{AllocError, Global};
 

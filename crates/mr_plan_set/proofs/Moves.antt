@@ -91,9 +91,9 @@ module _ (from to x : Bytes) (m : Dataset) (s d : Members) (source : held sets (
     carry_changes : contains_key s x ≡ true → carried from to x m s d ≡ m → ⊥
     carry_changes member same =
         let entry : entry_of sets (deadline_of (get m from)) (remove s x) ≡ get m from =
-            sym (get_put m from (entry_of sets (deadline_of (get m from)) (remove s x)))
-            ∙ sym (get_other (put_at m from (entry_of sets (deadline_of (get m from)) (remove s x))) to from (entry_of sets (deadline_of (get m to)) (insert d x tt)) differ)
-            ∙ ap (λ (n : Dataset). get n from) same in
+        sym (get_put m from (entry_of sets (deadline_of (get m from)) (remove s x)))
+        ∙ sym (get_other (put_at m from (entry_of sets (deadline_of (get m from)) (remove s x))) to from (entry_of sets (deadline_of (get m to)) (insert d x tt)) differ)
+        ∙ ap (λ (n : Dataset). get n from) same in
         let left : Some (remove s x) ≡ Some s = sym (held_entry sets sets_are (deadline_of (get m from)) (remove s x) (get m from) entry) ∙ source in
         let still : remove s x ≡ s = cc in
         let gone : contains_key (remove s x) x ≡ false = contains_remove s x x ∙ ap (λ b. not b && contains_key s x) (is_key_itself x) in

@@ -1,22 +1,24 @@
 // SINTER, SUNION, SDIFF: the members that several sets give.
-ghost use Rattle.std.specs.Prelude.{◌≡◌, [], ◌∷◌, filter, IfOk, OnOk, option_copied};
+ghost use Rattle.std.specs.Prelude.{◌≡◌, ◌++◌, filter, IfOk, OnOk, option_copied};
 ghost use Rattle.std.specs.Option.{option_map};
 ghost use Rattle.std.specs.List.{list_all};
 ghost use Rattle.std.specs.FinMap as map;
 ghost use Rattle.mr_resp.specs.ReplyView.{view};
 ghost use Rattle.mr_data.specs.Dataset.{seen};
 ghost use Rattle.mr_ask.specs.declared.set_ask.SetOperation.TheVariants as operation;
-ghost use Rattle.mr_plan_set.specs.Combining.{sets_at, combined, of_all, combined_reply};
+ghost use Rattle.mr_turn.specs.Keys.{dels, past};
+ghost use Rattle.mr_plan_set.specs.Combining.{sets_at, combined, of_all};
+ghost use Rattle.mr_plan_set.specs.Finding.{HasFound};
 ghost use Rattle.mr_plan_set.specs.Members.{joined};
 ghost use Rattle.mr_plan_set.specs.Grouping.{members_of, agrees, is_wanted};
 ghost use Rattle.mr_plan_set.specs.Turns.{bulks};
 
-use crate::looking::find;
-use crate::replies::{bulk, set_at};
+use crate::replies::set_at;
 use mr_ask::{SetOperation, Words};
 use mr_data::{Dataset, Given};
 use mr_map::SliceMap;
 use mr_resp::Reply;
+use mr_turn::{Effects, bulk, push_dels, see};
 use mr_value::SetValue;
 use std::alloc::{AllocError, Global};
 
@@ -26,28 +28,62 @@ pub struct Sets<'d> {
     items: Vec<&'d SetValue>,
 }
 
-/// The sets at these keys, or none where one of them holds another kind.
-pub fn sets_at<'d>(
+/// The sets at these keys, or none where one of them holds another kind. A past key gets its DEL.
+pub fn look_at_all<'d>(
     alloc: Global,
     held: &'d Dataset,
     keys: &Words<'_, '_>,
     given: Given,
     empty: &'d SetValue,
+    effects: &mut Effects,
 ) -> Result<Option<Sets<'d>>, AllocError>
     requires { empty.now ≡ map.empty }
-    ensures { IfOk result (λ r. option_map (λ s. members_of s.items.items) r ≡ sets_at keys.now (seen given.now held.now)) }
+    ensures sets { IfOk result (λ r. option_map (λ s. members_of s.items.items) r ≡ sets_at keys.now (seen given.now held.now)) }
+    ensures past { IfOk result (λ _. effects.new ≡ effects.old ++ dels (past given.now keys.now held.now)) }
+{
+    let found = find_all(alloc, held, keys, given, empty)?;
+    if found.past {
+        push_dels(alloc, held, keys, given, true, effects)?;
+    }
+    if found.other {
+        return Ok(None);
+    }
+    Ok(Some(Sets { items: found.sets }))
+}
+
+// The sets at some keys, whether one holds another kind, and whether one is past.
+#[derive(Drop)]
+struct Found<'d> {
+    sets: Vec<&'d SetValue>,
+    other: bool,
+    past: bool,
+}
+
+fn find_all<'d>(
+    alloc: Global,
+    held: &'d Dataset,
+    keys: &Words<'_, '_>,
+    given: Given,
+    empty: &'d SetValue,
+) -> Result<Found<'d>, AllocError>
+    requires { empty.now ≡ map.empty }
+    ensures { IfOk result (λ f. HasFound given.now held.now keys.now f.sets.items f.other f.past) }
 {
     let words = keys.as_slice();
-    let mut sets = Sets {
-        items: Vec::with_capacity(alloc, words.len())?,
+    let mut found = Found {
+        sets: Vec::with_capacity(alloc, words.len())?,
+        other: false,
+        past: false,
     };
     for word in words {
-        let Some(set) = set_at(find(held, word.as_slice(), given), empty) else {
-            return Ok(None);
-        };
-        sets.items.push(set)?;
+        let (seen, past) = see(held, word.as_slice(), given);
+        found.past |= past;
+        match set_at(seen, empty) {
+            Some(set) => found.sets.push(set)?,
+            None => found.other = true,
+        }
     }
-    Ok(Some(sets))
+    Ok(found)
 }
 
 /// What is made of these sets.
@@ -104,11 +140,7 @@ fn agrees(set: &SetValue, member: &[u8], wanted: bool) -> bool
 }
 
 // The members of any.
-fn union(
-    alloc: Global,
-    first: &SetValue,
-    others: &[&SetValue],
-) -> Result<Reply, AllocError>
+fn union(alloc: Global, first: &SetValue, others: &[&SetValue]) -> Result<Reply, AllocError>
     ensures { IfOk result (λ r. view r ≡ bulks (map.keys (of_all operation.Union first.now (members_of others.now)))) }
 {
     let mut members = Joined {

@@ -5,7 +5,6 @@ mod changing;
 mod combining;
 mod drawing;
 mod grouping;
-mod looking;
 mod moving;
 mod planning;
 mod replies;

@@ -9,16 +9,12 @@ ghost use Rattle.mr_ask.specs.declared.set_ask.SetAsk.TheVariants as asks;
 ghost use Rattle.mr_turn.specs.Commands.{IsPlan, IsFaithful};
 ghost use Rattle.mr_plan_set.specs.SetCommands.{command, RestsOn};
 
-use crate::changing;
-use crate::combining::{combined, sets_at};
-use crate::drawing;
-use crate::looking::look;
+use crate::combining::{combined, look_at_all};
 use crate::moving::{moved, same};
-use crate::replies::wrong_kind;
-use crate::telling;
+use crate::{changing, drawing, telling};
 use mr_ask::{Argument, SetAsk, SetOperation, Words};
 use mr_data::{Dataset, Given, Plan};
-use mr_turn::{Effects, push_dels};
+use mr_turn::{Effects, look, wrong_kind};
 use mr_value::SetValue;
 use std::alloc::{AllocError, Global};
 
@@ -220,9 +216,8 @@ fn combine(
     ensures plan { IfOk result (λ p. IsPlan (command (asks.Combine operation keys.now) given.word) given.now held.now (view p.reply) p.effects.items) }
 {
     let mut effects = Effects::new(alloc);
-    push_dels(alloc, held, keys, given, true, &mut effects)?;
     let empty = SetValue::new(alloc);
-    let reply = match sets_at(alloc, held, keys, given, &empty)? {
+    let reply = match look_at_all(alloc, held, keys, given, &empty, &mut effects)? {
         Some(sets) => combined(alloc, operation, &sets)?,
         None => wrong_kind(),
     };

@@ -1,7 +1,7 @@
-use crate::{Effects, find, look, push_dels};
+use crate::{Effects, bulk, count, done, integer, look, push_dels, see, wrong_kind};
 use mr_ask::{Argument, Words as Named};
 use mr_data::{Dataset, Effect, Given, Value, encode_all};
-use mr_resp::Reply;
+use mr_resp::{Reply, write_reply};
 use mr_value::Word;
 use std::alloc::Global;
 use std::borrow::CowSlice;
@@ -31,8 +31,8 @@ fn what_is_there_is_seen(rt: HostRuntime) -> Result<(), Fail> {
         None => false,
     };
     assert!(rt; text);
-    assert!(rt; find(&held, b"k", 5).is_some());
-    assert!(rt; find(&held, b"x", 5).is_none());
+    assert!(rt; see(&held, b"k", given).0.is_some());
+    assert!(rt; see(&held, b"x", given).0.is_none());
     let absent = look(rt.alloc(), &held, &Argument::new(b"x"), given, &mut effects)?;
     assert!(rt; absent.is_none());
     let plan = effects.into_plan(Reply::Int(7));
@@ -62,6 +62,20 @@ fn each_key_is_deleted_once_in_order_of_naming(rt: HostRuntime) -> Result<(), Fa
         &mut out,
     )?;
     let want = b"*2\r\n$3\r\nDEL\r\n$1\r\nb\r\n*2\r\n$3\r\nDEL\r\n$1\r\na\r\n";
+    assert_eq!(rt; out.as_slice(), want.as_slice());
+    Ok(())
+}
+
+#[test]
+fn replies_are_shared(rt: HostRuntime) -> Result<(), Fail> {
+    let mut out = Vec::new(rt.alloc());
+    write_reply(&done(), &mut out)?;
+    write_reply(&wrong_kind(), &mut out)?;
+    write_reply(&integer(-7), &mut out)?;
+    write_reply(&count(7), &mut out)?;
+    write_reply(&bulk(rt.alloc(), b"v")?, &mut out)?;
+    let want =
+        b"+OK\r\n-WRONGTYPE Operation against a key holding the wrong kind of value\r\n:-7\r\n:7\r\n$1\r\nv\r\n";
     assert_eq!(rt; out.as_slice(), want.as_slice());
     Ok(())
 }

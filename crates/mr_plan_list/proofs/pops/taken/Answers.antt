@@ -1,5 +1,4 @@
-use Rattle.std.proofs.Common.{rules, arith, ◌≡◌, ◌+◌, ◌++◌, ◌∷◌, [], sym, ap, ◌∙◌}
-use Rattle.std.specs.Prelude.{slice_get}
+use Rattle.std.proofs.Common.{rules, arith}
 use Rattle.mr_plan_list.specs.Pops.{taken_items}
 use Rattle.mr_plan_list.proofs.PopLemmas.{left_more, right_more, reply_more}
 use Rattle.mr_plan_list.proofs.pops.taken.Goals as goal

@@ -1,5 +1,4 @@
 use Rattle.std.proofs.Common.{◌-◌, length}
-use Rattle.std.specs.Prelude.{map}
 use Rattle.std.specs.Cow.{cow_slice_items}
 use Rattle.mr_plan_list.proofs.PushLemmas.{HasPushed}
 use Rattle.mr_plan_list.proofs.pushes.push_groups.Given as goal
