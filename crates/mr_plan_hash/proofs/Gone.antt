@@ -1,5 +1,5 @@
 -- What is left where fields go.
-use Rattle.std.proofs.Common.{◌≡◌, List, [], ◌∷◌, ◌++◌, Bool, true, false, ◌&&◌, not, cond, Option, Some, None, IsTrue, refl, sym, ◌∙◌, ap, subst}
+use Rattle.std.proofs.Common.{◌≡◌, List, [], ◌∷◌, Bool, true, false, ◌&&◌, cond, Option, Some, None, IsTrue, refl, sym, ◌∙◌, ap}
 use Rattle.std.specs.Prelude.{◌||◌, filter, is_some}
 use Rattle.std.specs.List.{list_all}
 use Rattle.std.specs.FinMap.{empty, get, insert, remove, keys, contains_key, contains_key-keys, get-empty, get-insert, get-remove, same_map}

@@ -1,25 +1,25 @@
 -- The law of faithful effects for the commands on hashes.
-use Rattle.std.proofs.Common.{ℕ, suc, ℤ, ◌≡◌, ◌<◌, ◌≤◌, ◌^◌, List, [], ◌∷◌, ◌++◌, map, length, Bool, true, false, ◌&&◌, not, cond, Option, Some, None, IsTrue, refl, sym, ◌∙◌, ap, subst, arith}
-use Rattle.std.specs.Prelude.{◌≢◌, ◌==◌, pos, negsuc, ◌+ℤ◌, filter, if◌then◌else◌, decimal}
-use Rattle.std.specs.List.{AllByRecursion, list_all, flat_map}
+use Rattle.std.proofs.Common.{suc, ℤ, ◌≡◌, ◌<◌, ◌^◌, List, [], ◌∷◌, ◌++◌, map, length, Bool, true, false, ◌&&◌, cond, Option, Some, None, IsTrue, refl, sym, ◌∙◌, ap, subst, arith}
+use Rattle.std.specs.Prelude.{◌≢◌, ◌==◌, pos, negsuc, ◌+ℤ◌, filter, if◌then◌else◌}
+use Rattle.std.specs.List.{AllByRecursion, list_all}
 use Rattle.std.specs.FinMap.{empty, get, len, entries, contains_key}
 use Rattle.std.specs.Fmt.{signed_decimal}
 use Rattle.std.proofs.lemmas.Bool.{ltb-true, le-leb}
 use Rattle.mr_map.specs.Bytes.{Bytes}
 use Rattle.mr_value.specs.Words.{fits}
-use Rattle.mr_value.specs.Number.{is_i64, number_of}
+use Rattle.mr_value.specs.Number.{is_i64}
 use Rattle.mr_value.proofs.Numbers.{bounds}
 use Rattle.mr_resp.specs.Replies as reply
 use Rattle.mr_resp.specs.Replies.{Tree}
-use Rattle.mr_effect.specs.Effects.{pair_fits, is_some_of, has_spelling, words_fit}
+use Rattle.mr_effect.specs.Effects.{pair_fits, is_some_of}
 use Rattle.mr_effect.specs.declared.effect.Effect.{Effect}
 use Rattle.mr_effect.specs.declared.effect.Effect.TheVariants as effect
 use Rattle.mr_data.specs.Dataset.{Dataset, IsDataset, live, is_past}
 use Rattle.mr_data.specs.Collections.{with_fields, without_fields}
-use Rattle.mr_data.specs.Steps.{Step, hashes, held, entry_of, deadline_of, on}
+use Rattle.mr_data.specs.Steps.{hashes, held, entry_of, deadline_of, on}
 use Rattle.mr_data.specs.Meaning.{change as made}
 use Rattle.mr_data.specs.declared.value.Entry.{Entry}
-use Rattle.mr_data.proofs.Fitting.{FieldsFit, no_fields, with_fields_fit}
+use Rattle.mr_data.proofs.Fitting.{no_fields, with_fields_fit}
 use Rattle.mr_data.proofs.Nonempty.{with_fields_some, without_fields_none, no_elements}
 use Rattle.mr_ask.specs.Pairing.{unpaired}
 use Rattle.mr_ask.specs.Carried.{hash_words}
@@ -27,7 +27,6 @@ use Rattle.mr_ask.specs.declared.hash_ask.HashAsk.{HashAsk}
 use Rattle.mr_ask.specs.declared.hash_ask.HashAsk.TheVariants as ask
 use Rattle.mr_turn.specs.Cuts.{cut}
 use Rattle.mr_turn.specs.Keys.{purged}
-use Rattle.mr_turn.specs.Collections.{Change}
 use Rattle.mr_turn.specs.Commands.{IsFaithful}
 use Rattle.mr_turn.proofs.Cutting.{cut_whole, no_cut, IsGroup, cut_groups}
 use Rattle.mr_turn.proofs.Running.{IsStep, steps_of, IsKept, IsFold, groups_run}
@@ -35,7 +34,7 @@ use Rattle.mr_turn.proofs.KindLaws.{hashes_are, hashes_kept}
 use Rattle.mr_turn.proofs.Laws.{faithful, at_key_faithful}
 use Rattle.mr_turn.proofs.Changing.{IsFaithfulChange, changing_faithful}
 use Rattle.mr_turn.proofs.PlanLemmas.{purged_at}
-use Rattle.mr_plan_hash.specs.Hashes.{Hash, unchanged, last_values, changed, set_pairs, set_fields, count_reply, set_new_field, number_at, overflow, no_integer, set_number, increase_from, increase_field, removed, remove_fields, fields_reply, count_new}
+use Rattle.mr_plan_hash.specs.Hashes.{Hash, unchanged, last_values, changed, set_pairs, count_reply, set_new_field, number_at, overflow, no_integer, set_number, increase_from, increase_field, removed, remove_fields, fields_reply, count_new}
 use Rattle.mr_plan_hash.specs.Commands.{key_of, change, turn, command}
 use Rattle.mr_plan_hash.proofs.Fields.{all_map, own_entries, with_changed, none_changed}
 use Rattle.mr_plan_hash.proofs.Gone.{without_removed, none_removed, removed_fit}

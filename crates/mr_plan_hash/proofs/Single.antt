@@ -1,6 +1,6 @@
 -- One field that gets a value.
-use Rattle.std.proofs.Common.{ℕ, suc, ℤ, ◌≡◌, ◌≤◌, List, [], ◌∷◌, ◌++◌, map, length, Bool, true, false, not, cond, Option, Some, None, FitsSigned, w64, append-nil, refl, sym, ◌∙◌, ap, subst, arith}
-use Rattle.std.specs.Prelude.{pos, ◌+ℤ◌, filter, if◌then◌else◌, is_some, is_none, option_copied}
+use Rattle.std.proofs.Common.{ℕ, suc, ℤ, ◌≡◌, List, [], ◌∷◌, ◌++◌, map, length, Bool, true, false, not, cond, Option, Some, None, FitsSigned, w64, refl, sym, ◌∙◌, ap, subst, arith}
+use Rattle.std.specs.Prelude.{◌+ℤ◌, filter, if◌then◌else◌, is_some, is_none, option_copied}
 use Rattle.std.specs.Int.{from_bool}
 use Rattle.std.specs.Borrow.{Bor}
 use Rattle.std.specs.Fmt.{signed_decimal}
@@ -14,8 +14,7 @@ use Rattle.mr_resp.specs.Replies.{Tree}
 use Rattle.mr_effect.specs.declared.effect.Effect.{Effect}
 use Rattle.mr_effect.specs.declared.effect.Effect.TheVariants as effect
 use Rattle.mr_turn.specs.Cuts.{cut}
-use Rattle.mr_turn.specs.Collections.{Change}
-use Rattle.mr_plan_hash.specs.Hashes.{Hash, is_value, changed, set_pairs, unchanged, count_reply, set_new_field, number_at, set_number, increase_from, increase_field, overflow, no_integer, fields_reply, count_new, set_fields, removed, remove_fields}
+use Rattle.mr_plan_hash.specs.Hashes.{Hash, is_value, changed, set_pairs, unchanged, count_reply, set_new_field, number_at, increase_from, increase_field, overflow, fields_reply, count_new, set_fields, removed, remove_fields}
 use Rattle.mr_ask.specs.declared.hash_ask.FieldsReply.{FieldsReply}
 use Rattle.mr_plan_hash.specs.Commands.{Makes}
 

@@ -1,5 +1,5 @@
 -- What each command on hashes answers, makes of the hash at its key, and has as its effects.
-use Rattle.std.specs.Prelude.{◌≡◌, ℕ, ℤ, pos, ◌+ℤ◌, List, [], ◌∷◌, ◌++◌, map, length, filter, codes, Bool, true, false, not, if◌then◌else◌, Option, Some, None}
+use Rattle.std.specs.Prelude.{ℕ, ℤ, pos, ◌+ℤ◌, List, [], ◌∷◌, map, length, filter, codes, Bool, false, not, if◌then◌else◌, Option, Some, None}
 use Rattle.std.specs.List.{flat_map}
 use Rattle.std.specs.FinMap.{empty, get, contains_key, len, keys, values, entries}
 use Rattle.std.specs.Fmt.{signed_decimal}
@@ -10,7 +10,6 @@ use Rattle.mr_resp.specs.Replies as reply
 use Rattle.mr_resp.specs.Replies.{Tree}
 use Rattle.mr_resp.specs.ReplyView.{trees_of}
 use Rattle.mr_effect.specs.Spelling.{pair_words}
-use Rattle.mr_effect.specs.declared.effect.Effect.{Effect}
 use Rattle.mr_effect.specs.declared.effect.Effect.TheVariants as effect
 use Rattle.mr_data.specs.Collections.{with_fields, without_fields, with_members}
 use Rattle.mr_ask.specs.declared.hash_ask.FieldsReply.{FieldsReply}

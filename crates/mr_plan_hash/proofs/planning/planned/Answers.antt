@@ -1,4 +1,4 @@
-use Rattle.std.proofs.Common.{rules, ◌≡◌, ◌∷◌, [], ◌++◌, ◌∙◌, ap, sym, Some, None, option_copied}
+use Rattle.std.proofs.Common.{rules, ◌≡◌, ◌∷◌, [], ◌++◌, ◌∙◌, ap, Some, None, option_copied}
 use Rattle.std.specs.FinMap.{get}
 use Rattle.mr_resp.specs.ReplyView.{view}
 use Rattle.mr_data.specs.Dataset.{live}

@@ -1,6 +1,5 @@
-use Rattle.std.proofs.Common.{rules, ℕ, ◌≡◌, ◌<◌, ◌≤◌, ◌^◌, [], ◌∷◌, ◌∙◌, ap, sym, subst, length, arith, List}
-use Rattle.std.specs.Prelude.{pos, not, filter, FitsSigned, if◌then◌else◌, Option, is_some}
-use Rattle.std.specs.Int.{w64}
+use Rattle.std.proofs.Common.{rules, ◌≡◌, [], ◌∷◌, ◌∙◌, ap, subst, length, arith, List}
+use Rattle.std.specs.Prelude.{not, filter, if◌then◌else◌, Option, is_some}
 use Rattle.std.specs.FinMap.{entries, contains_key, len-entries}
 use Rattle.std.proofs.lemmas.List.Sums.{length-filter, count_by-le-length}
 use Rattle.mr_map.specs.Bytes.{Bytes}

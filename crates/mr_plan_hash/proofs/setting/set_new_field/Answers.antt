@@ -1,4 +1,4 @@
-use Rattle.std.proofs.Common.{rules, ◌∙◌, sym}
+use Rattle.std.proofs.Common.{rules}
 use Rattle.mr_plan_hash.proofs.Single.{new_set}
 use Rattle.mr_plan_hash.proofs.setting.set_new_field.Goals as goal
 

@@ -1,6 +1,4 @@
-use Rattle.std.proofs.Common.{rules, ◌≡◌, [], ◌∷◌, ◌++◌, ◌∙◌, ap, List, ℕ, length}
-use Rattle.std.proofs.lemmas.Grind.{common_steps}
-use Rattle.mr_effect.specs.declared.effect.Effect.TheVariants as made
+use Rattle.std.proofs.Common.{rules, ◌≡◌, [], ◌∷◌, ◌++◌, List, ℕ, length}
 use Rattle.mr_turn.specs.Cuts.{most_items}
 use Rattle.mr_plan_hash.proofs.GroupLemmas.{takes_more, takes_first}
 use Rattle.mr_plan_hash.proofs.groups.pairs.PairGroup.push_pair.Goals as goal
