@@ -1,0 +1,2 @@
+pub mod GlobLemmas
+pub mod GlobLaws
