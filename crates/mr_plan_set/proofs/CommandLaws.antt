@@ -1,5 +1,5 @@
 -- The law of faithful effects for each command on sets.
-use Rattle.std.proofs.Common.{◌≡◌, ℕ, List, [], ◌∷◌, Bool, true, false, ◌&&◌, refl}
+use Rattle.std.proofs.Common.{◌≡◌, ℕ, Bool, true, ◌&&◌, refl}
 use Rattle.std.specs.Prelude.{IsTrue, ℤ}
 use Rattle.std.specs.List.{list_all}
 use Rattle.std.specs.FinMap.{contains_key, keys, len}

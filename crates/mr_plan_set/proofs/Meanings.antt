@@ -1,5 +1,5 @@
 -- What is drawn from a set, and which members several sets give.
-use Rattle.std.proofs.Common.{◌≡◌, ℕ, ◌+◌, ◌-◌, ◌%◌, min, List, [], ◌∷◌, ◌++◌, length, take, drop, Bool, true, false, ◌&&◌, refl, sym, ◌∙◌, ap, arith}
+use Rattle.std.proofs.Common.{◌≡◌, ℕ, ◌%◌, min, List, [], ◌∷◌, length, take, drop, Bool, true, false, ◌&&◌, refl, sym, ◌∙◌, ap, arith}
 use Rattle.std.specs.Prelude.{◌||◌, not}
 use Rattle.std.specs.List.{list_all, list_any}
 use Rattle.std.specs.FinMap.{contains_key, keys, len}
@@ -7,7 +7,7 @@ use Rattle.std.proofs.lemmas.List.{length-append, length-take, length-drop}
 use Rattle.mr_map.specs.Bytes.{Bytes}
 use Rattle.mr_ask.specs.declared.set_ask.SetOperation.TheVariants as operation
 use Rattle.mr_plan_set.specs.Members.{Members, common, minus, joined, from_place, drawn}
-use Rattle.mr_plan_set.specs.Combining.{of_all, combined}
+use Rattle.mr_plan_set.specs.Combining.{of_all}
 use Rattle.mr_plan_set.proofs.Sets.{contains_retain, contains_with, has_keys, len_keys}
 
 -- ---- drawing
