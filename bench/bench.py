@@ -51,23 +51,115 @@ def many_keys(file):
 
 def large_value(file):
     """A value of 16 MiB, set and got."""
-    value = b"x" * (16 * MIB)
-    file.write(set_of(key(0), value) + get_of(key(0)))
-    return 2, len(b"+OK\r\n$%d\r\n" % len(value)) + len(value) + 2
+    # in pieces: the memory of this program would count for the one that it starts
+    size = 16 * MIB
+    file.write(b"*3\r\n$3\r\nSET\r\n" + bulk(key(0)) + b"$%d\r\n" % size)
+    for _ in range(16):
+        file.write(b"x" * MIB)
+    file.write(b"\r\n" + get_of(key(0)))
+    return 2, len(b"+OK\r\n$%d\r\n" % size) + size + 2
 
 
+def request(*words):
+    return b"*%d\r\n" % len(words) + b"".join(b"$%d\r\n%s\r\n" % (len(word), word) for word in words)
+
+
+def bulk(text):
+    return b"$%d\r\n%s\r\n" % (len(text), text)
+
+
+def repeated(file, text, count):
+    """The text so many times, a multiple of a thousand."""
+    for _ in range(count // 1000):
+        file.write(1000 * text)
+
+
+def pushed(name, count):
+    """Pushes of one item each onto a list; the lengths are the replies."""
+
+    def write(file):
+        repeated(file, request(name, b"l", VALUE), count)
+        return count, sum(len(b":%d\r\n" % n) for n in range(1, count + 1))
+
+    return write
+
+
+def popped(name, count):
+    def write(file):
+        repeated(file, request(name, b"l"), count)
+        return count, count * len(bulk(VALUE))
+
+    return write
+
+
+def many(name, count, reply, *last):
+    """One request for each of so many keys, fields or members."""
+
+    def write(file):
+        for at in range(count):
+            file.write(request(name, b"k", key(at * 387_420_489 % count), *last))
+        return count, count * len(reply)
+
+    return write
+
+
+def added(count, group=100):
+    """Members of a set, a hundred in a request."""
+
+    def write(file):
+        for at in range(0, count, group):
+            file.write(request(b"SADD", b"k", *(key(at + n) for n in range(group))))
+        return count // group, count // group * len(b":%d\r\n" % group)
+
+    return write
+
+
+def items(count, group=100):
+    """Items of a list, a hundred in a request."""
+
+    def write(file):
+        repeated(file, request(b"RPUSH", b"l", *(VALUE for _ in range(group))), count // group)
+        return count // group, sum(len(b":%d\r\n" % n) for n in range(group, count + 1, group))
+
+    return write
+
+
+def asked(count, reply, *words):
+    def write(file):
+        repeated(file, request(*words), count)
+        return count, count * len(reply)
+
+    return write
+
+
+HUNDRED = b"*100\r\n" + 100 * bulk(VALUE)
+ONE_KEY = bulk(key(0))
+
+# what is measured, what is done before it, the time of which is taken off, and options of the program
 RUNS = [
-    ("SET, GET of one key", one_key),
-    ("SET, GET of a million keys", many_keys),
-    ("SET, GET of 16 MiB", large_value),
+    ("SET, GET of one key", None, one_key),
+    ("SET, GET of a million keys", None, many_keys),
+    ("SET, GET of 16 MiB", None, large_value),
+    ("LPUSH", None, pushed(b"LPUSH", 200_000)),
+    ("RPUSH", None, pushed(b"RPUSH", 200_000)),
+    ("LPOP", items(200_000), popped(b"LPOP", 200_000)),
+    ("RPOP", items(200_000), popped(b"RPOP", 200_000)),
+    ("HSET of 100,000 fields", None, many(b"HSET", 100_000, b":1\r\n", VALUE)),
+    ("HGET of 100,000 fields", many(b"HSET", 100_000, b":1\r\n", VALUE), many(b"HGET", 100_000, bulk(VALUE))),
+    ("SADD of 100,000 members", None, many(b"SADD", 100_000, b":1\r\n")),
+    ("SISMEMBER of 100,000", added(100_000), many(b"SISMEMBER", 100_000, b":1\r\n")),
+    ("SPOP of 100,000, the first", added(100_000), asked(100_000, ONE_KEY, b"SPOP", b"k")),
+    ("SPOP of a million, halfway", added(1_000_000), asked(1_000, ONE_KEY, b"SPOP", b"k"), "--word", "500000"),
+    ("LRANGE of the first 100", items(1_000_000), asked(10_000, HUNDRED, b"LRANGE", b"l", b"0", b"99")),
+    ("LRANGE of the last 100", items(1_000_000), asked(10_000, HUNDRED, b"LRANGE", b"l", b"-100", b"-1")),
 ]
 
 
-def minired(path, wanted, room):
+def minired(path, wanted, room, words=()):
     """Nanoseconds of processor time and bytes of peak memory of the program on a file of requests."""
     out = os.path.join(room, "replies")
     with open(path, "rb") as asked, open(out, "wb") as replies:
-        child = subprocess.Popen([LAUNCHER, "pipe"], stdin=asked, stdout=replies)
+        child = subprocess.Popen([LAUNCHER, "pipe", *words], stdin=asked, stdout=replies)
         _, status, used = os.wait4(child.pid, 0)
         child.returncode = os.waitstatus_to_exitcode(status)
     size = os.path.getsize(out)
@@ -126,6 +218,26 @@ def line(*cells):
     print("{:<28}{:>12}{:>16}{:>14}{:>16}{:>14}".format(*cells), flush=True)
 
 
+def measured(room, start, has_redis, before, write, words):
+    """How many requests, and nanoseconds a request and peak MiB of both programs."""
+    path, first = os.path.join(room, "requests"), os.path.join(room, "before")
+    with open(first, "wb") as file:
+        _, ready = before(file) if before else (0, 0)
+    with open(path, "wb") as file:
+        if before:
+            before(file)
+        count, wanted = write(file)
+    if before:
+        start, _ = minired(first, ready, room, words)
+    nanoseconds, peak = minired(path, ready + wanted, room, words)
+    cells = [f"{count:,}", f"{(nanoseconds - start) / count:,.0f}", f"{peak / MIB:,.1f}"]
+    if not has_redis:
+        return cells + ["-", "-"]
+    idle = redis(first, room)[0] if before else 0
+    nanoseconds, peak = redis(path, room)
+    return cells + [f"{(nanoseconds - idle) / count:,.0f}", f"{peak / MIB:,.1f}"]
+
+
 def main():
     has_redis = shutil.which("redis-server") and shutil.which("redis-cli")
     with tempfile.TemporaryDirectory() as room:
@@ -135,18 +247,9 @@ def main():
         start, _ = minired(empty, 0, room)
         line("", "requests", "minired", "", "redis", "")
         line("", "", "ns a request", "peak MiB", "ns a request", "peak MiB")
-        for name, write in RUNS:
-            path = os.path.join(room, "requests")
-            with open(path, "wb") as file:
-                count, wanted = write(file)
-            nanoseconds, peak = minired(path, wanted, room)
-            cells = [f"{(nanoseconds - start) / count:,.0f}", f"{peak / MIB:,.1f}"]
-            if has_redis:
-                nanoseconds, peak = redis(path, room)
-                cells += [f"{nanoseconds / count:,.0f}", f"{peak / MIB:,.1f}"]
-            else:
-                cells += ["-", "-"]
-            line(name, f"{count:,}", *cells)
+        for name, before, write, *words in RUNS:
+            cells = measured(room, start, has_redis, before, write, words)
+            line(name, *cells)
     if not has_redis:
         print("redis-server and redis-cli are not installed (Debian's redis-server and redis-tools)")
 

@@ -1,17 +1,15 @@
 -- Commands to the server itself.
-use Rattle.std.specs.Prelude.{ℕ, ℤ, pos, List, [], ◌∷◌, if◌then◌else◌, Some, None, Result, Ok, Err}
-use Rattle.mr_ask.specs.declared.name.Name.TheVariants as name
-use Rattle.mr_ask.specs.declared.fault.AskFault.{AskFault}
-use Rattle.mr_ask.specs.declared.fault.AskFault.TheVariants.{Arity, Syntax}
-use Rattle.mr_ask.specs.declared.server_ask.ServerAsk.{ServerAsk}
-use Rattle.mr_ask.specs.declared.server_ask.ServerAsk.TheVariants as ask
-use Rattle.std.specs.Prelude.{codes}
+use Rattle.std.specs.Prelude.{ℕ, ℤ, pos, List, [], ◌∷◌, if◌then◌else◌, Some, None, Result, Ok, Err, codes}
 use Rattle.std.specs.Str.{bytes_eq}
 use Rattle.std.specs.Ordering.{int_eq}
 use Rattle.mr_ask.specs.Names.{lowered}
 use Rattle.mr_ask.specs.Parts.{with, integer}
-use Rattle.mr_ask.specs.declared.fault.AskFault.TheVariants.{Other}
+use Rattle.mr_ask.specs.declared.name.Name.TheVariants as name
+use Rattle.mr_ask.specs.declared.fault.AskFault.{AskFault}
+use Rattle.mr_ask.specs.declared.fault.AskFault.TheVariants.{Arity, Syntax, Other}
 use Rattle.mr_ask.specs.declared.fault.BadValue.TheVariants.{Database}
+use Rattle.mr_ask.specs.declared.server_ask.ServerAsk.{ServerAsk}
+use Rattle.mr_ask.specs.declared.server_ask.ServerAsk.TheVariants as ask
 
 -- PING [message]
 abbrev pub ping : List (List ℕ) → Result ServerAsk AskFault

@@ -1,4 +1,6 @@
-use crate::{Ask, AskFault, FieldsReply, Group, HashAsk, ListAsk, Name, Pairs, Words, read};
+use crate::{
+    Argument, Ask, AskFault, FieldsReply, Group, HashAsk, ListAsk, Name, Pairs, Words, read,
+};
 use mr_resp::write_reply;
 use mr_value::{End, Side};
 use std::alloc::Global;
@@ -15,23 +17,25 @@ fn words<'a>(alloc: Global, line: &'a str) -> Result<Vec<CowSlice<'a, u8>>, Fail
     Ok(words)
 }
 
-// What the command is about, or what is answered.
+// The command's kind, or what is answered.
 fn told(rt: &impl Abort, alloc: Global, line: &str) -> Result<Vec<u8>, Fail> {
     let words = words(alloc, line)?;
     assert!(rt; words.len() > 0);
     let mut out = Vec::new(alloc);
     match read(words.as_slice()) {
-        Ok(ask) => out.extend_from_slice(group_text(ask.group()))?,
+        Ok(ask) => out.extend_from_slice(kind_text(&ask))?,
         Err(fault) => write_reply(&fault.reply(), &mut out)?,
     }
     Ok(out)
 }
 
-fn group_text(group: Group) -> &'static [u8] {
-    match group {
-        Group::Keys => b"keys",
-        Group::Collections => b"collection",
-        Group::Server => b"server",
+fn kind_text(ask: &Ask<'_, '_>) -> &'static [u8] {
+    match ask {
+        Ask::Keys(_) => b"keys",
+        Ask::Hashes(_) => b"hash",
+        Ask::Lists(_) => b"list",
+        Ask::Sets(_) => b"set",
+        Ask::Server(_) => b"server",
     }
 }
 
@@ -106,7 +110,7 @@ fn hashes(rt: HostRuntime) -> Result<(), Fail> {
         &rt,
         rt.alloc(),
         &[
-            ("HSET h f v", "collection"),
+            ("HSET h f v", "hash"),
             (
                 "HSET h f v g",
                 "-ERR wrong number of arguments for 'hset' command\r\n",
@@ -115,25 +119,25 @@ fn hashes(rt: HostRuntime) -> Result<(), Fail> {
                 "HSET h",
                 "-ERR wrong number of arguments for 'hset' command\r\n",
             ),
-            ("HMSET h f v g w", "collection"),
+            ("HMSET h f v g w", "hash"),
             (
                 "HMSET h f",
                 "-ERR wrong number of arguments for 'hmset' command\r\n",
             ),
-            ("HSETNX h f v", "collection"),
-            ("HGET h f", "collection"),
+            ("HSETNX h f v", "hash"),
+            ("HGET h f", "hash"),
             (
                 "HMGET h",
                 "-ERR wrong number of arguments for 'hmget' command\r\n",
             ),
-            ("HGETALL h", "collection"),
-            ("HKEYS h", "collection"),
-            ("HVALS h", "collection"),
-            ("HDEL h f g", "collection"),
-            ("HEXISTS h f", "collection"),
-            ("HLEN h", "collection"),
-            ("HSTRLEN h f", "collection"),
-            ("HINCRBY h f -7", "collection"),
+            ("HGETALL h", "hash"),
+            ("HKEYS h", "hash"),
+            ("HVALS h", "hash"),
+            ("HDEL h f g", "hash"),
+            ("HEXISTS h f", "hash"),
+            ("HLEN h", "hash"),
+            ("HSTRLEN h f", "hash"),
+            ("HINCRBY h f -7", "hash"),
             ("HINCRBY h f +7", INTEGER),
             (
                 "HINCRBY h f 1.5 x",
@@ -149,34 +153,34 @@ fn lists(rt: HostRuntime) -> Result<(), Fail> {
         &rt,
         rt.alloc(),
         &[
-            ("LPUSH l a b", "collection"),
+            ("LPUSH l a b", "list"),
             (
                 "RPUSH l",
                 "-ERR wrong number of arguments for 'rpush' command\r\n",
             ),
-            ("LPUSHX l a", "collection"),
-            ("LPOP l", "collection"),
-            ("RPOP l 0", "collection"),
+            ("LPUSHX l a", "list"),
+            ("LPOP l", "list"),
+            ("RPOP l 0", "list"),
             ("LPOP l -1", NEGATIVE),
             ("LPOP l x", INTEGER),
             (
                 "LPOP l 1 2",
                 "-ERR wrong number of arguments for 'lpop' command\r\n",
             ),
-            ("LLEN l", "collection"),
+            ("LLEN l", "list"),
             ("LRANGE l 0 x", INTEGER),
-            ("LINDEX l -1", "collection"),
+            ("LINDEX l -1", "list"),
             ("LSET l 01 v", INTEGER),
-            ("LINSERT l before p v", "collection"),
+            ("LINSERT l before p v", "list"),
             ("LINSERT l BESIDE p v", SYNTAX),
-            ("LREM l -2 v", "collection"),
+            ("LREM l -2 v", "list"),
             ("LTRIM l 0 9223372036854775808", INTEGER),
             ("LMOVE a b LEFT UP", SYNTAX),
             (
                 "LMOVE a b LEFT",
                 "-ERR wrong number of arguments for 'lmove' command\r\n",
             ),
-            ("RPOPLPUSH a b", "collection"),
+            ("RPOPLPUSH a b", "list"),
         ],
     )
 }
@@ -187,26 +191,26 @@ fn sets(rt: HostRuntime) -> Result<(), Fail> {
         &rt,
         rt.alloc(),
         &[
-            ("SADD s a b", "collection"),
+            ("SADD s a b", "set"),
             (
                 "SREM s",
                 "-ERR wrong number of arguments for 'srem' command\r\n",
             ),
-            ("SISMEMBER s a", "collection"),
-            ("SMISMEMBER s a b", "collection"),
-            ("SMEMBERS s", "collection"),
-            ("SCARD s", "collection"),
-            ("SPOP s 2", "collection"),
+            ("SISMEMBER s a", "set"),
+            ("SMISMEMBER s a b", "set"),
+            ("SMEMBERS s", "set"),
+            ("SCARD s", "set"),
+            ("SPOP s 2", "set"),
             ("SPOP s -1", NEGATIVE),
-            ("SRANDMEMBER s", "collection"),
+            ("SRANDMEMBER s", "set"),
             ("SRANDMEMBER s -1", NEGATIVE),
-            ("SMOVE a b m", "collection"),
+            ("SMOVE a b m", "set"),
             (
                 "SINTER",
                 "-ERR wrong number of arguments for 'sinter' command\r\n",
             ),
-            ("SUNION a b", "collection"),
-            ("SDIFF a", "collection"),
+            ("SUNION a b", "set"),
+            ("SDIFF a", "set"),
         ],
     )
 }
@@ -238,6 +242,34 @@ fn server(rt: HostRuntime) -> Result<(), Fail> {
 
 fn not_read() -> Result<(), Fail> {
     Err("not read")?;
+    Ok(())
+}
+
+fn group_of(rt: &impl Abort, alloc: Global, line: &str) -> Result<Option<Group>, Fail> {
+    let words = words(alloc, line)?;
+    assert!(rt; words.len() > 0);
+    match read(words.as_slice()) {
+        Ok(ask) => Ok(Some(ask.group())),
+        Err(_) => Ok(None),
+    }
+}
+
+#[test]
+fn what_commands_are_about(rt: HostRuntime) -> Result<(), Fail> {
+    assert_eq!(rt; group_of(&rt, rt.alloc(), "TYPE k")?, Some(Group::Keys));
+    assert_eq!(rt;
+        group_of(&rt, rt.alloc(), "HLEN h")?,
+        Some(Group::Collections)
+    );
+    assert_eq!(rt;
+        group_of(&rt, rt.alloc(), "RPOPLPUSH a b")?,
+        Some(Group::Collections)
+    );
+    assert_eq!(rt;
+        group_of(&rt, rt.alloc(), "SCARD s")?,
+        Some(Group::Collections)
+    );
+    assert_eq!(rt; group_of(&rt, rt.alloc(), "QUIT")?, Some(Group::Server));
     Ok(())
 }
 
@@ -313,6 +345,7 @@ fn names_and_words(rt: HostRuntime) -> Result<(), Fail> {
         "wrong number of arguments for 'get' command"
     );
     let line = words(rt.alloc(), "a b")?;
+    assert_eq!(rt; Argument::new(b"k").as_slice(), b"k".as_slice());
     assert_eq!(rt; Words::new(line.as_slice()).as_slice().len(), 2);
     assert_eq!(rt; Pairs::of(line.as_slice()).ok_or("cut")?.len(), 1);
     Ok(())

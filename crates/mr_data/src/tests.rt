@@ -298,28 +298,47 @@ fn text_at<'a>(held: &'a Dataset, key: &[u8]) -> Option<&'a [u8]> {
     }
 }
 
+fn put(held: &mut Dataset, key: &[u8], value: &[u8]) -> Result<(), ApplyFault> {
+    held.apply(&set(key, value))
+}
+
 #[test]
 fn effects_change_the_dataset(rt: HostRuntime) -> Result<(), Fail> {
-    let alloc = rt.alloc();
-    let mut held = Dataset::new(alloc, RandomState::new(&rt)?);
+    let mut held = Dataset::new(rt.alloc(), RandomState::new(&rt)?);
     assert!(rt; held.is_empty());
-    held.apply(&set(b"b", b"1"))?;
+    put(&mut held, b"b", b"1")?;
     held.apply_owned(set(b"a", b"2"))?;
     held.apply(&del(b"x"))?;
     assert_eq!(rt; held.len(), 2);
     assert_eq!(rt; text_at(&held, b"b"), Some(b"1".as_slice()));
-    held.apply_all(vec![in alloc; set(b"ab", b"3"), del(b"b"), set(b"a", b"4")]?)?;
+    assert_eq!(rt; text_at(&held, b"a"), Some(b"2".as_slice()));
+    Ok(())
+}
+
+#[test]
+fn a_list_of_effects_is_done_in_order(rt: HostRuntime) -> Result<(), Fail> {
+    let alloc = rt.alloc();
+    let mut held = Dataset::new(alloc, RandomState::new(&rt)?);
+    put(&mut held, b"b", b"1")?;
+    held.apply_all(vec![in alloc; set(b"a", b"3"), del(b"b"), set(b"a", b"4")]?)?;
     held.apply_all(Vec::new(alloc))?;
-    assert!(rt; !held.is_empty());
     assert_eq!(rt; text_at(&held, b"a"), Some(b"4".as_slice()));
     assert!(rt; held.value(b"b").is_none());
+    Ok(())
+}
+
+#[test]
+fn keys_come_in_byte_order(rt: HostRuntime) -> Result<(), Fail> {
+    let mut held = Dataset::new(rt.alloc(), RandomState::new(&rt)?);
+    for key in ["ab", "", "a"] {
+        put(&mut held, key.as_bytes(), b"v")?;
+    }
     assert!(rt; held.entry(b"ab").is_some());
     assert_eq!(rt; held.deadline(b"a"), None);
     assert_eq!(rt; held.deadline(b"b"), None);
-    held.apply_owned(set(b"", b"5"))?;
     let mut keys = held.keys();
-    for want in [b"".as_slice(), b"a".as_slice(), b"ab".as_slice()] {
-        assert_eq!(rt; keys.next(), Some(want));
+    for want in ["", "a", "ab"] {
+        assert_eq!(rt; keys.next(), Some(want.as_bytes()));
     }
     assert_eq!(rt; keys.next(), None);
     Ok(())
@@ -327,21 +346,25 @@ fn effects_change_the_dataset(rt: HostRuntime) -> Result<(), Fail> {
 
 #[test]
 fn a_word_over_the_limit_is_refused(rt: HostRuntime) -> Result<(), Fail> {
-    let alloc = rt.alloc();
-    let long = vec![in alloc; 0u8; OVER_THE_LIMIT]?;
-    let mut held = Dataset::new(alloc, RandomState::new(&rt)?);
-    held.apply(&set(b"k", b"v"))?;
+    let long = vec![in rt.alloc(); 0u8; OVER_THE_LIMIT]?;
+    let mut held = Dataset::new(rt.alloc(), RandomState::new(&rt)?);
+    put(&mut held, b"k", b"v")?;
     let refused = Err(ApplyFault::Refused);
-    assert_eq!(rt; held.apply(&set(b"k", &long)), refused);
-    assert_eq!(rt; held.apply(&set(&long, b"w")), refused);
+    assert_eq!(rt; put(&mut held, b"k", &long), refused);
+    assert_eq!(rt; put(&mut held, &long, b"w"), refused);
     assert_eq!(rt; held.apply_owned(del(&long)), refused);
     assert_eq!(rt; held.len(), 1);
     assert_eq!(rt; text_at(&held, b"k"), Some(b"v".as_slice()));
-    held.apply(&set(b"k", &long[1..]))?;
-    assert_eq!(rt;
-        text_at(&held, b"k").map(|text| text.len()),
-        Some(OVER_THE_LIMIT - 1)
-    );
+    Ok(())
+}
+
+#[test]
+fn a_word_at_the_limit_is_set(rt: HostRuntime) -> Result<(), Fail> {
+    let long = vec![in rt.alloc(); 0u8; OVER_THE_LIMIT - 1]?;
+    let mut held = Dataset::new(rt.alloc(), RandomState::new(&rt)?);
+    put(&mut held, b"k", &long)?;
+    let length = text_at(&held, b"k").map(|text| text.len());
+    assert_eq!(rt; length, Some(OVER_THE_LIMIT - 1));
     Ok(())
 }
 

@@ -1,13 +1,14 @@
 -- A line of the grammar, read byte by byte: it ends at its line feed, and its words are found.
 use Rattle.std.proofs.Common.{◌≡◌, ◌≢◌, ℕ, ◌+◌, ◌*◌, ◌<◌, Bool, true, false, cond, ◌==◌, ◌&&◌, List, [], ◌∷◌, ◌++◌, length, map, drop, All, refl, sym, ap, ◌∙◌, subst, append_assoc, arith}
 use Rattle.std.specs.Char.{is_ascii_hexdigit}
-use Rattle.std.specs.List.{flat_map}
+use Rattle.std.specs.List.{flat_map, AllZip}
 use Rattle.std.proofs.lemmas.Bool.{true≢false, eqb-true, eqb-false, and_right}
 use Rattle.std.proofs.lemmas.List.{append-nil}
 use Rattle.std.proofs.lemmas.List.Elements.{All-head, All-tail}
 use Rattle.mr_inline.specs.Bytes.{line_feed, double_quote, single_quote, backslash, letter_x, is_separator}
 use Rattle.mr_inline.specs.Line.{IsSeparator, IsPlain, hex_value, escape_value, Item, itself, escape, hex, item_text, item_value, begins_hex, AreItems, Mark, sign, quote, mark_text, mark_value, IsNext, AreMarks, Ending, bare, double, single, Word, ending_text, ending_value, IsEnding, word_text, word_value, IsWord, Part, part_text, part_value, IsLaterPart, AreParts}
-use Rattle.mr_inline.specs.Places.{kind_of, next_place, turn_at, hex_of, spelled, word_from, begun, words_from}
+use Rattle.mr_inline.specs.Places.{kind_of, next_place, turn_at, hex_of, spelled, word_from, begun, starts_from, IsBareAt, IsBare}
+use Rattle.mr_inline.specs.Scans.{HasNoQuote}
 use Rattle.mr_inline.specs.declared.place.Kind.{Kind}
 use Rattle.mr_inline.specs.declared.place.Kind.TheVariants.{LineFeed, Separator, DoubleQuote, SingleQuote, Backslash, Other}
 use Rattle.mr_inline.specs.declared.place.Place.{Place}
@@ -19,15 +20,15 @@ use Rattle.mr_inline.proofs.Runs.{run}
 -- The bytes lead from a place to another, and no word begins among them.
 record Leads (xs : List ℕ) (p q : Place) : Type 0 where
   run_is : (r : List ℕ) → run (Goes p) (xs ++ r) ≡ run (Goes q) r
-  words_are : (r : List ℕ) → words_from p (xs ++ r) ≡ words_from q r
+  starts_are : (r : List ℕ) → starts_from p (xs ++ r) ≡ starts_from q r
 
 leads_nil : (p : Place) → Leads [] p p
-leads_nil p = record { run_is = λ r. refl; words_are = λ r. refl }
+leads_nil p = record { run_is = λ r. refl; starts_are = λ r. refl }
 
 leads-append : (xs ys : List ℕ) (p q s : Place) → Leads xs p q → Leads ys q s → Leads (xs ++ ys) p s
 leads-append xs ys p q s h k = record {
   run_is = λ r. ap (run (Goes p)) (append_assoc xs ys r) ∙ h.run_is (ys ++ r) ∙ k.run_is r;
-  words_are = λ r. ap (words_from p) (append_assoc xs ys r) ∙ h.words_are (ys ++ r) ∙ k.words_are r;
+  starts_are = λ r. ap (starts_from p) (append_assoc xs ys r) ∙ h.starts_are (ys ++ r) ∙ k.starts_are r;
 }
 
 -- what a byte of this kind does at p: the line goes on at q, and no word begins
@@ -39,7 +40,7 @@ record Steps (p : Place) (kind : Kind) (q : Place) : Type 0 where
 leads_byte : (b : ℕ) (p q : Place) → Steps p (kind_of b) q → Leads (b ∷ []) p q
 leads_byte b p q s = record {
   run_is = λ r. ap (λ t. run t r) s.turn;
-  words_are = λ r. s.none (word_from Plain (b ∷ r)) (words_from (next_place p (kind_of b)) r) ∙ ap (λ t. words_from t r) s.next;
+  starts_are = λ r. s.none (b ∷ r) (starts_from (next_place p (kind_of b)) r) ∙ ap (λ t. starts_from t r) s.next;
 }
 
 steps_at : (p q : Place) (k : Kind) (b : ℕ) → kind_of b ≡ k → Steps p k q → Steps p (kind_of b) q
@@ -138,7 +139,7 @@ slash_leads (b ∷ xs) q some free h =
     let first : Steps Single (kind_of backslash) SingleEscape = steps_at Single SingleEscape Backslash backslash kind-backslash (record { turn = refl; next = refl; none = λ w ws. refl }) in
     let later : Leads (b ∷ xs) SingleEscape q = record {
       run_is = λ r. ap (λ t. run t (xs ++ r)) same.0 ∙ h.run_is r;
-      words_are = λ r. ap (λ p. words_from p (xs ++ r)) same.1 ∙ h.words_are r;
+      starts_are = λ r. ap (λ p. starts_from p (xs ++ r)) same.1 ∙ h.starts_are r;
     } in
     leads_cons backslash (b ∷ xs) Single SingleEscape q first later
 
@@ -335,13 +336,13 @@ begins_plain other = record { turn = refl; next = refl; one = λ w ws. refl; non
 
 record BeginsWord (text : List ℕ) : Type 0 where
   run_is : run (Goes Between) text ≡ run (Goes Plain) text
-  words_are : words_from Between text ≡ word_from Plain text ∷ words_from Plain text
+  starts_are : starts_from Between text ≡ text ∷ starts_from Plain text
 
 begins_at : (b : ℕ) (r : List ℕ) → Begins (kind_of b) → BeginsWord (b ∷ r)
 begins_at b r s = record {
   run_is = ap (λ t. run t r) s.turn;
-  words_are = s.one (word_from Plain (b ∷ r)) (words_from (next_place Between (kind_of b)) r) ∙ ap (λ (p : Place). word_from Plain (b ∷ r) ∷ words_from p r) s.next
-      ∙ ap (λ (ws : List (List ℕ)). word_from Plain (b ∷ r) ∷ ws) (sym (s.none (word_from Plain (b ∷ r)) (words_from (next_place Plain (kind_of b)) r)));
+  starts_are = s.one (b ∷ r) (starts_from (next_place Between (kind_of b)) r) ∙ ap (λ (p : Place). (b ∷ r) ∷ starts_from p r) s.next
+      ∙ ap (λ (ss : List (List ℕ)). (b ∷ r) ∷ ss) (sym (s.none (b ∷ r) (starts_from (next_place Plain (kind_of b)) r)));
 }
 
 begins_word : (plain : List ℕ) (ending : Ending) (r : List ℕ) → All IsPlain plain → IsEnding plain ending → BeginsWord ((plain ++ ending_text ending) ++ r)
@@ -354,18 +355,26 @@ begins_word (b ∷ plain) ending r h e = begins_at b ((plain ++ ending_text endi
 abbrev pub tail_text : List Part → List ℕ → List ℕ
 tail_text parts after = flat_map part_text parts ++ after
 
-pub record EndsLine (p : Place) (text : List ℕ) (words : List (List ℕ)) : Type 0 where
+-- A part's word begins here, and its quotes are those that are found.
+pub record IsStartOf (part : Part) (start : List ℕ) : Type 0 where
+  pub value : word_from Plain start ≡ part_value part
+  pub bare : HasNoQuote (word_text part.word) → IsBare start
+
+pub record EndsLine (p : Place) (text : List ℕ) (parts : List Part) : Type 0 where
   pub run_is : run (Goes p) (text ++ line_feed ∷ []) ≡ Ends
-  pub words_are : words_from p text ≡ words
+  pub starts : AllZip IsStartOf parts (starts_from p text)
 
 feed_at : (p : Place) → turn_at p LineFeed ≡ Ends → run (Goes p) (line_feed ∷ []) ≡ Ends
 feed_at p e = ap (turn_at p) kind-line_feed ∙ e
 
-ends_after : (xs : List ℕ) (p q : Place) (text : List ℕ) (words : List (List ℕ)) → Leads xs p q → EndsLine q text words → EndsLine p (xs ++ text) words
-ends_after xs p q text words h k = record { run_is = ap (run (Goes p)) (append_assoc xs text (line_feed ∷ [])) ∙ h.run_is (text ++ line_feed ∷ []) ∙ k.run_is; words_are = h.words_are text ∙ k.words_are }
+ends_after : (xs : List ℕ) (p q : Place) (text : List ℕ) (parts : List Part) → Leads xs p q → EndsLine q text parts → EndsLine p (xs ++ text) parts
+ends_after xs p q text parts h k = record {
+  run_is = ap (run (Goes p)) (append_assoc xs text (line_feed ∷ [])) ∙ h.run_is (text ++ line_feed ∷ []) ∙ k.run_is;
+  starts = subst (AllZip IsStartOf parts) (sym (h.starts_are text)) k.starts;
+}
 
 ends_nil : (p : Place) → turn_at p LineFeed ≡ Ends → EndsLine p [] []
-ends_nil p e = record { run_is = feed_at p e; words_are = refl }
+ends_nil p e = record { run_is = feed_at p e; starts = tt }
 
 ends_separators : (after : List ℕ) (p : Place) → MayEnd p → All IsSeparator after → EndsLine p after []
 ends_separators [] p m h = ends_nil p m.feed
@@ -383,33 +392,64 @@ boundary (part ∷ parts) after h k =
     let e : part.gap ++ (word_text part.word ++ (flat_map part_text parts ++ after)) ≡ tail_text (part ∷ parts) after = simp append_assoc in
     subst IsBoundary e (boundary_gap part.gap (word_text part.word ++ (flat_map part_text parts ++ after)) one.0 one.1)
 
--- a word and what follows it, from between the words
-ends_word : (word : Word) (text : List ℕ) (words : List (List ℕ)) → IsWord word → IsBoundary text → EndsLine (end_place word.ending) text words → EndsLine Between (word_text word ++ text) (word_value word ∷ words)
-ends_word word text words h e k =
-    let front = ends_after (word_text word) Plain (end_place word.ending) text words (leads_word word h) k in
+-- where no quote stands in a word
+bare_end : (r : List ℕ) → IsBoundary r → IsBare r
+bare_end [] h = tt
+bare_end (b ∷ r) h = subst (λ (k : Kind). IsBareAt k (IsBare r)) (sym (kind-separator b h)) tt
+
+bare_byte : {k : Kind} (later : Type 0) → IsInWord k → later → IsBareAt k later
+bare_byte later slash h = h
+bare_byte later other h = h
+
+bare_plain : (xs r : List ℕ) → All IsPlain xs → IsBare r → IsBare (xs ++ r)
+bare_plain [] r h k = k
+bare_plain (b ∷ xs) r h k = bare_byte (IsBare (xs ++ r)) (plain_in_word b (All-head IsPlain b xs h)) (bare_plain xs r (All-tail IsPlain b xs h) k)
+
+abbrev IsNoQuote : ℕ → Type 0
+IsNoQuote b = (b ≢ double_quote) × (b ≢ single_quote)
+
+behind : (xs ys : List ℕ) (b : ℕ) → HasNoQuote (xs ++ b ∷ ys) → IsNoQuote b
+behind [] ys b h = All-head IsNoQuote b ys h
+behind (x ∷ xs) ys b h = behind xs ys b (All-tail IsNoQuote x (xs ++ b ∷ ys) h)
+
+bare_word : (plain : List ℕ) (ending : Ending) (r : List ℕ) → All IsPlain plain → IsBoundary r → HasNoQuote (plain ++ ending_text ending) → IsBare ((plain ++ ending_text ending) ++ r)
+bare_word plain bare r h e none = subst (λ (x : List ℕ). IsBare (x ++ r)) (sym (append-nil plain)) (bare_plain plain r h (bare_end r e))
+bare_word plain (double items) r h e none = absurd ((behind plain (flat_map item_text items ++ double_quote ∷ []) double_quote none).0 refl)
+bare_word plain (single marks) r h e none = absurd ((behind plain (flat_map mark_text marks ++ single_quote ∷ []) single_quote none).1 refl)
+
+-- a part's word and what follows it, from between the words
+ends_word : (part : Part) (text : List ℕ) (parts : List Part) → IsWord part.word → IsBoundary text → EndsLine (end_place part.word.ending) text parts → EndsLine Between (word_text part.word ++ text) (part ∷ parts)
+ends_word part text parts h e k =
+    let word : Word = part.word in
+    let front = ends_after (word_text word) Plain (end_place word.ending) text parts (leads_word word h) k in
     let first = begins_word word.plain word.ending text h.0 h.1 in
     let full = begins_word word.plain word.ending (text ++ line_feed ∷ []) h.0 h.1 in
     record {
       run_is = ap (run (Goes Between)) (append_assoc (word_text word) text (line_feed ∷ [])) ∙ full.run_is ∙ ap (run (Goes Plain)) (sym (append_assoc (word_text word) text (line_feed ∷ []))) ∙ front.run_is;
-      words_are = first.words_are ∙ ap (λ (w : List ℕ). w ∷ words_from Plain (word_text word ++ text)) (value_word word text h e) ∙ ap (λ (ws : List (List ℕ)). word_value word ∷ ws) front.words_are;
+      starts = subst (AllZip IsStartOf (part ∷ parts)) (sym first.starts_are) (record { value = value_word word text h e; bare = bare_word word.plain word.ending text h.0 e }, front.starts);
     }
 
-ends_parts : (parts : List Part) (after : List ℕ) (p : Place) → MayEnd p → All IsLaterPart parts → All IsSeparator after → EndsLine p (tail_text parts after) (map part_value parts)
+ends_parts : (parts : List Part) (after : List ℕ) (p : Place) → MayEnd p → All IsLaterPart parts → All IsSeparator after → EndsLine p (tail_text parts after) parts
 ends_parts [] after p m h k = ends_separators after p m k
 ends_parts (part ∷ parts) after p m h k =
     let one = All-head IsLaterPart part parts h in
     let later = All-tail IsLaterPart part parts h in
     let rest = ends_parts parts after (end_place part.word.ending) (may_end_ending part.word.ending) later k in
-    let word = ends_word part.word (tail_text parts after) (map part_value parts) one.2 (boundary parts after later k) rest in
+    let word = ends_word part (tail_text parts after) parts one.2 (boundary parts after later k) rest in
     let e : part.gap ++ (word_text part.word ++ tail_text parts after) ≡ tail_text (part ∷ parts) after = simp append_assoc in
-    subst (λ (x : List ℕ). EndsLine p x (map part_value (part ∷ parts))) e
-    (ends_after part.gap p Between (word_text part.word ++ tail_text parts after) (map part_value (part ∷ parts)) (leads_gap part.gap p m one.0 one.1) word)
+    subst (λ (x : List ℕ). EndsLine p x (part ∷ parts)) e (ends_after part.gap p Between (word_text part.word ++ tail_text parts after) (part ∷ parts) (leads_gap part.gap p m one.0 one.1) word)
 
-pub ends_line : (parts : List Part) (after : List ℕ) → AreParts parts → All IsSeparator after → EndsLine Between (tail_text parts after) (map part_value parts)
+pub ends_line : (parts : List Part) (after : List ℕ) → AreParts parts → All IsSeparator after → EndsLine Between (tail_text parts after) parts
 ends_line [] after h k = ends_separators after Between (record { step = record { turn = refl; next = refl; none = λ w ws. refl }; feed = refl }) k
 ends_line (part ∷ parts) after h k =
     let rest = ends_parts parts after (end_place part.word.ending) (may_end_ending part.word.ending) h.2 k in
-    let word = ends_word part.word (tail_text parts after) (map part_value parts) h.1 (boundary parts after h.2 k) rest in
+    let word = ends_word part (tail_text parts after) parts h.1 (boundary parts after h.2 k) rest in
     let e : part.gap ++ (word_text part.word ++ tail_text parts after) ≡ tail_text (part ∷ parts) after = simp append_assoc in
-    subst (λ (x : List ℕ). EndsLine Between x (map part_value (part ∷ parts))) e
-    (ends_after part.gap Between Between (word_text part.word ++ tail_text parts after) (map part_value (part ∷ parts)) (leads_between part.gap h.0) word)
+    subst (λ (x : List ℕ). EndsLine Between x (part ∷ parts)) e (ends_after part.gap Between Between (word_text part.word ++ tail_text parts after) (part ∷ parts) (leads_between part.gap h.0) word)
+
+-- what the words stand for
+pub values_are : (parts : List Part) (starts : List (List ℕ)) → AllZip IsStartOf parts starts → map (word_from Plain) starts ≡ map part_value parts
+values_are [] [] h = refl
+values_are [] (start ∷ starts) h = absurd h
+values_are (part ∷ parts) [] h = absurd h
+values_are (part ∷ parts) (start ∷ starts) h = ap (λ (w : List ℕ). w ∷ map (word_from Plain) starts) h.0.value ∙ ap (λ (ws : List (List ℕ)). part_value part ∷ ws) (values_are parts starts h.1)

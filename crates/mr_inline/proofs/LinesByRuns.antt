@@ -1,12 +1,12 @@
 -- Lines, their beginnings and what begins none, by where the bytes lead.
 use Rattle.std.proofs.Common.{◌≡◌, ◌≢◌, ℕ, ◌+◌, ◌<◌, ◌≤◌, ◌⊎◌, inl, inr, Bool, true, false, cond, ◌==◌, List, [], ◌∷◌, ◌++◌, length, map, refl, sym, ap, ◌∙◌, subst, append_assoc, arith}
-use Rattle.std.specs.List.{flat_map}
+use Rattle.std.specs.List.{flat_map, AllZip}
 use Rattle.std.proofs.lemmas.Bool.{eqb-true, eqb-false}
 use Rattle.std.proofs.lemmas.List.{append-nil, length-append, append_cancel_right, same_from_push}
 use Rattle.mr_inline.specs.Bytes.{line_feed, star}
 use Rattle.mr_inline.specs.Language.{Continues, IsDoomed, Fails}
 use Rattle.mr_inline.specs.Line.{IsNext, part_text, part_value, IsLineOf, IsLineText, HasLineFault}
-use Rattle.mr_inline.specs.Places.{kind_of, turn_at, turn_of, need_of, words_from}
+use Rattle.mr_inline.specs.Places.{kind_of, turn_at, turn_of, need_of, starts_from, words_from}
 use Rattle.mr_inline.specs.declared.fault.LineFault.{LineFault}
 use Rattle.mr_inline.specs.declared.fault.LineFault.TheVariants.{UnbalancedQuotes, TooBig}
 use Rattle.mr_inline.specs.declared.place.Kind.TheVariants.{LineFeed}
@@ -17,7 +17,7 @@ use Rattle.mr_inline.specs.declared.place.Turn.TheVariants.{Goes, Ends, Breaks}
 use Rattle.mr_inline.proofs.ByteKinds.{kind-line_feed}
 use Rattle.mr_inline.proofs.Runs.{run, run-append, never_ends, ended, goes_no_more, rank_run, closing, run-closing, length-closing, bytes_closing}
 use Rattle.mr_inline.proofs.ParseTrees.{tree}
-use Rattle.mr_inline.proofs.LineTexts.{ends_line}
+use Rattle.mr_inline.proofs.LineTexts.{IsStartOf, ends_line, values_are}
 
 pub turn_of-line : (limit : ℕ) (text : List ℕ) (words : List (List ℕ)) → IsLineOf limit text words → turn_of text ≡ Ends
 turn_of-line limit text words t =
@@ -28,7 +28,14 @@ pub words_of_line : (limit : ℕ) (text line : List ℕ) (words : List (List ℕ
 words_of_line limit text line words t e =
     let l = ends_line t.parts t.after t.are_parts t.separators in
     let same : line ≡ flat_map part_text t.parts ++ t.after = append_cancel_right line (flat_map part_text t.parts ++ t.after) (line_feed ∷ []) (sym e ∙ t.spelled) in
-    t.means ∙ sym (ap (words_from Between) same ∙ l.words_are)
+    t.means ∙ sym (ap (words_from Between) same ∙ values_are t.parts (starts_from Between (flat_map part_text t.parts ++ t.after)) l.starts)
+
+-- the words of a line begin where those of its parse do
+pub starts_of_line : (limit : ℕ) (text line : List ℕ) (words : List (List ℕ)) (last : ℕ) (t : IsLineOf limit text words) → text ≡ line ++ last ∷ [] → AllZip IsStartOf t.parts (starts_from Between line)
+starts_of_line limit text line words last t e =
+    let body : List ℕ = flat_map part_text t.parts ++ t.after in
+    let same = same_from_push line body last line_feed (sym e ∙ t.spelled) in
+    subst (λ (x : List ℕ). AllZip IsStartOf t.parts (starts_from Between x)) (sym same.0) (ends_line t.parts t.after t.are_parts t.separators).starts
 
 record SomeLine (limit : ℕ) (text : List ℕ) : Type 0 where
   words : List (List ℕ)

@@ -1,23 +1,24 @@
 -- One step of the reader that finds the end of a line.
 use Rattle.std.proofs.Common.{◌≡◌, ◌≢◌, ℕ, zero, suc, ◌+◌, ◌-◌, ◌<◌, ◌≤◌, List, [], ◌∷◌, ◌++◌, length, get_or, take, drop, map, Global, refl, sym, ap, ◌∙◌, subst, arith, take-append-drop, length-take-le}
-use Rattle.std.proofs.lemmas.List.{take_more, take_all, take-take, drop_more, take-append-le, length-append}
-use Rattle.std.proofs.lemmas.List.Elements.{All-take}
-use Rattle.std.specs.Cow.{cow_slice_items}
+use Rattle.std.proofs.lemmas.List.{take_more, take_all, drop_more, take-append-le, length-append}
+use Rattle.std.specs.Cow.{cow_slice_items, IsBorrowedSlice}
+use Rattle.std.specs.List.{AllZip}
 use Rattle.std.specs.declared.borrow.CowSlice.{CowSlice}
-use Rattle.mr_inline.specs.Scans.{HasNoQuote}
-use Rattle.mr_inline.specs.Bytes.{double_quote, single_quote, star}
+use Rattle.mr_inline.specs.Scans.{HasNoQuote, BorrowsUnquoted}
+use Rattle.mr_inline.specs.Bytes.{star}
 use Rattle.mr_inline.specs.Language.{Continues, Fails}
-use Rattle.mr_inline.specs.Line.{IsNext, IsLineText, IsLineOf, HasLineFault}
-use Rattle.mr_inline.specs.Parts.{EndsAt}
-use Rattle.mr_inline.specs.Places.{kind_of, turn_at, turn_of, need_of, words_from}
+use Rattle.mr_inline.specs.Line.{IsNext, Part, word_text, IsLineText, IsLineOf, HasLineFault}
+use Rattle.mr_inline.specs.Parts.{EndsAt, IsReadAt}
+use Rattle.mr_inline.specs.Places.{kind_of, turn_at, turn_of, need_of, word_from, starts_from, words_from}
 use Rattle.mr_inline.specs.Resumed.{Agrees}
 use Rattle.mr_inline.specs.declared.place.Place.{Place}
-use Rattle.mr_inline.specs.declared.place.Place.TheVariants.{Between}
+use Rattle.mr_inline.specs.declared.place.Place.TheVariants.{Between, Plain}
 use Rattle.mr_inline.specs.declared.place.Turn.{Turn}
 use Rattle.mr_inline.specs.declared.place.Turn.TheVariants.{Goes, Ends}
 use Rattle.mr_inline.specs.declared.progress.LineProgress.{LineProgress}
 use Rattle.mr_inline.proofs.Runs.{run, run-append}
-use Rattle.mr_inline.proofs.LinesByRuns.{IsOpen, continues, Dead, fault_of, fails, line_of_run}
+use Rattle.mr_inline.proofs.LinesByRuns.{IsOpen, continues, Dead, fault_of, fails, line_of_run, starts_of_line}
+use Rattle.mr_inline.proofs.LineTexts.{IsStartOf}
 
 star_front : (n : ℕ) (input : List ℕ) → get_or input 0 0 ≢ star → IsNext star (take n input) → ⊥
 star_front zero input h n = n
@@ -65,5 +66,23 @@ pub some_words : (v : List (CowSlice ℕ Global)) → v ≢ [] → 0 < length (m
 some_words [] h = absurd (h refl)
 some_words (x ∷ v) h = omega arith
 
-pub no_quote_before : (input : List ℕ) (used n : ℕ) → n ≤ used → HasNoQuote (take used input) → HasNoQuote (take n input)
-no_quote_before input used n le h = subst HasNoQuote (take-take n used input le) (All-take (λ b. (b ≢ double_quote) × (b ≢ single_quote)) n (take used input) h)
+-- what was read, as words
+pub words_read : (starts : List (List ℕ)) (words : List (CowSlice ℕ Global)) → AllZip IsReadAt starts words → map cow_slice_items words ≡ map (word_from Plain) starts
+words_read [] [] h = refl
+words_read [] (word ∷ words) h = absurd h
+words_read (start ∷ starts) [] h = absurd h
+words_read (start ∷ starts) (word ∷ words) h =
+    ap (λ (w : List ℕ). w ∷ map cow_slice_items words) h.0.value ∙ ap (λ (ws : List (List ℕ)). word_from Plain start ∷ ws) (words_read starts words h.1)
+
+own_words : (parts : List Part) (starts : List (List ℕ)) (words : List (CowSlice ℕ Global)) → AllZip IsStartOf parts starts → AllZip IsReadAt starts words → AllZip (λ part word. HasNoQuote (word_text part.word) → IsBorrowedSlice word) parts words
+own_words [] [] [] h k = tt
+own_words [] [] (word ∷ words) h k = absurd k
+own_words [] (start ∷ starts) words h k = absurd h
+own_words (part ∷ parts) [] words h k = absurd h
+own_words (part ∷ parts) (start ∷ starts) [] h k = absurd k
+own_words (part ∷ parts) (start ∷ starts) (word ∷ words) h k = (λ none. k.0.borrowed (h.0.bare none), own_words parts starts words h.1 k.1)
+
+pub borrows_unquoted : (limit : ℕ) (input : List ℕ) (used n : ℕ) (words : List (CowSlice ℕ Global)) → EndsAt limit input used → used ≡ n + 1 → AllZip IsReadAt (starts_from Between (take n input)) words → BorrowsUnquoted limit (take used input) words
+borrows_unquoted limit input used n words e last h = λ line.
+    let split : take used input ≡ take n input ++ get_or input n 0 ∷ [] = ap (λ (k : ℕ). take k input) last ∙ take_more input n 0 (omega (arith, e.inside)) in
+    own_words line.parts (starts_from Between (take n input)) words (starts_of_line limit (take used input) (take n input) (map cow_slice_items words) (get_or input n 0) line split) h

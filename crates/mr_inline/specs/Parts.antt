@@ -1,9 +1,12 @@
 -- What the parts of the reader find.
 use Rattle.std.specs.Prelude.{◌≡◌, ◌≢◌, ℕ, ◌+◌, ◌<◌, ◌≤◌, List, ◌∷◌, ◌++◌, length, take, drop, slice_range, slice_index}
+use Rattle.std.proofs.Common.{Global}
+use Rattle.std.specs.Cow.{cow_slice_items, IsBorrowedSlice}
+use Rattle.std.specs.declared.borrow.CowSlice.{CowSlice}
 use Rattle.mr_inline.specs.Bytes.{line_feed, double_quote, single_quote}
 use Rattle.mr_inline.specs.Language.{Continues, Fails}
 use Rattle.mr_inline.specs.Line.{IsLineText, HasLineFault}
-use Rattle.mr_inline.specs.Places.{kind_of, turn_of, word_from, words_from}
+use Rattle.mr_inline.specs.Places.{kind_of, turn_of, word_from, starts_from, IsBare}
 use Rattle.mr_inline.specs.declared.measure.Measured.{Measured}
 use Rattle.mr_inline.specs.declared.measure.Measured.TheVariants.{Whole, More, Bad}
 use Rattle.mr_inline.specs.declared.place.Kind.{Kind}
@@ -44,26 +47,32 @@ pub record Spells (before after : Place) (line : List ℕ) (at byte end : ℕ) :
   pub forward : at < end
   pub inside : end ≤ length line
   pub word : word_from before (drop at line) ≡ byte ∷ word_from after (drop end line)
-  pub words : words_from before (drop at line) ≡ words_from after (drop end line)
+  pub starts : starts_from before (drop at line) ≡ starts_from after (drop end line)
 
 -- The rest of a quoted part, from `start` to behind its closing quote at `end`, was put behind `old`.
 pub record Unquotes (place : Place) (line : List ℕ) (start end : ℕ) (old new : List ℕ) : Type 0 where
   pub inside : end ≤ length line
   pub forward : start ≤ end
   pub word : new ≡ old ++ word_from place (drop start line)
-  pub words : words_from place (drop start line) ≡ words_from Closed (drop end line)
+  pub starts : starts_from place (drop start line) ≡ starts_from Closed (drop end line)
 
 -- The word that begins at `start` ends at `end`.
 pub record IsCut (line : List ℕ) (start end : ℕ) (word : List ℕ) : Type 0 where
   pub inside : end ≤ length line
   pub forward : start < end
   pub value : word ≡ word_from Plain (drop start line)
-  pub words : words_from Plain (drop start line) ≡ words_from Closed (drop end line)
+  pub starts : starts_from Plain (drop start line) ≡ starts_from Closed (drop end line)
 
 -- The plain bytes from `start` end at `end`, at a byte of another kind or with the line.
 pub record IsPlainUpTo (line : List ℕ) (start end : ℕ) : Type 0 where
   pub inside : end ≤ length line
   pub forward : start ≤ end
   pub value : word_from Plain (drop start line) ≡ slice_range line start end ++ word_from Plain (drop end line)
-  pub words : words_from Plain (drop start line) ≡ words_from Plain (drop end line)
+  pub starts : starts_from Plain (drop start line) ≡ starts_from Plain (drop end line)
+  pub bare : IsBare (drop start line) → IsBare (drop end line)
   pub stops : end < length line → StopsPlain (kind_of (slice_index line end))
+
+-- The word that begins here is this one, borrowed if no quote stands in it.
+pub record IsReadAt (start : List ℕ) (word : CowSlice ℕ Global) : Type 0 where
+  pub value : cow_slice_items word ≡ word_from Plain start
+  pub borrowed : IsBare start → IsBorrowedSlice word

@@ -1,5 +1,5 @@
 -- A line, read byte by byte: where each byte stands, and what it does.
-use Rattle.std.specs.Prelude.{ℕ, ◌+◌, ◌*◌, ◌==◌, ◌&&◌, if◌then◌else◌, Bool, true, false, List, [], ◌∷◌, drop, fold}
+use Rattle.std.specs.Prelude.{ℕ, ◌+◌, ◌*◌, ◌==◌, ◌&&◌, if◌then◌else◌, Bool, true, false, List, [], ◌∷◌, drop, map, fold}
 use Rattle.mr_inline.specs.Bytes.{line_feed, double_quote, single_quote, backslash, letter_x, is_separator}
 use Rattle.mr_inline.specs.Line.{begins_hex, hex_value, escape_value}
 use Rattle.mr_inline.specs.declared.place.Kind.{Kind}
@@ -114,15 +114,33 @@ word_from SingleEscape [] = backslash ∷ []
 word_from place [] = []
 word_from place (b ∷ rest) = spelled place (kind_of b) b rest (word_from (next_place place (kind_of b)) rest)
 
--- the words, with one more in front where a byte of this kind begins it at this place
+-- the beginnings of words, with one more in front where a byte of this kind begins a word at this place
 abbrev pub begun : Place → Kind → List ℕ → List (List ℕ) → List (List ℕ)
-begun Between Separator word words = words
-begun Between kind word words = word ∷ words
-begun Closed Separator word words = words
-begun Closed kind word words = word ∷ words
-begun place kind word words = words
+begun Between Separator start starts = starts
+begun Between kind start starts = start ∷ starts
+begun Closed Separator start starts = starts
+begun Closed kind start starts = start ∷ starts
+begun place kind start starts = starts
+
+-- what is left of the line where each word begins, from this place on
+abbrev pub starts_from : Place → List ℕ → List (List ℕ)
+starts_from place [] = []
+starts_from place (b ∷ rest) = begun place (kind_of b) (b ∷ rest) (starts_from (next_place place (kind_of b)) rest)
 
 -- the words that begin from this place on
 abbrev pub words_from : Place → List ℕ → List (List ℕ)
-words_from place [] = []
-words_from place (b ∷ rest) = begun place (kind_of b) (word_from Plain (b ∷ rest)) (words_from (next_place place (kind_of b)) rest)
+words_from place bytes = map (word_from Plain) (starts_from place bytes)
+
+-- no quote stands in the rest of a word that goes on with a byte of this kind
+abbrev pub IsBareAt : Kind → Type 0 → Type 0
+IsBareAt Separator later = Unit {0}
+IsBareAt DoubleQuote later = ⊥
+IsBareAt SingleQuote later = ⊥
+IsBareAt LineFeed later = later
+IsBareAt Backslash later = later
+IsBareAt Other later = later
+
+-- no quote stands in the rest of a word
+abbrev pub IsBare : List ℕ → Type 0
+IsBare [] = Unit {0}
+IsBare (b ∷ rest) = IsBareAt (kind_of b) (IsBare rest)

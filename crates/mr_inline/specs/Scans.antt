@@ -1,9 +1,12 @@
 -- What a reader of lines answers.
 use Rattle.std.specs.Prelude.{◌≢◌, ℕ, ◌≤◌, List, length, take, map, All}
+use Rattle.std.proofs.Common.{Global}
+use Rattle.std.specs.List.{AllZip}
 use Rattle.std.specs.Cow.{cow_slice_items, IsBorrowedSlice}
+use Rattle.std.specs.declared.borrow.CowSlice.{CowSlice}
 use Rattle.mr_inline.specs.Bytes.{double_quote, single_quote}
 use Rattle.mr_inline.specs.Language.{Continues, Fails}
-use Rattle.mr_inline.specs.Line.{IsLine, IsBlank, IsLineText, HasLineFault}
+use Rattle.mr_inline.specs.Line.{word_text, IsLineOf, IsLine, IsBlank, IsLineText, HasLineFault}
 use Rattle.mr_inline.specs.declared.scan.LineScan.{LineScan}
 use Rattle.mr_inline.specs.declared.scan.LineScan.TheVariants.{Whole, Skip, More, Bad}
 
@@ -25,9 +28,13 @@ IsMore (Bad fault) = ⊥
 abbrev pub HasNoQuote : List ℕ → Type 0
 HasNoQuote bytes = All (λ b. (b ≢ double_quote) × (b ≢ single_quote)) bytes
 
--- The words of a line without quotes are the input's own bytes.
-abbrev pub CopiesOnlyQuoted : List ℕ → LineScan → Type 0
-CopiesOnlyQuoted input (Whole words used) = HasNoQuote (take used input) → All IsBorrowedSlice words.items
-CopiesOnlyQuoted input (Skip used) = Unit {0}
-CopiesOnlyQuoted input More = Unit {0}
-CopiesOnlyQuoted input (Bad fault) = Unit {0}
+-- However the line is parsed, each word in whose own text no quote stands is the input's own bytes.
+abbrev pub BorrowsUnquoted : ℕ → List ℕ → List (CowSlice ℕ Global) → Type 0
+BorrowsUnquoted limit text words = (line : IsLineOf limit text (map cow_slice_items words)) → AllZip (λ part word. HasNoQuote (word_text part.word) → IsBorrowedSlice word) line.parts words
+
+-- the same of an answer
+abbrev pub CopiesOnlyQuoted : ℕ → List ℕ → LineScan → Type 0
+CopiesOnlyQuoted limit input (Whole words used) = BorrowsUnquoted limit (take used input) words.items
+CopiesOnlyQuoted limit input (Skip used) = Unit {0}
+CopiesOnlyQuoted limit input More = Unit {0}
+CopiesOnlyQuoted limit input (Bad fault) = Unit {0}

@@ -41,7 +41,7 @@ pub fn next_line_from<'a>(
     // What begins with `*` is in another form.
     requires no_array { slice_index input.now 0 ≢ star }
     ensures found { IfOk result (λ scan. ReadsLine limit input.now scan) }
-    ensures borrowed { IfOk result (λ scan. CopiesOnlyQuoted input.now scan) }
+    ensures borrowed { IfOk result (λ scan. CopiesOnlyQuoted limit input.now scan) }
     // Where more is wanted or memory ran out, the next call may have the input with anything behind it. Else nothing is kept.
     ensures more { (more : List ℕ) → Agrees limit progress.new (input.now ++ more) }
     ensures spent { IfOk result (λ scan. IsMore scan ⊎ IsFresh progress.new) }
@@ -73,7 +73,7 @@ pub fn next_line<'a>(
     // What begins with `*` is in another form.
     requires { slice_index input.now 0 ≢ star }
     ensures found { IfOk result (λ scan. ReadsLine limit input.now scan) }
-    ensures borrowed { IfOk result (λ scan. CopiesOnlyQuoted input.now scan) }
+    ensures borrowed { IfOk result (λ scan. CopiesOnlyQuoted limit input.now scan) }
 {
     let mut progress = LineProgress::new();
     next_line_from(alloc, limit, &mut progress, input)

@@ -4,6 +4,7 @@ ghost use Rattle.mr_inline.specs.Resumed.{Agrees};
 
 use super::*;
 use std::alloc::{AllocError, Global};
+use std::borrow::CowSlice;
 use std::test::Fail;
 
 const LIMIT: usize = 65536;
@@ -72,6 +73,38 @@ fn words(rt: HostRuntime) -> Result<(), Fail> {
     ];
     for (line, expected) in rows {
         assert_eq!(rt; joined_words(alloc, line)?.as_slice(), expected);
+    }
+    Ok(())
+}
+
+/// For each word of the line at the front `b` where it is borrowed, and `o` where it is owned.
+fn kept_words(alloc: Global, input: &[u8]) -> Result<Vec<u8>, AllocError> {
+    let mut kept = Vec::new(alloc);
+    if begins_array(input) {
+        return Ok(kept);
+    }
+    if let LineScan::Whole { words, used: _ } = next_line(alloc, LIMIT, input)? {
+        for word in &words {
+            match word {
+                CowSlice::Borrowed(_) => kept.push(b'b')?,
+                CowSlice::Owned(_) => kept.push(b'o')?,
+            }
+        }
+    }
+    Ok(kept)
+}
+
+#[test]
+fn borrowed_words(rt: HostRuntime) -> Result<(), Fail> {
+    let alloc = rt.alloc();
+    let rows: [(&[u8], &[u8]); 4] = [
+        (b"SET key value\r\n", b"bbb"),
+        (b"SET \"a b\" key 'x' v\n", b"bobob"),
+        (b"\"SET\" key\n", b"ob"),
+        (b"k\"v\" k\n", b"ob"),
+    ];
+    for (line, expected) in rows {
+        assert_eq!(rt; kept_words(alloc, line)?.as_slice(), expected);
     }
     Ok(())
 }

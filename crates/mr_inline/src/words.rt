@@ -1,8 +1,8 @@
-ghost use Rattle.std.specs.Prelude.{◌≡◌, ◌≢◌, ◌<◌, ◌≤◌, length, map, All, IfOk, slice_index};
+ghost use Rattle.std.specs.Prelude.{◌≢◌, ◌<◌, ◌≤◌, length, drop, IfOk, slice_index};
+ghost use Rattle.std.specs.List.{AllZip};
 ghost use Rattle.std.specs.Cow.{cow_slice_items, IsBorrowedSlice};
-ghost use Rattle.mr_inline.specs.Parts.{IsCut, IsPlainUpTo};
-ghost use Rattle.mr_inline.specs.Places.{kind_of, words_from};
-ghost use Rattle.mr_inline.specs.Scans.{HasNoQuote};
+ghost use Rattle.mr_inline.specs.Parts.{IsCut, IsPlainUpTo, IsReadAt};
+ghost use Rattle.mr_inline.specs.Places.{kind_of, starts_from, IsBare};
 ghost use Rattle.mr_inline.specs.declared.place.Kind.TheVariants.{Separator};
 ghost use Rattle.mr_inline.specs.declared.place.Place.TheVariants.{Between};
 
@@ -38,7 +38,7 @@ fn word_at<'a>(alloc: Global, line: &'a [u8], start: usize) -> Result<Cut<'a>, A
     requires inside { start < length line.now }
     requires begins { kind_of (slice_index line.now start) ≢ Separator }
     ensures word { IfOk result (λ cut. IsCut line.now start cut.end (cow_slice_items cut.word)) }
-    ensures borrowed { IfOk result (λ cut. HasNoQuote line.now → IsBorrowedSlice cut.word) }
+    ensures borrowed { IfOk result (λ cut. IsBare (drop start line.now) → IsBorrowedSlice cut.word) }
 {
     let end = plain_end(line, start);
     let plain = &line[start..end];
@@ -77,8 +77,7 @@ pub(crate) fn words_of<'a>(
     alloc: Global,
     line: &'a [u8],
 ) -> Result<Vec<CowSlice<'a, u8>>, AllocError>
-    ensures words { IfOk result (λ words. map cow_slice_items words.items ≡ words_from Between line.now) }
-    ensures borrowed { IfOk result (λ words. HasNoQuote line.now → All IsBorrowedSlice words.items) }
+    ensures { IfOk result (λ words. AllZip IsReadAt (starts_from Between line.now) words.items) }
 {
     let mut words = Vec::new(alloc);
     let mut at = 0;

@@ -106,6 +106,19 @@ fn a_fault_closes_one_link(rt: HostRuntime) -> Result<(), Fail> {
 }
 
 #[test]
+fn quit_closes_its_link(rt: HostRuntime) -> Result<(), Fail> {
+    let mut node = started(&rt, 64)?;
+    let link = opened(&mut node)?;
+    fed(&mut node, link, b"QUIT\r\nPING\r\n")?;
+    let outs = done(&mut node, link)?;
+    assert_eq!(rt; outs.reply(), b"+OK\r\n".as_slice());
+    assert!(rt; outs.closes());
+    let closed = matches!(step(&mut node, link)?, Step::Closed);
+    assert!(rt; closed, "what follows is dropped");
+    Ok(())
+}
+
+#[test]
 fn a_link_takes_no_more_than_its_room(rt: HostRuntime) -> Result<(), Fail> {
     let mut node = started(&rt, 64)?;
     let link = opened(&mut node)?;

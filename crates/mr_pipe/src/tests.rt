@@ -71,7 +71,7 @@ fn replies_are_those_of_the_requests(rt: HostRuntime) -> Result<(), Fail> {
     let alloc = rt.alloc();
     let config = usual().ok_or("a moment")?;
     let fault = b"-ERR Protocol error: invalid bulk length\r\n".as_slice();
-    let rows: [(&[&[u8]], &[u8]); 6] = [
+    let rows: [(&[&[u8]], &[u8]); 7] = [
         (&[SET, GET], b"+OK\r\n$1\r\nv\r\n"),
         (&[b"*0\r\n", b"*-1\r\n", PING], b"+PONG\r\n"),
         (&[b"*1\r\n$-5\r\n", PING], fault),
@@ -81,6 +81,7 @@ fn replies_are_those_of_the_requests(rt: HostRuntime) -> Result<(), Fail> {
             b"+PONG\r\n-ERR Protocol error: expected '$', got ':'\r\n",
         ),
         (&[PING, &SET[..26]], b"+PONG\r\n"),
+        (&[PING, b"quit\r\n", PING], b"+PONG\r\n+OK\r\n"),
     ];
     for (texts, want) in rows {
         let mut whole = Vec::new(alloc);

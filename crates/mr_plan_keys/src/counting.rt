@@ -6,14 +6,14 @@ ghost use Rattle.mr_data.specs.Dataset.{live};
 ghost use Rattle.mr_plan_keys.specs.Outcomes.{present_at};
 
 use mr_data::{Dataset, Given};
-use mr_turn::find;
+use mr_turn::see;
 use std::borrow::CowSlice;
 
 // Whether a key is there and not past.
 fn is_present(held: &Dataset, key: &[u8], given: Given) -> bool
     ensures { result ≡ is_some (live given.now (get held.now key.now)) }
 {
-    find(held, key, given.now()).is_some()
+    see(held, key, given).0.is_some()
 }
 
 /// How many of the keys are there and not past, one that is named twice counted twice.

@@ -2,7 +2,6 @@
 ghost use Rattle.std.specs.Prelude.{◌≡◌, IfOk, IsTrue};
 ghost use Rattle.std.specs.List.{list_all};
 ghost use Rattle.mr_value.specs.Words.{fits};
-ghost use Rattle.mr_resp.specs.Replies.{int};
 ghost use Rattle.mr_resp.specs.ReplyView.{view};
 ghost use Rattle.mr_ask.specs.Carried.{key_words};
 ghost use Rattle.mr_ask.specs.declared.key_ask.KeyAsk.TheVariants as asks;
@@ -14,8 +13,7 @@ use crate::counting::count_present;
 use crate::turns;
 use mr_ask::{Argument, KeyAsk, Words};
 use mr_data::{Dataset, Given, Plan};
-use mr_resp::Reply;
-use mr_turn::{Effects, look, push_dels};
+use mr_turn::{Effects, count, integer, look, push_dels};
 use std::alloc::{AllocError, Global};
 
 /// What a command is answered, and its effects. The dataset isn't changed, and the plan owns what it holds.
@@ -111,12 +109,6 @@ fn exists(
 {
     let mut effects = Effects::new(alloc);
     push_dels(alloc, held, keys, given, true, &mut effects)?;
-    let count = count_present(held, keys.as_slice(), given);
-    Ok(effects.into_plan(integer(count as i64)))
-}
-
-fn integer(number: i64) -> Reply
-    ensures { view result ≡ int number }
-{
-    Reply::Int(number)
+    let present = count_present(held, keys.as_slice(), given);
+    Ok(effects.into_plan(count(present)))
 }

@@ -1,15 +1,14 @@
 // Commands to the server itself.
 ghost use Rattle.std.specs.Prelude.{◌≡◌, IfOk};
-ghost use Rattle.mr_resp.specs.Replies.{bytes};
 ghost use Rattle.mr_resp.specs.ReplyView.{view};
 ghost use Rattle.mr_turn.specs.Commands.{IsPlan, IsFaithful};
 ghost use Rattle.mr_plan_keys.specs.Commands.{server_command};
 ghost use Rattle.mr_plan_keys.specs.Server.{server_reply};
 
-use mr_ask::{Argument, ServerAsk};
+use mr_ask::ServerAsk;
 use mr_data::{Dataset, Given, Plan};
 use mr_resp::Reply;
-use mr_turn::Effects;
+use mr_turn::{Effects, bulk, done};
 use std::alloc::{AllocError, Global};
 use std::borrow::CowSlice;
 
@@ -34,18 +33,12 @@ fn reply_to(alloc: Global, ask: &ServerAsk<'_, '_>) -> Result<Reply, AllocError>
         ServerAsk::Ping { message: None } => Ok(Reply::Simple(CowSlice::Borrowed(b"PONG"))),
         ServerAsk::Ping {
             message: Some(message),
-        } => copied(alloc, message),
-        ServerAsk::Echo { message } => copied(alloc, message),
+        } => bulk(alloc, message.as_slice()),
+        ServerAsk::Echo { message } => bulk(alloc, message.as_slice()),
         ServerAsk::Command { .. } => Ok(Reply::Array(Vec::new(alloc))),
         ServerAsk::Select
         | ServerAsk::Quit
         | ServerAsk::SetClientName { .. }
-        | ServerAsk::SetClientInfo { .. } => Ok(Reply::Simple(CowSlice::Borrowed(b"OK"))),
+        | ServerAsk::SetClientInfo { .. } => Ok(done()),
     }
-}
-
-fn copied(alloc: Global, word: &Argument<'_>) -> Result<Reply, AllocError>
-    ensures { IfOk result (λ r. view r ≡ bytes word.now) }
-{
-    Ok(Reply::Bulk(Vec::from_slice(alloc, word.as_slice())?))
 }

@@ -1,13 +1,13 @@
 // One function for each command on one key, over the entry that is seen there.
 ghost use Rattle.std.specs.Prelude.{◌≡◌, IfOk, option_copied};
 ghost use Rattle.mr_resp.specs.ReplyView.{view};
-ghost use Rattle.mr_turn.specs.Turns.{wrong_kind, Takes};
+ghost use Rattle.mr_turn.specs.Turns.{Takes};
 ghost use Rattle.mr_plan_keys.specs.Turns.{get_reply, set_turn, is_text, is_plain, kind_name, type_reply};
 
 use mr_ask::Argument;
 use mr_data::{Effect, Entry, Value};
 use mr_resp::Reply;
-use mr_turn::Effects;
+use mr_turn::{Effects, bulk, done, wrong_kind};
 use mr_value::Word;
 use std::alloc::{AllocError, Global};
 use std::borrow::CowSlice;
@@ -19,18 +19,9 @@ pub fn get(alloc: Global, seen: Option<&Entry>) -> Result<Reply, AllocError>
         return Ok(Reply::NullBulk);
     };
     match &entry.value {
-        Value::Text(text) => Ok(Reply::Bulk(Vec::from_slice(alloc, text.as_slice())?)),
+        Value::Text(text) => bulk(alloc, text.as_slice()),
         Value::Hash(_) | Value::List(_) | Value::Set(_) => Ok(wrong_kind()),
     }
-}
-
-// What is answered where a key holds another kind of value.
-fn wrong_kind() -> Reply
-    ensures { view result ≡ wrong_kind }
-{
-    Reply::Error(CowSlice::Borrowed(
-        b"WRONGTYPE Operation against a key holding the wrong kind of value",
-    ))
 }
 
 pub fn set(
@@ -48,7 +39,7 @@ pub fn set(
             value: Word::copied(alloc, text.as_slice())?,
         })?;
     }
-    Ok(Reply::Simple(CowSlice::Borrowed(b"OK")))
+    Ok(done())
 }
 
 // Whether the entry is this text already, without a deadline.

@@ -5,11 +5,11 @@ ghost use Rattle.mr_turn.specs.Turns.{Takes};
 ghost use Rattle.mr_plan_set.specs.Turns.{add_members_turn, remove_members_turn};
 
 use crate::grouping::{Write, changed_by, push_groups};
-use crate::replies::{number, set_at, wrong_kind};
+use crate::replies::{number, set_at};
 use mr_ask::{Argument, Words};
 use mr_data::Entry;
 use mr_resp::Reply;
-use mr_turn::Effects;
+use mr_turn::{Effects, wrong_kind};
 use mr_value::SetValue;
 use std::alloc::{AllocError, Global};
 

@@ -12,13 +12,12 @@ ghost use Rattle.mr_plan_set.specs.Members.{joined};
 ghost use Rattle.mr_plan_set.specs.Grouping.{members_of, agrees, is_wanted};
 ghost use Rattle.mr_plan_set.specs.Turns.{bulks};
 
-use crate::looking::see;
-use crate::replies::{bulk, set_at};
+use crate::replies::set_at;
 use mr_ask::{SetOperation, Words};
 use mr_data::{Dataset, Given};
 use mr_map::SliceMap;
 use mr_resp::Reply;
-use mr_turn::{Effects, push_dels};
+use mr_turn::{Effects, bulk, push_dels, see};
 use mr_value::SetValue;
 use std::alloc::{AllocError, Global};
 

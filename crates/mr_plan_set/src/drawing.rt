@@ -9,12 +9,12 @@ ghost use Rattle.mr_plan_set.specs.declared.grouping.Write.TheVariants as write;
 ghost use Rattle.mr_plan_set.specs.Turns.{draw_members_turn, take_members_turn, first_bulk, one_bulk, bulks};
 
 use crate::grouping::{Write, group_effect, push_groups};
-use crate::replies::{bulk, set_at, wrong_kind};
+use crate::replies::set_at;
 use mr_ask::Argument;
 use mr_data::{Entry, Words};
 use mr_map::{Keys, SliceMap};
 use mr_resp::Reply;
-use mr_turn::Effects;
+use mr_turn::{Effects, bulk, wrong_kind};
 use mr_value::{SetValue, Word};
 use std::alloc::{AllocError, Global};
 

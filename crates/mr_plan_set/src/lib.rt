@@ -6,7 +6,6 @@ mod combining;
 mod drawing;
 mod grouping;
 mod laws;
-mod looking;
 mod moving;
 mod planning;
 mod replies;

@@ -6,11 +6,11 @@ ghost use Rattle.mr_resp.specs.ReplyView.{view};
 ghost use Rattle.mr_data.specs.Dataset.{Dataset as Map};
 ghost use Rattle.mr_plan_set.specs.Moving.{move_member, Gives};
 
-use crate::replies::{number, set_at, wrong_kind};
+use crate::replies::{number, set_at};
 use mr_ask::Argument;
 use mr_data::{Effect, Entry};
 use mr_resp::Reply;
-use mr_turn::Effects;
+use mr_turn::{Effects, wrong_kind};
 use mr_value::{SetValue, Word};
 use std::alloc::{AllocError, Global};
 

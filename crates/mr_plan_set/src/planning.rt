@@ -10,13 +10,11 @@ ghost use Rattle.mr_turn.specs.Commands.{IsPlan, IsFaithful};
 ghost use Rattle.mr_plan_set.specs.SetCommands.{command, RestsOn};
 
 use crate::combining::{combined, look_at_all};
-use crate::looking::look;
 use crate::moving::{moved, same};
-use crate::replies::wrong_kind;
 use crate::{changing, drawing, telling};
 use mr_ask::{Argument, SetAsk, SetOperation, Words};
 use mr_data::{Dataset, Given, Plan};
-use mr_turn::Effects;
+use mr_turn::{Effects, look, wrong_kind};
 use mr_value::SetValue;
 use std::alloc::{AllocError, Global};
 

@@ -3,10 +3,11 @@ ghost use Rattle.std.specs.Prelude.{◌≡◌, IfOk, option_copied};
 ghost use Rattle.mr_resp.specs.ReplyView.{view};
 ghost use Rattle.mr_plan_set.specs.Turns.{has_member_turn, have_members_turn, list_members_turn, count_members_turn, flags};
 
-use crate::replies::{bulks_of, flag, number, set_at, wrong_kind};
+use crate::replies::{bulks_of, flag, number, set_at};
 use mr_ask::{Argument, Words};
 use mr_data::Entry;
 use mr_resp::Reply;
+use mr_turn::wrong_kind;
 use mr_value::SetValue;
 use std::alloc::{AllocError, Global};
 

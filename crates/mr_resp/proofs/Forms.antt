@@ -1,10 +1,14 @@
 -- The two forms of a request are told apart by the first byte.
-use Rattle.std.proofs.Common.{◌≡◌, ◌≢◌, ℕ, ◌<◌, ◌⊎◌, inl, inr, List, [], ◌∷◌, ◌++◌, length, get_or, refl, sym, ap, ◌∙◌, subst, append_assoc, arith}
-use Rattle.std.specs.List.{flat_map}
+use Rattle.std.proofs.Common.{◌≡◌, ◌≢◌, ℕ, ◌<◌, ◌⊎◌, inl, inr, List, [], ◌∷◌, ◌++◌, length, get_or, map, All, Global, refl, sym, ap, ◌∙◌, subst, append_assoc, arith}
+use Rattle.std.specs.Cow.{cow_slice_items, IsBorrowedSlice}
+use Rattle.std.specs.List.{flat_map, AllZip}
+use Rattle.std.specs.declared.borrow.CowSlice.{CowSlice}
 use Rattle.std.proofs.lemmas.List.{length-append}
+use Rattle.std.proofs.lemmas.List.Elements.{All-head, All-tail}
 use Rattle.mr_inline.specs.Language.{Continues, IsDoomed, Fails}
 use Rattle.mr_inline.specs.Bytes.{star, line_feed}
-use Rattle.mr_inline.specs.Line.{IsLineOf, IsLineText, part_text}
+use Rattle.mr_inline.specs.Line.{IsLineOf, IsLineText, Part, word_text, part_text, part_value}
+use Rattle.mr_inline.specs.Scans.{HasNoQuote}
 use Rattle.mr_resp.specs.Array.{IsArrayText, HasArrayFault}
 use Rattle.mr_resp.specs.Request.{line_limit, IsText, IsInArray, HasInlineFault, HasFault}
 use Rattle.mr_resp.specs.Scans.{Reads, ReadsArray, ReadsInline, CopiesNothing, CopiesOnlyQuoted}
@@ -127,8 +131,17 @@ module _ (limits : Limits) where
   line_reads input More none p = line_continues input p
   line_reads input (Bad fault) none p = line_fails input fault none p
 
+-- where all words are the input's own bytes
+own_words : (parts : List Part) (words : List (CowSlice ℕ Global)) → map cow_slice_items words ≡ map part_value parts → All IsBorrowedSlice words → AllZip (λ part word. HasNoQuote (word_text part.word) → IsBorrowedSlice word) parts words
+own_words [] [] e all = tt
+own_words [] (word ∷ words) e all = absurd (omega (arith, ap length e))
+own_words (part ∷ parts) [] e all = absurd (omega (arith, ap length e))
+own_words (part ∷ parts) (word ∷ words) e all =
+    let later : map cow_slice_items words ≡ map part_value parts = cc in
+    (λ none. All-head IsBorrowedSlice word words all, own_words parts words later (All-tail IsBorrowedSlice word words all))
+
 pub array_copies : (input : List ℕ) (scan : Scan) → CopiesNothing scan → CopiesOnlyQuoted input scan
-array_copies input (Whole words used) all = λ plain. all
+array_copies input (Whole words used) all = (λ begins. all, λ line. own_words line.parts words.items line.means all)
 array_copies input (Skip used) all = tt
 array_copies input More all = tt
 array_copies input (Bad fault) all = tt

@@ -3,7 +3,12 @@
 
 mod effects;
 mod looking;
+mod replies;
 mod taken;
 
 pub use effects::Effects;
-pub use looking::{find, look, push_dels};
+pub use looking::{look, push_dels, see};
+pub use replies::{bulk, count, done, integer, wrong_kind};
+
+#[cfg(test)]
+mod tests;

@@ -1,7 +1,7 @@
 // The keys of a dataset that a command names, past ones and others.
-ghost use Rattle.std.specs.Prelude.{◌≡◌, [], ◌∷◌, ◌++◌, pos, length, IfOk, option_copied};
+ghost use Rattle.std.specs.Prelude.{◌≡◌, [], ◌∷◌, ◌++◌, pos, length, true, None, IfOk, OnErr, option_copied};
 ghost use Rattle.std.specs.FinMap as map;
-ghost use Rattle.mr_data.specs.Dataset.{is_past, live};
+ghost use Rattle.mr_data.specs.Dataset.{IsDataset, is_past, live};
 ghost use Rattle.mr_turn.specs.Keys.{chosen, dels, is_stored, past};
 
 use crate::effects::Effects;
@@ -21,18 +21,19 @@ fn is_past(now: i64, deadline: Option<i64>) -> bool
     }
 }
 
-/// What is seen at a key. It takes no memory.
-pub fn find<'d>(held: &'d Dataset, key: &[u8], now: i64) -> Option<&'d Entry>
-    ensures { option_copied result ≡ live now (map.get held.now key.now) }
+/// What is seen at a key, and whether the key is past. It takes no memory.
+pub fn see<'d>(held: &'d Dataset, key: &[u8], given: Given) -> (Option<&'d Entry>, bool)
+    ensures seen { option_copied result.0 ≡ live given.now (map.get held.now key.now) }
+    ensures past { result.1 ≡ is_stored given.now true (map.get held.now key.now) }
 {
-    let entry = held.entry(key)?;
-    if is_past(now, entry.deadline) {
-        return None;
+    match held.entry(key) {
+        None => (None, false),
+        Some(entry) if is_past(given.now(), entry.deadline) => (None, true),
+        Some(entry) => (Some(entry), false),
     }
-    Some(entry)
 }
 
-/// What is seen at a key. A past one gets its DEL.
+/// What is seen at a key. A past one gets its DEL, which alone takes memory. What the dataset keeps is known from here on.
 pub fn look<'d>(
     alloc: Global,
     held: &'d Dataset,
@@ -42,6 +43,8 @@ pub fn look<'d>(
 ) -> Result<Option<&'d Entry>, AllocError>
     ensures seen { IfOk result (λ e. option_copied e ≡ live given.now (map.get held.now key.now)) }
     ensures past { IfOk result (λ _. effects.new ≡ effects.old ++ dels (past given.now (key.now ∷ []) held.now)) }
+    ensures err { OnErr result (live given.now (map.get held.now key.now) ≡ None) }
+    ensures kept { IsDataset held.now }
 {
     let Some(entry) = held.entry(key.as_slice()) else {
         return Ok(None);

@@ -1,5 +1,5 @@
 // Hashes.
-ghost use Rattle.std.specs.Prelude.{◌≡◌, ◌==◌, IfOk, OnOk, OnErr, option_copied};
+ghost use Rattle.std.specs.Prelude.{◌≡◌, ◌==◌, ◌<◌, ◌^◌, IfOk, OnOk, OnErr, option_copied};
 ghost use Rattle.std.specs.FinMap as map;
 
 use crate::bytes::Bytes;
@@ -40,7 +40,8 @@ impl Hash {
 
     /// How many fields there are.
     pub fn len(&self) -> usize
-        ensures { result ≡ map.len self.now }
+        ensures len { result ≡ map.len self.now }
+        ensures small { result < 2 ^ 63 }
     {
         self.fields.len()
     }

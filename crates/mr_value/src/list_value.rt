@@ -1,5 +1,5 @@
 // Lists of byte strings.
-ghost use Rattle.std.specs.Prelude.{◌≡◌, ◌+◌, ◌-◌, ◌<◌, ◌≤◌, ◌↔◌, ◌==◌, List, [], ◌∷◌, ◌++◌, length, take, drop, insert, slice_get, slice_set, slice_range, is_some, Some, None, Ok, false, IfOk, IfSome, OnOk, OnErr, MatchOption, option_copied};
+ghost use Rattle.std.specs.Prelude.{◌≡◌, ◌+◌, ◌-◌, ◌<◌, ◌≤◌, ◌^◌, ◌↔◌, ◌==◌, List, [], ◌∷◌, ◌++◌, length, take, drop, insert, slice_get, slice_set, slice_range, is_some, Some, None, Ok, false, IfOk, IfSome, OnOk, OnErr, MatchOption, option_copied};
 ghost use Rattle.mr_value.specs.Lists.{are_equal, first_place, count_of, with_before, with_after, without, removed_count};
 
 use crate::bytes::Bytes;
@@ -38,9 +38,12 @@ impl ListValue {
 
     /// How many items there are.
     pub fn len(&self) -> usize
-        ensures { result ≡ length self.now }
+        ensures len { result ≡ length self.now }
+        ensures small { result < 2 ^ 62 }
     {
-        self.items.len()
+        // Each part takes less than half of memory, so their sum is small.
+        let (front, back) = self.items.as_slices();
+        front.len() + back.len()
     }
 
     /// Whether there is no item.

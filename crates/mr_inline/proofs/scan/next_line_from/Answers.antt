@@ -1,8 +1,10 @@
-use Rattle.std.proofs.Common.{◌≡◌, ◌-◌, [], ◌++◌, length, map, vec_len, sym, ap, ◌∙◌, arith}
+use Rattle.std.proofs.Common.{◌≡◌, ◌-◌, [], ◌++◌, length, take, map, vec_len, sym, ap, ◌∙◌, arith}
 use Rattle.std.specs.Cow.{cow_slice_items}
 use Rattle.std.proofs.lemmas.Bool.{eqb-true, eqb-false}
 use Rattle.std.proofs.lemmas.List.{nil_from_length}
-use Rattle.mr_inline.proofs.MeasureSteps.{whole_line, some_words, no_quote_before}
+use Rattle.mr_inline.specs.Places.{starts_from}
+use Rattle.mr_inline.specs.declared.place.Place.TheVariants.{Between}
+use Rattle.mr_inline.proofs.MeasureSteps.{whole_line, some_words, words_read, borrows_unquoted}
 use Rattle.mr_inline.proofs.scan.next_line_from.Goals as goal
 
 pub returns-then-is_empty-clause-found : goal.returns-then-is_empty-clause-found
@@ -11,7 +13,7 @@ returns-then-is_empty-clause-found c =
     let words = c.in_ok-words-in-Whole.words in
     let none = eqb-true (vec_len words) 0 (sym c.is_empty.ensures ∙ c.if-is_empty.true) in
     let nil : words.items ≡ [] = nil_from_length words.items (omega (arith, words.ok.0, none)) in
-    (line.inside, whole_line c.args.limit c.args.input.now c.in-Whole.used (c.in-Whole.used - 1) [] c.requires.no_array line (omega (arith, line.some)) (sym (ap (map cow_slice_items) nil) ∙ c.in_ok-words-in-Whole.ensures.words))
+    (line.inside, whole_line c.args.limit c.args.input.now c.in-Whole.used (c.in-Whole.used - 1) [] c.requires.no_array line (omega (arith, line.some)) (sym (ap (map cow_slice_items) nil) ∙ (words_read (starts_from Between (take (c.in-Whole.used - 1) c.args.input.now)) c.in_ok-words-in-Whole.words.items c.in_ok-words-in-Whole.ensures)))
 
 pub returns-then-is_empty-clause-more : goal.returns-then-is_empty-clause-more
 returns-then-is_empty-clause-more c = λ more. c.new.ensures c.args.limit (c.args.input.now ++ more)
@@ -22,11 +24,13 @@ returns-in-Whole-clause-found c =
     let words = c.in_ok-words-in-Whole.words in
     let some = eqb-false (vec_len words) 0 (sym c.is_empty.ensures ∙ c.if-is_empty.false) in (
       line.inside,
-      (some_words words.items (λ nil. some (omega (arith, words.ok.0, ap length nil))), whole_line c.args.limit c.args.input.now c.in-Whole.used (c.in-Whole.used - 1) (map cow_slice_items words.items) c.requires.no_array line (omega (arith, line.some)) c.in_ok-words-in-Whole.ensures.words),
+      (some_words words.items (λ nil. some (omega (arith, words.ok.0, ap length nil))), whole_line c.args.limit c.args.input.now c.in-Whole.used (c.in-Whole.used - 1) (map cow_slice_items words.items) c.requires.no_array line (omega (arith, line.some)) (words_read (starts_from Between (take (c.in-Whole.used - 1) c.args.input.now)) c.in_ok-words-in-Whole.words.items c.in_ok-words-in-Whole.ensures)),
     )
 
 pub returns-in-Whole-clause-borrowed : goal.returns-in-Whole-clause-borrowed
-returns-in-Whole-clause-borrowed c = λ h. c.in_ok-words-in-Whole.ensures.borrowed (no_quote_before c.args.input.now c.in-Whole.used (c.in-Whole.used - 1) (omega arith) h)
+returns-in-Whole-clause-borrowed c =
+    let line = c.in-Whole.ensures.found in
+    borrows_unquoted c.args.limit c.args.input.now c.in-Whole.used (c.in-Whole.used - 1) c.in_ok-words-in-Whole.words.items line (omega (arith, line.some)) c.in_ok-words-in-Whole.ensures
 
 pub returns-in-Whole-clause-more : goal.returns-in-Whole-clause-more
 returns-in-Whole-clause-more c = λ more. c.new.ensures c.args.limit (c.args.input.now ++ more)

@@ -1,0 +1,5 @@
+use Rattle.mr_plan_hash.proofs.Laws.{hash_faithful}
+use Rattle.mr_plan_hash.proofs.planning.plan.Goals as goal
+
+pub returns-clause-faithful : goal.returns-clause-faithful
+returns-clause-faithful c = hash_faithful c.args.ask.now c.args.given.now c.args.held.now c.planned.ensures.kept
