@@ -1,16 +1,17 @@
 // Laws of the definitions that the contracts cite.
-ghost use Rattle.std.specs.Prelude.{ℕ, ◌≡◌, ◌&&◌, ◌∷◌, List, length, min, not, true};
-ghost use Rattle.std.specs.List.{list_all, list_any};
+ghost use Rattle.std.specs.Prelude.{ℕ, ◌≡◌, ◌≤◌, ◌&&◌, ◌∷◌, List, length, min, not, true};
+ghost use Rattle.std.specs.List.{count_by, list_all, list_any};
 ghost use Rattle.std.specs.FinMap.{contains_key, keys, len};
 ghost use Rattle.mr_map.specs.Bytes.{Bytes};
 ghost use Rattle.mr_ask.specs.declared.set_ask.SetOperation.TheVariants as operation;
-ghost use Rattle.mr_turn.specs.Taken.{has};
+ghost use Rattle.mr_turn.specs.Taken.{has, is_key};
 ghost use Rattle.mr_plan_set.specs.Members.{Members, drawn};
 ghost use Rattle.mr_plan_set.specs.Combining.{combined};
 
-/// What is drawn from a set: as many members as asked for, or all of fewer.
+/// What is drawn from a set: as many different members as asked for, or all of fewer.
 pub fn so_many_are_drawn()
     ensures count { (word n : ℕ) (s : Members) → length (drawn word n (keys s)) ≡ min n (len s) }
+    ensures once { (word n : ℕ) (s : Members) (x : Bytes) → count_by (is_key x) (drawn word n (keys s)) ≤ 1 }
     ensures members { (word n : ℕ) (s : Members) (x : Bytes) → has (drawn word n (keys s)) x ≡ true → contains_key s x ≡ true }
 {}
 

@@ -1,5 +1,5 @@
 use Rattle.std.specs.Prelude.{Some}
-use Rattle.mr_plan_set.proofs.Meanings.{drawn_length}
+use Rattle.mr_plan_set.proofs.Meanings.{drawn_length, drawn_once}
 use Rattle.mr_plan_set.proofs.Faithful.{taken_there}
 use Rattle.mr_plan_set.proofs.laws.so_many_are_drawn.Goals as goal
 
@@ -8,3 +8,6 @@ returns-clause-count c = drawn_length
 
 pub returns-clause-members : goal.returns-clause-members
 returns-clause-members c = λ word n s x h. taken_there (Some n) word s x h
+
+pub returns-clause-once : goal.returns-clause-once
+returns-clause-once c = drawn_once
