@@ -1,12 +1,11 @@
 -- What several sets give.
-use Rattle.std.proofs.Common.{◌≡◌, ℕ, List, [], ◌∷◌, ◌++◌, map, take, get_or, length, ◌+◌, ◌<◌, Bool, true, false, ◌&&◌, cond, Option, Some, None, refl, sym, ◌∙◌, ap, subst}
-use Rattle.std.specs.Prelude.{ℤ, ◌||◌, not, filter, if◌then◌else◌}
+use Rattle.std.proofs.Common.{◌≡◌, ℕ, List, [], ◌∷◌, ◌++◌, map, take, get_or, length, ◌+◌, ◌<◌, Bool, true, false, ◌&&◌, cond, Option, Some, None, refl, sym, ◌∙◌, ap}
+use Rattle.std.specs.Prelude.{ℤ, ◌||◌, filter, if◌then◌else◌}
 use Rattle.std.specs.declared.cmp.Ordering.TheVariants.{Equal}
 use Rattle.std.specs.Borrow.{Bor}
-use Rattle.std.specs.List.{list_all}
 use Rattle.std.specs.Option.{option_map, option_and_then}
-use Rattle.std.specs.FinMap.{get, remove, keys, entries, retain_keys, contains_key, from_sorted, entries_sorted, get-from_sorted, entries-from_sorted, get-entries, get-retain_keys, same_map}
-use Rattle.std.specs.FinMap.Entries.{find, is_sorted, where_key, is_sorted-where_key, find-where_key}
+use Rattle.std.specs.FinMap.{get, remove, keys, entries, retain_keys, from_sorted, entries_sorted, get-from_sorted, entries-from_sorted, get-entries, get-retain_keys, same_map}
+use Rattle.std.specs.FinMap.Entries.{where_key, is_sorted-where_key, find-where_key}
 use Rattle.std.proofs.lemmas.Cmp.{nat_list_cmp_total}
 use Rattle.std.proofs.lemmas.Map.Lookups.{exact_bytes}
 use Rattle.mr_map.specs.Bytes.{Bytes, bytes_cmp}
@@ -21,10 +20,10 @@ use Rattle.mr_data.specs.Steps.{sets, held}
 use Rattle.std.proofs.lemmas.List.{map-append}
 use Rattle.std.proofs.lemmas.List.Folds.{list_any-append}
 use Rattle.mr_turn.proofs.KeyLists.{more_words}
-use Rattle.mr_plan_set.specs.Members.{Members, common, minus, joined}
+use Rattle.mr_plan_set.specs.Members.{Members, joined}
 use Rattle.mr_plan_set.specs.Grouping.{members_of, agrees, is_wanted}
 use Rattle.mr_plan_set.specs.Finding.{HasFound, is_any_past}
-use Rattle.mr_plan_set.specs.Combining.{sets_at, of_two, of_all, combined}
+use Rattle.mr_plan_set.specs.Combining.{sets_at, of_two, of_all}
 
 -- ---- the members of a set that pass a test
 module _ (p : Bytes → Bool) where

@@ -1,5 +1,5 @@
 -- The law of faithful effects for each command on sets.
-use Rattle.std.proofs.Common.{◌≡◌, ℕ, List, [], ◌∷◌, Bool, true, false, ◌&&◌, refl}
+use Rattle.std.proofs.Common.{◌≡◌, ℕ, Bool, true, ◌&&◌, refl}
 use Rattle.std.specs.Prelude.{IsTrue, ℤ}
 use Rattle.std.specs.List.{list_all}
 use Rattle.std.specs.FinMap.{contains_key, keys, len}
@@ -15,7 +15,7 @@ use Rattle.mr_plan_set.specs.Members.{as_set}
 use Rattle.mr_plan_set.specs.Turns.{added, adding, removed, removing, taken, taking, drawn_reply, flag, flags, bulks, number}
 use Rattle.mr_plan_set.specs.SetCommands.{command, RestsOn}
 use Rattle.mr_plan_set.proofs.Groups.{group_change}
-use Rattle.mr_plan_set.proofs.Laws.{first, second, both, held_fits, taken_there, with_added, added_none, added_fit, without_removed, removed_none, removed_fit, without_set, set_none, set_fits, changing_set}
+use Rattle.mr_plan_set.proofs.Faithful.{first, second, both, held_fits, taken_there, with_added, added_none, added_fit, without_removed, removed_none, removed_fit, without_set, set_none, set_fits, changing_set}
 use Rattle.mr_plan_set.proofs.Tells.{told_faithful}
 use Rattle.mr_plan_set.proofs.Moves.{move_faithful}
 

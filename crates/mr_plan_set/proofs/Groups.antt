@@ -1,23 +1,20 @@
 -- Effects on members, in groups, do what all members do.
-use Rattle.std.proofs.Common.{◌≡◌, ◌≢◌, ℕ, List, [], ◌∷◌, ◌++◌, map, Bool, true, false, ◌&&◌, Option, Some, None, refl, sym, ◌∙◌, ap}
+use Rattle.std.proofs.Common.{◌≡◌, ◌≢◌, List, [], ◌∷◌, map, Bool, true, false, ◌&&◌, Option, Some, refl, sym, ◌∙◌, ap}
 use Rattle.std.specs.Prelude.{IsTrue, ◌==◌}
-use Rattle.std.specs.List.{AllByRecursion, list_all, flat_map}
-use Rattle.std.specs.FinMap.{get, empty, keys, len}
-use Rattle.mr_map.specs.Bytes.{Bytes, bytes_cmp}
+use Rattle.std.specs.List.{AllByRecursion, list_all}
+use Rattle.std.specs.FinMap.{empty, keys, len}
+use Rattle.mr_map.specs.Bytes.{Bytes}
 use Rattle.mr_value.specs.Words.{fits}
 use Rattle.mr_resp.specs.Replies.{Tree}
-use Rattle.mr_data.specs.Dataset.{Dataset}
 use Rattle.mr_data.specs.Collections.{with_members, without_members}
-use Rattle.mr_data.specs.Steps.{Step, sets, held, entry_of, deadline_of, on}
-use Rattle.mr_data.specs.Meaning.{change, at_key}
+use Rattle.mr_data.specs.Steps.{sets, held, entry_of, deadline_of}
+use Rattle.mr_data.specs.Meaning.{change}
 use Rattle.mr_data.specs.declared.value.Entry.{Entry}
 use Rattle.mr_data.proofs.Nonempty.{with_members_some, without_members_none, no_elements}
-use Rattle.mr_effect.specs.Effects.{is_some_of, has_spelling, words_fit}
-use Rattle.mr_effect.specs.declared.effect.Effect.{Effect}
-use Rattle.mr_turn.specs.Collections.{Change}
+use Rattle.mr_effect.specs.Effects.{is_some_of}
 use Rattle.mr_turn.specs.Cuts.{cut}
 use Rattle.mr_turn.proofs.Cutting.{IsGroup, cut_groups, cut_whole, no_cut}
-use Rattle.mr_turn.proofs.Running.{IsStep, AreSteps, steps_of, run, IsFold, StaysNone, group_step, groups_run}
+use Rattle.mr_turn.proofs.Running.{IsStep, steps_of, IsFold, StaysNone, group_step, groups_run}
 use Rattle.mr_turn.proofs.KindLaws.{sets_are}
 use Rattle.mr_turn.proofs.Changing.{IsFaithfulChange}
 use Rattle.mr_plan_set.specs.declared.grouping.Write.{Write}

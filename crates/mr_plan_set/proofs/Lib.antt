@@ -4,6 +4,7 @@ pub mod Draws
 pub mod Combinations
 pub mod Tells
 pub mod Groups
-pub mod Laws
+pub mod Faithful
 pub mod Moves
 pub mod CommandLaws
+pub mod Meanings

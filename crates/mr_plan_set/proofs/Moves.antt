@@ -1,9 +1,9 @@
 -- A member that goes from one set into another.
-use Rattle.std.proofs.Common.{rules, ◌≡◌, ℕ, List, [], ◌∷◌, ◌++◌, append_assoc, map, Bool, true, false, ◌&&◌, cond, Option, Some, None, refl, sym, ◌∙◌, ap, subst}
+use Rattle.std.proofs.Common.{rules, ◌≡◌, ℕ, List, [], ◌∷◌, ◌++◌, append_assoc, Bool, true, false, ◌&&◌, cond, Option, Some, None, refl, sym, ◌∙◌, ap}
 use Rattle.std.specs.Prelude.{IsTrue, ℤ, ◌||◌, not, is_some, if◌then◌else◌}
 use Rattle.std.specs.List.{list_all}
 use Rattle.std.specs.Option.{option_map, option_and_then}
-use Rattle.std.specs.FinMap.{get, empty, keys, contains_key, insert, remove}
+use Rattle.std.specs.FinMap.{get, contains_key, insert, remove}
 use Rattle.std.specs.Str.{bytes_eq}
 use Rattle.std.proofs.lemmas.List.{map-append}
 use Rattle.std.proofs.lemmas.Slice.Eq.{bytes_eq-Decides}
@@ -21,7 +21,7 @@ use Rattle.mr_effect.specs.declared.effect.Effect.{Effect}
 use Rattle.mr_effect.specs.declared.effect.Effect.TheVariants as effect
 use Rattle.mr_turn.specs.Taken.{is_key, has}
 use Rattle.mr_turn.specs.Keys.{past, purged, dels, is_stored}
-use Rattle.mr_turn.specs.Outcomes.{Outcome, answered}
+use Rattle.mr_turn.specs.Outcomes.{answered}
 use Rattle.mr_turn.specs.Commands.{Command, before, IsPlan, IsFaithful}
 use Rattle.mr_turn.proofs.Maps.{is_key_itself, same_key, get_put, get_put_other, get_remove}
 use Rattle.mr_turn.proofs.KeyLists.{get_purged}

@@ -1,6 +1,6 @@
 -- Items that are put into effects, a group at a time.
 use Rattle.std.specs.Prelude.{◌==◌}
-use Rattle.std.proofs.Common.{ℕ, ◌≡◌, ◌<◌, Bool, true, false, List, [], ◌∷◌, ◌++◌, map, length, take, drop, ◌≤◌, append_assoc, take_all, refl, sym, ◌∙◌, ap, arith}
+use Rattle.std.proofs.Common.{ℕ, ◌≡◌, ◌<◌, Bool, false, List, [], ◌∷◌, ◌++◌, map, length, take, drop, ◌≤◌, append_assoc, take_all, refl, sym, ◌∙◌, ap, arith}
 use Rattle.std.proofs.Math.Seq.{take-append_seam, drop-append_seam}
 use Rattle.std.proofs.Math.ListN.{drop_of_length-le}
 use Rattle.std.specs.FinMap.{empty, keys, entries, len-entries, len-empty, entries-insert}

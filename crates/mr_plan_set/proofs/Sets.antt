@@ -11,7 +11,7 @@ use Rattle.mr_data.specs.Collections.{with_members, without_members}
 use Rattle.mr_turn.specs.Taken.{is_key, has}
 use Rattle.mr_turn.proofs.Maps.{same_key}
 use Rattle.mr_turn.proofs.KeyLists.{more_words}
-use Rattle.mr_plan_set.specs.Members.{Members, as_set, common, minus, joined}
+use Rattle.mr_plan_set.specs.Members.{Members, as_set}
 
 some_or : (b : Bool) (x : Option (Unit {0})) → is_some (cond b (Some tt) x) ≡ (b || is_some x)
 some_or true x = refl

@@ -11,7 +11,6 @@ use Rattle.mr_data.specs.Steps.{sets, held}
 use Rattle.mr_data.specs.declared.value.Entry.{Entry}
 use Rattle.mr_effect.specs.declared.effect.Effect.{Effect}
 use Rattle.mr_turn.specs.Keys.{dels, past}
-use Rattle.mr_turn.specs.Turns.{Turn}
 use Rattle.mr_turn.specs.Collections.{telling, told}
 use Rattle.mr_turn.specs.Commands.{on_key, before, IsPlan, IsFaithful}
 use Rattle.mr_turn.proofs.PlanLemmas.{key_plan, told as takes_none}

@@ -1,5 +1,5 @@
 -- What was found at some keys.
-use Rattle.std.specs.Prelude.{◌≡◌, ℤ, List, Bool, true, if◌then◌else◌, Option, Some, None}
+use Rattle.std.specs.Prelude.{◌≡◌, ℤ, List, Bool, true, if◌then◌else◌, Some, None}
 use Rattle.std.specs.Borrow.{Bor}
 use Rattle.std.specs.List.{list_any}
 use Rattle.std.specs.FinMap.{get}

@@ -5,11 +5,11 @@ ghost use Rattle.mr_turn.specs.Turns.{Takes};
 ghost use Rattle.mr_plan_set.specs.Turns.{add_members_turn, remove_members_turn};
 
 use crate::grouping::{Write, changed_by, push_groups};
-use crate::replies::{number, set_at};
+use crate::replies::set_at;
 use mr_ask::{Argument, Words};
 use mr_data::Entry;
 use mr_resp::Reply;
-use mr_turn::{Effects, wrong_kind};
+use mr_turn::{Effects, count, wrong_kind};
 use mr_value::SetValue;
 use std::alloc::{AllocError, Global};
 
@@ -29,7 +29,7 @@ pub fn add_members(
     };
     let added = changed_by(alloc, Write::Add, members, set)?;
     push_groups(alloc, Write::Add, key, &added, effects)?;
-    Ok(number(added.len()))
+    Ok(count(added.len()))
 }
 
 /// `SREM`
@@ -48,5 +48,5 @@ pub fn remove_members(
     };
     let removed = changed_by(alloc, Write::Remove, members, set)?;
     push_groups(alloc, Write::Remove, key, &removed, effects)?;
-    Ok(number(removed.len()))
+    Ok(count(removed.len()))
 }

@@ -1,5 +1,5 @@
 // Effects on members, in groups.
-ghost use Rattle.std.specs.Prelude.{◌≡◌, ◌++◌, ◌<◌, IfOk, OnOk};
+ghost use Rattle.std.specs.Prelude.{◌≡◌, ◌++◌, IfOk, OnOk};
 ghost use Rattle.mr_plan_set.specs.Grouping.{changed_by, changes, group_effect, group_effects};
 
 use mr_ask::{Argument, Words as Arguments};

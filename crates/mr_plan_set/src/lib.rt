@@ -5,11 +5,13 @@ mod changing;
 mod combining;
 mod drawing;
 mod grouping;
+mod laws;
 mod moving;
 mod planning;
 mod replies;
 mod telling;
 
+pub use laws::{sets_are_combined, so_many_are_drawn};
 pub use planning::plan;
 
 #[cfg(test)]

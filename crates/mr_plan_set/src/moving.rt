@@ -6,11 +6,11 @@ ghost use Rattle.mr_resp.specs.ReplyView.{view};
 ghost use Rattle.mr_data.specs.Dataset.{Dataset as Map};
 ghost use Rattle.mr_plan_set.specs.Moving.{move_member, Gives};
 
-use crate::replies::{number, set_at};
+use crate::replies::set_at;
 use mr_ask::Argument;
 use mr_data::{Effect, Entry};
 use mr_resp::Reply;
-use mr_turn::{Effects, wrong_kind};
+use mr_turn::{Effects, count, wrong_kind};
 use mr_value::{SetValue, Word};
 use std::alloc::{AllocError, Global};
 
@@ -27,7 +27,7 @@ pub fn moved(
     ensures { IfOk result (λ r. (m : Map) → get m from.now ≡ option_copied source.entry → get m to.now ≡ option_copied target.entry → Gives (move_member from.now to.now member.now m) (view r) effects.old effects.new) }
 {
     if source.is_none() {
-        return Ok(number(0));
+        return Ok(count(0));
     }
     let empty = SetValue::new(alloc);
     let Some(set) = set_at(source, &empty) else {
@@ -37,7 +37,7 @@ pub fn moved(
         return Ok(wrong_kind());
     }
     if !set.contains(member.as_slice()) {
-        return Ok(number(0));
+        return Ok(count(0));
     }
     if !same(from, to) {
         effects.push(Effect::MoveMember {
@@ -46,7 +46,7 @@ pub fn moved(
             member: Word::copied(alloc, member.as_slice())?,
         })?;
     }
-    Ok(number(1))
+    Ok(count(1))
 }
 
 /// Whether two keys are one.

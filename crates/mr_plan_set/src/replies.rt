@@ -1,12 +1,11 @@
 // Replies, and the set that a command finds.
-ghost use Rattle.std.specs.Prelude.{◌≡◌, ◌<◌, ◌^◌, IfOk, option_copied};
+ghost use Rattle.std.specs.Prelude.{◌≡◌, IfOk, option_copied};
 ghost use Rattle.std.specs.FinMap as map;
 ghost use Rattle.mr_resp.specs.ReplyView.{view};
 ghost use Rattle.mr_data.specs.Steps.{sets, held};
-ghost use Rattle.mr_plan_set.specs.Turns.{number, flag, bulks};
+ghost use Rattle.mr_plan_set.specs.Turns.{flag, bulks};
 
 use mr_data::{Entry, Value};
-use mr_map::Keys;
 use mr_resp::Reply;
 use mr_turn::bulk;
 use mr_value::SetValue;
@@ -26,14 +25,7 @@ pub fn set_at<'d>(seen: Option<&'d Entry>, empty: &'d SetValue) -> Option<&'d Se
     }
 }
 
-/// A count of members.
-pub fn number(count: usize) -> Reply
-    requires { count < 2 ^ 63 }
-    ensures { view result ≡ number count }
-{
-    Reply::Int(count as i64)
-}
-
+/// 1 where it holds, else 0.
 pub fn flag(holds: bool) -> Reply
     ensures { view result ≡ flag holds }
 {

@@ -3,11 +3,11 @@ ghost use Rattle.std.specs.Prelude.{◌≡◌, IfOk, option_copied};
 ghost use Rattle.mr_resp.specs.ReplyView.{view};
 ghost use Rattle.mr_plan_set.specs.Turns.{has_member_turn, have_members_turn, list_members_turn, count_members_turn, flags};
 
-use crate::replies::{bulks_of, flag, number, set_at};
+use crate::replies::{bulks_of, flag, set_at};
 use mr_ask::{Argument, Words};
 use mr_data::Entry;
 use mr_resp::Reply;
-use mr_turn::wrong_kind;
+use mr_turn::{count, wrong_kind};
 use mr_value::SetValue;
 use std::alloc::{AllocError, Global};
 
@@ -65,7 +65,7 @@ pub fn count_members(alloc: Global, seen: Option<&Entry>) -> Reply
 {
     let empty = SetValue::new(alloc);
     match set_at(seen, &empty) {
-        Some(set) => number(set.len()),
+        Some(set) => count(set.len()),
         None => wrong_kind(),
     }
 }

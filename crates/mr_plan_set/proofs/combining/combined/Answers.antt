@@ -1,7 +1,7 @@
 use Rattle.std.proofs.Common.{◌≡◌, ◌∙◌, ap, sym, [], ◌∷◌, true, false}
 use Rattle.std.specs.FinMap.{keys}
 use Rattle.std.proofs.lemmas.List.{nil_from_length}
-use Rattle.mr_resp.specs.ReplyView.{view, views}
+use Rattle.mr_resp.specs.ReplyView.{views}
 use Rattle.mr_resp.specs.Replies as reply
 use Rattle.mr_resp.proofs.ViewLemmas.{view-Array}
 use Rattle.mr_turn.proofs.PlanLemmas.{if_ok}

@@ -1,4 +1,4 @@
-use Rattle.std.proofs.Common.{◌∙◌, ap, sym}
+use Rattle.std.proofs.Common.{◌∙◌, ap}
 use Rattle.mr_plan_set.specs.Members.{joined}
 use Rattle.mr_plan_set.proofs.Sets.{as_set_keys}
 use Rattle.mr_plan_set.proofs.Combinations.{union_next}

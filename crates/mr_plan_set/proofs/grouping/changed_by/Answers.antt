@@ -1,4 +1,4 @@
-use Rattle.std.proofs.Common.{◌∙◌, ap, sym}
+use Rattle.std.proofs.Common.{◌∙◌, sym}
 use Rattle.std.specs.Cow.{cow_slice_items}
 use Rattle.mr_plan_set.specs.Grouping.{changes}
 use Rattle.mr_plan_set.proofs.Sets.{retain_empty, word_chosen, word_left}

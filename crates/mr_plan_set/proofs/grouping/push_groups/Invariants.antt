@@ -1,9 +1,5 @@
-use Rattle.std.proofs.Common.{◌≡◌, ◌<◌, ◌++◌, List, map, length}
 use Rattle.std.specs.FinMap.{keys}
-use Rattle.mr_map.specs.Bytes.{Bytes}
-use Rattle.mr_effect.specs.declared.effect.Effect.{Effect}
-use Rattle.mr_turn.specs.Cuts.{cut}
-use Rattle.mr_plan_set.specs.Grouping.{group_effect, group_effects}
+use Rattle.mr_plan_set.specs.Grouping.{group_effect}
 use Rattle.mr_plan_set.proofs.Pushing.{IsPushing}
 use Rattle.mr_plan_set.proofs.grouping.push_groups.Given as goal
 

@@ -1,8 +1,8 @@
 -- The effects of commands on sets are faithful.
-use Rattle.std.proofs.Common.{◌≡◌, ◌≢◌, ℕ, zero, suc, List, [], ◌∷◌, ◌++◌, take, drop, length, Bool, true, false, ◌&&◌, cond, Option, Some, None, refl, sym, ◌∙◌, ap, subst}
-use Rattle.std.specs.Prelude.{IsTrue, ℤ, ◌||◌, ◌%◌, not, is_some}
+use Rattle.std.proofs.Common.{◌≡◌, ℕ, zero, suc, List, [], ◌∷◌, ◌++◌, take, drop, length, Bool, true, false, ◌&&◌, cond, Option, Some, None, refl, sym, ◌∙◌, ap}
+use Rattle.std.specs.Prelude.{IsTrue, ℤ, ◌||◌, ◌%◌, not}
 use Rattle.std.specs.List.{list_all}
-use Rattle.std.specs.FinMap.{get, empty, keys, contains_key, retain_keys}
+use Rattle.std.specs.FinMap.{get, empty, keys, contains_key}
 use Rattle.mr_map.specs.Bytes.{Bytes}
 use Rattle.mr_value.specs.Words.{fits}
 use Rattle.mr_data.specs.Dataset.{Dataset, IsDataset, IsValue, live, is_past}
@@ -11,11 +11,8 @@ use Rattle.mr_data.specs.Steps.{sets, held, set_of}
 use Rattle.mr_data.specs.declared.value.Value.{Value}
 use Rattle.mr_data.specs.declared.value.Value.TheVariants as value
 use Rattle.mr_data.specs.declared.value.Entry.{Entry}
-use Rattle.mr_ask.specs.Carried.{set_words}
-use Rattle.mr_ask.specs.declared.set_ask.SetAsk.{SetAsk}
-use Rattle.mr_ask.specs.declared.set_ask.SetAsk.TheVariants as ask
 use Rattle.mr_turn.specs.Taken.{is_key, has}
-use Rattle.mr_turn.specs.Keys.{past, purged}
+use Rattle.mr_turn.specs.Keys.{purged}
 use Rattle.mr_turn.specs.Collections.{Change, changing}
 use Rattle.mr_turn.specs.Commands.{on_key, before, IsFaithful}
 use Rattle.mr_turn.proofs.Maps.{is_key_itself, same_key}
@@ -23,13 +20,9 @@ use Rattle.mr_turn.proofs.KeyLists.{get_purged}
 use Rattle.mr_turn.proofs.Laws.{faithful, at_key_faithful}
 use Rattle.mr_turn.proofs.KindLaws.{sets_are, sets_kept}
 use Rattle.mr_turn.proofs.Changing.{IsFaithfulChange, changing_faithful}
-use Rattle.mr_plan_set.specs.declared.grouping.Write.TheVariants as write
-use Rattle.mr_plan_set.specs.Members.{Members, as_set, common, minus, from_place, drawn}
-use Rattle.mr_plan_set.specs.Turns.{added, adding, removed, removing, taken, taking, count_or_one, drawn_reply, has_member_turn, flag, flags, bulks, number}
-use Rattle.mr_plan_set.specs.SetCommands.{command, RestsOn}
+use Rattle.mr_plan_set.specs.Members.{Members, as_set, from_place}
+use Rattle.mr_plan_set.specs.Turns.{added, removed, taken, count_or_one}
 use Rattle.mr_plan_set.proofs.Sets.{same_set, contains_empty, contains_with, contains_without, contains_retain, contains_as_set, has_keys}
-use Rattle.mr_plan_set.proofs.Tells.{told_faithful}
-use Rattle.mr_plan_set.proofs.Groups.{group_change}
 
 pub first : (a b : Bool) → a && b ≡ true → a ≡ true
 first true b h = refl
