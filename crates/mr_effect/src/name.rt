@@ -6,13 +6,7 @@ ghost use Rattle.mr_effect.specs.Names.{text_of, is_named, named};
 #[derive(Clone, Copy, Debug, PartialEq, Eq)]
 pub enum EffectName {
     Set,
-    MSet,
-    Append,
-    SetRange,
-    IncrBy,
     Del,
-    Rename,
-    FlushAll,
     HSet,
     HDel,
     LPush,
@@ -27,21 +21,13 @@ pub enum EffectName {
     SAdd,
     SRem,
     SMove,
-    ZAdd,
-    ZRem,
 }
 
 impl EffectName {
     /// All of them.
-    pub const ALL: [EffectName; 24] = [
+    pub const ALL: [EffectName; 16] = [
         EffectName::Set,
-        EffectName::MSet,
-        EffectName::Append,
-        EffectName::SetRange,
-        EffectName::IncrBy,
         EffectName::Del,
-        EffectName::Rename,
-        EffectName::FlushAll,
         EffectName::HSet,
         EffectName::HDel,
         EffectName::LPush,
@@ -56,8 +42,6 @@ impl EffectName {
         EffectName::SAdd,
         EffectName::SRem,
         EffectName::SMove,
-        EffectName::ZAdd,
-        EffectName::ZRem,
     ];
 
     /// The name that a word is, if it is one. Names are in upper case alone.
@@ -81,13 +65,7 @@ impl EffectName {
     {
         match self {
             EffectName::Set => b"SET",
-            EffectName::MSet => b"MSET",
-            EffectName::Append => b"APPEND",
-            EffectName::SetRange => b"SETRANGE",
-            EffectName::IncrBy => b"INCRBY",
             EffectName::Del => b"DEL",
-            EffectName::Rename => b"RENAME",
-            EffectName::FlushAll => b"FLUSHALL",
             EffectName::HSet => b"HSET",
             EffectName::HDel => b"HDEL",
             EffectName::LPush => b"LPUSH",
@@ -102,8 +80,6 @@ impl EffectName {
             EffectName::SAdd => b"SADD",
             EffectName::SRem => b"SREM",
             EffectName::SMove => b"SMOVE",
-            EffectName::ZAdd => b"ZADD",
-            EffectName::ZRem => b"ZREM",
         }
     }
 }

@@ -3,10 +3,9 @@ ghost use Rattle.std.specs.Prelude.{◌≡◌, ◌==◌, ◌&&◌, ◌<◌, ◌^
 ghost use Rattle.std.specs.Cow.{cow_slice_items};
 ghost use Rattle.std.specs.List.{list_all};
 ghost use Rattle.mr_value.specs.Words.{fits};
-ghost use Rattle.mr_effect.specs.Effects.{pair_fits, member_fits, has_score};
+ghost use Rattle.mr_effect.specs.Effects.{pair_fits};
 
 use mr_value::{Word, fits};
-use mr_zset::is_score;
 use std::alloc::{AllocError, Global};
 use std::borrow::CowSlice;
 use std::marker::Model;
@@ -99,10 +98,10 @@ fn all_fit(words: &[Word<'_>]) -> bool
     words.iter().all(|word| fits(word.as_slice()))
 }
 
-/// Keys or fields with their values, in order.
+/// Fields with their values, in order.
 #[derive(Drop)]
 pub struct Pairs<'a> {
-    pairs: Vec<(Word<'a>, Word<'a>)>,
+    items: Vec<(Word<'a>, Word<'a>)>,
 }
 
 impl<'a> Model for Pairs<'a> {
@@ -110,7 +109,7 @@ impl<'a> Model for Pairs<'a> {
 
     ghost Value = { List (List ℕ × List ℕ) };
 
-    ghost view = { λ a. a.pairs.items };
+    ghost view = { λ a. a.items.items };
 }
 
 impl<'a> Pairs<'a> {
@@ -119,16 +118,16 @@ impl<'a> Pairs<'a> {
         ensures { result ≡ [] }
     {
         Pairs {
-            pairs: Vec::new(alloc),
+            items: Vec::new(alloc),
         }
     }
 
     /// Puts a pair behind the others.
-    pub fn push(&mut self, name: Word<'a>, value: Word<'a>) -> Result<(), AllocError>
-        ensures ok { OnOk result (self.new ≡ self.old ++ (name.entry, value.entry) ∷ []) }
+    pub fn push(&mut self, field: Word<'a>, value: Word<'a>) -> Result<(), AllocError>
+        ensures ok { OnOk result (self.new ≡ self.old ++ (field.entry, value.entry) ∷ []) }
         ensures err { OnErr result (self.new ≡ self.old) }
     {
-        self.pairs.push((name, value))?;
+        self.items.push((field, value))?;
         Ok(())
     }
 
@@ -137,32 +136,32 @@ impl<'a> Pairs<'a> {
         ensures len { result ≡ length self.now }
         ensures small { result < 2 ^ 63 }
     {
-        self.pairs.len()
+        self.items.len()
     }
 
     /// Whether there is none.
     pub fn is_empty(&self) -> bool
         ensures { result ≡ (length self.now == 0) }
     {
-        self.pairs.is_empty()
+        self.items.is_empty()
     }
 
     /// The pairs.
     pub fn as_slice(&self) -> &[(Word<'a>, Word<'a>)]
         ensures { result.now ≡ self.now }
     {
-        self.pairs.as_slice()
+        self.items.as_slice()
     }
 
     /// The vector of the pairs, which are not copied.
     pub fn into_vec(self) -> Vec<(Word<'a>, Word<'a>)>
         ensures { result.items ≡ self.entry }
     {
-        let Self { pairs } = self;
-        pairs
+        let Self { items } = self;
+        items
     }
 
-    /// Whether each key or field and each value is within the limit.
+    /// Whether each field and each value is within the limit.
     pub fn fit(&self) -> bool
         ensures { result ≡ list_all pair_fits self.now }
     {
@@ -176,94 +175,4 @@ fn all_pairs_fit(pairs: &[(Word<'_>, Word<'_>)]) -> bool
     pairs
         .iter()
         .all(|pair| fits(pair.0.as_slice()) && fits(pair.1.as_slice()))
-}
-
-/// Members with their scores, in order.
-#[derive(Drop)]
-pub struct Scores<'a> {
-    scores: Vec<(Word<'a>, i64)>,
-}
-
-impl<'a> Model for Scores<'a> {
-    ghost use Rattle.std.specs.Prelude.{List, ℕ, ℤ};
-
-    ghost Value = { List (List ℕ × ℤ) };
-
-    ghost view = { λ a. a.scores.items };
-}
-
-impl<'a> Scores<'a> {
-    /// No member. It takes no memory.
-    pub fn new(alloc: Global) -> Scores<'a>
-        ensures { result ≡ [] }
-    {
-        Scores {
-            scores: Vec::new(alloc),
-        }
-    }
-
-    /// Puts a member with its score behind the others.
-    pub fn push(&mut self, member: Word<'a>, score: i64) -> Result<(), AllocError>
-        ensures ok { OnOk result (self.new ≡ self.old ++ (member.entry, score) ∷ []) }
-        ensures err { OnErr result (self.new ≡ self.old) }
-    {
-        self.scores.push((member, score))?;
-        Ok(())
-    }
-
-    /// How many there are.
-    pub fn len(&self) -> usize
-        ensures len { result ≡ length self.now }
-        ensures small { result < 2 ^ 63 }
-    {
-        self.scores.len()
-    }
-
-    /// Whether there is none.
-    pub fn is_empty(&self) -> bool
-        ensures { result ≡ (length self.now == 0) }
-    {
-        self.scores.is_empty()
-    }
-
-    /// The members with their scores.
-    pub fn as_slice(&self) -> &[(Word<'a>, i64)]
-        ensures { result.now ≡ self.now }
-    {
-        self.scores.as_slice()
-    }
-
-    /// The vector of the members with their scores, which are not copied.
-    pub fn into_vec(self) -> Vec<(Word<'a>, i64)>
-        ensures { result.items ≡ self.entry }
-    {
-        let Self { scores } = self;
-        scores
-    }
-
-    /// Whether each member is within the limit of words.
-    pub fn fit(&self) -> bool
-        ensures { result ≡ list_all member_fits self.now }
-    {
-        all_members_fit(self.as_slice())
-    }
-
-    /// Whether each score is within the limits of scores, from -2^53 to 2^53.
-    pub fn are_within_limits(&self) -> bool
-        ensures { result ≡ list_all has_score self.now }
-    {
-        all_have_scores(self.as_slice())
-    }
-}
-
-fn all_members_fit(scores: &[(Word<'_>, i64)]) -> bool
-    ensures { result ≡ list_all member_fits scores.now }
-{
-    scores.iter().all(|pair| fits(pair.0.as_slice()))
-}
-
-fn all_have_scores(scores: &[(Word<'_>, i64)]) -> bool
-    ensures { result ≡ list_all has_score scores.now }
-{
-    scores.iter().all(|pair| is_score(pair.1))
 }
