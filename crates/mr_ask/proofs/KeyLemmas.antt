@@ -1,16 +1,13 @@
 -- What is read of a command on strings and keys is spelled by the words.
-use Rattle.std.proofs.Common.{ℕ, ℤ, pos, negsuc, ◌≡◌, List, [], ◌∷◌, ◌++◌, Option, Some, None, refl, sym, ◌∙◌, ap, subst}
-use Rattle.std.specs.Prelude.{IfOk, IfSome, IsPermutation, Result, Ok, Err, flat_map, ok_or, if◌then◌else◌}
-use Rattle.std.specs.Str.{bytes_eq}
+use Rattle.std.proofs.Common.{ℕ, ◌≡◌, List, [], ◌∷◌, ◌++◌, Option, Some, None, refl, sym, ◌∙◌, ap, subst}
+use Rattle.std.specs.Prelude.{IfOk, IsPermutation, Ok, flat_map}
 use Rattle.std.proofs.lemmas.List.Sorted.{IsPermutation-refl, IsPermutation-middle, IsPermutation-append_left}
-use Rattle.mr_value.specs.Number.{number_of}
-use Rattle.mr_ask.specs.Names.{lowered}
-use Rattle.mr_ask.specs.Pairing.{unpaired, pairs_of}
+use Rattle.mr_ask.specs.Pairing.{unpaired}
 use Rattle.mr_ask.specs.Parts.{positive_if_any}
 use Rattle.mr_ask.specs.Options.{set_text, scan_text, set_option, no_set_options, set_also, set_word, set_options, no_scan_options, scan_also, scan_pair, scan_options, added}
 use Rattle.mr_ask.specs.Options as options
 use Rattle.mr_ask.specs.Keys.{get, set, del, unlink, exists, key_type, strlen, getrange, mget, setnx, getset, getdel, matching_keys, scan, dbsize}
-use Rattle.mr_ask.specs.Spelled.{Part, Word, Number, Keyword, AreParts, in_a_row, condition_option, reply_option, scan_option}
+use Rattle.mr_ask.specs.Spelled.{Part, Word, Keyword, AreParts, in_a_row, condition_option, reply_option, scan_option}
 use Rattle.mr_ask.proofs.Carries.{KeyCarries, all_words}
 use Rattle.mr_ask.proofs.PartLemmas.{with_ok, if_with, if_ok, with_integer, with_pairs, with_cursor, positive_count, option_text, scan_option_text}
 use Rattle.mr_ask.proofs.OptionLemmas.{all_added, from_none}

@@ -1,9 +1,8 @@
 -- What options set is what their words spell.
-use Rattle.std.proofs.Common.{ℕ, ◌≡◌, List, [], ◌∷◌, ◌++◌, refl, subst}
+use Rattle.std.proofs.Common.{ℕ, ◌≡◌, List, [], ◌∷◌, ◌++◌, subst}
 use Rattle.std.specs.Prelude.{IsPermutation, Result, Ok, flat_map}
 use Rattle.std.proofs.lemmas.List.{append-nil}
 use Rattle.std.proofs.lemmas.List.Sorted.{IsPermutation-refl, IsPermutation-trans, IsPermutation-append_right, IsPermutation-middle}
-use Rattle.mr_ask.specs.Parts.{with}
 use Rattle.mr_ask.specs.Options.{added}
 use Rattle.mr_ask.proofs.PartLemmas.{with_ok}
 use Rattle.mr_ask.specs.Spelled.{Part, AreParts, in_a_row}

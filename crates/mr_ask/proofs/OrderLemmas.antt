@@ -5,7 +5,7 @@ use Rattle.std.specs.Option.{is_some, ok_or}
 use Rattle.std.specs.Str.{bytes_eq}
 use Rattle.mr_ask.specs.Names.{lowered}
 use Rattle.mr_ask.specs.Parts.{with}
-use Rattle.mr_ask.specs.Pairing.{paired, unpaired, are_pairs, pairs_of}
+use Rattle.mr_ask.specs.Pairing.{paired, unpaired, are_pairs}
 use Rattle.mr_ask.specs.Options.{added, set_text, scan_text, set_option, no_set_options, set_also, set_word, set_options, scan_option, no_scan_options, scan_also, scan_pair, scan_options}
 use Rattle.mr_ask.specs.declared.fault.AskFault.{AskFault}
 use Rattle.mr_ask.specs.declared.fault.AskFault.TheVariants.{Syntax}
