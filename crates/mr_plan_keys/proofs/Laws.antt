@@ -1,6 +1,6 @@
 -- The effects of commands on strings and keys are faithful.
 use Rattle.std.proofs.Common.{rules, ℕ, ◌≡◌, List, [], ◌∷◌, Bool, true, false, ◌&&◌, Option, Some, None, refl, sym, ◌∙◌, ap}
-use Rattle.std.specs.Prelude.{IsTrue, is_some, is_none, if◌then◌else◌, ℤ}
+use Rattle.std.specs.Prelude.{IsTrue, is_some, is_none, if◌then◌else◌, ℤ, pos}
 use Rattle.std.specs.List.{list_all}
 use Rattle.std.specs.Option.{option_and_then}
 use Rattle.std.specs.FinMap.{get}
@@ -20,13 +20,20 @@ use Rattle.mr_ask.specs.declared.key_ask.KeyAsk.{KeyAsk}
 use Rattle.mr_ask.specs.declared.key_ask.KeyAsk.TheVariants as ask
 use Rattle.mr_ask.specs.declared.server_ask.ServerAsk.{ServerAsk}
 use Rattle.mr_turn.specs.Keys.{chosen, without, dels}
-use Rattle.mr_turn.specs.Commands.{IsFaithful, before}
+use Rattle.mr_turn.specs.Commands.{IsFaithful, on_key, before}
 use Rattle.mr_turn.proofs.Maps.{put_same, get_put}
 use Rattle.mr_turn.proofs.KeyLists.{dels_lead, chosen_fits, without_chosen, none_chosen}
 use Rattle.mr_turn.proofs.Laws.{faithful, IsFaithfulAt, IsFaithfulTurn, at_key_faithful, kept_faithful, answered_faithful}
-use Rattle.mr_plan_keys.specs.Turns.{plain, is_text, is_plain, get_turn, set_turn, type_turn}
-use Rattle.mr_plan_keys.specs.Outcomes.{deleted}
-use Rattle.mr_plan_keys.specs.Commands.{command, server_command}
+use Rattle.mr_resp.specs.Replies as reply
+use Rattle.mr_resp.specs.Replies.{Tree}
+use Rattle.mr_turn.specs.Turns.{Turn, kept, done}
+use Rattle.mr_turn.specs.Outcomes.{answered}
+use Rattle.mr_plan_keys.specs.declared.key_ask.SetCondition.{SetCondition}
+use Rattle.mr_plan_keys.specs.declared.key_ask.SetReply.{SetReply}
+use Rattle.mr_plan_keys.specs.declared.key_ask.SetReply.TheVariants as asked
+use Rattle.mr_plan_keys.specs.Turns.{plain, is_text, is_plain, put, allows, holds_other, get_reply, length_reply, range_reply, type_reply, set_turn, set_new_turn, get_and_set_turn, taken, get_and_delete_turn}
+use Rattle.mr_plan_keys.specs.Outcomes.{deleted, present}
+use Rattle.mr_plan_keys.specs.Commands.{on_keys, on_none, command, server_command}
 
 same_bytes : (xs ys : List ℕ) → bytes_eq xs ys ≡ true → xs ≡ ys
 same_bytes xs ys h = search (rules, bytes_eq-Decides)
@@ -57,25 +64,64 @@ of_two true true h = refl
 of_two true false h = cc
 of_two false b h = cc
 
--- SET
-set_leads : (k text : Bytes) (m : Dataset) → fits k && fits text ≡ true → apply_all (set_turn k text (get m k)).effects m ≡ Some (put_at m k (Some (plain text)))
+-- ---- one of two turns
+if_faithful : (b : Bool) (t u : Turn) (k : Bytes) (m : Dataset) → IsFaithfulTurn t k m → IsFaithfulTurn u k m → IsFaithfulTurn (if b then t else u) k m
+if_faithful true t u k m p q = p
+if_faithful false t u k m p q = q
+
+-- ---- a key gets a text
+put_leads : (k text : Bytes) (answer : Tree) (m : Dataset) → fits k && fits text ≡ true → apply_all (put k text answer (get m k)).effects m ≡ Some (put_at m k (Some (plain text)))
 unfolding apply change
-set_leads k text m h = elim (is_plain text (get m k)) as (λ b. is_plain text (get m k) ≡ b → apply_all (if b then [] else effect.Set k text ∷ []) m ≡ Some (put_at m k (Some (plain text)))) [
+put_leads k text answer m h = elim (is_plain text (get m k)) as (λ b. is_plain text (get m k) ≡ b → apply_all (if b then [] else effect.Set k text ∷ []) m ≡ Some (put_at m k (Some (plain text)))) [
   | true ↦ λ t. ap Some (sym (put_same m k _ (plain_is text _ t)))
   | false ↦ λ t. ap (λ b. option_and_then (apply_all []) (if b then Some (put_at m k (Some (plain text))) else None)) h
 ] refl
 
-set_none : (k text : Bytes) (o : Option Entry) → (set_turn k text o).effects ≡ [] → Some (plain text) ≡ o
-set_none k text o = elim (is_plain text o) as (λ b. is_plain text o ≡ b → (if b then [] else effect.Set k text ∷ []) ≡ [] → Some (plain text) ≡ o) [
+put_none : (k text : Bytes) (answer : Tree) (o : Option Entry) → (put k text answer o).effects ≡ [] → Some (plain text) ≡ o
+put_none k text answer o = elim (is_plain text o) as (λ b. is_plain text o ≡ b → (if b then [] else effect.Set k text ∷ []) ≡ [] → Some (plain text) ≡ o) [
   | true ↦ λ t e. sym (plain_is text o t)
   | false ↦ λ t e. absurd (cc)
 ] refl
 
-set_same : (k text : Bytes) (o : Option Entry) → Some (plain text) ≡ o → (set_turn k text o).effects ≡ []
-set_same k text o h = ap (λ b. let none : List Effect = [] in if b then none else effect.Set k text ∷ []) (ap (is_plain text) (sym h) ∙ bytes_itself text)
+put_still : (k text : Bytes) (answer : Tree) (o : Option Entry) → Some (plain text) ≡ o → (put k text answer o).effects ≡ []
+put_still k text answer o h = ap (λ b. let none : List Effect = [] in if b then none else effect.Set k text ∷ []) (ap (is_plain text) (sym h) ∙ bytes_itself text)
 
-set_faithful : (k text : Bytes) (m : Dataset) → fits k && fits text ≡ true → IsFaithfulTurn (set_turn k text (get m k)) k m
-set_faithful k text m h = record { leads = set_leads k text m h; none = set_none k text (get m k); some = set_same k text (get m k) }
+put_faithful : (k text : Bytes) (answer : Tree) (m : Dataset) → fits k && fits text ≡ true → IsFaithfulTurn (put k text answer (get m k)) k m
+put_faithful k text answer m h = record { leads = put_leads k text answer m h; none = put_none k text answer (get m k); some = put_still k text answer (get m k) }
+
+stays_faithful : (answer : Tree) (k : Bytes) (m : Dataset) → IsFaithfulTurn (kept answer (get m k)) k m
+stays_faithful answer k m = kept_faithful (kept answer (get m k)) k m refl refl
+
+set_faithful : (k text : Bytes) (when : Option SetCondition) (reply : SetReply) (m : Dataset) → fits k && fits text ≡ true → IsFaithfulTurn (set_turn k text when reply (get m k)) k m
+set_faithful k text when asked.Done m h = if_faithful (allows when (get m k)) _ _ k m (put_faithful k text done m h) (stays_faithful _ k m)
+set_faithful k text when asked.Before m h = if_faithful (holds_other (get m k)) _ _ k m (stays_faithful _ k m) (if_faithful (allows when (get m k)) _ _ k m (put_faithful k text _ m h) (stays_faithful _ k m))
+
+set_new_faithful : (k text : Bytes) (m : Dataset) → fits k && fits text ≡ true → IsFaithfulTurn (set_new_turn k text (get m k)) k m
+set_new_faithful k text m h = if_faithful (is_none (get m k)) _ _ k m (put_faithful k text _ m h) (stays_faithful _ k m)
+
+get_and_set_faithful : (k text : Bytes) (m : Dataset) → fits k && fits text ≡ true → IsFaithfulTurn (get_and_set_turn k text (get m k)) k m
+get_and_set_faithful k text m h = if_faithful (holds_other (get m k)) _ _ k m (stays_faithful _ k m) (put_faithful k text _ m h)
+
+-- ---- GETDEL
+gone_faithful : (k text : Bytes) (e : Entry) (m : Dataset) → fits k ≡ true → get m k ≡ Some e → IsFaithfulTurn (taken k (value.Text text) e) k m
+unfolding apply change
+gone_faithful k text e m h is = record {
+  leads = ap (λ b. option_and_then (apply_all []) (if b then Some (put_at m k None) else None)) h;
+  none = λ n. cc;
+  some = λ n. cc;
+}
+
+taken_faithful : (k : Bytes) (v : Value) (e : Entry) (m : Dataset) → fits k ≡ true → get m k ≡ Some e → IsFaithfulTurn (taken k v e) k m
+taken_faithful k (value.Text text) e m h is = gone_faithful k text e m h is
+taken_faithful k (value.Hash t) e m h is = kept_faithful _ k m (sym is) refl
+taken_faithful k (value.List t) e m h is = kept_faithful _ k m (sym is) refl
+taken_faithful k (value.Set t) e m h is = kept_faithful _ k m (sym is) refl
+
+get_and_delete_faithful : (k : Bytes) (m : Dataset) → fits k ≡ true → IsFaithfulTurn (get_and_delete_turn k (get m k)) k m
+get_and_delete_faithful k m h = elim (get m k) as (λ o. get m k ≡ o → IsFaithfulTurn (get_and_delete_turn k o) k m) [
+  | None ↦ λ is. kept_faithful _ k m (sym is) refl
+  | Some e ↦ λ is. taken_faithful k e.value e m h is
+] refl
 
 -- DEL, UNLINK
 dels_none : (ks : List Bytes) → dels ks ≡ [] → ks ≡ []
@@ -89,13 +135,37 @@ deleted_faithful ks m h = record {
   some = λ e. ap dels (none_chosen ks m e);
 }
 
-pub keys_faithful : (c : KeyAsk) (now : ℤ) (m : Dataset) → IsTrue (list_all fits (key_words c)) → IsFaithful (command c) now m
-keys_faithful (ask.Get k) now m h = let n = before (command (ask.Get k)) now m in faithful (command (ask.Get k)) now m h (at_key_faithful k get_turn n (kept_faithful (get_turn (get n k)) k n refl refl))
-keys_faithful (ask.Set k text) now m h = let n = before (command (ask.Set k text)) now m in faithful (command (ask.Set k text)) now m (ap (λ b. b && true) (first _ _ h)) (at_key_faithful k (set_turn k text) n (set_faithful k text n (of_two _ _ h)))
+-- ---- each command
+abbrev Fits : List Bytes → Type 0
+Fits ws = IsTrue (list_all fits ws)
+
+-- a command on one key
+by_turn : (k : Bytes) (turn : Option Entry → Turn) (now : ℤ) (m : Dataset) → Fits (k ∷ []) → ((n : Dataset) → IsFaithfulTurn (turn (get n k)) k n) → IsFaithful (on_key k turn) now m
+by_turn k turn now m h f = let n = before (on_key k turn) now m in faithful (on_key k turn) now m h (at_key_faithful k turn n (f n))
+
+-- .. that only tells
+by_telling : (k : Bytes) (answer : Option Entry → Tree) (now : ℤ) (m : Dataset) → Fits (k ∷ []) → IsFaithful (on_key k (λ o. kept (answer o) o)) now m
+by_telling k answer now m h = by_turn k (λ o. kept (answer o) o) now m h (λ n. stays_faithful (answer (get n k)) k n)
+
+-- .. that sets a text
+by_setting : (k text : Bytes) (turn : Option Entry → Turn) (now : ℤ) (m : Dataset) → Fits (k ∷ text ∷ []) → ((n : Dataset) → fits k && fits text ≡ true → IsFaithfulTurn (turn (get n k)) k n) → IsFaithful (on_key k turn) now m
+by_setting k text turn now m h f = by_turn k turn now m (ap (λ b. b && true) (first _ _ h)) (λ n. f n (of_two _ _ h))
+
+-- a command on several keys that only tells
+keys_told : (ks : List Bytes) (answer : Dataset → Tree) (now : ℤ) (m : Dataset) → Fits ks → IsFaithful (on_keys ks (λ n. answered (answer n) n)) now m
+keys_told ks answer now m h = faithful (on_keys ks (λ n. answered (answer n) n)) now m h (answered_faithful _ _ refl refl)
+
+-- a command that names no key
+none_told : (answer : Dataset → Tree) (now : ℤ) (m : Dataset) → IsFaithful (on_none (λ n. answered (answer n) n)) now m
+none_told answer now m = faithful (on_none (λ n. answered (answer n) n)) now m refl (answered_faithful _ _ refl refl)
+
+pub keys_faithful : (c : KeyAsk) (now : ℤ) (m : Dataset) → Fits (key_words c) → IsFaithful (command c) now m
+keys_faithful (ask.Get k) now m h = by_telling k get_reply now m h
+keys_faithful (ask.Set k text) now m h = by_setting k text (set_turn k text None asked.Done) now m h (set_faithful k text None asked.Done)
 keys_faithful (ask.Del ks) now m h = faithful (command (ask.Del ks)) now m h (deleted_faithful ks _ h)
 keys_faithful (ask.Unlink ks) now m h = faithful (command (ask.Unlink ks)) now m h (deleted_faithful ks _ h)
-keys_faithful (ask.Exists ks) now m h = faithful (command (ask.Exists ks)) now m h (answered_faithful _ _ refl refl)
-keys_faithful (ask.KeyType k) now m h = let n = before (command (ask.KeyType k)) now m in faithful (command (ask.KeyType k)) now m h (at_key_faithful k type_turn n (kept_faithful (type_turn (get n k)) k n refl refl))
+keys_faithful (ask.Exists ks) now m h = keys_told ks (λ n. reply.int (pos (present n ks))) now m h
+keys_faithful (ask.KeyType k) now m h = by_telling k type_reply now m h
 
 pub server_faithful : (c : ServerAsk) (now : ℤ) (m : Dataset) → IsFaithful (server_command c) now m
 server_faithful c now m = faithful (server_command c) now m refl (answered_faithful _ _ refl refl)

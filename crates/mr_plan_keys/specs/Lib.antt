@@ -1,4 +1,6 @@
+pub mod Glob
 pub mod Turns
 pub mod Outcomes
+pub mod Listing
 pub mod Server
 pub mod Commands

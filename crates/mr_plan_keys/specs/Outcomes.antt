@@ -1,9 +1,14 @@
 -- What commands on several keys do to a dataset in which none of them is past.
-use Rattle.std.specs.Prelude.{ℕ, ℤ, pos, ◌+◌, List, [], ◌∷◌, length, Bool, true, false, is_some}
+use Rattle.std.specs.Prelude.{ℕ, ℤ, pos, ◌+◌, List, [], ◌∷◌, map, length, Bool, true, false, Option, Some, None, is_some}
 use Rattle.std.specs.FinMap.{get}
 use Rattle.mr_map.specs.Bytes.{Bytes}
 use Rattle.mr_resp.specs.Replies as reply
+use Rattle.mr_resp.specs.Replies.{Tree}
+use Rattle.mr_resp.specs.ReplyView.{trees_of}
 use Rattle.mr_data.specs.Dataset.{Dataset, live}
+use Rattle.mr_data.specs.declared.value.Entry.{Entry}
+use Rattle.mr_data.specs.declared.value.Value.{Value}
+use Rattle.mr_data.specs.declared.value.Value.TheVariants as value
 use Rattle.mr_turn.specs.Keys.{chosen, without, dels}
 use Rattle.mr_turn.specs.Outcomes.{Outcome, answered}
 
@@ -33,3 +38,19 @@ present_at now m (k ∷ ks) = one_if (is_some (live now (get m k))) + present_at
 -- EXISTS key [key ..]: those that are there are counted
 abbrev pub counted : List Bytes → Dataset → Outcome
 counted ks m = answered (reply.int (pos (present m ks))) m
+
+-- MGET key [key ..]: the text of each. A key of another kind is answered as an absent one.
+abbrev pub text_or_null : Value → Tree
+text_or_null (value.Text text) = reply.bytes text
+text_or_null _ = reply.null_bulk
+
+abbrev pub found : Option Entry → Tree
+found None = reply.null_bulk
+found (Some e) = text_or_null e.value
+
+abbrev pub texts : List Bytes → Dataset → Outcome
+texts ks m = answered (reply.array (trees_of (map (λ k. found (get m k)) ks))) m
+
+-- .. at a moment
+abbrev pub texts_at : ℤ → List Bytes → Dataset → List Tree
+texts_at now ks m = map (λ k. found (live now (get m k))) ks

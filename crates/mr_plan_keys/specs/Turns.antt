@@ -1,7 +1,8 @@
 -- The turns of the commands on one key.
-use Rattle.std.specs.Prelude.{[], ◌∷◌, codes, Bool, false, ◌&&◌, if◌then◌else◌, Option, Some, None, is_none}
+use Rattle.std.specs.Prelude.{ℤ, pos, List, [], ◌∷◌, length, codes, Bool, true, false, ◌&&◌, if◌then◌else◌, Option, Some, None, is_none, is_some}
 use Rattle.std.specs.Str.{bytes_eq}
 use Rattle.mr_map.specs.Bytes.{Bytes}
+use Rattle.mr_value.specs.Window.{window_of, windowed}
 use Rattle.mr_resp.specs.Replies as reply
 use Rattle.mr_resp.specs.Replies.{Tree}
 use Rattle.mr_data.specs.declared.value.Value.{Value}
@@ -9,20 +10,45 @@ use Rattle.mr_data.specs.declared.value.Value.TheVariants as value
 use Rattle.mr_data.specs.declared.value.Entry.{Entry}
 use Rattle.mr_turn.specs.Turns.{Turn, kept, wrong_kind, done}
 use Rattle.mr_effect.specs.declared.effect.Effect.TheVariants as effect
+use Rattle.mr_plan_keys.specs.declared.key_ask.SetCondition.{SetCondition}
+use Rattle.mr_plan_keys.specs.declared.key_ask.SetCondition.TheVariants as condition
+use Rattle.mr_plan_keys.specs.declared.key_ask.SetReply.{SetReply}
+use Rattle.mr_plan_keys.specs.declared.key_ask.SetReply.TheVariants as asked
 
--- ---- GET key: its text
-abbrev pub text_reply : Value → Tree
-text_reply (value.Text text) = reply.bytes text
-text_reply _ = wrong_kind
+-- ---- What a command tells of the text at a key. A value of another kind is refused.
+abbrev pub of_value : (Bytes → Tree) → Value → Tree
+of_value answer (value.Text text) = answer text
+of_value answer _ = wrong_kind
 
+abbrev pub of_text : Tree → (Bytes → Tree) → Option Entry → Tree
+of_text absent answer None = absent
+of_text absent answer (Some e) = of_value answer e.value
+
+-- GET key: the text
 abbrev pub get_reply : Option Entry → Tree
-get_reply None = reply.null_bulk
-get_reply (Some e) = text_reply e.value
+get_reply = of_text reply.null_bulk reply.bytes
 
 abbrev pub get_turn : Option Entry → Turn
 get_turn before = kept (get_reply before) before
 
--- ---- SET key value: the key holds the text, without a deadline
+-- STRLEN key: how many bytes it has
+abbrev pub length_reply : Option Entry → Tree
+length_reply = of_text (reply.int (pos 0)) (λ text. reply.int (pos (length text)))
+
+abbrev pub length_turn : Option Entry → Turn
+length_turn before = kept (length_reply before) before
+
+-- GETRANGE key first last: its bytes from one place to another
+abbrev pub part : ℤ → ℤ → Bytes → Bytes
+part first last text = windowed (window_of first last (length text)) text
+
+abbrev pub range_reply : ℤ → ℤ → Option Entry → Tree
+range_reply first last = of_text (reply.bytes []) (λ text. reply.bytes (part first last text))
+
+abbrev pub range_turn : ℤ → ℤ → Option Entry → Turn
+range_turn first last before = kept (range_reply first last before) before
+
+-- ---- A key gets a text. It then has no deadline, and its value before may be of any kind.
 abbrev pub plain : Bytes → Entry
 plain text = record { value = value.Text text; deadline = None }
 
@@ -30,17 +56,56 @@ abbrev pub is_text : Bytes → Value → Bool
 is_text text (value.Text t) = bytes_eq t text
 is_text text _ = false
 
--- it does already
+-- the key holds this text already, without a deadline
 abbrev pub is_plain : Bytes → Option Entry → Bool
 is_plain text None = false
 is_plain text (Some e) = is_none e.deadline && is_text text e.value
 
-abbrev pub set_turn : Bytes → Bytes → Option Entry → Turn
-set_turn k text before = record {
-  reply = done;
+abbrev pub put : Bytes → Bytes → Tree → Option Entry → Turn
+put k text answer before = record {
+  reply = answer;
   entry = Some (plain text);
   effects = if is_plain text before then [] else effect.Set k text ∷ [];
 }
+
+-- SET key value [NX|XX] [GET]: NX is for a key that isn't there, XX for one that is
+abbrev pub allows : Option SetCondition → Option Entry → Bool
+allows None before = true
+allows (Some condition.Absent) before = is_none before
+allows (Some condition.Present) before = is_some before
+
+-- the value is no text
+abbrev pub is_other : Value → Bool
+is_other (value.Text text) = false
+is_other _ = true
+
+abbrev pub holds_other : Option Entry → Bool
+holds_other None = false
+holds_other (Some e) = is_other e.value
+
+-- With GET the text before is answered in every case, and a value of another kind stays.
+abbrev pub set_turn : Bytes → Bytes → Option SetCondition → SetReply → Option Entry → Turn
+set_turn k text when asked.Done before = if allows when before then put k text done before else kept reply.null_bulk before
+set_turn k text when asked.Before before =
+    if holds_other before then kept wrong_kind before
+    else (if allows when before then put k text (get_reply before) before else kept (get_reply before) before)
+
+-- SETNX key value: whether it was set
+abbrev pub set_new_turn : Bytes → Bytes → Option Entry → Turn
+set_new_turn k text before = if is_none before then put k text (reply.int (pos 1)) before else kept (reply.int (pos 0)) before
+
+-- GETSET key value: the text before
+abbrev pub get_and_set_turn : Bytes → Bytes → Option Entry → Turn
+get_and_set_turn k text before = if holds_other before then kept wrong_kind before else put k text (get_reply before) before
+
+-- ---- GETDEL key: the text, and the key goes
+abbrev pub taken : Bytes → Value → Entry → Turn
+taken k (value.Text text) e = record { reply = reply.bytes text; entry = None; effects = effect.Del k ∷ [] }
+taken k _ e = kept wrong_kind (Some e)
+
+abbrev pub get_and_delete_turn : Bytes → Option Entry → Turn
+get_and_delete_turn k None = kept reply.null_bulk None
+get_and_delete_turn k (Some e) = taken k e.value e
 
 -- ---- TYPE key: the kind of its value
 abbrev pub kind_name : Value → Tree

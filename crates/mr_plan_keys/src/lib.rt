@@ -2,9 +2,15 @@
 #![tactic(auto)]
 
 mod counting;
+mod key_ask;
+mod kinds;
+mod listing;
+mod pattern;
 mod planning;
+mod replies;
 mod server;
-mod turns;
+mod setting;
+mod texts;
 
 pub use planning::plan;
 pub use server::plan_server;
