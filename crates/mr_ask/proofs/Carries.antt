@@ -3,7 +3,7 @@ use Rattle.std.proofs.Common.{ℕ, ◌≡◌, List, [], ◌∷◌, map, refl}
 use Rattle.std.specs.Prelude.{IfOk, Result, Ok, Err}
 use Rattle.mr_ask.specs.Asks.{of_kind}
 use Rattle.mr_ask.specs.Called.{name_of}
-use Rattle.mr_ask.specs.Spelled.{Word, parts_of, AreParts}
+use Rattle.mr_ask.specs.Spelled.{Word, AreParts, AreArguments}
 use Rattle.mr_ask.specs.declared.name.Name.{Name}
 use Rattle.mr_ask.specs.declared.fault.AskFault.{AskFault}
 use Rattle.mr_ask.specs.declared.key_ask.KeyAsk.{KeyAsk}
@@ -17,7 +17,7 @@ use Rattle.mr_ask.specs.declared.ask.Ask.TheVariants as ask
 -- the command has this name, and these are its arguments
 pub record Carries (n : Name) (arguments : List (List ℕ)) (command : Ask) : Type 0 where
   pub name_is : name_of command ≡ n
-  pub parts : AreParts arguments (parts_of command)
+  pub parts : AreArguments arguments command
 
 abbrev pub KeyCarries : Name → List (List ℕ) → KeyAsk → Type 0
 KeyCarries n arguments command = Carries n arguments (ask.Keys command)

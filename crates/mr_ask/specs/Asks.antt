@@ -3,7 +3,7 @@ use Rattle.std.specs.Prelude.{ℕ, List, [], ◌∷◌, Option, Some, None, Resu
 use Rattle.mr_value.specs.declared.ends.End.TheVariants.{Left, Right}
 use Rattle.mr_ask.specs.Names.{lowered, named}
 use Rattle.mr_ask.specs.Parts.{with}
-use Rattle.mr_ask.specs.Keys.{get, set, del, unlink, exists, key_type}
+use Rattle.mr_ask.specs.Keys.{get, set, del, unlink, exists, key_type, strlen, getrange, mget, setnx, getset, getdel, matching_keys, scan, dbsize}
 use Rattle.mr_ask.specs.Hashes.{set_fields, hsetnx, hget, hmget, list_hash, hdel, hexists, hlen, hstrlen, hincrby}
 use Rattle.mr_ask.specs.Lists.{push, pop, llen, lrange, lindex, lset, linsert, lrem, ltrim, lmove, rpoplpush}
 use Rattle.mr_ask.specs.Sets.{sadd, srem, sismember, smismember, smembers, scard, spop, srandmember, smove, combine}
@@ -33,6 +33,15 @@ reading name.Del arguments = of_kind ask.Keys (del arguments)
 reading name.Unlink arguments = of_kind ask.Keys (unlink arguments)
 reading name.Exists arguments = of_kind ask.Keys (exists arguments)
 reading name.KeyType arguments = of_kind ask.Keys (key_type arguments)
+reading name.StrLen arguments = of_kind ask.Keys (strlen arguments)
+reading name.GetRange arguments = of_kind ask.Keys (getrange arguments)
+reading name.MGet arguments = of_kind ask.Keys (mget arguments)
+reading name.SetNx arguments = of_kind ask.Keys (setnx arguments)
+reading name.GetSet arguments = of_kind ask.Keys (getset arguments)
+reading name.GetDel arguments = of_kind ask.Keys (getdel arguments)
+reading name.Keys arguments = of_kind ask.Keys (matching_keys arguments)
+reading name.Scan arguments = of_kind ask.Keys (scan arguments)
+reading name.DbSize arguments = of_kind ask.Keys (dbsize arguments)
 reading name.HSet arguments = of_kind ask.Hashes (set_fields name.HSet Added arguments)
 reading name.HMSet arguments = of_kind ask.Hashes (set_fields name.HMSet Done arguments)
 reading name.HSetNx arguments = of_kind ask.Hashes (hsetnx arguments)

@@ -22,11 +22,20 @@ use Rattle.mr_ask.specs.declared.ask.Ask.TheVariants as ask
 -- of a command on strings and keys
 abbrev pub key_name : KeyAsk → Name
 key_name (key.Get key) = name.Get
-key_name (key.Set key value) = name.Set
+key_name (key.Set key value condition reply) = name.Set
 key_name (key.Del keys) = name.Del
 key_name (key.Unlink keys) = name.Unlink
 key_name (key.Exists keys) = name.Exists
 key_name (key.KeyType key) = name.KeyType
+key_name (key.TextLength key) = name.StrLen
+key_name (key.GetRange key first last) = name.GetRange
+key_name (key.GetAll keys) = name.MGet
+key_name (key.SetNew key value) = name.SetNx
+key_name (key.GetAndSet key value) = name.GetSet
+key_name (key.GetAndDelete key) = name.GetDel
+key_name (key.MatchingKeys pattern) = name.Keys
+key_name (key.Scan cursor pattern kind) = name.Scan
+key_name key.CountKeys = name.DbSize
 
 -- of a command on hashes
 abbrev pub hash_name : HashAsk → Name

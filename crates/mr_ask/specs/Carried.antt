@@ -19,11 +19,21 @@ use Rattle.mr_ask.specs.declared.ask.Ask.TheVariants as ask
 -- of a command on strings and keys
 abbrev pub key_words : KeyAsk → List (List ℕ)
 key_words (key.Get key) = key ∷ []
-key_words (key.Set key value) = key ∷ value ∷ []
+key_words (key.Set key value condition reply) = key ∷ value ∷ []
 key_words (key.Del keys) = keys
 key_words (key.Unlink keys) = keys
 key_words (key.Exists keys) = keys
 key_words (key.KeyType key) = key ∷ []
+key_words (key.TextLength key) = key ∷ []
+key_words (key.GetRange key first last) = key ∷ []
+key_words (key.GetAll keys) = keys
+key_words (key.SetNew key value) = key ∷ value ∷ []
+key_words (key.GetAndSet key value) = key ∷ value ∷ []
+key_words (key.GetAndDelete key) = key ∷ []
+key_words (key.MatchingKeys pattern) = pattern ∷ []
+key_words (key.Scan cursor None kind) = []
+key_words (key.Scan cursor (Some pattern) kind) = pattern ∷ []
+key_words key.CountKeys = []
 
 -- of a command on hashes
 abbrev pub hash_words : HashAsk → List (List ℕ)

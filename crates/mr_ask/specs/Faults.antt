@@ -3,7 +3,7 @@ use Rattle.std.specs.Prelude.{ℕ, List, ◌++◌, codes}
 use Rattle.mr_ask.specs.Names.{text_of}
 use Rattle.mr_ask.specs.declared.name.Name.{Name}
 use Rattle.mr_ask.specs.declared.fault.BadValue.{BadValue}
-use Rattle.mr_ask.specs.declared.fault.BadValue.TheVariants.{Negative, Database}
+use Rattle.mr_ask.specs.declared.fault.BadValue.TheVariants.{Negative, Database, Cursor}
 use Rattle.mr_ask.specs.declared.fault.AskFault.{AskFault}
 use Rattle.mr_ask.specs.declared.fault.AskFault.TheVariants.{Unknown, Arity, Syntax, Integer, Other}
 
@@ -13,6 +13,7 @@ wrong_count name = codes "ERR wrong number of arguments for '" ++ text_of name +
 abbrev pub bad_value : BadValue → List ℕ
 bad_value Negative = codes "ERR value is out of range, must be positive"
 bad_value Database = codes "ERR DB index is out of range"
+bad_value Cursor = codes "ERR invalid cursor"
 
 -- what is answered, behind the mark of an error
 abbrev pub fault_text : AskFault → List ℕ

@@ -2,6 +2,7 @@ pub mod Names
 pub mod Faults
 pub mod Pairing
 pub mod Parts
+pub mod Options
 pub mod Keys
 pub mod Hashes
 pub mod Lists

@@ -2,7 +2,7 @@
 use Rattle.std.specs.Prelude.{ℕ, ◌+◌, List, [], ◌∷◌, Bool, nat_lt, if◌then◌else◌, Option, map, find, codes}
 use Rattle.std.specs.Str.{bytes_eq}
 use Rattle.mr_ask.specs.declared.name.Name.{Name}
-use Rattle.mr_ask.specs.declared.name.Name.TheVariants.{Get, Set, Del, Unlink, Exists, KeyType, HSet, HMSet, HSetNx, HGet, HMGet, HGetAll, HKeys, HVals, HDel, HExists, HLen, HStrLen, HIncrBy, LPush, RPush, LPushX, RPushX, LPop, RPop, LLen, LRange, LIndex, LSet, LInsert, LRem, LTrim, LMove, RPopLPush, SAdd, SRem, SIsMember, SMIsMember, SMembers, SCard, SPop, SRandMember, SMove, SInter, SUnion, SDiff, Ping, Echo, Select, Quit, Command, Client}
+use Rattle.mr_ask.specs.declared.name.Name.TheVariants.{Get, Set, Del, Unlink, Exists, KeyType, StrLen, GetRange, MGet, SetNx, GetSet, GetDel, Keys, Scan, DbSize, HSet, HMSet, HSetNx, HGet, HMGet, HGetAll, HKeys, HVals, HDel, HExists, HLen, HStrLen, HIncrBy, LPush, RPush, LPushX, RPushX, LPop, RPop, LLen, LRange, LIndex, LSet, LInsert, LRem, LTrim, LMove, RPopLPush, SAdd, SRem, SIsMember, SMIsMember, SMembers, SCard, SPop, SRandMember, SMove, SInter, SUnion, SDiff, Ping, Echo, Select, Quit, Command, Client}
 
 -- a letter from A to Z in lower case, and any other byte as it is
 abbrev pub lowered_byte : ℕ → ℕ
@@ -19,6 +19,15 @@ text_of Del = codes "del"
 text_of Unlink = codes "unlink"
 text_of Exists = codes "exists"
 text_of KeyType = codes "type"
+text_of StrLen = codes "strlen"
+text_of GetRange = codes "getrange"
+text_of MGet = codes "mget"
+text_of SetNx = codes "setnx"
+text_of GetSet = codes "getset"
+text_of GetDel = codes "getdel"
+text_of Keys = codes "keys"
+text_of Scan = codes "scan"
+text_of DbSize = codes "dbsize"
 text_of HSet = codes "hset"
 text_of HMSet = codes "hmset"
 text_of HSetNx = codes "hsetnx"
@@ -68,7 +77,7 @@ text_of Client = codes "client"
 
 -- all of them
 abbrev pub names : List Name
-names = Get ∷ Set ∷ Del ∷ Unlink ∷ Exists ∷ KeyType ∷ HSet ∷ HMSet ∷ HSetNx ∷ HGet ∷ HMGet ∷ HGetAll ∷
+names = Get ∷ Set ∷ Del ∷ Unlink ∷ Exists ∷ KeyType ∷ StrLen ∷ GetRange ∷ MGet ∷ SetNx ∷ GetSet ∷ GetDel ∷ Keys ∷ Scan ∷ DbSize ∷ HSet ∷ HMSet ∷ HSetNx ∷ HGet ∷ HMGet ∷ HGetAll ∷
     HKeys ∷ HVals ∷ HDel ∷ HExists ∷ HLen ∷ HStrLen ∷ HIncrBy ∷ LPush ∷ RPush ∷ LPushX ∷ RPushX ∷ LPop ∷
     RPop ∷ LLen ∷ LRange ∷ LIndex ∷ LSet ∷ LInsert ∷ LRem ∷ LTrim ∷ LMove ∷ RPopLPush ∷ SAdd ∷ SRem ∷
     SIsMember ∷ SMIsMember ∷ SMembers ∷ SCard ∷ SPop ∷ SRandMember ∷ SMove ∷ SInter ∷ SUnion ∷ SDiff ∷ Ping ∷

@@ -1,12 +1,22 @@
 -- The words that a command is spelled by.
-use Rattle.std.specs.Prelude.{◌≡◌, ℕ, ℤ, pos, List, [], ◌∷◌, map, Option, Some, None}
+use Rattle.std.specs.Prelude.{◌≡◌, ◌<◌, ◌^◌, ℕ, ℤ, pos, Bool, true, false, List, [], ◌∷◌, ◌++◌, IsPermutation, map, Option, Some, None}
 use Rattle.std.specs.Fmt.{signed_decimal}
 use Rattle.mr_ask.specs.Names.{lowered, text_of}
 use Rattle.mr_ask.specs.Called.{name_of}
 use Rattle.mr_ask.specs.Carried.{key_words, hash_words, list_words, set_words, server_words}
-use Rattle.mr_ask.specs.Parts.{end_text, side_text}
+use Rattle.mr_ask.specs.Parts.{end_text, side_text, kind_of}
+use Rattle.mr_ask.specs.Options.{set_text, scan_text}
 use Rattle.mr_ask.specs.Server.{setname, setinfo}
+use Rattle.mr_ask.specs.declared.options.SetOption.TheVariants as option
+use Rattle.mr_ask.specs.declared.options.ScanOption.TheVariants as scan
+use Rattle.mr_ask.specs.declared.key_ask.SetCondition.{SetCondition}
+use Rattle.mr_ask.specs.declared.key_ask.SetReply.{SetReply}
+use Rattle.mr_ask.specs.declared.key_ask.SetReply.TheVariants.{Done, Before}
+use Rattle.mr_ask.specs.declared.key_ask.Cursor.{Cursor}
+use Rattle.mr_ask.specs.declared.key_ask.Cursor.TheVariants.{Start, Behind}
+use Rattle.mr_ask.specs.declared.key_ask.KindName.{KindName}
 use Rattle.mr_ask.specs.declared.key_ask.KeyAsk.{KeyAsk}
+use Rattle.mr_ask.specs.declared.key_ask.KeyAsk.TheVariants as key
 use Rattle.mr_ask.specs.declared.hash_ask.HashAsk.{HashAsk}
 use Rattle.mr_ask.specs.declared.hash_ask.HashAsk.TheVariants as hash
 use Rattle.mr_ask.specs.declared.list_ask.ListAsk.{ListAsk}
@@ -18,20 +28,52 @@ use Rattle.mr_ask.specs.declared.server_ask.ServerAsk.TheVariants as server
 use Rattle.mr_ask.specs.declared.ask.Ask.{Ask}
 use Rattle.mr_ask.specs.declared.ask.Ask.TheVariants as ask
 
--- an argument: this word as it is, the text of this number, or this option word in any case
+-- an argument: this word as it is, the text of this number, this option word in any case, the text of some number from 1 on, or a
+-- word that names this kind
 pub data Part : Type 0 where
   Word : List ℕ → Part
   Number : ℤ → Part
   Keyword : List ℕ → Part
+  Positive : Part
+  Kind : KindName → Part
 
 -- a count that may be left out
 abbrev pub count_part : Option ℕ → List Part
 count_part None = []
 count_part (Some n) = Number (pos n) ∷ []
 
--- what stands behind the name of a command on strings and keys
+-- where a scan goes on
+abbrev pub cursor_part : Cursor → Part
+cursor_part Start = Number (pos 0)
+cursor_part Behind = Positive
+
+-- what stands behind the name of a command on strings and keys, before its options
 abbrev pub key_parts : KeyAsk → List Part
+key_parts (key.GetRange key first last) = Word key ∷ Number first ∷ Number last ∷ []
+key_parts (key.Scan cursor pattern kind) = cursor_part cursor ∷ []
 key_parts command = map Word (key_words command)
+
+-- an option: its words
+abbrev pub condition_option : Option SetCondition → List (List Part)
+condition_option None = []
+condition_option (Some condition) = (Keyword (set_text (option.Condition condition)) ∷ []) ∷ []
+
+abbrev pub reply_option : SetReply → List (List Part)
+reply_option Done = []
+reply_option Before = (Keyword (set_text option.Before) ∷ []) ∷ []
+
+abbrev pub pattern_option : Option (List ℕ) → List (List Part)
+pattern_option None = []
+pattern_option (Some pattern) = (Keyword (scan_text scan.Pattern) ∷ Word pattern ∷ []) ∷ []
+
+abbrev pub kind_option : Option KindName → List (List Part)
+kind_option None = []
+kind_option (Some kind) = (Keyword (scan_text scan.Kind) ∷ Kind kind ∷ []) ∷ []
+
+-- a number that says nothing of the command
+abbrev pub count_option : Bool → List (List Part)
+count_option false = []
+count_option true = (Keyword (scan_text scan.Count) ∷ Positive ∷ []) ∷ []
 
 -- what stands behind the name of a command on hashes
 abbrev pub hash_parts : HashAsk → List Part
@@ -63,18 +105,17 @@ server_parts (server.SetClientName name) = Keyword setname ∷ Word name ∷ []
 server_parts (server.SetClientInfo attribute value) = Keyword setinfo ∷ Word attribute ∷ Word value ∷ []
 server_parts command = map Word (server_words command)
 
-abbrev pub parts_of : Ask → List Part
-parts_of (ask.Keys command) = key_parts command
-parts_of (ask.Hashes command) = hash_parts command
-parts_of (ask.Lists command) = list_parts command
-parts_of (ask.Sets command) = set_parts command
-parts_of (ask.Server command) = server_parts command
+-- the text of a number of 64 bits from 1 on
+abbrev pub IsPositive : List ℕ → Type 0
+IsPositive word = (n : ℕ) × ((0 < n) × (n < 2 ^ 63) × (word ≡ signed_decimal (pos n)))
 
 -- the word is that argument
 abbrev pub IsPart : List ℕ → Part → Type 0
 IsPart word (Word text) = word ≡ text
 IsPart word (Number n) = word ≡ signed_decimal n
 IsPart word (Keyword text) = lowered word ≡ text
+IsPart word Positive = IsPositive word
+IsPart word (Kind name) = kind_of word ≡ name
 
 -- each word is the argument in its place, and there are no others
 abbrev pub AreParts : List (List ℕ) → List Part → Type 0
@@ -82,7 +123,30 @@ AreParts [] [] = Unit {0}
 AreParts (word ∷ words) (part ∷ parts) = IsPart word part × AreParts words parts
 AreParts _ _ = ⊥
 
+-- options in a row
+abbrev pub in_a_row : List (List Part) → List Part
+in_a_row [] = []
+in_a_row (option ∷ options) = option ++ in_a_row options
+
+-- the words are these arguments, and behind them these options, in some order
+abbrev pub AreWithOptions : List (List ℕ) → List Part → List (List Part) → Type 0
+AreWithOptions words parts options = (order : List (List Part)) × (IsPermutation options order × AreParts words (parts ++ in_a_row order))
+
+-- the words that stand behind the name of a command on strings and keys
+abbrev pub AreOfKeys : List (List ℕ) → KeyAsk → Type 0
+AreOfKeys words (key.Set key value condition reply) = AreWithOptions words (Word key ∷ Word value ∷ []) (condition_option condition ++ reply_option reply)
+AreOfKeys words (key.Scan cursor pattern kind) = (counted : Bool) × AreWithOptions words (cursor_part cursor ∷ []) (pattern_option pattern ++ kind_option kind ++ count_option counted)
+AreOfKeys words command = AreParts words (key_parts command)
+
+-- the words that stand behind the name of a command
+abbrev pub AreArguments : List (List ℕ) → Ask → Type 0
+AreArguments words (ask.Keys command) = AreOfKeys words command
+AreArguments words (ask.Hashes command) = AreParts words (hash_parts command)
+AreArguments words (ask.Lists command) = AreParts words (list_parts command)
+AreArguments words (ask.Sets command) = AreParts words (set_parts command)
+AreArguments words (ask.Server command) = AreParts words (server_parts command)
+
 -- These words spell the command: its name in any case, and behind it its arguments.
 abbrev pub Spells : List (List ℕ) → Ask → Type 0
 Spells [] command = ⊥
-Spells (name ∷ arguments) command = (lowered name ≡ text_of (name_of command)) × AreParts arguments (parts_of command)
+Spells (name ∷ words) command = (lowered name ≡ text_of (name_of command)) × AreArguments words command

@@ -34,6 +34,9 @@ pub enum BadValue {
     /// Another database than the first.
     #[error("DB index is out of range")]
     Database,
+    /// A cursor that isn't a number from 0 to 2^63 - 1.
+    #[error("invalid cursor")]
+    Cursor,
 }
 
 impl AskFault {
@@ -63,6 +66,7 @@ fn bad_value(value: BadValue) -> &'static [u8]
     match value {
         BadValue::Negative => b"ERR value is out of range, must be positive",
         BadValue::Database => b"ERR DB index is out of range",
+        BadValue::Cursor => b"ERR invalid cursor",
     }
 }
 
@@ -77,6 +81,15 @@ fn wrong_count(name: Name) -> &'static [u8]
         Name::Unlink => b"ERR wrong number of arguments for 'unlink' command",
         Name::Exists => b"ERR wrong number of arguments for 'exists' command",
         Name::KeyType => b"ERR wrong number of arguments for 'type' command",
+        Name::StrLen => b"ERR wrong number of arguments for 'strlen' command",
+        Name::GetRange => b"ERR wrong number of arguments for 'getrange' command",
+        Name::MGet => b"ERR wrong number of arguments for 'mget' command",
+        Name::SetNx => b"ERR wrong number of arguments for 'setnx' command",
+        Name::GetSet => b"ERR wrong number of arguments for 'getset' command",
+        Name::GetDel => b"ERR wrong number of arguments for 'getdel' command",
+        Name::Keys => b"ERR wrong number of arguments for 'keys' command",
+        Name::Scan => b"ERR wrong number of arguments for 'scan' command",
+        Name::DbSize => b"ERR wrong number of arguments for 'dbsize' command",
         Name::HSet => b"ERR wrong number of arguments for 'hset' command",
         Name::HMSet => b"ERR wrong number of arguments for 'hmset' command",
         Name::HSetNx => b"ERR wrong number of arguments for 'hsetnx' command",

@@ -26,7 +26,7 @@ use mr_value::End;
 use std::borrow::CowSlice;
 
 // The words behind a command's name.
-type Arguments<'a, 't> = &'a [CowSlice<'t, u8>];
+pub(crate) type Arguments<'a, 't> = &'a [CowSlice<'t, u8>];
 
 type Reading<'a, 't> = Result<Ask<'a, 't>, AskFault>;
 
@@ -63,6 +63,15 @@ fn read_arguments<'a, 't>(name: Name, arguments: Arguments<'a, 't>) -> Reading<'
         Name::Unlink => of_keys(keys::unlink(arguments)),
         Name::Exists => of_keys(keys::exists(arguments)),
         Name::KeyType => of_keys(keys::key_type(arguments)),
+        Name::StrLen => of_keys(keys::strlen(arguments)),
+        Name::GetRange => of_keys(keys::getrange(arguments)),
+        Name::MGet => of_keys(keys::mget(arguments)),
+        Name::SetNx => of_keys(keys::setnx(arguments)),
+        Name::GetSet => of_keys(keys::getset(arguments)),
+        Name::GetDel => of_keys(keys::getdel(arguments)),
+        Name::Keys => of_keys(keys::matching_keys(arguments)),
+        Name::Scan => of_keys(keys::scan(arguments)),
+        Name::DbSize => of_keys(keys::dbsize(arguments)),
         Name::HSet => of_hashes(hashes::set_fields(name, FieldsReply::Added, arguments)),
         Name::HMSet => of_hashes(hashes::set_fields(name, FieldsReply::Done, arguments)),
         Name::HSetNx => of_hashes(hashes::hsetnx(arguments)),

@@ -79,7 +79,7 @@ fn strings_and_keys(rt: HostRuntime) -> Result<(), Fail> {
                 "Set k",
                 "-ERR wrong number of arguments for 'set' command\r\n",
             ),
-            ("SET k v NX", SYNTAX),
+            ("SET k v EX 10", SYNTAX),
             ("Del a b a", "keys"),
             (
                 "DEL",
