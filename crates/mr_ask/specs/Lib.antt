@@ -11,3 +11,5 @@ pub mod Asks
 pub mod Carried
 pub mod Called
 pub mod Spelled
+pub mod Glob
+pub mod GlobSteps
