@@ -1,12 +1,9 @@
 -- How a pattern is followed along a text, and why no `*` before the last that was come to is gone back to.
 use Rattle.std.proofs.Common.{arith, ◌≡◌, ℕ, ◌<◌, ◌≤◌, List, [], ◌∷◌, length, Bool, true, false, ◌||◌, ◌&&◌, cond, refl, sym, ap, ◌∙◌, subst}
+use Rattle.std.proofs.lemmas.Bool.{and_parts, or_right}
 use Rattle.mr_ask.specs.Glob.{star, is_bare, signs, parts, set_at, parts_of, some_rest, any_bytes, one_byte, matches, Part}
 use Rattle.mr_ask.specs.GlobSteps.{whole, somewhere, parts_past, Passes, ComesTo}
 use Rattle.mr_ask.specs.declared.pattern.sign.Sign.{Sign}
-
-pub or_assoc : (a b c : Bool) → ((a || b) || c) ≡ (a || (b || c))
-or_assoc true b c = refl
-or_assoc false b c = refl
 
 same_bool : (a b : Bool) → (a ≡ true → b ≡ true) → (b ≡ true → a ≡ true) → a ≡ b
 same_bool true b f g = sym (f refl)
@@ -21,14 +18,6 @@ or_cases : (a b c : Bool) → (a || b) ≡ true → (a ≡ true → c ≡ true) 
 or_cases true b c h f g = f refl
 or_cases false b c h f g = g h
 
-or_right : (a b : Bool) → b ≡ true → (a || b) ≡ true
-or_right true b h = refl
-or_right false b h = h
-
-and_right : (a b : Bool) → (a && b) ≡ true → b ≡ true
-and_right true b h = h
-and_right false b h = cc
-
 -- the text itself is a rest of it
 pub here : (test : List ℕ → Bool) (text : List ℕ) → test text ≡ true → some_rest test text ≡ true
 here test [] h = h
@@ -41,10 +30,10 @@ twice test (b ∷ text) h = or_cases (some_rest test (b ∷ text)) (some_rest (s
 
 -- Where a part for one byte comes first, a byte less of the text is enough for the parts behind it.
 pub byte_less : (set : ℕ → Bool) (ps : List Part) (b : ℕ) (text : List ℕ) → some_rest (matches (one_byte set ∷ ps)) (b ∷ text) ≡ true → some_rest (matches ps) text ≡ true
-byte_less set ps b [] h = or_cases (set b && matches ps []) false (matches ps []) h (λ e. and_right (set b) _ e) (λ e. let no : false ≡ true = e in cc)
+byte_less set ps b [] h = or_cases (set b && matches ps []) false (matches ps []) h (λ e. (and_parts (set b) _ e).1) (λ e. let no : false ≡ true = e in cc)
 byte_less set ps b (c ∷ text) h =
     or_cases (set b && matches ps (c ∷ text)) (some_rest (matches (one_byte set ∷ ps)) (c ∷ text)) (some_rest (matches ps) (c ∷ text)) h
-    (λ e. here (matches ps) (c ∷ text) (and_right (set b) _ e))
+    (λ e. here (matches ps) (c ∷ text) (and_parts (set b) _ e).1)
     (λ e. or_right (matches ps (c ∷ text)) (some_rest (matches ps) text) (byte_less set ps c text e))
 
 -- What is left of the pattern and of the text decides what all of them do.
@@ -120,7 +109,7 @@ later_rest pattern text bytes b first misses =
     ap (some_rest (matches (parts_of pattern))) first ∙ ap (λ x. x || some_rest (matches (parts_of pattern)) bytes) (ap (matches (parts_of pattern)) (sym first) ∙ misses)
 
 -- the last rest of a text is the empty one
-last_rest : (test : List ℕ → Bool) (text : List ℕ) → test [] ≡ true → some_rest test text ≡ true
+pub last_rest : (test : List ℕ → Bool) (text : List ℕ) → test [] ≡ true → some_rest test text ≡ true
 last_rest test [] h = h
 last_rest test (b ∷ text) h = or_right (test (b ∷ text)) (some_rest test text) (last_rest test text h)
 

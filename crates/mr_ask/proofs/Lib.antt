@@ -9,3 +9,4 @@ pub mod SetLemmas
 pub mod ServerLemmas
 pub mod AskLemmas
 pub mod GlobLemmas
+pub mod GlobLaws

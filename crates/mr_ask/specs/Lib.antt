@@ -13,3 +13,4 @@ pub mod Called
 pub mod Spelled
 pub mod Glob
 pub mod GlobSteps
+pub mod GlobWords

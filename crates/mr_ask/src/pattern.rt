@@ -4,9 +4,14 @@ ghost use Rattle.mr_ask.specs.Glob.{any_bytes, glob_matches, matches, parts_of, 
 ghost use Rattle.mr_ask.specs.GlobSteps.{Passes, StopsAt};
 
 mod class;
+mod laws;
 mod sign;
 
 use class::in_class;
+pub use laws::{
+    any_bytes_match, parts_match_in_turn, plain_bytes_match_themselves, ranges_match_either_way,
+    taken_bytes_match_themselves,
+};
 use sign::{Sign, next_sign};
 
 /// Whether the pattern matches the whole text.
