@@ -8,3 +8,5 @@ pub mod ListLemmas
 pub mod SetLemmas
 pub mod ServerLemmas
 pub mod AskLemmas
+pub mod GlobLemmas
+pub mod GlobLaws

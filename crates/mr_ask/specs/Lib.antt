@@ -12,3 +12,6 @@ pub mod Asks
 pub mod Carried
 pub mod Called
 pub mod Spelled
+pub mod Glob
+pub mod GlobSteps
+pub mod GlobWords

@@ -11,6 +11,7 @@ mod list_ask;
 mod name;
 mod options;
 mod parts;
+mod pattern;
 mod reading;
 mod server_ask;
 mod set_ask;
@@ -24,6 +25,10 @@ pub use key_ask::{Cursor, KeyAsk, KindName, SetCondition, SetReply};
 pub use laws::names_are_found;
 pub use list_ask::{ListAsk, PushTo};
 pub use name::Name;
+pub use pattern::{
+    any_bytes_match, glob, parts_match_in_turn, plain_bytes_match_themselves,
+    ranges_match_either_way, taken_bytes_match_themselves,
+};
 pub use reading::read;
 pub use server_ask::ServerAsk;
 pub use set_ask::{SetAsk, SetOperation};
