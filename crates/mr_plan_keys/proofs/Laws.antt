@@ -1,9 +1,9 @@
 -- The effects of commands on strings and keys are faithful.
 use Rattle.std.proofs.Common.{rules, ℕ, ◌≡◌, List, [], ◌∷◌, Bool, true, false, ◌&&◌, Option, Some, None, refl, sym, ◌∙◌, ap}
-use Rattle.std.specs.Prelude.{IsTrue, is_some, is_none, if◌then◌else◌, ℤ, pos}
+use Rattle.std.specs.Prelude.{IsTrue, is_some, is_none, if◌then◌else◌, ℤ, pos, map}
 use Rattle.std.specs.List.{list_all}
 use Rattle.std.specs.Option.{option_and_then}
-use Rattle.std.specs.FinMap.{get}
+use Rattle.std.specs.FinMap.{get, len}
 use Rattle.std.specs.Str.{bytes_eq}
 use Rattle.std.proofs.lemmas.Slice.Eq.{bytes_eq-Decides}
 use Rattle.mr_map.specs.Bytes.{Bytes}
@@ -21,18 +21,20 @@ use Rattle.mr_ask.specs.declared.key_ask.KeyAsk.TheVariants as ask
 use Rattle.mr_ask.specs.declared.server_ask.ServerAsk.{ServerAsk}
 use Rattle.mr_turn.specs.Keys.{chosen, without, dels}
 use Rattle.mr_turn.specs.Commands.{IsFaithful, on_key, before}
-use Rattle.mr_turn.proofs.Maps.{put_same, get_put}
+use Rattle.mr_turn.proofs.Maps.{put_same}
 use Rattle.mr_turn.proofs.KeyLists.{dels_lead, chosen_fits, without_chosen, none_chosen}
 use Rattle.mr_turn.proofs.Laws.{faithful, IsFaithfulAt, IsFaithfulTurn, at_key_faithful, kept_faithful, answered_faithful}
 use Rattle.mr_resp.specs.Replies as reply
 use Rattle.mr_resp.specs.Replies.{Tree}
+use Rattle.mr_resp.specs.ReplyView.{trees_of}
 use Rattle.mr_turn.specs.Turns.{Turn, kept, done}
 use Rattle.mr_turn.specs.Outcomes.{answered}
-use Rattle.mr_plan_keys.specs.declared.key_ask.SetCondition.{SetCondition}
-use Rattle.mr_plan_keys.specs.declared.key_ask.SetReply.{SetReply}
-use Rattle.mr_plan_keys.specs.declared.key_ask.SetReply.TheVariants as asked
+use Rattle.mr_ask.specs.declared.key_ask.SetCondition.{SetCondition}
+use Rattle.mr_ask.specs.declared.key_ask.SetReply.{SetReply}
+use Rattle.mr_ask.specs.declared.key_ask.SetReply.TheVariants as asked
 use Rattle.mr_plan_keys.specs.Turns.{plain, is_text, is_plain, put, allows, holds_other, get_reply, length_reply, range_reply, type_reply, set_turn, set_new_turn, get_and_set_turn, taken, get_and_delete_turn}
-use Rattle.mr_plan_keys.specs.Outcomes.{deleted, present}
+use Rattle.mr_plan_keys.specs.Outcomes.{deleted, present, found}
+use Rattle.mr_plan_keys.specs.Listing.{listed, bulks, scan_reply, from_cursor}
 use Rattle.mr_plan_keys.specs.Commands.{on_keys, on_none, command, server_command}
 
 same_bytes : (xs ys : List ℕ) → bytes_eq xs ys ≡ true → xs ≡ ys
@@ -161,11 +163,20 @@ none_told answer now m = faithful (on_none (λ n. answered (answer n) n)) now m 
 
 pub keys_faithful : (c : KeyAsk) (now : ℤ) (m : Dataset) → Fits (key_words c) → IsFaithful (command c) now m
 keys_faithful (ask.Get k) now m h = by_telling k get_reply now m h
-keys_faithful (ask.Set k text) now m h = by_setting k text (set_turn k text None asked.Done) now m h (set_faithful k text None asked.Done)
+keys_faithful (ask.Set k text when says) now m h = by_setting k text (set_turn k text when says) now m h (set_faithful k text when says)
 keys_faithful (ask.Del ks) now m h = faithful (command (ask.Del ks)) now m h (deleted_faithful ks _ h)
 keys_faithful (ask.Unlink ks) now m h = faithful (command (ask.Unlink ks)) now m h (deleted_faithful ks _ h)
 keys_faithful (ask.Exists ks) now m h = keys_told ks (λ n. reply.int (pos (present n ks))) now m h
 keys_faithful (ask.KeyType k) now m h = by_telling k type_reply now m h
+keys_faithful (ask.TextLength k) now m h = by_telling k length_reply now m h
+keys_faithful (ask.GetRange k a b) now m h = by_telling k (range_reply a b) now m h
+keys_faithful (ask.GetAll ks) now m h = keys_told ks (λ n. reply.array (trees_of (map (λ k. found (get n k)) ks))) now m h
+keys_faithful (ask.SetNew k text) now m h = by_setting k text (set_new_turn k text) now m h (set_new_faithful k text)
+keys_faithful (ask.GetAndSet k text) now m h = by_setting k text (get_and_set_turn k text) now m h (get_and_set_faithful k text)
+keys_faithful (ask.GetAndDelete k) now m h = by_turn k (get_and_delete_turn k) now m h (λ n. get_and_delete_faithful k n (first _ _ h))
+keys_faithful (ask.MatchingKeys p) now m h = none_told (λ n. bulks (listed (Some p) None n)) now m
+keys_faithful (ask.Scan c p k) now m h = none_told (λ n. scan_reply (from_cursor c (listed p k n))) now m
+keys_faithful ask.CountKeys now m h = none_told (λ n. reply.int (pos (len n))) now m
 
 pub server_faithful : (c : ServerAsk) (now : ℤ) (m : Dataset) → IsFaithful (server_command c) now m
 server_faithful c now m = faithful (server_command c) now m refl (answered_faithful _ _ refl refl)

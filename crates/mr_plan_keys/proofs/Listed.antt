@@ -1,5 +1,5 @@
 -- The keys that are seen at a moment.
-use Rattle.std.proofs.Common.{◌≡◌, ℕ, ℤ, List, [], ◌∷◌, map, length, ◌+◌, Bool, true, false, ◌&&◌, cond, Option, Some, None, refl, sym, ◌∙◌, ap}
+use Rattle.std.proofs.Common.{◌≡◌, ℤ, List, [], ◌∷◌, map, length, ◌+◌, Bool, true, false, ◌&&◌, cond, Option, Some, None, refl, sym, ◌∙◌, ap}
 use Rattle.std.specs.Prelude.{not, filter, is_some, if◌then◌else◌}
 use Rattle.std.specs.declared.cmp.Ordering.TheVariants.{Equal}
 use Rattle.std.specs.FinMap.{get, keys, entries, retain_keys, len, len-entries, from_sorted, entries_sorted, get-from_sorted, entries-from_sorted, get-entries, get-retain_keys, same_map}
@@ -12,7 +12,7 @@ use Rattle.mr_map.specs.Bytes.{Bytes, bytes_cmp}
 use Rattle.mr_data.specs.Dataset.{Dataset, live, seen}
 use Rattle.mr_data.specs.declared.value.Entry.{Entry}
 use Rattle.mr_data.proofs.Seeing.{get-seen}
-use Rattle.mr_plan_keys.specs.declared.key_ask.KindName.{KindName}
+use Rattle.mr_ask.specs.declared.key_ask.KindName.{KindName}
 use Rattle.mr_plan_keys.specs.Listing.{is_matched, is_of_kind, listed, is_listed_at, listed_at}
 
 -- ---- the keys that pass a test

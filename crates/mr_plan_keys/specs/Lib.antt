@@ -1,4 +1,3 @@
-pub mod Glob
 pub mod Turns
 pub mod Outcomes
 pub mod Listing

@@ -10,11 +10,11 @@ use Rattle.mr_data.specs.declared.value.Value.{Value}
 use Rattle.mr_data.specs.declared.value.Value.TheVariants as value
 use Rattle.mr_data.specs.declared.value.Entry.{Entry}
 use Rattle.mr_turn.specs.Outcomes.{Outcome, answered}
-use Rattle.mr_plan_keys.specs.Glob.{glob_matches}
-use Rattle.mr_plan_keys.specs.declared.key_ask.Cursor.{Cursor}
-use Rattle.mr_plan_keys.specs.declared.key_ask.Cursor.TheVariants as cursor
-use Rattle.mr_plan_keys.specs.declared.key_ask.KindName.{KindName}
-use Rattle.mr_plan_keys.specs.declared.key_ask.KindName.TheVariants as kind
+use Rattle.mr_ask.specs.Glob.{glob_matches}
+use Rattle.mr_ask.specs.declared.key_ask.Cursor.{Cursor}
+use Rattle.mr_ask.specs.declared.key_ask.Cursor.TheVariants as cursor
+use Rattle.mr_ask.specs.declared.key_ask.KindName.{KindName}
+use Rattle.mr_ask.specs.declared.key_ask.KindName.TheVariants as kind
 
 -- the pattern matches the key, or there is none
 abbrev pub is_matched : Option Bytes → Bytes → Bool

@@ -1,5 +1,5 @@
 -- The turns of the commands on one key.
-use Rattle.std.specs.Prelude.{ℤ, pos, List, [], ◌∷◌, length, codes, Bool, true, false, ◌&&◌, if◌then◌else◌, Option, Some, None, is_none, is_some}
+use Rattle.std.specs.Prelude.{ℤ, pos, [], ◌∷◌, length, codes, Bool, true, false, ◌&&◌, if◌then◌else◌, Option, Some, None, is_none, is_some}
 use Rattle.std.specs.Str.{bytes_eq}
 use Rattle.mr_map.specs.Bytes.{Bytes}
 use Rattle.mr_value.specs.Window.{window_of, windowed}
@@ -10,10 +10,10 @@ use Rattle.mr_data.specs.declared.value.Value.TheVariants as value
 use Rattle.mr_data.specs.declared.value.Entry.{Entry}
 use Rattle.mr_turn.specs.Turns.{Turn, kept, wrong_kind, done}
 use Rattle.mr_effect.specs.declared.effect.Effect.TheVariants as effect
-use Rattle.mr_plan_keys.specs.declared.key_ask.SetCondition.{SetCondition}
-use Rattle.mr_plan_keys.specs.declared.key_ask.SetCondition.TheVariants as condition
-use Rattle.mr_plan_keys.specs.declared.key_ask.SetReply.{SetReply}
-use Rattle.mr_plan_keys.specs.declared.key_ask.SetReply.TheVariants as asked
+use Rattle.mr_ask.specs.declared.key_ask.SetCondition.{SetCondition}
+use Rattle.mr_ask.specs.declared.key_ask.SetCondition.TheVariants as condition
+use Rattle.mr_ask.specs.declared.key_ask.SetReply.{SetReply}
+use Rattle.mr_ask.specs.declared.key_ask.SetReply.TheVariants as asked
 
 -- ---- What a command tells of the text at a key. A value of another kind is refused.
 abbrev pub of_value : (Bytes → Tree) → Value → Tree

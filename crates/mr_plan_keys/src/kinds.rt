@@ -4,7 +4,7 @@ ghost use Rattle.mr_resp.specs.ReplyView.{view};
 ghost use Rattle.mr_plan_keys.specs.Turns.{kind_name, type_reply};
 ghost use Rattle.mr_plan_keys.specs.Listing.{has_kind, is_of_kind};
 
-use crate::key_ask::KindName;
+use mr_ask::KindName;
 use mr_data::{Entry, Value};
 use mr_resp::Reply;
 use std::borrow::CowSlice;

@@ -2,10 +2,8 @@
 #![tactic(auto)]
 
 mod counting;
-mod key_ask;
 mod kinds;
 mod listing;
-mod pattern;
 mod planning;
 mod replies;
 mod server;

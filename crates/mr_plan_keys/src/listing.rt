@@ -4,10 +4,9 @@ ghost use Rattle.mr_resp.specs.ReplyView.{view};
 ghost use Rattle.mr_data.specs.Dataset.{seen};
 ghost use Rattle.mr_plan_keys.specs.Listing.{is_matched, is_listed_at, listed_at, bulks, scan_reply, from_cursor};
 
-use crate::key_ask::{Cursor, KindName};
 use crate::kinds::is_of_kind;
-use crate::pattern::glob;
 use crate::replies::bulk;
+use mr_ask::{Cursor, KindName, glob};
 use mr_data::{Dataset, Given};
 use mr_resp::Reply;
 use mr_turn::find;

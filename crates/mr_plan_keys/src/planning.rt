@@ -11,10 +11,9 @@ ghost use Rattle.mr_plan_keys.specs.Outcomes.{deleted, counted, texts};
 ghost use Rattle.mr_plan_keys.specs.Listing.{matching, scanned, sized};
 
 use crate::counting::{count_keys, count_present};
-use crate::key_ask::{Cursor, KindName, SetCondition, SetReply};
 use crate::replies::integer;
 use crate::{kinds, listing, setting, texts};
-use mr_ask::{Argument, KeyAsk, Words};
+use mr_ask::{Argument, Cursor, KeyAsk, KindName, SetCondition, SetReply, Words};
 use mr_data::{Dataset, Given, Plan};
 use mr_turn::{Effects, look, push_dels};
 use std::alloc::{AllocError, Global};
@@ -42,11 +41,29 @@ fn planned(
 {
     match ask {
         KeyAsk::Get { key } => get(alloc, held, key, given),
-        KeyAsk::Set { key, value } => set(alloc, held, key, value, None, SetReply::Done, given),
+        KeyAsk::Set {
+            key,
+            value,
+            condition,
+            reply,
+        } => set(alloc, held, key, value, *condition, *reply, given),
         KeyAsk::Del { keys } => delete(alloc, held, keys, given),
         KeyAsk::Unlink { keys } => delete(alloc, held, keys, given),
         KeyAsk::Exists { keys } => exists(alloc, held, keys, given),
         KeyAsk::KeyType { key } => key_type(alloc, held, key, given),
+        KeyAsk::TextLength { key } => text_length(alloc, held, key, given),
+        KeyAsk::GetRange { key, first, last } => get_range(alloc, held, key, *first, *last, given),
+        KeyAsk::GetAll { keys } => get_all(alloc, held, keys, given),
+        KeyAsk::SetNew { key, value } => set_new(alloc, held, key, value, given),
+        KeyAsk::GetAndSet { key, value } => get_and_set(alloc, held, key, value, given),
+        KeyAsk::GetAndDelete { key } => get_and_delete(alloc, held, key, given),
+        KeyAsk::MatchingKeys { pattern } => matching_keys(alloc, held, pattern, given),
+        KeyAsk::Scan {
+            cursor,
+            pattern,
+            kind,
+        } => scan(alloc, held, *cursor, pattern, *kind, given),
+        KeyAsk::CountKeys => key_count(alloc, held, given),
     }
 }
 

@@ -4,13 +4,12 @@ ghost use Rattle.mr_resp.specs.Replies.{bytes};
 ghost use Rattle.mr_resp.specs.ReplyView.{view};
 ghost use Rattle.mr_effect.specs.declared.effect.Effect.TheVariants as effect;
 ghost use Rattle.mr_turn.specs.Turns.{Takes};
-ghost use Rattle.mr_plan_keys.specs.declared.key_ask.SetReply.TheVariants as asked;
+ghost use Rattle.mr_ask.specs.declared.key_ask.SetReply.TheVariants as asked;
 ghost use Rattle.mr_plan_keys.specs.Turns.{put, set_turn, set_new_turn, get_and_set_turn, get_and_delete_turn, allows, is_text, is_plain, is_other, holds_other};
 
-use crate::key_ask::{SetCondition, SetReply};
 use crate::replies::{bulk, done, integer, wrong_kind};
 use crate::texts::get;
-use mr_ask::Argument;
+use mr_ask::{Argument, SetCondition, SetReply};
 use mr_data::{Effect, Entry, Value};
 use mr_resp::Reply;
 use mr_turn::Effects;

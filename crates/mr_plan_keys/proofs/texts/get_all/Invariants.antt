@@ -1,8 +1,6 @@
 use Rattle.std.proofs.Common.{◌≡◌, map, take}
-use Rattle.std.specs.FinMap.{get}
 use Rattle.std.specs.Cow.{cow_slice_items}
 use Rattle.mr_resp.specs.ReplyView.{view}
-use Rattle.mr_data.specs.Dataset.{live}
 use Rattle.mr_plan_keys.specs.Outcomes.{texts_at}
 use Rattle.mr_plan_keys.proofs.texts.get_all.Given as goal
 
