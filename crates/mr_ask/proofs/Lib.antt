@@ -2,6 +2,7 @@ pub mod NameLemmas
 pub mod PairLemmas
 pub mod PartLemmas
 pub mod Carries
+pub mod OptionLemmas
 pub mod KeyLemmas
 pub mod HashLemmas
 pub mod ListLemmas

@@ -1,5 +1,5 @@
 -- The words that a command is spelled by.
-use Rattle.std.specs.Prelude.{◌≡◌, ◌<◌, ◌^◌, ℕ, ℤ, pos, Bool, true, false, List, [], ◌∷◌, ◌++◌, IsPermutation, map, Option, Some, None}
+use Rattle.std.specs.Prelude.{◌≡◌, ◌<◌, ◌^◌, ℕ, ℤ, pos, List, [], ◌∷◌, ◌++◌, IsPermutation, map, Option, Some, None, option_map, IfSome}
 use Rattle.std.specs.Fmt.{signed_decimal}
 use Rattle.mr_ask.specs.Names.{lowered, text_of}
 use Rattle.mr_ask.specs.Called.{name_of}
@@ -8,6 +8,7 @@ use Rattle.mr_ask.specs.Parts.{end_text, side_text, kind_of}
 use Rattle.mr_ask.specs.Options.{set_text, scan_text}
 use Rattle.mr_ask.specs.Server.{setname, setinfo}
 use Rattle.mr_ask.specs.declared.options.SetOption.TheVariants as option
+use Rattle.mr_ask.specs.declared.options.ScanOption.{ScanOption}
 use Rattle.mr_ask.specs.declared.options.ScanOption.TheVariants as scan
 use Rattle.mr_ask.specs.declared.key_ask.SetCondition.{SetCondition}
 use Rattle.mr_ask.specs.declared.key_ask.SetReply.{SetReply}
@@ -28,14 +29,12 @@ use Rattle.mr_ask.specs.declared.server_ask.ServerAsk.TheVariants as server
 use Rattle.mr_ask.specs.declared.ask.Ask.{Ask}
 use Rattle.mr_ask.specs.declared.ask.Ask.TheVariants as ask
 
--- an argument: this word as it is, the text of this number, this option word in any case, the text of some number from 1 on, or a
--- word that names this kind
+-- an argument: this word as it is, the text of this number, this option word in any case, or the text of some number from 1 on
 pub data Part : Type 0 where
   Word : List ℕ → Part
   Number : ℤ → Part
   Keyword : List ℕ → Part
   Positive : Part
-  Kind : KindName → Part
 
 -- a count that may be left out
 abbrev pub count_part : Option ℕ → List Part
@@ -62,18 +61,9 @@ abbrev pub reply_option : SetReply → List (List Part)
 reply_option Done = []
 reply_option Before = (Keyword (set_text option.Before) ∷ []) ∷ []
 
-abbrev pub pattern_option : Option (List ℕ) → List (List Part)
-pattern_option None = []
-pattern_option (Some pattern) = (Keyword (scan_text scan.Pattern) ∷ Word pattern ∷ []) ∷ []
-
-abbrev pub kind_option : Option KindName → List (List Part)
-kind_option None = []
-kind_option (Some kind) = (Keyword (scan_text scan.Kind) ∷ Kind kind ∷ []) ∷ []
-
--- a number that says nothing of the command
-abbrev pub count_option : Bool → List (List Part)
-count_option false = []
-count_option true = (Keyword (scan_text scan.Count) ∷ Positive ∷ []) ∷ []
+abbrev pub scan_option : ScanOption → Option (List ℕ) → List (List Part)
+scan_option option None = []
+scan_option option (Some argument) = (Keyword (scan_text option) ∷ Word argument ∷ []) ∷ []
 
 -- what stands behind the name of a command on hashes
 abbrev pub hash_parts : HashAsk → List Part
@@ -115,7 +105,6 @@ IsPart word (Word text) = word ≡ text
 IsPart word (Number n) = word ≡ signed_decimal n
 IsPart word (Keyword text) = lowered word ≡ text
 IsPart word Positive = IsPositive word
-IsPart word (Kind name) = kind_of word ≡ name
 
 -- each word is the argument in its place, and there are no others
 abbrev pub AreParts : List (List ℕ) → List Part → Type 0
@@ -132,10 +121,18 @@ in_a_row (option ∷ options) = option ++ in_a_row options
 abbrev pub AreWithOptions : List (List ℕ) → List Part → List (List Part) → Type 0
 AreWithOptions words parts options = (order : List (List Part)) × (IsPermutation options order × AreParts words (parts ++ in_a_row order))
 
+-- what stands behind SCAN: a number from 1 on may stand there, and says nothing; a kind is named by some word
+pub record AreOfScan (words : List (List ℕ)) (cursor : Cursor) (pattern : Option (List ℕ)) (kind : Option KindName) : Type 0 where
+  pub count : Option (List ℕ)
+  pub counts : IfSome count IsPositive
+  pub kind_word : Option (List ℕ)
+  pub names : option_map kind_of kind_word ≡ kind
+  pub are : AreWithOptions words (cursor_part cursor ∷ []) (scan_option scan.Pattern pattern ++ scan_option scan.Count count ++ scan_option scan.Kind kind_word)
+
 -- the words that stand behind the name of a command on strings and keys
 abbrev pub AreOfKeys : List (List ℕ) → KeyAsk → Type 0
 AreOfKeys words (key.Set key value condition reply) = AreWithOptions words (Word key ∷ Word value ∷ []) (condition_option condition ++ reply_option reply)
-AreOfKeys words (key.Scan cursor pattern kind) = (counted : Bool) × AreWithOptions words (cursor_part cursor ∷ []) (pattern_option pattern ++ kind_option kind ++ count_option counted)
+AreOfKeys words (key.Scan cursor pattern kind) = AreOfScan words cursor pattern kind
 AreOfKeys words command = AreParts words (key_parts command)
 
 -- the words that stand behind the name of a command

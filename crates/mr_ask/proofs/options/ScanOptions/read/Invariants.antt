@@ -8,4 +8,4 @@ abbrev pub invariant-loop-option : goal.invariant-loop-option
 invariant-loop-option l =
     (goal.iterator-loop-option).can_next l.option-iterator ×
     (goal.iterator-loop-option).is_finite l.option-iterator ×
-    (added scan_pair l.options l.option-iterator ≡ scan_options (map cow_slice_items l.words))
+    (added scan_pair (record { pattern = l.options.0; count = l.options.1.0; kind = l.options.1.1.0 }) l.option-iterator ≡ scan_options (map cow_slice_items l.words))
