@@ -135,26 +135,220 @@ fn the_server_answers(rt: HostRuntime) -> Result<(), Fail> {
     )
 }
 
-#[test]
-fn a_list_is_no_text(rt: HostRuntime) -> Result<(), Fail> {
-    let alloc = rt.alloc();
-    let mut held = Dataset::new(alloc, RandomState::new(&rt)?);
-    let mut items = Words::new(alloc);
+// A dataset in which one key, l, holds a list.
+fn with_list(rt: &HostRuntime) -> Result<Dataset, Fail> {
+    let mut held = Dataset::new(rt.alloc(), RandomState::new(rt)?);
+    let mut items = Words::new(rt.alloc());
     items.push(Word::borrowed(b"v"))?;
     held.apply_owned(Effect::Push {
-        key: Word::borrowed(b"k"),
+        key: Word::borrowed(b"l"),
         end: End::Left,
         items,
     })?;
-    let got = answered(&rt, alloc, &mut held, "GET k")?;
-    let want = "-WRONGTYPE Operation against a key holding the wrong kind of value\r\n";
-    assert_eq!(rt; got.as_slice(), want.as_bytes());
-    let got = answered(&rt, alloc, &mut held, "TYPE k")?;
-    assert_eq!(rt; got.as_slice(), b"+list\r\n".as_slice());
-    let got = answered(&rt, alloc, &mut held, "SET k v")?;
-    let want = "+OK\r\n*3\r\n$3\r\nSET\r\n$1\r\nk\r\n$1\r\nv\r\n";
-    assert_eq!(rt; got.as_slice(), want.as_bytes());
-    let got = answered(&rt, alloc, &mut held, "GET k")?;
-    assert_eq!(rt; got.as_slice(), b"$1\r\nv\r\n".as_slice());
-    Ok(())
+    Ok(held)
+}
+
+const WRONG_KIND: &str = "-WRONGTYPE Operation against a key holding the wrong kind of value\r\n";
+
+#[test]
+fn a_list_is_no_text(rt: HostRuntime) -> Result<(), Fail> {
+    let held = with_list(&rt)?;
+    all_answered(
+        &rt,
+        rt.alloc(),
+        held,
+        &[
+            ("GET l", WRONG_KIND),
+            ("STRLEN l", WRONG_KIND),
+            ("GETRANGE l 0 -1", WRONG_KIND),
+            ("SET l v GET", WRONG_KIND),
+            ("SET l v NX GET", WRONG_KIND),
+            ("GETSET l v", WRONG_KIND),
+            ("GETDEL l", WRONG_KIND),
+            ("SETNX l v", ":0\r\n"),
+            ("SET l v NX", "$-1\r\n"),
+            ("TYPE l", "+list\r\n"),
+        ],
+    )
+}
+
+#[test]
+fn a_text_is_set_over_a_list(rt: HostRuntime) -> Result<(), Fail> {
+    let held = with_list(&rt)?;
+    all_answered(
+        &rt,
+        rt.alloc(),
+        held,
+        &[
+            ("MGET l x", "*2\r\n$-1\r\n$-1\r\n"),
+            (
+                "SET l v XX",
+                "+OK\r\n*3\r\n$3\r\nSET\r\n$1\r\nl\r\n$1\r\nv\r\n",
+            ),
+            ("GET l", "$1\r\nv\r\n"),
+        ],
+    )
+}
+
+#[test]
+fn parts_of_texts_are_told(rt: HostRuntime) -> Result<(), Fail> {
+    let alloc = rt.alloc();
+    let held = Dataset::new(alloc, RandomState::new(&rt)?);
+    all_answered(
+        &rt,
+        alloc,
+        held,
+        &[
+            ("STRLEN k", ":0\r\n"),
+            ("GETRANGE k 0 -1", "$0\r\n\r\n"),
+            (
+                "SET k hello",
+                "+OK\r\n*3\r\n$3\r\nSET\r\n$1\r\nk\r\n$5\r\nhello\r\n",
+            ),
+            ("STRLEN k", ":5\r\n"),
+            ("GETRANGE k 0 2", "$3\r\nhel\r\n"),
+            ("GETRANGE k -2 -1", "$2\r\nlo\r\n"),
+            ("GETRANGE k -9 0", "$1\r\nh\r\n"),
+            ("GETRANGE k 4 99", "$1\r\no\r\n"),
+            ("GETRANGE k 3 1", "$0\r\n\r\n"),
+            ("GETRANGE k 5 9", "$0\r\n\r\n"),
+            ("MGET k x k", "*3\r\n$5\r\nhello\r\n$-1\r\n$5\r\nhello\r\n"),
+        ],
+    )
+}
+
+#[test]
+fn texts_are_set_where_they_may_be(rt: HostRuntime) -> Result<(), Fail> {
+    let alloc = rt.alloc();
+    let held = Dataset::new(alloc, RandomState::new(&rt)?);
+    all_answered(
+        &rt,
+        alloc,
+        held,
+        &[
+            ("SET k v XX", "$-1\r\n"),
+            ("SET k v XX GET", "$-1\r\n"),
+            (
+                "SET k v GET NX",
+                "$-1\r\n*3\r\n$3\r\nSET\r\n$1\r\nk\r\n$1\r\nv\r\n",
+            ),
+            ("SET k w NX", "$-1\r\n"),
+            ("SET k w NX GET", "$1\r\nv\r\n"),
+            (
+                "SET k w XX",
+                "+OK\r\n*3\r\n$3\r\nSET\r\n$1\r\nk\r\n$1\r\nw\r\n",
+            ),
+            (
+                "SET k x GET",
+                "$1\r\nw\r\n*3\r\n$3\r\nSET\r\n$1\r\nk\r\n$1\r\nx\r\n",
+            ),
+            ("SET k x GET", "$1\r\nx\r\n"),
+        ],
+    )
+}
+
+#[test]
+fn texts_are_exchanged(rt: HostRuntime) -> Result<(), Fail> {
+    let alloc = rt.alloc();
+    let held = Dataset::new(alloc, RandomState::new(&rt)?);
+    all_answered(
+        &rt,
+        alloc,
+        held,
+        &[
+            ("GETDEL k", "$-1\r\n"),
+            (
+                "SETNX k v",
+                ":1\r\n*3\r\n$3\r\nSET\r\n$1\r\nk\r\n$1\r\nv\r\n",
+            ),
+            ("SETNX k w", ":0\r\n"),
+            (
+                "GETSET k w",
+                "$1\r\nv\r\n*3\r\n$3\r\nSET\r\n$1\r\nk\r\n$1\r\nw\r\n",
+            ),
+            ("GETSET k w", "$1\r\nw\r\n"),
+            ("GETDEL k", "$1\r\nw\r\n*2\r\n$3\r\nDEL\r\n$1\r\nk\r\n"),
+            (
+                "GETSET k v",
+                "$-1\r\n*3\r\n$3\r\nSET\r\n$1\r\nk\r\n$1\r\nv\r\n",
+            ),
+        ],
+    )
+}
+
+// A dataset in which l holds a list, and b, ab and a hold texts.
+fn with_keys(rt: &HostRuntime) -> Result<Dataset, Fail> {
+    let mut held = with_list(rt)?;
+    for key in [b"b".as_slice(), b"ab", b"a"] {
+        held.apply_owned(Effect::Set {
+            key: Word::borrowed(key),
+            value: Word::borrowed(b"v"),
+        })?;
+    }
+    Ok(held)
+}
+
+#[test]
+fn keys_are_listed_in_byte_order(rt: HostRuntime) -> Result<(), Fail> {
+    let held = with_keys(&rt)?;
+    all_answered(
+        &rt,
+        rt.alloc(),
+        held,
+        &[
+            (
+                "KEYS *",
+                "*4\r\n$1\r\na\r\n$2\r\nab\r\n$1\r\nb\r\n$1\r\nl\r\n",
+            ),
+            ("KEYS a*", "*2\r\n$1\r\na\r\n$2\r\nab\r\n"),
+            ("KEYS ?", "*3\r\n$1\r\na\r\n$1\r\nb\r\n$1\r\nl\r\n"),
+            ("KEYS [b-z]", "*2\r\n$1\r\nb\r\n$1\r\nl\r\n"),
+            ("KEYS ab", "*1\r\n$2\r\nab\r\n"),
+            ("KEYS x*", "*0\r\n"),
+            ("DBSIZE", ":4\r\n"),
+        ],
+    )
+}
+
+#[test]
+fn keys_are_scanned_at_once(rt: HostRuntime) -> Result<(), Fail> {
+    let held = with_keys(&rt)?;
+    all_answered(
+        &rt,
+        rt.alloc(),
+        held,
+        &[
+            (
+                "SCAN 0",
+                "*2\r\n$1\r\n0\r\n*4\r\n$1\r\na\r\n$2\r\nab\r\n$1\r\nb\r\n$1\r\nl\r\n",
+            ),
+            ("SCAN 7", "*2\r\n$1\r\n0\r\n*0\r\n"),
+            (
+                "SCAN 0 COUNT 1 MATCH a*",
+                "*2\r\n$1\r\n0\r\n*2\r\n$1\r\na\r\n$2\r\nab\r\n",
+            ),
+            ("SCAN 0 TYPE list", "*2\r\n$1\r\n0\r\n*1\r\n$1\r\nl\r\n"),
+            (
+                "SCAN 0 MATCH ?b TYPE string",
+                "*2\r\n$1\r\n0\r\n*1\r\n$2\r\nab\r\n",
+            ),
+            ("SCAN 0 TYPE zset", "*2\r\n$1\r\n0\r\n*0\r\n"),
+        ],
+    )
+}
+
+#[test]
+fn an_empty_dataset_has_no_keys(rt: HostRuntime) -> Result<(), Fail> {
+    let alloc = rt.alloc();
+    let held = Dataset::new(alloc, RandomState::new(&rt)?);
+    all_answered(
+        &rt,
+        alloc,
+        held,
+        &[
+            ("KEYS *", "*0\r\n"),
+            ("SCAN 0", "*2\r\n$1\r\n0\r\n*0\r\n"),
+            ("DBSIZE", ":0\r\n"),
+        ],
+    )
 }
