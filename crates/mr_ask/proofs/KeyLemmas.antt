@@ -141,7 +141,7 @@ unfolding scan_parts argument_part
 count_more p None k w t h =
     let same : record { pattern = p; count = Some w; kind = k } ≡ t = cc in
     subst (λ (x : ScanOptions). IsPermutation (scan_parts x) (argument_part scans.Count w ∷ scan_parts (record { pattern = p; count = None; kind = k }))) same
-      (IsPermutation-append_left (scan_option scans.Kind k) _ _ (IsPermutation-middle (scan_option scans.Pattern p) (argument_part scans.Count w) []))
+    (IsPermutation-append_left (scan_option scans.Kind k) _ _ (IsPermutation-middle (scan_option scans.Pattern p) (argument_part scans.Count w) []))
 count_more p (Some q) k w t h = cc
 
 kind_more : (p c k : Option (List ℕ)) (w : List ℕ) (t : ScanOptions) → scan_also (record { pattern = p; count = c; kind = k }) w scans.Kind ≡ Ok t
@@ -150,7 +150,7 @@ unfolding scan_parts argument_part
 kind_more p c None w t h =
     let same : record { pattern = p; count = c; kind = Some w } ≡ t = cc in
     subst (λ (x : ScanOptions). IsPermutation (scan_parts x) (argument_part scans.Kind w ∷ scan_parts (record { pattern = p; count = c; kind = None }))) same
-      (IsPermutation-middle (scan_option scans.Pattern p ++ scan_option scans.Count c) (argument_part scans.Kind w) [])
+    (IsPermutation-middle (scan_option scans.Pattern p ++ scan_option scans.Count c) (argument_part scans.Kind w) [])
 kind_more p c (Some q) w t h = cc
 
 scan_more : (s : ScanOptions) (w : List ℕ) (o : ScanOption) (t : ScanOptions) → scan_also s w o ≡ Ok t → IsPermutation (scan_parts t) (argument_part o w ∷ scan_parts s)
@@ -188,13 +188,16 @@ unfolding ScanRead
 scan_carries [] = tt
 scan_carries (c ∷ ws) = if_with (scan_options ws) _ _ (λ s h. if_with (positive_if_any s.count) _ _ (λ n e. with_cursor c _ _ (λ place is.
     let read = scan_read ws s h in
-    record { name_is = refl; parts = record {
-      count = s.count;
-      counts = positive_count s.count n e;
-      kind_word = s.kind;
-      names = refl;
-      are = (read.0, (read.1.0, (is, read.1.1)));
-    } })))
+    record {
+      name_is = refl;
+      parts = record {
+        count = s.count;
+        counts = positive_count s.count n e;
+        kind_word = s.kind;
+        names = refl;
+        are = (read.0, (read.1.0, (is, read.1.1)));
+      };
+    })))
 
 pub dbsize_carries : (ws : List (List ℕ)) → IfOk (dbsize ws) (KeyCarries name.DbSize ws)
 dbsize_carries [] = record { name_is = refl; parts = tt }

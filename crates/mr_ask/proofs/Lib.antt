@@ -3,6 +3,7 @@ pub mod PairLemmas
 pub mod PartLemmas
 pub mod Carries
 pub mod OptionLemmas
+pub mod OrderLemmas
 pub mod KeyLemmas
 pub mod HashLemmas
 pub mod ListLemmas

@@ -22,7 +22,6 @@ pub record Adds (words : List (List ℕ)) (before after : List (List Part)) : Ty
   pub parts : AreParts words (in_a_row order)
 
 module _ {A S : Type 0} (add : S → A → Result S AskFault) (options : S → List (List Part)) (spelling : A → List (List ℕ)) where
-
   -- each item is an option more
   pub all_added :
       ((s : S) (a : A) (t : S) → add s a ≡ Ok t → (o : List Part) × ((AreParts (spelling a) o) × IsPermutation (options t) (o ∷ options s)))

@@ -72,7 +72,7 @@ cursor_at (negsuc n) = Err (Other bad.Cursor)
 abbrev pub cursor_of : List ℕ → Result Cursor AskFault
 cursor_of word = with (ok_or (number_of word) (Other bad.Cursor)) cursor_at
 
--- the names of the kinds that there are, in lower case
+-- the names of the kinds that there are, in lower case; an unknown one has none
 abbrev pub kind_text : KindName → List ℕ
 kind_text kind.Text = codes "string"
 kind_text kind.Hash = codes "hash"

@@ -127,11 +127,11 @@ pub record AreOfScan (words : List (List ℕ)) (cursor : Cursor) (pattern : Opti
   pub counts : IfSome count IsPositive
   pub kind_word : Option (List ℕ)
   pub names : option_map kind_of kind_word ≡ kind
-  pub are : AreWithOptions words (cursor_part cursor ∷ []) (scan_option scan.Pattern pattern ++ scan_option scan.Count count ++ scan_option scan.Kind kind_word)
+  pub are : AreWithOptions words (key_parts (key.Scan cursor pattern kind)) (scan_option scan.Pattern pattern ++ scan_option scan.Count count ++ scan_option scan.Kind kind_word)
 
 -- the words that stand behind the name of a command on strings and keys
 abbrev pub AreOfKeys : List (List ℕ) → KeyAsk → Type 0
-AreOfKeys words (key.Set key value condition reply) = AreWithOptions words (Word key ∷ Word value ∷ []) (condition_option condition ++ reply_option reply)
+AreOfKeys words (key.Set k value condition reply) = AreWithOptions words (key_parts (key.Set k value condition reply)) (condition_option condition ++ reply_option reply)
 AreOfKeys words (key.Scan cursor pattern kind) = AreOfScan words cursor pattern kind
 AreOfKeys words command = AreParts words (key_parts command)
 

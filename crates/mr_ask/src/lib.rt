@@ -22,7 +22,7 @@ pub use fault::{AskFault, BadValue};
 pub use group::Group;
 pub use hash_ask::{FieldsReply, HashAsk, HashPart};
 pub use key_ask::{Cursor, KeyAsk, KindName, SetCondition, SetReply};
-pub use laws::names_are_found;
+pub use laws::{names_are_found, options_stand_in_any_order};
 pub use list_ask::{ListAsk, PushTo};
 pub use name::Name;
 pub use pattern::{
