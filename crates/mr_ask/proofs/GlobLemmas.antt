@@ -10,10 +10,6 @@ same_bool true b f g = sym (f refl)
 same_bool false true f g = g refl
 same_bool false false f g = refl
 
-not_true : (a : Bool) → (a ≡ true → false ≡ true) → a ≡ false
-not_true true f = sym (f refl)
-not_true false f = refl
-
 or_cases : (a b c : Bool) → (a || b) ≡ true → (a ≡ true → c ≡ true) → (b ≡ true → c ≡ true) → c ≡ true
 or_cases true b c h f g = f refl
 or_cases false b c h f g = g h
@@ -24,12 +20,12 @@ here test [] h = h
 here test (b ∷ text) h = ap (λ x. x || some_rest test text) h
 
 -- a rest of a rest is a rest
-pub twice : (test : List ℕ → Bool) (text : List ℕ) → some_rest (some_rest test) text ≡ true → some_rest test text ≡ true
+twice : (test : List ℕ → Bool) (text : List ℕ) → some_rest (some_rest test) text ≡ true → some_rest test text ≡ true
 twice test [] h = h
 twice test (b ∷ text) h = or_cases (some_rest test (b ∷ text)) (some_rest (some_rest test) text) (some_rest test (b ∷ text)) h (λ e. e) (λ e. or_right (test (b ∷ text)) (some_rest test text) (twice test text e))
 
 -- Where a part for one byte comes first, a byte less of the text is enough for the parts behind it.
-pub byte_less : (set : ℕ → Bool) (ps : List Part) (b : ℕ) (text : List ℕ) → some_rest (matches (one_byte set ∷ ps)) (b ∷ text) ≡ true → some_rest (matches ps) text ≡ true
+byte_less : (set : ℕ → Bool) (ps : List Part) (b : ℕ) (text : List ℕ) → some_rest (matches (one_byte set ∷ ps)) (b ∷ text) ≡ true → some_rest (matches ps) text ≡ true
 byte_less set ps b [] h = or_cases (set b && matches ps []) false (matches ps []) h (λ e. (and_parts (set b) _ e).1) (λ e. let no : false ≡ true = e in cc)
 byte_less set ps b (c ∷ text) h =
     or_cases (set b && matches ps (c ∷ text)) (some_rest (matches (one_byte set ∷ ps)) (c ∷ text)) (some_rest (matches ps) (c ∷ text)) h
@@ -47,9 +43,6 @@ pub record Followed (pattern text left later : List ℕ) : Type 0 where
 begins : (left behind : List ℕ) (s : Sign) (star_here : Bool) → signs left ≡ s ∷ signs behind → is_bare star s ≡ star_here
     → parts_of left ≡ cond star_here (any_bytes ∷ parts_of behind) (one_byte (set_at s (signs behind)) ∷ parts_past s (signs behind))
 begins left behind s star_here e h = ap parts e ∙ ap (λ x. cond x (any_bytes ∷ parts_of behind) (one_byte (set_at s (signs behind)) ∷ parts_past s (signs behind))) h
-
-pub start : (pattern text : List ℕ) → Followed pattern text pattern text
-start pattern text = record { matches_whole = refl; matches_rest = λ e. e; shorter = omega arith; no_longer = omega arith }
 
 -- a part for one byte takes the byte
 pub goes_on : (pattern text left later behind rest bytes : List ℕ) (s : Sign) (b : ℕ) → Followed pattern text left later
@@ -85,28 +78,6 @@ comes pattern text left later behind s f e less h =
       shorter = omega (arith, f.shorter);
       no_longer = f.no_longer;
     }
-
--- the text has ended before the parts
-pub ends : (pattern text left later behind : List ℕ) (s : Sign) → Followed pattern text left later
-    → signs left ≡ s ∷ signs behind → is_bare star s ≡ false → length later ≡ 0 → (whole pattern text ≡ false) × (somewhere pattern text ≡ false)
-ends pattern text left [] behind s f e plain none =
-    let left_is = begins left behind s false e plain in
-    (f.matches_whole ∙ ap (λ xs. matches xs []) left_is, not_true (somewhere pattern text) (λ t. sym (ap (λ xs. some_rest (matches xs) []) left_is) ∙ f.matches_rest t))
-ends pattern text left (b ∷ later) behind s f e plain none = absurd (omega arith)
-
--- a part for one byte doesn't take the byte
-pub differs : (pattern text left later behind bytes : List ℕ) (s : Sign) (b : ℕ) → Followed pattern text left later
-    → signs left ≡ s ∷ signs behind → is_bare star s ≡ false → later ≡ b ∷ bytes → set_at s (signs behind) b ≡ false
-    → whole pattern text ≡ false
-differs pattern text left later behind bytes s b f e plain first out =
-    let set = set_at s (signs behind) in
-    let ps = parts_past s (signs behind) in
-    f.matches_whole ∙ ap (λ xs. matches xs later) (begins left behind s false e plain) ∙ ap (matches (one_byte set ∷ ps)) first ∙ ap (λ x. x && matches ps bytes) out
-
--- a pattern that doesn't match all of a text may match what is behind its first byte
-pub later_rest : (pattern text bytes : List ℕ) (b : ℕ) → text ≡ b ∷ bytes → whole pattern text ≡ false → somewhere pattern text ≡ somewhere pattern bytes
-later_rest pattern text bytes b first misses =
-    ap (some_rest (matches (parts_of pattern))) first ∙ ap (λ x. x || some_rest (matches (parts_of pattern)) bytes) (ap (matches (parts_of pattern)) (sym first) ∙ misses)
 
 -- the last rest of a text is the empty one
 pub last_rest : (test : List ℕ → Bool) (text : List ℕ) → test [] ≡ true → some_rest test text ≡ true

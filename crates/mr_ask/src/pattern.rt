@@ -16,8 +16,10 @@ use sign::{Sign, next_sign};
 
 /// Whether the pattern matches the whole text.
 ///
-/// `*` stands for any bytes, `?` for one byte, `[..]` for one byte of a class, and `\` takes the next byte as it is. It takes no
-/// memory, and at most about as many steps as the length of the pattern times that of the text.
+/// `*` stands for any bytes and `?` for one byte. `[..]` stands for one byte of a class of bytes and ranges, whose ends come in
+/// either order, or after `[^` for one that is in none of them; a class that isn't closed ends with the pattern. `\` takes the next
+/// byte as it is, in a class too. It takes no memory, and at most about as many steps as the length of the pattern times that of
+/// the text.
 #[tactic(auto, unfolding(crate::specs::Glob::glob_matches))]
 pub fn glob(pattern: &[u8], text: &[u8]) -> bool
     ensures { result ≡ glob_matches pattern.now text.now }
@@ -29,7 +31,7 @@ pub fn glob(pattern: &[u8], text: &[u8]) -> bool
     }
 }
 
-// Whether the pattern matches some rest of the text. Behind a `*` that was come to, no earlier one need be gone back to.
+// Whether the pattern matches some rest of the text. Once a `*` is come to, no earlier one need be gone back to.
 fn matches_rest(pattern: &[u8], text: &[u8]) -> bool
     ensures { result ≡ matches (any_bytes ∷ parts_of pattern.now) text.now }
 {
@@ -63,10 +65,11 @@ enum Stop<'a> {
     Star { rest: &'a [u8], later: &'a [u8] },
     /// The text ended before the parts.
     NoText,
+    /// A part doesn't take its byte, or bytes are left over.
     Mismatch,
 }
 
-// Takes the text's bytes one by one.
+// Goes along the text with the parts before the first `*`, each of which takes one byte.
 fn follow<'a>(pattern: &'a [u8], text: &'a [u8]) -> Stop<'a>
     ensures { StopsAt pattern.now text.now result }
 {
