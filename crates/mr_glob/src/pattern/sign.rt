@@ -24,7 +24,7 @@ impl Sign {
         ensures { result ≡ is_bare byte self }
     {
         match self {
-            Sign::Bare(own) => own == byte,
+            Sign::Bare(sign) => sign == byte,
             Sign::Taken(_) => false,
         }
     }
