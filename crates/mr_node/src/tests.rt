@@ -118,6 +118,32 @@ fn quit_closes_its_link(rt: HostRuntime) -> Result<(), Fail> {
     Ok(())
 }
 
+// Feeds lines to a fresh node, and steps until they are used.
+fn served(rt: &HostRuntime, lines: &[u8]) -> Result<Node, Fail> {
+    let mut node = started(rt, 64)?;
+    let link = opened(&mut node)?;
+    fed(&mut node, link, lines)?;
+    for _ in 0..5 {
+        let _ = step(&mut node, link)?;
+    }
+    Ok(node)
+}
+
+#[test]
+fn offsets_count_the_effects(rt: HostRuntime) -> Result<(), Fail> {
+    let rows: [(&[u8], u64); 4] = [
+        (b"SADD s a b c\nSPOP s\n", 70),
+        (b"SADD s a\nSADD s a\n", 28),
+        (b"LPUSH l a b c\nLRANGE l -2 100\nLPOP l 3\nEXISTS l\n", 71),
+        (b"RPUSH s a b\nLMOVE s s LEFT RIGHT\n", 86),
+    ];
+    for (lines, offset) in rows {
+        let node = served(&rt, lines)?;
+        shows(&rt, &node, offset);
+    }
+    Ok(())
+}
+
 #[test]
 fn a_link_takes_no_more_than_its_room(rt: HostRuntime) -> Result<(), Fail> {
     let mut node = started(&rt, 64)?;
