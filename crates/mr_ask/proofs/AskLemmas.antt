@@ -1,27 +1,39 @@
 -- What is read is spelled by the words, and carries no others.
-use Rattle.std.proofs.Common.{ℕ, ◌≡◌, List, [], ◌∷◌, map, Bool, true, false, ◌&&◌, Option, Some, None, refl, sym, ◌∙◌, ap, subst}
+use Rattle.std.proofs.Common.{ℕ, ◌≡◌, List, [], ◌∷◌, ◌++◌, map, Option, Some, None, refl, sym, ◌∙◌, ap, subst}
 use Rattle.std.specs.Prelude.{IsTrue, IfOk, Result, Ok, Err}
-use Rattle.std.specs.List.{list_all}
+use Rattle.std.specs.List.{list_all, AllByRecursion}
 use Rattle.mr_value.specs.Words.{fits}
 use Rattle.mr_value.specs.declared.ends.End.TheVariants.{Left, Right}
-use Rattle.mr_ask.specs.Names.{lowered, text_of, named}
-use Rattle.mr_ask.specs.Keys.{get, set, del, unlink, exists, key_type}
+use Rattle.mr_words.specs.Names.{lowered, text_of, named}
+use Rattle.mr_ask.specs.Texts.{get, set, strlen, getrange, mget, setnx, getset, getdel}
+use Rattle.mr_ask.specs.Keys.{del, unlink, exists, key_type, matching_keys, scan, dbsize}
 use Rattle.mr_ask.specs.Hashes.{set_fields, hsetnx, hget, hmget, list_hash, hdel, hexists, hlen, hstrlen, hincrby}
 use Rattle.mr_ask.specs.Lists.{push, pop, llen, lrange, lindex, lset, linsert, lrem, ltrim, lmove, rpoplpush}
 use Rattle.mr_ask.specs.Sets.{sadd, srem, sismember, smismember, smembers, scard, spop, srandmember, smove, combine}
 use Rattle.mr_ask.specs.Server.{ping, echo, select, quit, command, client}
 use Rattle.mr_ask.specs.Asks.{asked, asked_by, reading}
-use Rattle.mr_ask.specs.Carried.{key_words, hash_words, list_words, set_words, server_words, words_of, AskFits}
-use Rattle.mr_ask.specs.Spelled.{Part, Word, Number, Keyword, hash_parts, list_parts, set_parts, server_parts, parts_of, AreParts, Spells}
-use Rattle.mr_ask.proofs.NameLemmas.{named_is}
+use Rattle.mr_ask.specs.Carried.{text_words, key_words, hash_words, list_words, set_words, server_words, AskFits}
+use Rattle.mr_words.specs.Spelling.{Part, Word, Number, in_a_row}
+use Rattle.mr_ask.specs.Spelled.{cursor_part, scan_option, hash_parts, list_parts, set_parts, server_parts, AreOfTexts, AreOfKeys, AreArguments, Spells}
+use Rattle.mr_words.proofs.FitLemmas.{carried, carried-words, first, second, both, parts_fit, OptionFits, others_fit, of_parts_fit}
+use Rattle.mr_words.proofs.NameLemmas.{named_is}
 use Rattle.mr_ask.proofs.Carries.{Carries, of_kind_carries}
-use Rattle.mr_ask.proofs.KeyLemmas.{get_carries, set_carries, del_carries, unlink_carries, exists_carries, key_type_carries}
+use Rattle.mr_ask.proofs.TextLemmas.{get_carries, set_carries, strlen_carries, getrange_carries, mget_carries, setnx_carries, getset_carries, getdel_carries}
+use Rattle.mr_ask.proofs.KeyLemmas.{del_carries, unlink_carries, exists_carries, key_type_carries, matching_keys_carries, scan_carries, dbsize_carries}
 use Rattle.mr_ask.proofs.HashLemmas.{set_fields_carries, hsetnx_carries, hget_carries, hmget_carries, list_hash_carries, hdel_carries, hexists_carries, hlen_carries, hstrlen_carries, hincrby_carries}
 use Rattle.mr_ask.proofs.ListLemmas.{push_carries, pop_carries, llen_carries, lrange_carries, lindex_carries, lset_carries, linsert_carries, lrem_carries, ltrim_carries, lmove_carries, rpoplpush_carries}
 use Rattle.mr_ask.proofs.SetLemmas.{sadd_carries, srem_carries, sismember_carries, smismember_carries, smembers_carries, scard_carries, spop_carries, srandmember_carries, smove_carries, combine_carries}
 use Rattle.mr_ask.proofs.ServerLemmas.{ping_carries, echo_carries, select_carries, quit_carries, command_carries, client_carries}
-use Rattle.mr_ask.specs.declared.name.Name.{Name}
-use Rattle.mr_ask.specs.declared.name.Name.TheVariants as name
+use Rattle.mr_words.specs.declared.name.Name.{Name}
+use Rattle.mr_words.specs.declared.name.Name.TheVariants as name
+use Rattle.mr_ask.specs.declared.options.ScanOption.TheVariants as scans
+use Rattle.mr_ask.specs.declared.key_ask.Cursor.{Cursor}
+use Rattle.mr_ask.specs.declared.key_ask.Cursor.TheVariants.{Start, Behind}
+use Rattle.mr_ask.specs.declared.key_ask.KindName.{KindName}
+use Rattle.mr_ask.specs.declared.text_ask.TextAsk.{TextAsk}
+use Rattle.mr_ask.specs.declared.text_ask.TextAsk.TheVariants as text
+use Rattle.mr_ask.specs.declared.key_ask.KeyAsk.{KeyAsk}
+use Rattle.mr_ask.specs.declared.key_ask.KeyAsk.TheVariants as key
 use Rattle.mr_ask.specs.declared.hash_ask.HashAsk.{HashAsk}
 use Rattle.mr_ask.specs.declared.hash_ask.HashAsk.TheVariants as hash
 use Rattle.mr_ask.specs.declared.hash_ask.FieldsReply.TheVariants.{Added, Done}
@@ -36,15 +48,24 @@ use Rattle.mr_ask.specs.declared.server_ask.ServerAsk.{ServerAsk}
 use Rattle.mr_ask.specs.declared.server_ask.ServerAsk.TheVariants as server
 use Rattle.mr_ask.specs.declared.ask.Ask.{Ask}
 use Rattle.mr_ask.specs.declared.ask.Ask.TheVariants as ask
-use Rattle.mr_ask.specs.declared.fault.AskFault.{AskFault}
+use Rattle.mr_words.specs.declared.fault.AskFault.{AskFault}
 
 reading_carries : (n : Name) (ws : List (List ℕ)) → IfOk (reading n ws) (Carries n ws)
-reading_carries name.Get ws = of_kind_carries (get ws) ask.Keys _ (get_carries ws)
-reading_carries name.Set ws = of_kind_carries (set ws) ask.Keys _ (set_carries ws)
+reading_carries name.Get ws = of_kind_carries (get ws) ask.Texts _ (get_carries ws)
+reading_carries name.Set ws = of_kind_carries (set ws) ask.Texts _ (set_carries ws)
 reading_carries name.Del ws = of_kind_carries (del ws) ask.Keys _ (del_carries ws)
 reading_carries name.Unlink ws = of_kind_carries (unlink ws) ask.Keys _ (unlink_carries ws)
 reading_carries name.Exists ws = of_kind_carries (exists ws) ask.Keys _ (exists_carries ws)
 reading_carries name.KeyType ws = of_kind_carries (key_type ws) ask.Keys _ (key_type_carries ws)
+reading_carries name.StrLen ws = of_kind_carries (strlen ws) ask.Texts _ (strlen_carries ws)
+reading_carries name.GetRange ws = of_kind_carries (getrange ws) ask.Texts _ (getrange_carries ws)
+reading_carries name.MGet ws = of_kind_carries (mget ws) ask.Texts _ (mget_carries ws)
+reading_carries name.SetNx ws = of_kind_carries (setnx ws) ask.Texts _ (setnx_carries ws)
+reading_carries name.GetSet ws = of_kind_carries (getset ws) ask.Texts _ (getset_carries ws)
+reading_carries name.GetDel ws = of_kind_carries (getdel ws) ask.Texts _ (getdel_carries ws)
+reading_carries name.Keys ws = of_kind_carries (matching_keys ws) ask.Keys _ (matching_keys_carries ws)
+reading_carries name.Scan ws = of_kind_carries (scan ws) ask.Keys _ (scan_carries ws)
+reading_carries name.DbSize ws = of_kind_carries (dbsize ws) ask.Keys _ (dbsize_carries ws)
 reading_carries name.HSet ws = of_kind_carries (set_fields name.HSet Added ws) ask.Hashes _ (set_fields_carries name.HSet Added (λ k ps. refl) ws)
 reading_carries name.HMSet ws = of_kind_carries (set_fields name.HMSet Done ws) ask.Hashes _ (set_fields_carries name.HMSet Done (λ k ps. refl) ws)
 reading_carries name.HSetNx ws = of_kind_carries (hsetnx ws) ask.Hashes _ (hsetnx_carries ws)
@@ -104,18 +125,6 @@ pub asked_spelled : (ws : List (List ℕ)) → IfOk (asked ws) (Spells ws)
 asked_spelled [] = tt
 asked_spelled (w ∷ ws) = carried_by w (named (lowered w)) ws refl
 
--- the words among the arguments
-carried : List Part → List (List ℕ)
-carried [] = []
-carried (Word w ∷ ps) = w ∷ carried ps
-carried (Number n ∷ ps) = carried ps
-carried (Keyword w ∷ ps) = carried ps
-
-carried-words : (ws : List (List ℕ)) → carried (map Word ws) ≡ ws
-unfolding carried
-carried-words [] = refl
-carried-words (w ∷ ws) = ap (λ (xs : List (List ℕ)). w ∷ xs) (carried-words ws)
-
 carried_hashes : (a : HashAsk) → carried (hash_parts a) ≡ hash_words a
 unfolding carried
 carried_hashes (hash.IncreaseField key field by) = refl
@@ -149,38 +158,44 @@ carried_server (server.SetClientName name) = refl
 carried_server (server.SetClientInfo attribute value) = refl
 carried_server a = carried-words (server_words a)
 
-carried_parts : (a : Ask) → carried (parts_of a) ≡ words_of a
-carried_parts (ask.Keys a) = carried-words (key_words a)
-carried_parts (ask.Hashes a) = carried_hashes a
-carried_parts (ask.Lists a) = carried_lists a
-carried_parts (ask.Sets a) = carried_sets a
-carried_parts (ask.Server a) = carried_server a
-
-first : (a b : Bool) → IsTrue (a && b) → IsTrue a
-first true b h = refl
-first false b h = h
-
-second : (a b : Bool) → IsTrue (a && b) → IsTrue b
-second true b h = h
-second false b h = cc
-
-both : (a b : Bool) → IsTrue a → IsTrue b → IsTrue (a && b)
-both true b g h = h
-both false b g h = g
-
-parts_fit : (ws : List (List ℕ)) (ps : List Part) → AreParts ws ps → IsTrue (list_all fits ws) → IsTrue (list_all fits (carried ps))
+without_cursor : (c : Cursor) (ps : List Part) → carried (cursor_part c ∷ ps) ≡ carried ps
 unfolding carried
-parts_fit [] [] a h = refl
-parts_fit [] (p ∷ ps) a h = absurd a
-parts_fit (w ∷ ws) [] a h = absurd a
-parts_fit (w ∷ ws) (Word t ∷ ps) a h = both _ _ (subst (λ (x : List ℕ). IsTrue (fits x)) a.0 (first _ _ h)) (parts_fit ws ps a.1 (second _ _ h))
-parts_fit (w ∷ ws) (Number n ∷ ps) a h = parts_fit ws ps a.1 (second _ _ h)
-parts_fit (w ∷ ws) (Keyword t ∷ ps) a h = parts_fit ws ps a.1 (second _ _ h)
+without_cursor Start ps = refl
+without_cursor Behind ps = refl
+
+pattern_fits : (cursor : Cursor) (pattern : Option (List ℕ)) (kind : Option KindName) (counts kinds : List (List Part)) → AllByRecursion OptionFits (scan_option scans.Pattern pattern ++ counts ++ kinds) → IsTrue (list_all fits (key_words (key.Scan cursor pattern kind)))
+unfolding carried OptionFits
+pattern_fits cursor None kind counts kinds h = refl
+pattern_fits cursor (Some p) kind counts kinds h = h.0
+
+texts_fit : (ws : List (List ℕ)) (a : TextAsk) → AreOfTexts ws a → IsTrue (list_all fits ws) → IsTrue (list_all fits (text_words a))
+unfolding carried
+texts_fit ws (text.Set k v condition reply) s h =
+    let all = parts_fit ws (Word k ∷ Word v ∷ in_a_row s.0) s.1.1 h in
+    both _ _ (first _ _ all) (both _ _ (first _ _ (second _ _ all)) refl)
+texts_fit ws (text.GetRange k a b) s h = parts_fit ws (Word k ∷ Number a ∷ Number b ∷ []) s h
+texts_fit ws a s h = subst (λ (xs : List (List ℕ)). IsTrue (list_all fits xs)) (carried-words (text_words a)) (parts_fit ws (map Word (text_words a)) s h)
+
+keys_fit : (ws : List (List ℕ)) (a : KeyAsk) → AreOfKeys ws a → IsTrue (list_all fits ws) → IsTrue (list_all fits (key_words a))
+unfolding carried
+keys_fit ws (key.Scan cursor pattern kind) s h =
+    let all = parts_fit ws (cursor_part cursor ∷ in_a_row s.are.0) s.are.1.1 h in
+    let options = subst (λ (xs : List (List ℕ)). IsTrue (list_all fits xs)) (without_cursor cursor (in_a_row s.are.0)) all in
+    pattern_fits cursor pattern kind _ _ (others_fit _ s.are.0 s.are.1.0 options)
+keys_fit ws a s h = subst (λ (xs : List (List ℕ)). IsTrue (list_all fits xs)) (carried-words (key_words a)) (parts_fit ws (map Word (key_words a)) s h)
+
+arguments_fit : (ws : List (List ℕ)) (a : Ask) → AreArguments ws a → IsTrue (list_all fits ws) → AskFits a
+arguments_fit ws (ask.Texts a) s h = texts_fit ws a s h
+arguments_fit ws (ask.Keys a) s h = keys_fit ws a s h
+arguments_fit ws (ask.Hashes a) s h = of_parts_fit ws _ _ (carried_hashes a) s h
+arguments_fit ws (ask.Lists a) s h = of_parts_fit ws _ _ (carried_lists a) s h
+arguments_fit ws (ask.Sets a) s h = of_parts_fit ws _ _ (carried_sets a) s h
+arguments_fit ws (ask.Server a) s h = of_parts_fit ws _ _ (carried_server a) s h
 
 spelled_fits : (ws : List (List ℕ)) (r : Result Ask AskFault) → IfOk r (Spells ws) → IsTrue (list_all fits ws) → IfOk r AskFits
 spelled_fits ws (Err f) s h = tt
 spelled_fits [] (Ok a) s h = absurd s
-spelled_fits (w ∷ ws) (Ok a) s h = subst (λ (xs : List (List ℕ)). IsTrue (list_all fits xs)) (carried_parts a) (parts_fit ws (parts_of a) s.1 (second (fits w) _ h))
+spelled_fits (w ∷ ws) (Ok a) s h = arguments_fit ws a s.1 (second (fits w) _ h)
 
 pub asked_fits : (ws : List (List ℕ)) → IsTrue (list_all fits ws) → IfOk (asked ws) AskFits
 asked_fits ws h = spelled_fits ws (asked ws) (asked_spelled ws) h

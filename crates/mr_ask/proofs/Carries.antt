@@ -1,11 +1,12 @@
 -- A command has a name and arguments.
-use Rattle.std.proofs.Common.{ℕ, ◌≡◌, List, [], ◌∷◌, map, refl}
+use Rattle.std.proofs.Common.{ℕ, ◌≡◌, List}
 use Rattle.std.specs.Prelude.{IfOk, Result, Ok, Err}
 use Rattle.mr_ask.specs.Asks.{of_kind}
 use Rattle.mr_ask.specs.Called.{name_of}
-use Rattle.mr_ask.specs.Spelled.{Word, parts_of, AreParts}
-use Rattle.mr_ask.specs.declared.name.Name.{Name}
-use Rattle.mr_ask.specs.declared.fault.AskFault.{AskFault}
+use Rattle.mr_ask.specs.Spelled.{AreArguments}
+use Rattle.mr_words.specs.declared.name.Name.{Name}
+use Rattle.mr_words.specs.declared.fault.AskFault.{AskFault}
+use Rattle.mr_ask.specs.declared.text_ask.TextAsk.{TextAsk}
 use Rattle.mr_ask.specs.declared.key_ask.KeyAsk.{KeyAsk}
 use Rattle.mr_ask.specs.declared.hash_ask.HashAsk.{HashAsk}
 use Rattle.mr_ask.specs.declared.list_ask.ListAsk.{ListAsk}
@@ -17,7 +18,10 @@ use Rattle.mr_ask.specs.declared.ask.Ask.TheVariants as ask
 -- the command has this name, and these are its arguments
 pub record Carries (n : Name) (arguments : List (List ℕ)) (command : Ask) : Type 0 where
   pub name_is : name_of command ≡ n
-  pub parts : AreParts arguments (parts_of command)
+  pub parts : AreArguments arguments command
+
+abbrev pub TextCarries : Name → List (List ℕ) → TextAsk → Type 0
+TextCarries n arguments command = Carries n arguments (ask.Texts command)
 
 abbrev pub KeyCarries : Name → List (List ℕ) → KeyAsk → Type 0
 KeyCarries n arguments command = Carries n arguments (ask.Keys command)
@@ -33,10 +37,6 @@ SetCarries n arguments command = Carries n arguments (ask.Sets command)
 
 abbrev pub ServerCarries : Name → List (List ℕ) → ServerAsk → Type 0
 ServerCarries n arguments command = Carries n arguments (ask.Server command)
-
-pub all_words : (ws : List (List ℕ)) → AreParts ws (map Word ws)
-all_words [] = tt
-all_words (w ∷ ws) = (refl, all_words ws)
 
 -- what holds of what is read of one kind holds of the command
 pub of_kind_carries : {A : Type 0} (r : Result A AskFault) (kind : A → Ask) (P : Ask → Type 0) → IfOk r (λ a. P (kind a)) → IfOk (of_kind kind r) P

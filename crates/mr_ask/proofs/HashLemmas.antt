@@ -3,15 +3,16 @@ use Rattle.std.proofs.Common.{ℕ, ◌≡◌, List, [], ◌∷◌, map, refl, su
 use Rattle.std.specs.Prelude.{IfOk}
 use Rattle.mr_ask.specs.Hashes.{set_fields, hsetnx, hget, hmget, list_hash, hdel, hexists, hlen, hstrlen, hincrby}
 use Rattle.mr_ask.specs.Called.{hash_name}
-use Rattle.mr_ask.specs.Spelled.{Word, AreParts}
-use Rattle.mr_ask.proofs.Carries.{HashCarries, all_words}
-use Rattle.mr_ask.proofs.PartLemmas.{with_integer, with_pairs}
-use Rattle.mr_ask.specs.declared.name.Name.{Name}
-use Rattle.mr_ask.specs.declared.name.Name.TheVariants as name
+use Rattle.mr_words.specs.Spelling.{Word, AreParts}
+use Rattle.mr_words.proofs.FitLemmas.{all_words}
+use Rattle.mr_ask.proofs.Carries.{HashCarries}
+use Rattle.mr_words.proofs.PartLemmas.{with_integer, with_pairs}
+use Rattle.mr_words.specs.declared.name.Name.{Name}
+use Rattle.mr_words.specs.declared.name.Name.TheVariants as name
 use Rattle.mr_ask.specs.declared.hash_ask.HashAsk.TheVariants as hash
 use Rattle.mr_ask.specs.declared.hash_ask.FieldsReply.{FieldsReply}
 use Rattle.mr_ask.specs.declared.hash_ask.HashPart.{HashPart}
-use Rattle.mr_ask.specs.declared.fault.AskFault.TheVariants.{Arity}
+use Rattle.mr_words.specs.declared.fault.AskFault.TheVariants.{Arity}
 
 pub set_fields_carries : (n : Name) (r : FieldsReply) → ((k : List ℕ) (ps : List (List ℕ × List ℕ)) → hash_name (hash.SetFields k ps r) ≡ n) → (ws : List (List ℕ)) → IfOk (set_fields n r ws) (HashCarries n ws)
 set_fields_carries n r is [] = tt

@@ -1,17 +1,28 @@
--- What is read of a command on strings and keys is spelled by the words.
-use Rattle.std.proofs.Common.{ℕ, List, [], ◌∷◌, refl}
-use Rattle.std.specs.Prelude.{IfOk}
-use Rattle.mr_ask.specs.Keys.{get, set, del, unlink, exists, key_type}
-use Rattle.mr_ask.proofs.Carries.{KeyCarries, all_words}
-use Rattle.mr_ask.specs.declared.name.Name.TheVariants as name
+-- What is read of a command on keys is spelled by the words.
+use Rattle.std.proofs.Common.{ℕ, ◌≡◌, List, [], ◌∷◌, ◌++◌, Option, Some, None, refl, sym, ◌∙◌, subst}
+use Rattle.std.specs.Prelude.{IfOk, IsPermutation, Ok}
+use Rattle.std.proofs.lemmas.List.Sorted.{IsPermutation-refl, IsPermutation-middle, IsPermutation-append_left}
+use Rattle.mr_words.specs.Pairing.{unpaired}
+use Rattle.mr_ask.specs.Parts.{positive_if_any}
+use Rattle.mr_words.specs.Options.{added}
+use Rattle.mr_ask.specs.Options.{set_text, scan_text, set_option, no_set_options, set_also, set_word, set_options, no_scan_options, scan_also, scan_pair, scan_options}
+use Rattle.mr_ask.specs.Options as options
+use Rattle.mr_ask.specs.Keys.{del, unlink, exists, key_type, matching_keys, scan, dbsize}
+use Rattle.mr_words.specs.Spelling.{Part, Word, Keyword, AreParts, in_a_row}
+use Rattle.mr_ask.specs.Spelled.{scan_option}
+use Rattle.mr_words.proofs.FitLemmas.{all_words}
+use Rattle.mr_ask.proofs.Carries.{KeyCarries}
+use Rattle.mr_words.proofs.PartLemmas.{with_ok, if_with, if_ok, with_pairs}
+use Rattle.mr_ask.proofs.PartLemmas.{with_cursor, positive_count, scan_option_text}
+use Rattle.mr_words.proofs.OptionLemmas.{all_added, from_none, each_pair}
+use Rattle.mr_words.specs.declared.name.Name.TheVariants as name
+use Rattle.mr_words.specs.declared.fault.AskFault.TheVariants.{Syntax}
+use Rattle.mr_ask.specs.declared.options.ScanOption.{ScanOption}
+use Rattle.mr_ask.specs.declared.options.ScanOption.TheVariants as scans
+use Rattle.mr_ask.specs.declared.options.ScanOptions.{ScanOptions}
 
-pub get_carries : (ws : List (List ℕ)) → IfOk (get ws) (KeyCarries name.Get ws)
-get_carries (k ∷ []) = record { name_is = refl; parts = (refl, tt) }
-get_carries _ = tt
-
-pub set_carries : (ws : List (List ℕ)) → IfOk (set ws) (KeyCarries name.Set ws)
-set_carries (k ∷ v ∷ []) = record { name_is = refl; parts = (refl, (refl, tt)) }
-set_carries _ = tt
+scan_parts : ScanOptions → List (List Part)
+scan_parts s = scan_option scans.Pattern s.pattern ++ scan_option scans.Count s.count ++ scan_option scans.Kind s.kind
 
 pub del_carries : (ws : List (List ℕ)) → IfOk (del ws) (KeyCarries name.Del ws)
 del_carries [] = tt
@@ -28,3 +39,82 @@ exists_carries (k ∷ ks) = record { name_is = refl; parts = all_words (k ∷ ks
 pub key_type_carries : (ws : List (List ℕ)) → IfOk (key_type ws) (KeyCarries name.KeyType ws)
 key_type_carries (k ∷ []) = record { name_is = refl; parts = (refl, tt) }
 key_type_carries _ = tt
+
+pub matching_keys_carries : (ws : List (List ℕ)) → IfOk (matching_keys ws) (KeyCarries name.Keys ws)
+matching_keys_carries (p ∷ []) = record { name_is = refl; parts = (refl, tt) }
+matching_keys_carries _ = tt
+
+argument_part : ScanOption → List ℕ → List Part
+argument_part o w = Keyword (scan_text o) ∷ Word w ∷ []
+
+pattern_more : (p c k : Option (List ℕ)) (w : List ℕ) (t : ScanOptions) → scan_also (record { pattern = p; count = c; kind = k }) w scans.Pattern ≡ Ok t
+    → IsPermutation (scan_parts t) (argument_part scans.Pattern w ∷ scan_parts (record { pattern = p; count = c; kind = k }))
+unfolding scan_parts argument_part
+pattern_more None c k w t h =
+    let same : record { pattern = Some w; count = c; kind = k } ≡ t = cc in
+    subst (λ (x : ScanOptions). IsPermutation (scan_parts x) (argument_part scans.Pattern w ∷ scan_parts (record { pattern = None; count = c; kind = k }))) same (IsPermutation-refl _)
+pattern_more (Some q) c k w t h = cc
+
+count_more : (p c k : Option (List ℕ)) (w : List ℕ) (t : ScanOptions) → scan_also (record { pattern = p; count = c; kind = k }) w scans.Count ≡ Ok t
+    → IsPermutation (scan_parts t) (argument_part scans.Count w ∷ scan_parts (record { pattern = p; count = c; kind = k }))
+unfolding scan_parts argument_part
+count_more p None k w t h =
+    let same : record { pattern = p; count = Some w; kind = k } ≡ t = cc in
+    subst (λ (x : ScanOptions). IsPermutation (scan_parts x) (argument_part scans.Count w ∷ scan_parts (record { pattern = p; count = None; kind = k }))) same
+    (IsPermutation-append_left (scan_option scans.Kind k) _ _ (IsPermutation-middle (scan_option scans.Pattern p) (argument_part scans.Count w) []))
+count_more p (Some q) k w t h = cc
+
+kind_more : (p c k : Option (List ℕ)) (w : List ℕ) (t : ScanOptions) → scan_also (record { pattern = p; count = c; kind = k }) w scans.Kind ≡ Ok t
+    → IsPermutation (scan_parts t) (argument_part scans.Kind w ∷ scan_parts (record { pattern = p; count = c; kind = k }))
+unfolding scan_parts argument_part
+kind_more p c None w t h =
+    let same : record { pattern = p; count = c; kind = Some w } ≡ t = cc in
+    subst (λ (x : ScanOptions). IsPermutation (scan_parts x) (argument_part scans.Kind w ∷ scan_parts (record { pattern = p; count = c; kind = None }))) same
+    (IsPermutation-middle (scan_option scans.Pattern p ++ scan_option scans.Count c) (argument_part scans.Kind w) [])
+kind_more p c (Some q) w t h = cc
+
+scan_more : (s : ScanOptions) (w : List ℕ) (o : ScanOption) (t : ScanOptions) → scan_also s w o ≡ Ok t → IsPermutation (scan_parts t) (argument_part o w ∷ scan_parts s)
+unfolding scan_parts argument_part
+scan_more s w scans.Pattern t h = pattern_more s.pattern s.count s.kind w t h
+scan_more s w scans.Count t h = count_more s.pattern s.count s.kind w t h
+scan_more s w scans.Kind t h = kind_more s.pattern s.count s.kind w t h
+
+scan_one : (s : ScanOptions) (p : List ℕ × List ℕ) (t : ScanOptions) → scan_pair s p ≡ Ok t
+    → (o : List Part) × ((AreParts (p.0 ∷ p.1 ∷ []) o) × IsPermutation (scan_parts t) (o ∷ scan_parts s))
+unfolding argument_part
+scan_one s p t h =
+    let read = with_ok (options.scan_option p.0) (scan_also s p.1) t h in
+    (argument_part read.0 p.1, ((scan_option_text p.0 read.0 read.1.0, (refl, tt)), scan_more s p.1 read.0 t read.1.1))
+
+ScanRead : List (List ℕ) → ScanOptions → Type 0
+ScanRead ws t = (order : List (List Part)) × (IsPermutation (scan_option scans.Pattern t.pattern ++ scan_option scans.Count t.count ++ scan_option scans.Kind t.kind) order × AreParts ws (in_a_row order))
+
+pairs_read : (ws : List (List ℕ)) (pairs : List (List ℕ × List ℕ)) (t : ScanOptions) → ws ≡ unpaired pairs → added scan_pair no_scan_options pairs ≡ Ok t → ScanRead ws t
+unfolding ScanRead scan_parts
+pairs_read ws pairs t e h =
+    let added = all_added scan_pair scan_parts (λ p. p.0 ∷ p.1 ∷ []) scan_one pairs no_scan_options t h in
+    let of = from_none _ _ added in
+    (of.0, (of.1.0, subst (λ (xs : List (List ℕ)). AreParts xs (in_a_row of.0)) (each_pair pairs ∙ sym e) of.1.1))
+
+scan_read : (ws : List (List ℕ)) (t : ScanOptions) → scan_options ws ≡ Ok t → ScanRead ws t
+scan_read ws t h = subst (λ r. IfOk r (ScanRead ws)) h (with_pairs ws Syntax (added scan_pair no_scan_options) (ScanRead ws) (λ pairs e. if_ok (added scan_pair no_scan_options pairs) (ScanRead ws) (λ u k. pairs_read ws pairs u e k)))
+
+pub scan_carries : (ws : List (List ℕ)) → IfOk (scan ws) (KeyCarries name.Scan ws)
+unfolding ScanRead
+scan_carries [] = tt
+scan_carries (c ∷ ws) = if_with (scan_options ws) _ _ (λ s h. if_with (positive_if_any s.count) _ _ (λ n e. with_cursor c _ _ (λ place is.
+    let read = scan_read ws s h in
+    record {
+      name_is = refl;
+      parts = record {
+        count = s.count;
+        counts = positive_count s.count n e;
+        kind_word = s.kind;
+        names = refl;
+        are = (read.0, (read.1.0, (is, read.1.1)));
+      };
+    })))
+
+pub dbsize_carries : (ws : List (List ℕ)) → IfOk (dbsize ws) (KeyCarries name.DbSize ws)
+dbsize_carries [] = record { name_is = refl; parts = tt }
+dbsize_carries _ = tt

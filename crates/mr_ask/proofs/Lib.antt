@@ -1,7 +1,7 @@
-pub mod NameLemmas
-pub mod PairLemmas
 pub mod PartLemmas
 pub mod Carries
+pub mod OrderLemmas
+pub mod TextLemmas
 pub mod KeyLemmas
 pub mod HashLemmas
 pub mod ListLemmas

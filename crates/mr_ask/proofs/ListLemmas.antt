@@ -4,10 +4,12 @@ use Rattle.std.specs.Prelude.{IfOk}
 use Rattle.mr_value.specs.declared.ends.End.{End}
 use Rattle.mr_ask.specs.Lists.{push, pop, llen, lrange, lindex, lset, linsert, lrem, ltrim, lmove, rpoplpush}
 use Rattle.mr_ask.specs.Called.{list_name}
-use Rattle.mr_ask.proofs.Carries.{ListCarries, all_words}
-use Rattle.mr_ask.proofs.PartLemmas.{with_count, with_end, with_integer, with_side}
-use Rattle.mr_ask.specs.declared.name.Name.{Name}
-use Rattle.mr_ask.specs.declared.name.Name.TheVariants as name
+use Rattle.mr_words.proofs.FitLemmas.{all_words}
+use Rattle.mr_ask.proofs.Carries.{ListCarries}
+use Rattle.mr_words.proofs.PartLemmas.{with_count, with_integer}
+use Rattle.mr_ask.proofs.PartLemmas.{with_end, with_side}
+use Rattle.mr_words.specs.declared.name.Name.{Name}
+use Rattle.mr_words.specs.declared.name.Name.TheVariants as name
 use Rattle.mr_ask.specs.declared.list_ask.ListAsk.TheVariants as list
 use Rattle.mr_ask.specs.declared.list_ask.PushTo.{PushTo}
 

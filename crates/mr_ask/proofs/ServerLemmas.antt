@@ -5,13 +5,14 @@ use Rattle.std.specs.Ordering.{int_eq}
 use Rattle.std.specs.Fmt.{signed_decimal}
 use Rattle.std.proofs.lemmas.Bool.Decides.{Decides-int_eq}
 use Rattle.mr_ask.specs.Server.{ping, echo, select, quit, command, client, database, setname, setinfo}
-use Rattle.mr_ask.proofs.Carries.{ServerCarries, all_words}
-use Rattle.mr_ask.proofs.PartLemmas.{with_integer, with_keyword}
-use Rattle.mr_ask.specs.declared.name.Name.TheVariants as name
+use Rattle.mr_words.proofs.FitLemmas.{all_words}
+use Rattle.mr_ask.proofs.Carries.{ServerCarries}
+use Rattle.mr_words.proofs.PartLemmas.{with_integer, with_keyword}
+use Rattle.mr_words.specs.declared.name.Name.TheVariants as name
 use Rattle.mr_ask.specs.declared.server_ask.ServerAsk.TheVariants as server
-use Rattle.mr_ask.specs.declared.fault.AskFault.{AskFault}
-use Rattle.mr_ask.specs.declared.fault.AskFault.TheVariants.{Other}
-use Rattle.mr_ask.specs.declared.fault.BadValue.TheVariants.{Database}
+use Rattle.mr_words.specs.declared.fault.AskFault.{AskFault}
+use Rattle.mr_words.specs.declared.fault.AskFault.TheVariants.{Other}
+use Rattle.mr_words.specs.declared.fault.BadValue.TheVariants.{Database}
 
 same_number : (m n : ℤ) → int_eq m n ≡ true → m ≡ n
 same_number m n h = search (rules, Decides-int_eq)

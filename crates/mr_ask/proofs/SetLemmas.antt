@@ -3,10 +3,11 @@ use Rattle.std.proofs.Common.{ℕ, ◌≡◌, List, [], ◌∷◌, refl}
 use Rattle.std.specs.Prelude.{IfOk}
 use Rattle.mr_ask.specs.Sets.{sadd, srem, sismember, smismember, smembers, scard, spop, srandmember, smove, combine}
 use Rattle.mr_ask.specs.Called.{set_name}
-use Rattle.mr_ask.proofs.Carries.{SetCarries, all_words}
-use Rattle.mr_ask.proofs.PartLemmas.{with_count}
-use Rattle.mr_ask.specs.declared.name.Name.{Name}
-use Rattle.mr_ask.specs.declared.name.Name.TheVariants as name
+use Rattle.mr_words.proofs.FitLemmas.{all_words}
+use Rattle.mr_ask.proofs.Carries.{SetCarries}
+use Rattle.mr_words.proofs.PartLemmas.{with_count}
+use Rattle.mr_words.specs.declared.name.Name.{Name}
+use Rattle.mr_words.specs.declared.name.Name.TheVariants as name
 use Rattle.mr_ask.specs.declared.set_ask.SetAsk.TheVariants as set
 use Rattle.mr_ask.specs.declared.set_ask.SetOperation.{SetOperation}
 

@@ -1,17 +1,18 @@
 -- Which words are which command.
 use Rattle.std.specs.Prelude.{ℕ, List, [], ◌∷◌, Option, Some, None, Result, Ok, Err}
 use Rattle.mr_value.specs.declared.ends.End.TheVariants.{Left, Right}
-use Rattle.mr_ask.specs.Names.{lowered, named}
-use Rattle.mr_ask.specs.Parts.{with}
-use Rattle.mr_ask.specs.Keys.{get, set, del, unlink, exists, key_type}
+use Rattle.mr_words.specs.Names.{lowered, named}
+use Rattle.mr_words.specs.Parts.{with}
+use Rattle.mr_ask.specs.Texts.{get, set, strlen, getrange, mget, setnx, getset, getdel}
+use Rattle.mr_ask.specs.Keys.{del, unlink, exists, key_type, matching_keys, scan, dbsize}
 use Rattle.mr_ask.specs.Hashes.{set_fields, hsetnx, hget, hmget, list_hash, hdel, hexists, hlen, hstrlen, hincrby}
 use Rattle.mr_ask.specs.Lists.{push, pop, llen, lrange, lindex, lset, linsert, lrem, ltrim, lmove, rpoplpush}
 use Rattle.mr_ask.specs.Sets.{sadd, srem, sismember, smismember, smembers, scard, spop, srandmember, smove, combine}
 use Rattle.mr_ask.specs.Server.{ping, echo, select, quit, command, client}
-use Rattle.mr_ask.specs.declared.name.Name.{Name}
-use Rattle.mr_ask.specs.declared.name.Name.TheVariants as name
-use Rattle.mr_ask.specs.declared.fault.AskFault.{AskFault}
-use Rattle.mr_ask.specs.declared.fault.AskFault.TheVariants.{Unknown}
+use Rattle.mr_words.specs.declared.name.Name.{Name}
+use Rattle.mr_words.specs.declared.name.Name.TheVariants as name
+use Rattle.mr_words.specs.declared.fault.AskFault.{AskFault}
+use Rattle.mr_words.specs.declared.fault.AskFault.TheVariants.{Unknown}
 use Rattle.mr_ask.specs.declared.hash_ask.FieldsReply.TheVariants.{Added, Done}
 use Rattle.mr_ask.specs.declared.hash_ask.HashPart.TheVariants.{Pairs, Fields, Values}
 use Rattle.mr_ask.specs.declared.list_ask.PushTo.TheVariants.{AnyKey, ExistingKey}
@@ -27,12 +28,21 @@ of_kind kind reading = with reading (λ command. Ok (kind command))
 
 -- the table: how the arguments of each command are read
 abbrev pub reading : Name → List (List ℕ) → Result Ask AskFault
-reading name.Get arguments = of_kind ask.Keys (get arguments)
-reading name.Set arguments = of_kind ask.Keys (set arguments)
+reading name.Get arguments = of_kind ask.Texts (get arguments)
+reading name.Set arguments = of_kind ask.Texts (set arguments)
 reading name.Del arguments = of_kind ask.Keys (del arguments)
 reading name.Unlink arguments = of_kind ask.Keys (unlink arguments)
 reading name.Exists arguments = of_kind ask.Keys (exists arguments)
 reading name.KeyType arguments = of_kind ask.Keys (key_type arguments)
+reading name.StrLen arguments = of_kind ask.Texts (strlen arguments)
+reading name.GetRange arguments = of_kind ask.Texts (getrange arguments)
+reading name.MGet arguments = of_kind ask.Texts (mget arguments)
+reading name.SetNx arguments = of_kind ask.Texts (setnx arguments)
+reading name.GetSet arguments = of_kind ask.Texts (getset arguments)
+reading name.GetDel arguments = of_kind ask.Texts (getdel arguments)
+reading name.Keys arguments = of_kind ask.Keys (matching_keys arguments)
+reading name.Scan arguments = of_kind ask.Keys (scan arguments)
+reading name.DbSize arguments = of_kind ask.Keys (dbsize arguments)
 reading name.HSet arguments = of_kind ask.Hashes (set_fields name.HSet Added arguments)
 reading name.HMSet arguments = of_kind ask.Hashes (set_fields name.HMSet Done arguments)
 reading name.HSetNx arguments = of_kind ask.Hashes (hsetnx arguments)
@@ -91,6 +101,7 @@ asked (name ∷ arguments) = asked_by (named (lowered name)) arguments
 
 -- what a command is about: strings and keys, collections, or the server itself
 abbrev pub group_of : Ask → Group
+group_of (ask.Texts command) = group.Keys
 group_of (ask.Keys command) = group.Keys
 group_of (ask.Hashes command) = group.Collections
 group_of (ask.Lists command) = group.Collections

@@ -1,11 +1,13 @@
 -- The names of commands.
 use Rattle.mr_value.specs.declared.ends.End.TheVariants.{Left, Right}
-use Rattle.mr_ask.specs.declared.name.Name.{Name}
-use Rattle.mr_ask.specs.declared.name.Name.TheVariants as name
+use Rattle.mr_words.specs.declared.name.Name.{Name}
+use Rattle.mr_words.specs.declared.name.Name.TheVariants as name
 use Rattle.mr_ask.specs.declared.hash_ask.FieldsReply.TheVariants.{Added, Done}
 use Rattle.mr_ask.specs.declared.hash_ask.HashPart.TheVariants.{Pairs, Fields, Values}
 use Rattle.mr_ask.specs.declared.list_ask.PushTo.TheVariants.{AnyKey, ExistingKey}
 use Rattle.mr_ask.specs.declared.set_ask.SetOperation.TheVariants.{Intersection, Union, Difference}
+use Rattle.mr_ask.specs.declared.text_ask.TextAsk.{TextAsk}
+use Rattle.mr_ask.specs.declared.text_ask.TextAsk.TheVariants as text
 use Rattle.mr_ask.specs.declared.key_ask.KeyAsk.{KeyAsk}
 use Rattle.mr_ask.specs.declared.key_ask.KeyAsk.TheVariants as key
 use Rattle.mr_ask.specs.declared.hash_ask.HashAsk.{HashAsk}
@@ -19,14 +21,26 @@ use Rattle.mr_ask.specs.declared.server_ask.ServerAsk.TheVariants as server
 use Rattle.mr_ask.specs.declared.ask.Ask.{Ask}
 use Rattle.mr_ask.specs.declared.ask.Ask.TheVariants as ask
 
--- of a command on strings and keys
+-- of a command on strings
+abbrev pub text_name : TextAsk → Name
+text_name (text.Get key) = name.Get
+text_name (text.Set key value condition reply) = name.Set
+text_name (text.TextLength key) = name.StrLen
+text_name (text.GetRange key first last) = name.GetRange
+text_name (text.GetAll keys) = name.MGet
+text_name (text.SetNew key value) = name.SetNx
+text_name (text.GetAndSet key value) = name.GetSet
+text_name (text.GetAndDelete key) = name.GetDel
+
+-- of a command on keys of any kind
 abbrev pub key_name : KeyAsk → Name
-key_name (key.Get key) = name.Get
-key_name (key.Set key value) = name.Set
 key_name (key.Del keys) = name.Del
 key_name (key.Unlink keys) = name.Unlink
 key_name (key.Exists keys) = name.Exists
 key_name (key.KeyType key) = name.KeyType
+key_name (key.MatchingKeys pattern) = name.Keys
+key_name (key.Scan cursor pattern kind) = name.Scan
+key_name key.CountKeys = name.DbSize
 
 -- of a command on hashes
 abbrev pub hash_name : HashAsk → Name
@@ -88,6 +102,7 @@ server_name (server.SetClientName label) = name.Client
 server_name (server.SetClientInfo attribute value) = name.Client
 
 abbrev pub name_of : Ask → Name
+name_of (ask.Texts command) = text_name command
 name_of (ask.Keys command) = key_name command
 name_of (ask.Hashes command) = hash_name command
 name_of (ask.Lists command) = list_name command

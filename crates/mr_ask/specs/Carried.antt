@@ -2,7 +2,9 @@
 use Rattle.std.specs.Prelude.{ℕ, List, [], ◌∷◌, IsTrue, Some, None}
 use Rattle.std.specs.List.{list_all}
 use Rattle.mr_value.specs.Words.{fits}
-use Rattle.mr_ask.specs.Pairing.{unpaired}
+use Rattle.mr_words.specs.Pairing.{unpaired}
+use Rattle.mr_ask.specs.declared.text_ask.TextAsk.{TextAsk}
+use Rattle.mr_ask.specs.declared.text_ask.TextAsk.TheVariants as text
 use Rattle.mr_ask.specs.declared.key_ask.KeyAsk.{KeyAsk}
 use Rattle.mr_ask.specs.declared.key_ask.KeyAsk.TheVariants as key
 use Rattle.mr_ask.specs.declared.hash_ask.HashAsk.{HashAsk}
@@ -16,14 +18,27 @@ use Rattle.mr_ask.specs.declared.server_ask.ServerAsk.TheVariants as server
 use Rattle.mr_ask.specs.declared.ask.Ask.{Ask}
 use Rattle.mr_ask.specs.declared.ask.Ask.TheVariants as ask
 
--- of a command on strings and keys
+-- of a command on strings
+abbrev pub text_words : TextAsk → List (List ℕ)
+text_words (text.Get key) = key ∷ []
+text_words (text.Set key value condition reply) = key ∷ value ∷ []
+text_words (text.TextLength key) = key ∷ []
+text_words (text.GetRange key first last) = key ∷ []
+text_words (text.GetAll keys) = keys
+text_words (text.SetNew key value) = key ∷ value ∷ []
+text_words (text.GetAndSet key value) = key ∷ value ∷ []
+text_words (text.GetAndDelete key) = key ∷ []
+
+-- of a command on keys of any kind
 abbrev pub key_words : KeyAsk → List (List ℕ)
-key_words (key.Get key) = key ∷ []
-key_words (key.Set key value) = key ∷ value ∷ []
 key_words (key.Del keys) = keys
 key_words (key.Unlink keys) = keys
 key_words (key.Exists keys) = keys
 key_words (key.KeyType key) = key ∷ []
+key_words (key.MatchingKeys pattern) = pattern ∷ []
+key_words (key.Scan cursor None kind) = []
+key_words (key.Scan cursor (Some pattern) kind) = pattern ∷ []
+key_words key.CountKeys = []
 
 -- of a command on hashes
 abbrev pub hash_words : HashAsk → List (List ℕ)
@@ -77,6 +92,7 @@ server_words (server.SetClientName label) = label ∷ []
 server_words (server.SetClientInfo attribute value) = attribute ∷ value ∷ []
 
 abbrev pub words_of : Ask → List (List ℕ)
+words_of (ask.Texts command) = text_words command
 words_of (ask.Keys command) = key_words command
 words_of (ask.Hashes command) = hash_words command
 words_of (ask.Lists command) = list_words command

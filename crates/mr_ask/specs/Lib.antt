@@ -1,7 +1,6 @@
-pub mod Names
-pub mod Faults
-pub mod Pairing
 pub mod Parts
+pub mod Options
+pub mod Texts
 pub mod Keys
 pub mod Hashes
 pub mod Lists

@@ -1,5 +1,6 @@
 -- What single arguments say.
-use Rattle.std.specs.Prelude.{ℕ, ℤ, pos, negsuc, List, if◌then◌else◌, Result, Ok, Err, codes}
+use Rattle.mr_words.specs.Parts.{with, integer}
+use Rattle.std.specs.Prelude.{ℕ, zero, suc, ℤ, pos, negsuc, int_lt, List, [], Bool, if◌then◌else◌, Option, Some, None, Result, Ok, Err, codes}
 use Rattle.std.specs.Option.{ok_or}
 use Rattle.std.specs.Str.{bytes_eq}
 use Rattle.mr_value.specs.Number.{number_of}
@@ -7,27 +8,14 @@ use Rattle.mr_value.specs.declared.ends.End.{End}
 use Rattle.mr_value.specs.declared.ends.End.TheVariants.{Left, Right}
 use Rattle.mr_value.specs.declared.ends.Side.{Side}
 use Rattle.mr_value.specs.declared.ends.Side.TheVariants.{Before, After}
-use Rattle.mr_ask.specs.Names.{lowered}
-use Rattle.mr_ask.specs.declared.fault.AskFault.{AskFault}
-use Rattle.mr_ask.specs.declared.fault.AskFault.TheVariants.{Syntax, Integer, Other}
-use Rattle.mr_ask.specs.declared.fault.BadValue.TheVariants.{Negative}
-
--- what is read with an argument that was read, or that argument's fault
-abbrev pub with : {A B : Type 0} → Result A AskFault → (A → Result B AskFault) → Result B AskFault
-with (Ok a) next = next a
-with (Err fault) next = Err fault
-
--- a whole number of 64 bits
-abbrev pub integer : List ℕ → Result ℤ AskFault
-integer word = ok_or (number_of word) Integer
-
--- a number that isn't below 0
-abbrev pub not_below_0 : ℤ → Result ℕ AskFault
-not_below_0 (pos n) = Ok n
-not_below_0 (negsuc n) = Err (Other Negative)
-
-abbrev pub count : List ℕ → Result ℕ AskFault
-count word = with (integer word) not_below_0
+use Rattle.mr_words.specs.Names.{lowered}
+use Rattle.mr_words.specs.declared.fault.AskFault.{AskFault}
+use Rattle.mr_words.specs.declared.fault.AskFault.TheVariants.{Syntax, Other}
+use Rattle.mr_words.specs.declared.fault.BadValue.TheVariants as bad
+use Rattle.mr_ask.specs.declared.key_ask.Cursor.{Cursor}
+use Rattle.mr_ask.specs.declared.key_ask.Cursor.TheVariants.{Start, Behind}
+use Rattle.mr_ask.specs.declared.key_ask.KindName.{KindName}
+use Rattle.mr_ask.specs.declared.key_ask.KindName.TheVariants as kind
 
 -- an option word, in lower case
 abbrev pub end_text : End → List ℕ
@@ -45,3 +33,45 @@ end_of word = if bytes_eq (lowered word) (end_text Left) then Ok Left else (if b
 -- BEFORE or AFTER, in any case
 abbrev pub side_of : List ℕ → Result Side AskFault
 side_of word = if bytes_eq (lowered word) (side_text Before) then Ok Before else (if bytes_eq (lowered word) (side_text After) then Ok After else Err Syntax)
+
+-- a number from 1 on
+abbrev pub not_below_1 : ℤ → Result ℤ AskFault
+not_below_1 n = if int_lt n (pos 1) then Err Syntax else Ok n
+
+abbrev pub positive : List ℕ → Result ℤ AskFault
+positive word = with (integer word) not_below_1
+
+-- .. where there is one
+abbrev pub positive_if_any : Option (List ℕ) → Result (Option ℤ) AskFault
+positive_if_any None = Ok None
+positive_if_any (Some word) = with (positive word) (λ n. Ok (Some n))
+
+-- where a scan goes on
+abbrev pub cursor_at : ℤ → Result Cursor AskFault
+cursor_at (pos zero) = Ok Start
+cursor_at (pos (suc n)) = Ok Behind
+cursor_at (negsuc n) = Err (Other bad.Cursor)
+
+-- .. at a cursor: a whole number of 64 bits that isn't below 0
+abbrev pub cursor_of : List ℕ → Result Cursor AskFault
+cursor_of word = with (ok_or (number_of word) (Other bad.Cursor)) cursor_at
+
+-- the names of the kinds that there are, in lower case; an unknown one has none
+abbrev pub kind_text : KindName → List ℕ
+kind_text kind.Text = codes "string"
+kind_text kind.Hash = codes "hash"
+kind_text kind.List = codes "list"
+kind_text kind.Set = codes "set"
+kind_text kind.SortedSet = codes "zset"
+kind_text kind.Unknown = []
+
+abbrev pub is_kind : List ℕ → KindName → Bool
+is_kind word name = bytes_eq (lowered word) (kind_text name)
+
+-- the kind that a word names, in any case
+abbrev pub kind_of : List ℕ → KindName
+kind_of word = if is_kind word kind.Text then kind.Text
+    else (if is_kind word kind.Hash then kind.Hash
+    else (if is_kind word kind.List then kind.List
+    else (if is_kind word kind.Set then kind.Set
+    else (if is_kind word kind.SortedSet then kind.SortedSet else kind.Unknown))))

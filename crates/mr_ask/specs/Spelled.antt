@@ -1,12 +1,25 @@
 -- The words that a command is spelled by.
-use Rattle.std.specs.Prelude.{◌≡◌, ℕ, ℤ, pos, List, [], ◌∷◌, map, Option, Some, None}
-use Rattle.std.specs.Fmt.{signed_decimal}
-use Rattle.mr_ask.specs.Names.{lowered, text_of}
+use Rattle.std.specs.Prelude.{◌≡◌, ℕ, pos, List, [], ◌∷◌, ◌++◌, map, Option, Some, None, option_map, IfSome}
+use Rattle.mr_words.specs.Names.{lowered, text_of}
+use Rattle.mr_words.specs.Spelling.{Part, Word, Number, Keyword, Positive, count_part, IsPositive, AreParts, AreWithOptions}
 use Rattle.mr_ask.specs.Called.{name_of}
-use Rattle.mr_ask.specs.Carried.{key_words, hash_words, list_words, set_words, server_words}
-use Rattle.mr_ask.specs.Parts.{end_text, side_text}
+use Rattle.mr_ask.specs.Carried.{text_words, key_words, hash_words, list_words, set_words, server_words}
+use Rattle.mr_ask.specs.Parts.{end_text, side_text, kind_of}
+use Rattle.mr_ask.specs.Options.{set_text, scan_text}
 use Rattle.mr_ask.specs.Server.{setname, setinfo}
+use Rattle.mr_ask.specs.declared.options.SetOption.TheVariants as option
+use Rattle.mr_ask.specs.declared.options.ScanOption.{ScanOption}
+use Rattle.mr_ask.specs.declared.options.ScanOption.TheVariants as scan
+use Rattle.mr_ask.specs.declared.text_ask.SetCondition.{SetCondition}
+use Rattle.mr_ask.specs.declared.text_ask.SetReply.{SetReply}
+use Rattle.mr_ask.specs.declared.text_ask.SetReply.TheVariants.{Done, Before}
+use Rattle.mr_ask.specs.declared.key_ask.Cursor.{Cursor}
+use Rattle.mr_ask.specs.declared.key_ask.Cursor.TheVariants.{Start, Behind}
+use Rattle.mr_ask.specs.declared.key_ask.KindName.{KindName}
+use Rattle.mr_ask.specs.declared.text_ask.TextAsk.{TextAsk}
+use Rattle.mr_ask.specs.declared.text_ask.TextAsk.TheVariants as text
 use Rattle.mr_ask.specs.declared.key_ask.KeyAsk.{KeyAsk}
+use Rattle.mr_ask.specs.declared.key_ask.KeyAsk.TheVariants as key
 use Rattle.mr_ask.specs.declared.hash_ask.HashAsk.{HashAsk}
 use Rattle.mr_ask.specs.declared.hash_ask.HashAsk.TheVariants as hash
 use Rattle.mr_ask.specs.declared.list_ask.ListAsk.{ListAsk}
@@ -18,20 +31,33 @@ use Rattle.mr_ask.specs.declared.server_ask.ServerAsk.TheVariants as server
 use Rattle.mr_ask.specs.declared.ask.Ask.{Ask}
 use Rattle.mr_ask.specs.declared.ask.Ask.TheVariants as ask
 
--- an argument: this word as it is, the text of this number, or this option word in any case
-pub data Part : Type 0 where
-  Word : List ℕ → Part
-  Number : ℤ → Part
-  Keyword : List ℕ → Part
+-- where a scan goes on
+abbrev pub cursor_part : Cursor → Part
+cursor_part Start = Number (pos 0)
+cursor_part Behind = Positive
 
--- a count that may be left out
-abbrev pub count_part : Option ℕ → List Part
-count_part None = []
-count_part (Some n) = Number (pos n) ∷ []
+-- what stands behind the name of a command on strings, before its options
+abbrev pub text_parts : TextAsk → List Part
+text_parts (text.GetRange key first last) = Word key ∷ Number first ∷ Number last ∷ []
+text_parts command = map Word (text_words command)
 
--- what stands behind the name of a command on strings and keys
+-- what stands behind the name of a command on keys, before its options
 abbrev pub key_parts : KeyAsk → List Part
+key_parts (key.Scan cursor pattern kind) = cursor_part cursor ∷ []
 key_parts command = map Word (key_words command)
+
+-- an option: its words
+abbrev pub condition_option : Option SetCondition → List (List Part)
+condition_option None = []
+condition_option (Some condition) = (Keyword (set_text (option.Condition condition)) ∷ []) ∷ []
+
+abbrev pub reply_option : SetReply → List (List Part)
+reply_option Done = []
+reply_option Before = (Keyword (set_text option.Before) ∷ []) ∷ []
+
+abbrev pub scan_option : ScanOption → Option (List ℕ) → List (List Part)
+scan_option option None = []
+scan_option option (Some argument) = (Keyword (scan_text option) ∷ Word argument ∷ []) ∷ []
 
 -- what stands behind the name of a command on hashes
 abbrev pub hash_parts : HashAsk → List Part
@@ -63,26 +89,34 @@ server_parts (server.SetClientName name) = Keyword setname ∷ Word name ∷ []
 server_parts (server.SetClientInfo attribute value) = Keyword setinfo ∷ Word attribute ∷ Word value ∷ []
 server_parts command = map Word (server_words command)
 
-abbrev pub parts_of : Ask → List Part
-parts_of (ask.Keys command) = key_parts command
-parts_of (ask.Hashes command) = hash_parts command
-parts_of (ask.Lists command) = list_parts command
-parts_of (ask.Sets command) = set_parts command
-parts_of (ask.Server command) = server_parts command
+-- what stands behind SCAN: a number from 1 on may stand there, and says nothing; a kind is named by some word
+pub record AreOfScan (words : List (List ℕ)) (cursor : Cursor) (pattern : Option (List ℕ)) (kind : Option KindName) : Type 0 where
+  pub count : Option (List ℕ)
+  pub counts : IfSome count IsPositive
+  pub kind_word : Option (List ℕ)
+  pub names : option_map kind_of kind_word ≡ kind
+  pub are : AreWithOptions words (key_parts (key.Scan cursor pattern kind)) (scan_option scan.Pattern pattern ++ scan_option scan.Count count ++ scan_option scan.Kind kind_word)
 
--- the word is that argument
-abbrev pub IsPart : List ℕ → Part → Type 0
-IsPart word (Word text) = word ≡ text
-IsPart word (Number n) = word ≡ signed_decimal n
-IsPart word (Keyword text) = lowered word ≡ text
+-- the words that stand behind the name of a command on strings
+abbrev pub AreOfTexts : List (List ℕ) → TextAsk → Type 0
+AreOfTexts words (text.Set k value condition reply) = AreWithOptions words (text_parts (text.Set k value condition reply)) (condition_option condition ++ reply_option reply)
+AreOfTexts words command = AreParts words (text_parts command)
 
--- each word is the argument in its place, and there are no others
-abbrev pub AreParts : List (List ℕ) → List Part → Type 0
-AreParts [] [] = Unit {0}
-AreParts (word ∷ words) (part ∷ parts) = IsPart word part × AreParts words parts
-AreParts _ _ = ⊥
+-- the words that stand behind the name of a command on keys
+abbrev pub AreOfKeys : List (List ℕ) → KeyAsk → Type 0
+AreOfKeys words (key.Scan cursor pattern kind) = AreOfScan words cursor pattern kind
+AreOfKeys words command = AreParts words (key_parts command)
+
+-- the words that stand behind the name of a command
+abbrev pub AreArguments : List (List ℕ) → Ask → Type 0
+AreArguments words (ask.Texts command) = AreOfTexts words command
+AreArguments words (ask.Keys command) = AreOfKeys words command
+AreArguments words (ask.Hashes command) = AreParts words (hash_parts command)
+AreArguments words (ask.Lists command) = AreParts words (list_parts command)
+AreArguments words (ask.Sets command) = AreParts words (set_parts command)
+AreArguments words (ask.Server command) = AreParts words (server_parts command)
 
 -- These words spell the command: its name in any case, and behind it its arguments.
 abbrev pub Spells : List (List ℕ) → Ask → Type 0
 Spells [] command = ⊥
-Spells (name ∷ arguments) command = (lowered name ≡ text_of (name_of command)) × AreParts arguments (parts_of command)
+Spells (name ∷ words) command = (lowered name ≡ text_of (name_of command)) × AreArguments words command

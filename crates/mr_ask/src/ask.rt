@@ -4,12 +4,15 @@ use crate::key_ask::KeyAsk;
 use crate::list_ask::ListAsk;
 use crate::server_ask::ServerAsk;
 use crate::set_ask::SetAsk;
+use crate::text_ask::TextAsk;
 
 /// A command with its arguments, which are borrowed from the request; by its kind, so that what serves the commands of one kind
 /// takes a type of its own.
 #[derive(Drop)]
 pub enum Ask<'a, 't> {
-    /// On strings, and on keys whatever they hold.
+    /// On strings.
+    Texts(TextAsk<'a, 't>),
+    /// On keys, whatever they hold.
     Keys(KeyAsk<'a, 't>),
     Hashes(HashAsk<'a, 't>),
     Lists(ListAsk<'a, 't>),

@@ -21,7 +21,7 @@ impl Ask<'_, '_> {
         ensures { result ≡ group_of self.now }
     {
         match self {
-            Ask::Keys(_) => Group::Keys,
+            Ask::Texts(_) | Ask::Keys(_) => Group::Keys,
             Ask::Hashes(_) | Ask::Lists(_) | Ask::Sets(_) => Group::Collections,
             Ask::Server(_) => Group::Server,
         }

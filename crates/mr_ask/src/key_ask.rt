@@ -1,18 +1,9 @@
-// Commands on strings and keys, with their arguments.
-use crate::words::{Argument, Words};
+// Commands on keys of any kind, with their arguments.
+use mr_words::{Argument, Words};
 
-/// A command on strings and keys, with its arguments.
+/// A command on keys of any kind, with its arguments.
 #[derive(Drop)]
 pub enum KeyAsk<'a, 't> {
-    /// `GET key`
-    Get {
-        key: Argument<'a>,
-    },
-    /// `SET key value`
-    Set {
-        key: Argument<'a>,
-        value: Argument<'a>,
-    },
     /// `DEL key [key ..]`
     Del {
         keys: Words<'a, 't>,
@@ -29,4 +20,42 @@ pub enum KeyAsk<'a, 't> {
     KeyType {
         key: Argument<'a>,
     },
+    /// `KEYS pattern`
+    MatchingKeys {
+        pattern: Argument<'a>,
+    },
+    /// `SCAN cursor [MATCH pattern] [COUNT number] [TYPE kind]`. The number is read and says nothing.
+    Scan {
+        cursor: Cursor,
+        pattern: Option<Argument<'a>>,
+        kind: Option<KindName>,
+    },
+    /// `DBSIZE`
+    CountKeys,
+}
+
+/// Where a scan goes on.
+#[derive(Clone, Copy, Debug, PartialEq, Eq)]
+pub enum Cursor {
+    /// Before the first key (`0`).
+    Start,
+    /// Behind the last key (any other cursor).
+    Behind,
+}
+
+/// A kind of value, as a request names it.
+#[derive(Clone, Copy, Debug, PartialEq, Eq)]
+pub enum KindName {
+    /// `string`
+    Text,
+    /// `hash`
+    Hash,
+    /// `list`
+    List,
+    /// `set`
+    Set,
+    /// `zset`
+    SortedSet,
+    /// Any other word: no key is of this kind.
+    Unknown,
 }

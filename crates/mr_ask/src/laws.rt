@@ -1,9 +1,10 @@
 // Laws of the definitions that the contracts cite.
-ghost use Rattle.std.specs.Prelude.{◌≡◌, Some};
-ghost use Rattle.mr_ask.specs.Names.{named, text_of};
-ghost use Rattle.mr_ask.specs.declared.name.Name.{Name};
+ghost use Rattle.std.specs.Prelude.{◌≡◌, ◌∷◌, ◌++◌, ℕ, List};
+ghost use Rattle.mr_ask.specs.Options.{set_options, scan_options};
+ghost use Rattle.mr_words.specs.Pairing.{unpaired};
 
-/// Each name is found by its text, so no two commands have the same name.
-pub fn names_are_found()
-    ensures { (name : Name) → named (text_of name) ≡ Some name }
+/// Two options of `SET`, or of `SCAN` with their arguments, that stand side by side may change places. So their order says nothing.
+pub fn options_stand_in_any_order()
+    ensures set { (front back : List (List ℕ)) (a b : List ℕ) → set_options (front ++ a ∷ b ∷ back) ≡ set_options (front ++ b ∷ a ∷ back) }
+    ensures scan { (front back : List (List ℕ × List ℕ)) (a b : List ℕ × List ℕ) → scan_options (unpaired (front ++ a ∷ b ∷ back)) ≡ scan_options (unpaired (front ++ b ∷ a ∷ back)) }
 {}

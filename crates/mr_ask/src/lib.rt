@@ -2,31 +2,29 @@
 #![tactic(auto)]
 
 mod ask;
-mod fault;
 mod group;
 mod hash_ask;
 mod key_ask;
 mod laws;
 mod list_ask;
-mod name;
+mod options;
 mod parts;
 mod reading;
 mod server_ask;
 mod set_ask;
-mod words;
+mod text_ask;
 
 pub use ask::Ask;
-pub use fault::{AskFault, BadValue};
 pub use group::Group;
 pub use hash_ask::{FieldsReply, HashAsk, HashPart};
-pub use key_ask::KeyAsk;
-pub use laws::names_are_found;
+pub use key_ask::{Cursor, KeyAsk, KindName};
+pub use laws::options_stand_in_any_order;
 pub use list_ask::{ListAsk, PushTo};
-pub use name::Name;
+pub use mr_words::{Argument, AskFault, BadValue, Name, Pairs, PairsIter, Words};
 pub use reading::read;
 pub use server_ask::ServerAsk;
 pub use set_ask::{SetAsk, SetOperation};
-pub use words::{Argument, Pairs, PairsIter, Words};
+pub use text_ask::{SetCondition, SetReply, TextAsk};
 
 #[cfg(test)]
 mod tests;

@@ -1,6 +1,6 @@
 // Commands on lists, with their arguments.
-use crate::words::{Argument, Words};
 use mr_value::{End, Side};
+use mr_words::{Argument, Words};
 
 /// A command on lists, with its arguments.
 #[derive(Drop)]

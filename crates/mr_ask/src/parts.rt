@@ -1,37 +1,15 @@
 // What single arguments say.
 ghost use Rattle.std.specs.Prelude.{◌≡◌};
 ghost use Rattle.std.specs.Cow.{cow_slice_items};
+ghost use Rattle.std.specs.Option.{option_map};
 ghost use Rattle.std.specs.Str.{bytes_eq};
-ghost use Rattle.mr_ask.specs.Names.{lowered};
-ghost use Rattle.mr_ask.specs.Parts.{integer, not_below_0, count, end_of, end_text, side_of, side_text};
+ghost use Rattle.mr_words.specs.Names.{lowered};
+ghost use Rattle.mr_ask.specs.Parts.{end_of, end_text, side_of, side_text, not_below_1, positive, positive_if_any, cursor_at, cursor_of, is_kind, kind_of};
 
-use crate::fault::{AskFault, BadValue};
+use crate::key_ask::{Cursor, KindName};
 use mr_value::{End, Side, read_i64};
+use mr_words::{Argument, AskFault, BadValue};
 use std::borrow::CowSlice;
-
-/// A whole number of 64 bits.
-pub(crate) fn integer(word: &CowSlice<'_, u8>) -> Result<i64, AskFault>
-    ensures { result ≡ integer (cow_slice_items word.now) }
-{
-    read_i64(word.as_slice()).ok_or(AskFault::Integer)
-}
-
-/// A count that isn't below 0.
-pub(crate) fn count(word: &CowSlice<'_, u8>) -> Result<usize, AskFault>
-    ensures { result ≡ count (cow_slice_items word.now) }
-{
-    not_below_0(integer(word)?)
-}
-
-fn not_below_0(number: i64) -> Result<usize, AskFault>
-    ensures { result ≡ not_below_0 number }
-{
-    if number < 0 {
-        Err(AskFault::Other(BadValue::Negative))
-    } else {
-        Ok(number as usize)
-    }
-}
 
 /// `LEFT` or `RIGHT`, in any case.
 pub(crate) fn end_of(word: &CowSlice<'_, u8>) -> Result<End, AskFault>
@@ -74,5 +52,91 @@ fn is_side(word: &CowSlice<'_, u8>, side: Side) -> bool
     match side {
         Side::Before => word.as_slice().eq_ignore_ascii_case(b"before"),
         Side::After => word.as_slice().eq_ignore_ascii_case(b"after"),
+    }
+}
+
+/// A number from 1 on, where there is one.
+pub(crate) fn positive_if_any(word: &Option<Argument<'_>>) -> Result<Option<i64>, AskFault>
+    ensures { result ≡ positive_if_any word.now }
+{
+    match word {
+        None => Ok(None),
+        Some(word) => Ok(Some(positive(word.as_slice())?)),
+    }
+}
+
+fn positive(text: &[u8]) -> Result<i64, AskFault>
+    ensures { result ≡ positive text.now }
+{
+    not_below_1(read_i64(text).ok_or(AskFault::Integer)?)
+}
+
+fn not_below_1(number: i64) -> Result<i64, AskFault>
+    ensures { result ≡ not_below_1 number }
+{
+    if number < 1 {
+        Err(AskFault::Syntax)
+    } else {
+        Ok(number)
+    }
+}
+
+/// Where a scan goes on at a cursor, which is a number that isn't below 0.
+pub(crate) fn cursor_of(word: &CowSlice<'_, u8>) -> Result<Cursor, AskFault>
+    ensures { result ≡ cursor_of (cow_slice_items word.now) }
+{
+    cursor_at(read_i64(word.as_slice()).ok_or(AskFault::Other(BadValue::Cursor))?)
+}
+
+fn cursor_at(number: i64) -> Result<Cursor, AskFault>
+    ensures { result ≡ cursor_at number }
+{
+    if number < 0 {
+        Err(AskFault::Other(BadValue::Cursor))
+    } else if number == 0 {
+        Ok(Cursor::Start)
+    } else {
+        Ok(Cursor::Behind)
+    }
+}
+
+/// The kind that a word names, in any case, where there is one.
+pub(crate) fn kind_if_any(word: &Option<Argument<'_>>) -> Option<KindName>
+    ensures { result ≡ option_map kind_of word.now }
+{
+    match word {
+        None => None,
+        Some(word) => Some(kind_of(word.as_slice())),
+    }
+}
+
+fn kind_of(word: &[u8]) -> KindName
+    ensures { result ≡ kind_of word.now }
+{
+    if is_kind(word, KindName::Text) {
+        KindName::Text
+    } else if is_kind(word, KindName::Hash) {
+        KindName::Hash
+    } else if is_kind(word, KindName::List) {
+        KindName::List
+    } else if is_kind(word, KindName::Set) {
+        KindName::Set
+    } else if is_kind(word, KindName::SortedSet) {
+        KindName::SortedSet
+    } else {
+        KindName::Unknown
+    }
+}
+
+fn is_kind(word: &[u8], kind: KindName) -> bool
+    ensures { result ≡ is_kind word.now kind }
+{
+    match kind {
+        KindName::Text => word.eq_ignore_ascii_case(b"string"),
+        KindName::Hash => word.eq_ignore_ascii_case(b"hash"),
+        KindName::List => word.eq_ignore_ascii_case(b"list"),
+        KindName::Set => word.eq_ignore_ascii_case(b"set"),
+        KindName::SortedSet => word.eq_ignore_ascii_case(b"zset"),
+        KindName::Unknown => word.eq_ignore_ascii_case(b""),
     }
 }

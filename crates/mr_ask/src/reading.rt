@@ -13,20 +13,18 @@ mod keys;
 mod lists;
 mod server;
 mod sets;
+mod texts;
 
 use crate::ask::Ask;
-use crate::fault::AskFault;
 use crate::hash_ask::{FieldsReply, HashAsk, HashPart};
 use crate::key_ask::KeyAsk;
 use crate::list_ask::{ListAsk, PushTo};
-use crate::name::Name;
 use crate::server_ask::ServerAsk;
 use crate::set_ask::{SetAsk, SetOperation};
+use crate::text_ask::TextAsk;
 use mr_value::End;
+use mr_words::{Arguments, AskFault, Name};
 use std::borrow::CowSlice;
-
-// The words behind a command's name.
-type Arguments<'a, 't> = &'a [CowSlice<'t, u8>];
 
 type Reading<'a, 't> = Result<Ask<'a, 't>, AskFault>;
 
@@ -57,12 +55,21 @@ fn read_arguments<'a, 't>(name: Name, arguments: Arguments<'a, 't>) -> Reading<'
     ensures { result ≡ reading name (map cow_slice_items arguments.now) }
 {
     match name {
-        Name::Get => of_keys(keys::get(arguments)),
-        Name::Set => of_keys(keys::set(arguments)),
+        Name::Get => of_texts(texts::get(arguments)),
+        Name::Set => of_texts(texts::set(arguments)),
         Name::Del => of_keys(keys::del(arguments)),
         Name::Unlink => of_keys(keys::unlink(arguments)),
         Name::Exists => of_keys(keys::exists(arguments)),
         Name::KeyType => of_keys(keys::key_type(arguments)),
+        Name::StrLen => of_texts(texts::strlen(arguments)),
+        Name::GetRange => of_texts(texts::getrange(arguments)),
+        Name::MGet => of_texts(texts::mget(arguments)),
+        Name::SetNx => of_texts(texts::setnx(arguments)),
+        Name::GetSet => of_texts(texts::getset(arguments)),
+        Name::GetDel => of_texts(texts::getdel(arguments)),
+        Name::Keys => of_keys(keys::matching_keys(arguments)),
+        Name::Scan => of_keys(keys::scan(arguments)),
+        Name::DbSize => of_keys(keys::dbsize(arguments)),
         Name::HSet => of_hashes(hashes::set_fields(name, FieldsReply::Added, arguments)),
         Name::HMSet => of_hashes(hashes::set_fields(name, FieldsReply::Done, arguments)),
         Name::HSetNx => of_hashes(hashes::hsetnx(arguments)),
@@ -110,6 +117,12 @@ fn read_arguments<'a, 't>(name: Name, arguments: Arguments<'a, 't>) -> Reading<'
         Name::Command => of_server(server::command(arguments)),
         Name::Client => of_server(server::client(arguments)),
     }
+}
+
+fn of_texts<'a, 't>(reading: Result<TextAsk<'a, 't>, AskFault>) -> Reading<'a, 't>
+    ensures { result ≡ of_kind kind.Texts reading.entry }
+{
+    Ok(Ask::Texts(reading?))
 }
 
 fn of_keys<'a, 't>(reading: Result<KeyAsk<'a, 't>, AskFault>) -> Reading<'a, 't>

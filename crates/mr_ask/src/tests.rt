@@ -1,5 +1,6 @@
 use crate::{
-    Argument, Ask, AskFault, FieldsReply, Group, HashAsk, ListAsk, Name, Pairs, Words, read,
+    Ask, Cursor, FieldsReply, Group, HashAsk, KeyAsk, KindName, ListAsk, SetCondition, SetReply,
+    TextAsk, read,
 };
 use mr_resp::write_reply;
 use mr_value::{End, Side};
@@ -31,6 +32,7 @@ fn told(rt: &impl Abort, alloc: Global, line: &str) -> Result<Vec<u8>, Fail> {
 
 fn kind_text(ask: &Ask<'_, '_>) -> &'static [u8] {
     match ask {
+        Ask::Texts(_) => b"text",
         Ask::Keys(_) => b"keys",
         Ask::Hashes(_) => b"hash",
         Ask::Lists(_) => b"list",
@@ -50,6 +52,8 @@ fn all_told(rt: &impl Abort, alloc: Global, lines: &[(&str, &str)]) -> Result<()
 
 const INTEGER: &str = "-ERR value is not an integer or out of range\r\n";
 
+const CURSOR: &str = "-ERR invalid cursor\r\n";
+
 const NEGATIVE: &str = "-ERR value is out of range, must be positive\r\n";
 
 const SYNTAX: &str = "-ERR syntax error\r\n";
@@ -65,7 +69,7 @@ fn strings_and_keys(rt: HostRuntime) -> Result<(), Fail> {
             ("NOPE", UNKNOWN),
             ("GETS k", UNKNOWN),
             ("", UNKNOWN),
-            ("gEt K", "keys"),
+            ("gEt K", "text"),
             (
                 "get",
                 "-ERR wrong number of arguments for 'get' command\r\n",
@@ -74,12 +78,12 @@ fn strings_and_keys(rt: HostRuntime) -> Result<(), Fail> {
                 "GET a b",
                 "-ERR wrong number of arguments for 'get' command\r\n",
             ),
-            ("set GET set", "keys"),
+            ("set GET set", "text"),
             (
                 "Set k",
                 "-ERR wrong number of arguments for 'set' command\r\n",
             ),
-            ("SET k v NX", SYNTAX),
+            ("SET k v EX 10", SYNTAX),
             ("Del a b a", "keys"),
             (
                 "DEL",
@@ -100,6 +104,135 @@ fn strings_and_keys(rt: HostRuntime) -> Result<(), Fail> {
                 "TYPE a b",
                 "-ERR wrong number of arguments for 'type' command\r\n",
             ),
+        ],
+    )
+}
+
+#[test]
+fn strings(rt: HostRuntime) -> Result<(), Fail> {
+    all_told(
+        &rt,
+        rt.alloc(),
+        &[
+            ("STRLEN k", "text"),
+            (
+                "STRLEN a b",
+                "-ERR wrong number of arguments for 'strlen' command\r\n",
+            ),
+            ("GETRANGE k 0 -1", "text"),
+            (
+                "GETRANGE k 0",
+                "-ERR wrong number of arguments for 'getrange' command\r\n",
+            ),
+            ("GETRANGE k 0 x", INTEGER),
+            ("MGET a b a", "text"),
+            (
+                "MGET",
+                "-ERR wrong number of arguments for 'mget' command\r\n",
+            ),
+        ],
+    )
+}
+
+#[test]
+fn strings_set_and_taken(rt: HostRuntime) -> Result<(), Fail> {
+    all_told(
+        &rt,
+        rt.alloc(),
+        &[
+            ("SETNX k v", "text"),
+            (
+                "SETNX k",
+                "-ERR wrong number of arguments for 'setnx' command\r\n",
+            ),
+            ("GETSET k v", "text"),
+            (
+                "GETSET k v w",
+                "-ERR wrong number of arguments for 'getset' command\r\n",
+            ),
+            ("GETDEL k", "text"),
+            (
+                "GETDEL a b",
+                "-ERR wrong number of arguments for 'getdel' command\r\n",
+            ),
+        ],
+    )
+}
+
+#[test]
+fn options_of_set(rt: HostRuntime) -> Result<(), Fail> {
+    all_told(
+        &rt,
+        rt.alloc(),
+        &[
+            ("SET k v nx", "text"),
+            ("SET k v GET XX", "text"),
+            ("SET k v XX GET", "text"),
+            ("SET k v NX XX", SYNTAX),
+            ("SET k v XX XX", SYNTAX),
+            ("SET k v GET NX GET", SYNTAX),
+            ("SET k v EX 10", SYNTAX),
+            ("SET k v KEEPTTL", SYNTAX),
+        ],
+    )
+}
+
+#[test]
+fn keys_listed(rt: HostRuntime) -> Result<(), Fail> {
+    all_told(
+        &rt,
+        rt.alloc(),
+        &[
+            ("KEYS *", "keys"),
+            (
+                "KEYS",
+                "-ERR wrong number of arguments for 'keys' command\r\n",
+            ),
+            ("DBSIZE", "keys"),
+            (
+                "DBSIZE x",
+                "-ERR wrong number of arguments for 'dbsize' command\r\n",
+            ),
+            (
+                "SCAN",
+                "-ERR wrong number of arguments for 'scan' command\r\n",
+            ),
+            ("SCAN 0", "keys"),
+            ("SCAN 9223372036854775807", "keys"),
+            ("SCAN 9223372036854775808", CURSOR),
+            ("SCAN -1", CURSOR),
+            ("SCAN x", CURSOR),
+        ],
+    )
+}
+
+#[test]
+fn options_of_scan(rt: HostRuntime) -> Result<(), Fail> {
+    all_told(
+        &rt,
+        rt.alloc(),
+        &[
+            ("SCAN 0 MATCH a* COUNT 10 TYPE hash", "keys"),
+            ("SCAN 0 type NOPE count 1 match *", "keys"),
+            ("SCAN 0 MATCH", SYNTAX),
+            ("SCAN 0 TYPE set TYPE set", SYNTAX),
+            ("SCAN 0 COUNT 0", SYNTAX),
+            ("SCAN 0 COUNT x", INTEGER),
+            ("SCAN 0 NOPE x", SYNTAX),
+        ],
+    )
+}
+
+#[test]
+fn the_least_of_several_faults(rt: HostRuntime) -> Result<(), Fail> {
+    all_told(
+        &rt,
+        rt.alloc(),
+        &[
+            ("SCAN x COUNT y", INTEGER),
+            ("SCAN x COUNT 0", SYNTAX),
+            ("SCAN x COUNT y MATCH", SYNTAX),
+            ("SCAN x MATCH a", CURSOR),
         ],
     )
 }
@@ -257,6 +390,7 @@ fn group_of(rt: &impl Abort, alloc: Global, line: &str) -> Result<Option<Group>,
 #[test]
 fn what_commands_are_about(rt: HostRuntime) -> Result<(), Fail> {
     assert_eq!(rt; group_of(&rt, rt.alloc(), "TYPE k")?, Some(Group::Keys));
+    assert_eq!(rt; group_of(&rt, rt.alloc(), "DBSIZE")?, Some(Group::Keys));
     assert_eq!(rt;
         group_of(&rt, rt.alloc(), "HLEN h")?,
         Some(Group::Collections)
@@ -270,6 +404,119 @@ fn what_commands_are_about(rt: HostRuntime) -> Result<(), Fail> {
         Some(Group::Collections)
     );
     assert_eq!(rt; group_of(&rt, rt.alloc(), "QUIT")?, Some(Group::Server));
+    Ok(())
+}
+
+fn set_as(
+    rt: &impl Abort,
+    alloc: Global,
+    line: &str,
+) -> Result<Option<(Option<SetCondition>, SetReply)>, Fail> {
+    let words = words(alloc, line)?;
+    assert!(rt; words.len() > 0);
+    match read(words.as_slice()) {
+        Ok(
+            Ask::Texts(
+                TextAsk::Set {
+                    key: _,
+                    value: _,
+                    condition,
+                    reply,
+                },
+            ),
+        ) => Ok(Some((condition, reply))),
+        _ => Ok(None),
+    }
+}
+
+#[test]
+fn what_set_sets(rt: HostRuntime) -> Result<(), Fail> {
+    let alloc = rt.alloc();
+    assert_eq!(rt;
+        set_as(&rt, alloc, "SET k v")?,
+        Some((None, SetReply::Done))
+    );
+    assert_eq!(rt;
+        set_as(&rt, alloc, "SET k v NX")?,
+        Some((Some(SetCondition::Absent), SetReply::Done))
+    );
+    assert_eq!(rt;
+        set_as(&rt, alloc, "SET k v get Xx")?,
+        Some((Some(SetCondition::Present), SetReply::Before))
+    );
+    Ok(())
+}
+
+fn scanned(
+    rt: &impl Abort,
+    alloc: Global,
+    line: &str,
+) -> Result<Option<(Cursor, Option<KindName>)>, Fail> {
+    let words = words(alloc, line)?;
+    assert!(rt; words.len() > 0);
+    match read(words.as_slice()) {
+        Ok(
+            Ask::Keys(
+                KeyAsk::Scan {
+                    cursor,
+                    pattern: _,
+                    kind,
+                },
+            ),
+        ) => Ok(Some((cursor, kind))),
+        _ => Ok(None),
+    }
+}
+
+#[test]
+fn what_scan_looks_for(rt: HostRuntime) -> Result<(), Fail> {
+    let alloc = rt.alloc();
+    assert_eq!(rt; scanned(&rt, alloc, "SCAN 0")?, Some((Cursor::Start, None)));
+    assert_eq!(rt;
+        scanned(&rt, alloc, "SCAN 7 TYPE ZSet")?,
+        Some((Cursor::Behind, Some(KindName::SortedSet)))
+    );
+    assert_eq!(rt;
+        scanned(&rt, alloc, "SCAN 0 TYPE string MATCH *")?,
+        Some((Cursor::Start, Some(KindName::Text)))
+    );
+    assert_eq!(rt;
+        scanned(&rt, alloc, "SCAN 0 TYPE strings")?,
+        Some((Cursor::Start, Some(KindName::Unknown)))
+    );
+    Ok(())
+}
+
+#[test]
+fn patterns(rt: HostRuntime) -> Result<(), Fail> {
+    let line = words(rt.alloc(), "scan 0 count 5 match a*")?;
+    assert!(rt; line.len() > 0);
+    let Ok(
+        Ask::Keys(
+            KeyAsk::Scan {
+                cursor: _,
+                pattern: Some(pattern),
+                kind: _,
+            },
+        ),
+    ) = read(line.as_slice())
+    else {
+        return not_read();
+    };
+    assert_eq!(rt; pattern.as_slice(), b"a*".as_slice());
+    Ok(())
+}
+
+#[test]
+fn windows(rt: HostRuntime) -> Result<(), Fail> {
+    let line = words(rt.alloc(), "getrange k 2 -3")?;
+    assert!(rt; line.len() > 0);
+    let Ok(Ask::Texts(TextAsk::GetRange { key, first, last })) = read(line.as_slice()) else {
+        return not_read();
+    };
+    assert_eq!(rt; key.as_slice(), b"k".as_slice());
+    assert_eq!(rt; first, 2);
+    assert_eq!(rt; last, -3);
     Ok(())
 }
 
@@ -332,21 +579,5 @@ fn fields_with_their_values(rt: HostRuntime) -> Result<(), Fail> {
         last = value;
     }
     assert_eq!(rt; last, b"w".as_slice());
-    Ok(())
-}
-
-#[test]
-fn names_and_words(rt: HostRuntime) -> Result<(), Fail> {
-    assert_eq!(rt; Name::of(b"dEL").ok_or("none")?, Name::Del);
-    assert_eq!(rt; Name::of(b"PINGS"), None);
-    assert_eq!(rt; Name::Set.text(), "set");
-    assert_eq!(rt;
-        format!(in rt.alloc(); "{}", AskFault::Arity(Name::Get))?.as_str(),
-        "wrong number of arguments for 'get' command"
-    );
-    let line = words(rt.alloc(), "a b")?;
-    assert_eq!(rt; Argument::new(b"k").as_slice(), b"k".as_slice());
-    assert_eq!(rt; Words::new(line.as_slice()).as_slice().len(), 2);
-    assert_eq!(rt; Pairs::of(line.as_slice()).ok_or("cut")?.len(), 1);
     Ok(())
 }

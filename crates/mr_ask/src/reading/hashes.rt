@@ -3,12 +3,8 @@ ghost use Rattle.std.specs.Prelude.{◌≡◌, map};
 ghost use Rattle.std.specs.Cow.{cow_slice_items};
 ghost use Rattle.mr_ask.specs.Hashes.{set_fields, hsetnx, hget, hmget, list_hash, hdel, hexists, hlen, hstrlen, hincrby};
 
-use crate::fault::AskFault;
 use crate::hash_ask::{FieldsReply, HashAsk, HashPart};
-use crate::name::Name;
-use crate::parts::integer;
-use crate::reading::Arguments;
-use crate::words::{Argument, Pairs, Words};
+use mr_words::{Argument, Arguments, AskFault, Name, Pairs, Words, integer};
 
 type Reading<'a, 't> = Result<HashAsk<'a, 't>, AskFault>;
 

@@ -1,41 +1,14 @@
-// Commands on strings and keys.
+// Commands on keys of any kind.
 ghost use Rattle.std.specs.Prelude.{◌≡◌, map};
 ghost use Rattle.std.specs.Cow.{cow_slice_items};
-ghost use Rattle.mr_ask.specs.Keys.{get, set, del, unlink, exists, key_type};
+ghost use Rattle.mr_ask.specs.Keys.{del, unlink, exists, key_type, matching_keys, scan, dbsize};
 
-use crate::fault::AskFault;
 use crate::key_ask::KeyAsk;
-use crate::name::Name;
-use crate::reading::Arguments;
-use crate::words::{Argument, Words};
+use crate::options::ScanOptions;
+use crate::parts::{cursor_of, kind_if_any, positive_if_any};
+use mr_words::{Argument, Arguments, AskFault, Name, Words};
 
 type Reading<'a, 't> = Result<KeyAsk<'a, 't>, AskFault>;
-
-/// `GET key`
-pub(crate) fn get<'a, 't>(arguments: Arguments<'a, 't>) -> Reading<'a, 't>
-    ensures { result ≡ get (map cow_slice_items arguments.now) }
-{
-    match arguments {
-        [key] => Ok(KeyAsk::Get {
-            key: Argument::of(key),
-        }),
-        _ => Err(AskFault::Arity(Name::Get)),
-    }
-}
-
-/// `SET key value`
-pub(crate) fn set<'a, 't>(arguments: Arguments<'a, 't>) -> Reading<'a, 't>
-    ensures { result ≡ set (map cow_slice_items arguments.now) }
-{
-    match arguments {
-        [] | [_] => Err(AskFault::Arity(Name::Set)),
-        [key, value] => Ok(KeyAsk::Set {
-            key: Argument::of(key),
-            value: Argument::of(value),
-        }),
-        _ => Err(AskFault::Syntax),
-    }
-}
 
 /// `DEL key [key ..]`
 pub(crate) fn del<'a, 't>(arguments: Arguments<'a, 't>) -> Reading<'a, 't>
@@ -82,5 +55,45 @@ pub(crate) fn key_type<'a, 't>(arguments: Arguments<'a, 't>) -> Reading<'a, 't>
             key: Argument::of(key),
         }),
         _ => Err(AskFault::Arity(Name::KeyType)),
+    }
+}
+
+/// `KEYS pattern`
+pub(crate) fn matching_keys<'a, 't>(arguments: Arguments<'a, 't>) -> Reading<'a, 't>
+    ensures { result ≡ matching_keys (map cow_slice_items arguments.now) }
+{
+    match arguments {
+        [pattern] => Ok(KeyAsk::MatchingKeys {
+            pattern: Argument::of(pattern),
+        }),
+        _ => Err(AskFault::Arity(Name::Keys)),
+    }
+}
+
+/// `SCAN cursor [MATCH pattern] [COUNT number] [TYPE kind]`
+pub(crate) fn scan<'a, 't>(arguments: Arguments<'a, 't>) -> Reading<'a, 't>
+    ensures { result ≡ scan (map cow_slice_items arguments.now) }
+{
+    match arguments {
+        [] => Err(AskFault::Arity(Name::Scan)),
+        [cursor, words @ ..] => {
+            let options = ScanOptions::read(words)?;
+            positive_if_any(&options.count)?;
+            Ok(KeyAsk::Scan {
+                cursor: cursor_of(cursor)?,
+                kind: kind_if_any(&options.kind),
+                pattern: options.pattern,
+            })
+        }
+    }
+}
+
+/// `DBSIZE`
+pub(crate) fn dbsize<'a, 't>(arguments: Arguments<'a, 't>) -> Reading<'a, 't>
+    ensures { result ≡ dbsize (map cow_slice_items arguments.now) }
+{
+    match arguments {
+        [] => Ok(KeyAsk::CountKeys),
+        _ => Err(AskFault::Arity(Name::DbSize)),
     }
 }

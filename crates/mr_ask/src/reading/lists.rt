@@ -3,13 +3,10 @@ ghost use Rattle.std.specs.Prelude.{◌≡◌, map};
 ghost use Rattle.std.specs.Cow.{cow_slice_items};
 ghost use Rattle.mr_ask.specs.Lists.{push, pop, llen, lrange, lindex, lset, linsert, lrem, ltrim, lmove, rpoplpush};
 
-use crate::fault::AskFault;
 use crate::list_ask::{ListAsk, PushTo};
-use crate::name::Name;
-use crate::parts::{count, end_of, integer, side_of};
-use crate::reading::Arguments;
-use crate::words::{Argument, Words};
+use crate::parts::{end_of, side_of};
 use mr_value::End;
+use mr_words::{Argument, Arguments, AskFault, Name, Words, count, integer};
 
 type Reading<'a, 't> = Result<ListAsk<'a, 't>, AskFault>;
 

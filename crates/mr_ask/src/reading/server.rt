@@ -2,15 +2,11 @@
 ghost use Rattle.std.specs.Prelude.{◌≡◌, map};
 ghost use Rattle.std.specs.Cow.{cow_slice_items};
 ghost use Rattle.std.specs.Str.{bytes_eq};
-ghost use Rattle.mr_ask.specs.Names.{lowered};
+ghost use Rattle.mr_words.specs.Names.{lowered};
 ghost use Rattle.mr_ask.specs.Server.{ping, echo, select, quit, command, client, setname, setinfo};
 
-use crate::fault::{AskFault, BadValue};
-use crate::name::Name;
-use crate::parts::integer;
-use crate::reading::Arguments;
 use crate::server_ask::ServerAsk;
-use crate::words::{Argument, Words};
+use mr_words::{Argument, Arguments, AskFault, BadValue, Name, Words, integer};
 use std::borrow::CowSlice;
 
 type Reading<'a, 't> = Result<ServerAsk<'a, 't>, AskFault>;

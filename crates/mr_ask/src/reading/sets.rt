@@ -3,12 +3,8 @@ ghost use Rattle.std.specs.Prelude.{◌≡◌, map};
 ghost use Rattle.std.specs.Cow.{cow_slice_items};
 ghost use Rattle.mr_ask.specs.Sets.{sadd, srem, sismember, smismember, smembers, scard, spop, srandmember, smove, combine};
 
-use crate::fault::AskFault;
-use crate::name::Name;
-use crate::parts::count;
-use crate::reading::Arguments;
 use crate::set_ask::{SetAsk, SetOperation};
-use crate::words::{Argument, Words};
+use mr_words::{Argument, Arguments, AskFault, Name, Words, count};
 
 type Reading<'a, 't> = Result<SetAsk<'a, 't>, AskFault>;
 

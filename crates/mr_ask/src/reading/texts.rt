@@ -1,0 +1,116 @@
+// Commands on strings.
+ghost use Rattle.std.specs.Prelude.{◌≡◌, map};
+ghost use Rattle.std.specs.Cow.{cow_slice_items};
+ghost use Rattle.mr_ask.specs.Texts.{get, set, strlen, getrange, mget, setnx, getset, getdel};
+
+use crate::options::SetOptions;
+use crate::text_ask::TextAsk;
+use mr_words::{Argument, Arguments, AskFault, Name, Words, integer};
+
+type Reading<'a, 't> = Result<TextAsk<'a, 't>, AskFault>;
+
+/// `GET key`
+pub(crate) fn get<'a, 't>(arguments: Arguments<'a, 't>) -> Reading<'a, 't>
+    ensures { result ≡ get (map cow_slice_items arguments.now) }
+{
+    match arguments {
+        [key] => Ok(TextAsk::Get {
+            key: Argument::of(key),
+        }),
+        _ => Err(AskFault::Arity(Name::Get)),
+    }
+}
+
+/// `SET key value [NX|XX] [GET]`
+pub(crate) fn set<'a, 't>(arguments: Arguments<'a, 't>) -> Reading<'a, 't>
+    ensures { result ≡ set (map cow_slice_items arguments.now) }
+{
+    match arguments {
+        [] | [_] => Err(AskFault::Arity(Name::Set)),
+        [key, value, words @ ..] => {
+            let options = SetOptions::read(words)?;
+            Ok(TextAsk::Set {
+                key: Argument::of(key),
+                value: Argument::of(value),
+                condition: options.condition,
+                reply: options.reply,
+            })
+        }
+    }
+}
+
+/// `STRLEN key`
+pub(crate) fn strlen<'a, 't>(arguments: Arguments<'a, 't>) -> Reading<'a, 't>
+    ensures { result ≡ strlen (map cow_slice_items arguments.now) }
+{
+    match arguments {
+        [key] => Ok(TextAsk::TextLength {
+            key: Argument::of(key),
+        }),
+        _ => Err(AskFault::Arity(Name::StrLen)),
+    }
+}
+
+/// `GETRANGE key first last`
+pub(crate) fn getrange<'a, 't>(arguments: Arguments<'a, 't>) -> Reading<'a, 't>
+    ensures { result ≡ getrange (map cow_slice_items arguments.now) }
+{
+    match arguments {
+        [key, first, last] => Ok(TextAsk::GetRange {
+            key: Argument::of(key),
+            first: integer(first)?,
+            last: integer(last)?,
+        }),
+        _ => Err(AskFault::Arity(Name::GetRange)),
+    }
+}
+
+/// `MGET key [key ..]`
+pub(crate) fn mget<'a, 't>(arguments: Arguments<'a, 't>) -> Reading<'a, 't>
+    ensures { result ≡ mget (map cow_slice_items arguments.now) }
+{
+    match arguments {
+        [] => Err(AskFault::Arity(Name::MGet)),
+        _ => Ok(TextAsk::GetAll {
+            keys: Words::new(arguments),
+        }),
+    }
+}
+
+/// `SETNX key value`
+pub(crate) fn setnx<'a, 't>(arguments: Arguments<'a, 't>) -> Reading<'a, 't>
+    ensures { result ≡ setnx (map cow_slice_items arguments.now) }
+{
+    match arguments {
+        [key, value] => Ok(TextAsk::SetNew {
+            key: Argument::of(key),
+            value: Argument::of(value),
+        }),
+        _ => Err(AskFault::Arity(Name::SetNx)),
+    }
+}
+
+/// `GETSET key value`
+pub(crate) fn getset<'a, 't>(arguments: Arguments<'a, 't>) -> Reading<'a, 't>
+    ensures { result ≡ getset (map cow_slice_items arguments.now) }
+{
+    match arguments {
+        [key, value] => Ok(TextAsk::GetAndSet {
+            key: Argument::of(key),
+            value: Argument::of(value),
+        }),
+        _ => Err(AskFault::Arity(Name::GetSet)),
+    }
+}
+
+/// `GETDEL key`
+pub(crate) fn getdel<'a, 't>(arguments: Arguments<'a, 't>) -> Reading<'a, 't>
+    ensures { result ≡ getdel (map cow_slice_items arguments.now) }
+{
+    match arguments {
+        [key] => Ok(TextAsk::GetAndDelete {
+            key: Argument::of(key),
+        }),
+        _ => Err(AskFault::Arity(Name::GetDel)),
+    }
+}

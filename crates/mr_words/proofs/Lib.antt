@@ -1,0 +1,6 @@
+pub mod NameLemmas
+pub mod PairLemmas
+pub mod PartLemmas
+pub mod FitLemmas
+pub mod OptionLemmas
+pub mod OrderLemmas

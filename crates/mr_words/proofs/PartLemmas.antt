@@ -1,0 +1,67 @@
+-- What was read of an argument is what its word spells.
+use Rattle.std.proofs.Common.{ℕ, ℤ, pos, negsuc, ◌≡◌, List, true, false, Some, None, refl, sym, ap}
+use Rattle.std.specs.Prelude.{IfOk, if◌then◌else◌, Result, Ok, Err}
+use Rattle.std.specs.Option.{ok_or}
+use Rattle.std.specs.Fmt.{signed_decimal}
+use Rattle.std.specs.Str.{bytes_eq}
+use Rattle.mr_value.specs.Number.{number_of}
+use Rattle.mr_value.proofs.Numbers.{same_bytes, number_text}
+use Rattle.mr_words.specs.Names.{lowered}
+use Rattle.mr_words.specs.Pairing.{paired, unpaired, are_pairs, pairs_of}
+use Rattle.mr_words.specs.Parts.{with, integer, not_below_0, count}
+use Rattle.mr_words.proofs.PairLemmas.{unpaired-paired}
+use Rattle.mr_words.specs.declared.fault.AskFault.{AskFault}
+use Rattle.mr_words.specs.declared.fault.AskFault.TheVariants.{Integer, Syntax}
+
+-- what was read with an argument, and the argument
+pub with_ok : {A B : Type 0} (r : Result A AskFault) (next : A → Result B AskFault) (b : B) → with r next ≡ Ok b → (a : A) × ((r ≡ Ok a) × (next a ≡ Ok b))
+with_ok (Ok a) next b h = (a, (refl, h))
+with_ok (Err f) next b h = cc
+
+-- what holds of what is read with any argument
+pub if_with : {A B : Type 0} (r : Result A AskFault) (next : A → Result B AskFault) (P : B → Type 0) → ((a : A) → r ≡ Ok a → IfOk (next a) P) → IfOk (with r next) P
+if_with (Ok a) next P h = h a refl
+if_with (Err f) next P h = tt
+
+pub if_ok : {A : Type 0} (r : Result A AskFault) (P : A → Type 0) → ((a : A) → r ≡ Ok a → P a) → IfOk r P
+if_ok (Ok a) P h = h a refl
+if_ok (Err f) P h = tt
+
+pub with_integer : {A : Type 0} (w : List ℕ) (next : ℤ → Result A AskFault) (P : A → Type 0)
+    → ((n : ℤ) → w ≡ signed_decimal n → IfOk (next n) P) → IfOk (with (integer w) next) P
+with_integer w next P h = elim (number_of w) as (λ o. number_of w ≡ o → IfOk (with (ok_or o Integer) next) P) [
+  | None ↦ λ s. tt
+  | Some n ↦ λ s. h n (number_text w n s).0
+] refl
+
+pub with_count : {A : Type 0} (w : List ℕ) (next : ℕ → Result A AskFault) (P : A → Type 0)
+    → ((n : ℕ) → w ≡ signed_decimal (pos n) → IfOk (next n) P) → IfOk (with (count w) next) P
+with_count w next P h = elim (number_of w) as (λ o. number_of w ≡ o → IfOk (with (with (ok_or o Integer) not_below_0) next) P) [
+  | None ↦ λ s. tt
+  | Some n ↦ λ s. natural n (number_text w n s).0
+] refl
+  where
+    natural : (n : ℤ) → w ≡ signed_decimal n → IfOk (with (not_below_0 n) next) P
+    natural (pos n) e = h n e
+    natural (negsuc n) e = tt
+
+pub with_pairs : {A : Type 0} (ws : List (List ℕ)) (fault : AskFault) (next : List (List ℕ × List ℕ) → Result A AskFault) (P : A → Type 0)
+    → ((pairs : List (List ℕ × List ℕ)) → ws ≡ unpaired pairs → IfOk (next pairs) P) → IfOk (with (ok_or (pairs_of ws) fault) next) P
+with_pairs ws fault next P h = elim (are_pairs ws) as (λ b. are_pairs ws ≡ b → IfOk (with (ok_or (if b then Some (paired ws) else None) fault) next) P) [
+  | true ↦ λ s. h (paired ws) (sym (unpaired-paired ws s))
+  | false ↦ λ s. tt
+] refl
+
+-- an option word, where it is that one
+pub with_keyword : {A : Type 0} (w text : List ℕ) (found : A) (P : A → Type 0)
+    → (lowered w ≡ text → P found) → IfOk (if bytes_eq (lowered w) text then Ok found else Err Syntax) P
+with_keyword w text found P h = elim (bytes_eq (lowered w) text) as (λ b. bytes_eq (lowered w) text ≡ b → IfOk {E = AskFault} (if b then Ok found else Err Syntax) P) [
+  | true ↦ λ s. h (same_bytes _ _ s)
+  | false ↦ λ s. tt
+] refl
+
+pub integer_read : (w : List ℕ) (n : ℤ) → integer w ≡ Ok n → number_of w ≡ Some n
+integer_read w n h = elim (number_of w) as (λ o. ok_or o Integer ≡ Ok n → o ≡ Some n) [
+  | None ↦ λ s. cc
+  | Some m ↦ λ s. let same : m ≡ n = cc in ap (λ (x : ℤ). Some x) same
+] h

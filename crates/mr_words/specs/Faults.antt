@@ -1,0 +1,24 @@
+-- The texts of faults.
+use Rattle.std.specs.Prelude.{ℕ, List, ◌++◌, codes}
+use Rattle.mr_words.specs.Names.{text_of}
+use Rattle.mr_words.specs.declared.name.Name.{Name}
+use Rattle.mr_words.specs.declared.fault.BadValue.{BadValue}
+use Rattle.mr_words.specs.declared.fault.BadValue.TheVariants.{Negative, Database, Cursor}
+use Rattle.mr_words.specs.declared.fault.AskFault.{AskFault}
+use Rattle.mr_words.specs.declared.fault.AskFault.TheVariants.{Unknown, Arity, Syntax, Integer, Other}
+
+abbrev pub wrong_count : Name → List ℕ
+wrong_count name = codes "ERR wrong number of arguments for '" ++ text_of name ++ codes "' command"
+
+abbrev pub bad_value : BadValue → List ℕ
+bad_value Negative = codes "ERR value is out of range, must be positive"
+bad_value Database = codes "ERR DB index is out of range"
+bad_value Cursor = codes "ERR invalid cursor"
+
+-- what is answered, behind the mark of an error
+abbrev pub fault_text : AskFault → List ℕ
+fault_text Unknown = codes "ERR unknown command"
+fault_text (Arity name) = wrong_count name
+fault_text Syntax = codes "ERR syntax error"
+fault_text Integer = codes "ERR value is not an integer or out of range"
+fault_text (Other value) = bad_value value

@@ -1,0 +1,6 @@
+pub mod Names
+pub mod Faults
+pub mod Pairing
+pub mod Parts
+pub mod Options
+pub mod Spelling

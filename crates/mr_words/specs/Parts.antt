@@ -1,0 +1,24 @@
+-- What single arguments say.
+use Rattle.std.specs.Prelude.{ℕ, ℤ, pos, negsuc, List, Result, Ok, Err}
+use Rattle.std.specs.Option.{ok_or}
+use Rattle.mr_value.specs.Number.{number_of}
+use Rattle.mr_words.specs.declared.fault.AskFault.{AskFault}
+use Rattle.mr_words.specs.declared.fault.AskFault.TheVariants.{Integer, Other}
+use Rattle.mr_words.specs.declared.fault.BadValue.TheVariants as bad
+
+-- what is read with an argument that was read, or that argument's fault
+abbrev pub with : {A B : Type 0} → Result A AskFault → (A → Result B AskFault) → Result B AskFault
+with (Ok a) next = next a
+with (Err fault) next = Err fault
+
+-- a whole number of 64 bits
+abbrev pub integer : List ℕ → Result ℤ AskFault
+integer word = ok_or (number_of word) Integer
+
+-- a number that isn't below 0
+abbrev pub not_below_0 : ℤ → Result ℕ AskFault
+not_below_0 (pos n) = Ok n
+not_below_0 (negsuc n) = Err (Other bad.Negative)
+
+abbrev pub count : List ℕ → Result ℕ AskFault
+count word = with (integer word) not_below_0

@@ -1,0 +1,42 @@
+-- How the arguments of a command are spelled.
+use Rattle.std.specs.Prelude.{◌≡◌, ◌<◌, ◌^◌, ℕ, ℤ, pos, List, [], ◌∷◌, ◌++◌, IsPermutation, Option, Some, None}
+use Rattle.std.specs.Fmt.{signed_decimal}
+use Rattle.mr_words.specs.Names.{lowered}
+
+-- an argument: this word as it is, the text of this number, this option word in any case, or the text of some number from 1 on
+pub data Part : Type 0 where
+  Word : List ℕ → Part
+  Number : ℤ → Part
+  Keyword : List ℕ → Part
+  Positive : Part
+
+-- a count that may be left out
+abbrev pub count_part : Option ℕ → List Part
+count_part None = []
+count_part (Some n) = Number (pos n) ∷ []
+
+-- the text of a number of 64 bits from 1 on
+abbrev pub IsPositive : List ℕ → Type 0
+IsPositive word = (n : ℕ) × ((0 < n) × (n < 2 ^ 63) × (word ≡ signed_decimal (pos n)))
+
+-- the word is that argument
+abbrev pub IsPart : List ℕ → Part → Type 0
+IsPart word (Word text) = word ≡ text
+IsPart word (Number n) = word ≡ signed_decimal n
+IsPart word (Keyword text) = lowered word ≡ text
+IsPart word Positive = IsPositive word
+
+-- each word is the argument in its place, and there are no others
+abbrev pub AreParts : List (List ℕ) → List Part → Type 0
+AreParts [] [] = Unit {0}
+AreParts (word ∷ words) (part ∷ parts) = IsPart word part × AreParts words parts
+AreParts _ _ = ⊥
+
+-- options in a row
+abbrev pub in_a_row : List (List Part) → List Part
+in_a_row [] = []
+in_a_row (option ∷ options) = option ++ in_a_row options
+
+-- the words are these arguments, and behind them these options, in some order
+abbrev pub AreWithOptions : List (List ℕ) → List Part → List (List Part) → Type 0
+AreWithOptions words parts options = (order : List (List Part)) × (IsPermutation options order × AreParts words (parts ++ in_a_row order))

@@ -1,0 +1,151 @@
+// Why words are no command.
+ghost use Rattle.std.specs.Prelude.{◌≡◌};
+ghost use Rattle.mr_words.specs.Faults.{bad_value, fault_text, wrong_count};
+ghost use Rattle.mr_resp.specs.Replies.{error};
+ghost use Rattle.mr_resp.specs.ReplyView.{view};
+
+use crate::name::Name;
+use mr_resp::Reply;
+use std::borrow::CowSlice;
+use std::fmt;
+use thiserror::Error;
+
+/// Why words are no command. Of several reasons it is the one that stands first here.
+#[derive(Clone, Copy, PartialEq, Eq, Debug, Error)]
+pub enum AskFault {
+    #[error("unknown command")]
+    Unknown,
+    #[error("wrong number of arguments for '{0}' command")]
+    Arity(Name),
+    #[error("syntax error")]
+    Syntax,
+    #[error("value is not an integer or out of range")]
+    Integer,
+    #[error("{0}")]
+    Other(BadValue),
+}
+
+/// An argument that is read, and that the command doesn't take.
+#[derive(Clone, Copy, PartialEq, Eq, Debug, Error)]
+pub enum BadValue {
+    /// A count below 0.
+    #[error("value is out of range, must be positive")]
+    Negative,
+    /// Another database than the first.
+    #[error("DB index is out of range")]
+    Database,
+    /// A cursor that isn't a number from 0 to 2^63 - 1.
+    #[error("invalid cursor")]
+    Cursor,
+}
+
+impl AskFault {
+    /// The error that is answered. It takes no memory.
+    pub fn reply(self) -> Reply
+        ensures { view result ≡ error (fault_text self) }
+    {
+        Reply::Error(CowSlice::Borrowed(self.text()))
+    }
+
+    fn text(self) -> &'static [u8]
+        ensures { result.now ≡ fault_text self }
+    {
+        match self {
+            AskFault::Unknown => b"ERR unknown command",
+            AskFault::Arity(name) => wrong_count(name),
+            AskFault::Syntax => b"ERR syntax error",
+            AskFault::Integer => b"ERR value is not an integer or out of range",
+            AskFault::Other(value) => bad_value(value),
+        }
+    }
+}
+
+fn bad_value(value: BadValue) -> &'static [u8]
+    ensures { result.now ≡ bad_value value }
+{
+    match value {
+        BadValue::Negative => b"ERR value is out of range, must be positive",
+        BadValue::Database => b"ERR DB index is out of range",
+        BadValue::Cursor => b"ERR invalid cursor",
+    }
+}
+
+// What a command answers to a wrong number of arguments.
+fn wrong_count(name: Name) -> &'static [u8]
+    ensures { result.now ≡ wrong_count name }
+{
+    match name {
+        Name::Get => b"ERR wrong number of arguments for 'get' command",
+        Name::Set => b"ERR wrong number of arguments for 'set' command",
+        Name::Del => b"ERR wrong number of arguments for 'del' command",
+        Name::Unlink => b"ERR wrong number of arguments for 'unlink' command",
+        Name::Exists => b"ERR wrong number of arguments for 'exists' command",
+        Name::KeyType => b"ERR wrong number of arguments for 'type' command",
+        Name::StrLen => b"ERR wrong number of arguments for 'strlen' command",
+        Name::GetRange => b"ERR wrong number of arguments for 'getrange' command",
+        Name::MGet => b"ERR wrong number of arguments for 'mget' command",
+        Name::SetNx => b"ERR wrong number of arguments for 'setnx' command",
+        Name::GetSet => b"ERR wrong number of arguments for 'getset' command",
+        Name::GetDel => b"ERR wrong number of arguments for 'getdel' command",
+        Name::Keys => b"ERR wrong number of arguments for 'keys' command",
+        Name::Scan => b"ERR wrong number of arguments for 'scan' command",
+        Name::DbSize => b"ERR wrong number of arguments for 'dbsize' command",
+        Name::HSet => b"ERR wrong number of arguments for 'hset' command",
+        Name::HMSet => b"ERR wrong number of arguments for 'hmset' command",
+        Name::HSetNx => b"ERR wrong number of arguments for 'hsetnx' command",
+        Name::HGet => b"ERR wrong number of arguments for 'hget' command",
+        Name::HMGet => b"ERR wrong number of arguments for 'hmget' command",
+        Name::HGetAll => b"ERR wrong number of arguments for 'hgetall' command",
+        Name::HKeys => b"ERR wrong number of arguments for 'hkeys' command",
+        Name::HVals => b"ERR wrong number of arguments for 'hvals' command",
+        Name::HDel => b"ERR wrong number of arguments for 'hdel' command",
+        Name::HExists => b"ERR wrong number of arguments for 'hexists' command",
+        Name::HLen => b"ERR wrong number of arguments for 'hlen' command",
+        Name::HStrLen => b"ERR wrong number of arguments for 'hstrlen' command",
+        Name::HIncrBy => b"ERR wrong number of arguments for 'hincrby' command",
+        Name::LPush => b"ERR wrong number of arguments for 'lpush' command",
+        Name::RPush => b"ERR wrong number of arguments for 'rpush' command",
+        Name::LPushX => b"ERR wrong number of arguments for 'lpushx' command",
+        Name::RPushX => b"ERR wrong number of arguments for 'rpushx' command",
+        Name::LPop => b"ERR wrong number of arguments for 'lpop' command",
+        Name::RPop => b"ERR wrong number of arguments for 'rpop' command",
+        Name::LLen => b"ERR wrong number of arguments for 'llen' command",
+        Name::LRange => b"ERR wrong number of arguments for 'lrange' command",
+        Name::LIndex => b"ERR wrong number of arguments for 'lindex' command",
+        Name::LSet => b"ERR wrong number of arguments for 'lset' command",
+        Name::LInsert => b"ERR wrong number of arguments for 'linsert' command",
+        Name::LRem => b"ERR wrong number of arguments for 'lrem' command",
+        Name::LTrim => b"ERR wrong number of arguments for 'ltrim' command",
+        Name::LMove => b"ERR wrong number of arguments for 'lmove' command",
+        Name::RPopLPush => b"ERR wrong number of arguments for 'rpoplpush' command",
+        Name::SAdd => b"ERR wrong number of arguments for 'sadd' command",
+        Name::SRem => b"ERR wrong number of arguments for 'srem' command",
+        Name::SIsMember => b"ERR wrong number of arguments for 'sismember' command",
+        Name::SMIsMember => b"ERR wrong number of arguments for 'smismember' command",
+        Name::SMembers => b"ERR wrong number of arguments for 'smembers' command",
+        Name::SCard => b"ERR wrong number of arguments for 'scard' command",
+        Name::SPop => b"ERR wrong number of arguments for 'spop' command",
+        Name::SRandMember => b"ERR wrong number of arguments for 'srandmember' command",
+        Name::SMove => b"ERR wrong number of arguments for 'smove' command",
+        Name::SInter => b"ERR wrong number of arguments for 'sinter' command",
+        Name::SUnion => b"ERR wrong number of arguments for 'sunion' command",
+        Name::SDiff => b"ERR wrong number of arguments for 'sdiff' command",
+        Name::Ping => b"ERR wrong number of arguments for 'ping' command",
+        Name::Echo => b"ERR wrong number of arguments for 'echo' command",
+        Name::Select => b"ERR wrong number of arguments for 'select' command",
+        Name::Quit => b"ERR wrong number of arguments for 'quit' command",
+        Name::Command => b"ERR wrong number of arguments for 'command' command",
+        Name::Client => b"ERR wrong number of arguments for 'client' command",
+    }
+}
+
+impl fmt::Display for Name {
+    ghost use Rattle.std.specs.Prelude.{Some};
+    ghost use Rattle.mr_words.specs.Names.{text_of};
+
+    ghost output = { λ name. Some (text_of name) };
+
+    fn fmt<W: fmt::Write>(&self, f: &mut fmt::Formatter<W>) -> fmt::Result {
+        f.write_str(self.text())
+    }
+}

@@ -1,0 +1,17 @@
+//! The words of a request: the names of commands, arguments, numbers and pairs among them, and why words are no command.
+#![tactic(auto)]
+
+mod fault;
+mod laws;
+mod name;
+mod numbers;
+mod words;
+
+pub use fault::{AskFault, BadValue};
+pub use laws::names_are_found;
+pub use name::Name;
+pub use numbers::{count, integer};
+pub use words::{Argument, Arguments, Pairs, PairsIter, Words};
+
+#[cfg(test)]
+mod tests;

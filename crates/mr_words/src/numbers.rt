@@ -1,0 +1,32 @@
+// Numbers among the words of a request.
+ghost use Rattle.std.specs.Prelude.{◌≡◌};
+ghost use Rattle.std.specs.Cow.{cow_slice_items};
+ghost use Rattle.mr_words.specs.Parts.{integer, not_below_0, count};
+
+use crate::fault::{AskFault, BadValue};
+use mr_value::read_i64;
+use std::borrow::CowSlice;
+
+/// A whole number of 64 bits. It takes no memory.
+pub fn integer(word: &CowSlice<'_, u8>) -> Result<i64, AskFault>
+    ensures { result ≡ integer (cow_slice_items word.now) }
+{
+    read_i64(word.as_slice()).ok_or(AskFault::Integer)
+}
+
+/// A count that isn't below 0. It takes no memory.
+pub fn count(word: &CowSlice<'_, u8>) -> Result<usize, AskFault>
+    ensures { result ≡ count (cow_slice_items word.now) }
+{
+    not_below_0(integer(word)?)
+}
+
+fn not_below_0(number: i64) -> Result<usize, AskFault>
+    ensures { result ≡ not_below_0 number }
+{
+    if number < 0 {
+        Err(AskFault::Other(BadValue::Negative))
+    } else {
+        Ok(number as usize)
+    }
+}
