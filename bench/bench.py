@@ -132,6 +132,91 @@ def asked(count, reply, *words):
     return write
 
 
+def scored(count, group=100):
+    """Members of a sorted set with scores in no order, a hundred in a request."""
+
+    def write(file):
+        for at in range(0, count, group):
+            pairs = (word for n in range(at, at + group) for word in (b"%d" % (n * 387_420_489 % count), key(n)))
+            file.write(request(b"ZADD", b"k", *pairs))
+        return count // group, count // group * len(b":%d\r\n" % group)
+
+    return write
+
+
+def each_scored(count):
+    """One new member of a sorted set a request, with scores in no order."""
+
+    def write(file):
+        for at in range(count):
+            file.write(request(b"ZADD", b"k", b"%d" % (at * 387_420_489 % count), key(at)))
+        return count, count * len(b":1\r\n")
+
+    return write
+
+
+def scores_of(count):
+    """The score of each member of `scored`, which is its reply."""
+
+    def write(file):
+        size = 0
+        for at in range(count):
+            file.write(request(b"ZSCORE", b"k", key(at)))
+            size += len(bulk(b"%d" % (at * 387_420_489 % count)))
+        return count, size
+
+    return write
+
+
+def first_by_score(count):
+    """The member with each score of `scored`, from the least on."""
+    return {at * 387_420_489 % count: key(at) for at in range(count)}
+
+
+def popped_least(held, count):
+    """The least member taken so many times from a set of so many."""
+
+    def write(file):
+        members = first_by_score(held)
+        repeated(file, request(b"ZPOPMIN", b"k"), count)
+        return count, sum(len(b"*2\r\n" + bulk(members[score]) + bulk(b"%d" % score)) for score in range(count))
+
+    return write
+
+
+def ranged(count, members, *words):
+    """A range of so many members, asked so many times."""
+    return asked(count, b"*%d\r\n" % members + members * ONE_KEY, *words)
+
+
+def counted(count):
+    """INCR of one key."""
+
+    def write(file):
+        repeated(file, request(b"INCR", b"k"), count)
+        return count, sum(len(b":%d\r\n" % n) for n in range(1, count + 1))
+
+    return write
+
+
+def appended(count):
+    """APPEND to one key."""
+
+    def write(file):
+        repeated(file, request(b"APPEND", b"k", VALUE), count)
+        return count, sum(len(b":%d\r\n" % (n * len(VALUE))) for n in range(1, count + 1))
+
+    return write
+
+
+def ten_set(count):
+    return asked(count, b"+OK\r\n", b"MSET", *(word for n in range(10) for word in (key(n), VALUE)))
+
+
+def ten_got(count):
+    return asked(count, b"*10\r\n" + 10 * bulk(VALUE), b"MGET", *(key(n) for n in range(10)))
+
+
 HUNDRED = b"*100\r\n" + 100 * bulk(VALUE)
 ONE_KEY = bulk(key(0))
 
@@ -152,6 +237,17 @@ RUNS = [
     ("SPOP of a million, halfway", added(1_000_000), asked(1_000, ONE_KEY, b"SPOP", b"k"), "--word", "500000"),
     ("LRANGE of the first 100", items(1_000_000), asked(10_000, HUNDRED, b"LRANGE", b"l", b"0", b"99")),
     ("LRANGE of the last 100", items(1_000_000), asked(10_000, HUNDRED, b"LRANGE", b"l", b"-100", b"-1")),
+    ("ZADD of 100,000 members", None, each_scored(100_000)),
+    ("ZSCORE of 100,000", scored(100_000), scores_of(100_000)),
+    ("ZRANGE of 100 of 1,000", scored(1_000), ranged(10_000, 100, b"ZRANGE", b"k", b"0", b"99")),
+    ("ZRANGE of 100 of 100,000", scored(100_000), ranged(1_000, 100, b"ZRANGE", b"k", b"0", b"99")),
+    ("ZRANGEBYSCORE LIMIT 10", scored(100_000), ranged(1_000, 10, b"ZRANGEBYSCORE", b"k", b"(5000", b"+inf", b"LIMIT", b"5", b"10")),
+    ("ZPOPMIN of 1,000", scored(1_000), popped_least(1_000, 1_000)),
+    ("ZPOPMIN of 100,000", scored(100_000), popped_least(100_000, 1_000)),
+    ("INCR", None, counted(200_000)),
+    ("APPEND of 3 bytes", None, appended(200_000)),
+    ("MSET of 10", None, ten_set(100_000)),
+    ("MGET of 10", ten_set(1_000), ten_got(100_000)),
 ]
 
 

@@ -3,36 +3,7 @@
 import unittest
 
 from program import request, run, run_in_pieces
-
-OK = b"+OK\r\n"
-NIL = b"$-1\r\n"
-NO_LIST = b"*-1\r\n"
-NONE = b"*0\r\n"
-SYNTAX = b"-ERR syntax error\r\n"
-INTEGER = b"-ERR value is not an integer or out of range\r\n"
-POSITIVE = b"-ERR value is out of range, must be positive\r\n"
-WRONG_KIND = b"-WRONGTYPE Operation against a key holding the wrong kind of value\r\n"
-OVERFLOW = b"-ERR increment or decrement would overflow\r\n"
-
-
-def number(value):
-    return b":%d\r\n" % value
-
-
-def bulk(text):
-    text = text.encode() if isinstance(text, str) else text
-    return b"$%d\r\n%s\r\n" % (len(text), text)
-
-
-def array(*items):
-    """Texts, `None` for nil, and numbers."""
-    shown = [NIL if item is None else number(item) if isinstance(item, int) else bulk(item) for item in items]
-    return b"*%d\r\n" % len(items) + b"".join(shown)
-
-
-def arity(name):
-    return b"-ERR wrong number of arguments for '%s' command\r\n" % name.encode()
-
+from replies import INTEGER, NIL, NO_LIST, NONE, OK, OVERFLOW, POSITIVE, SYNTAX, WRONG_KIND, Answering, arity, array, bulk, number
 
 # commands and their replies, one after another on one dataset
 HASHES = [
@@ -200,22 +171,7 @@ ON_SETS = ["SADD k v", "SREM k v", "SISMEMBER k v", "SMISMEMBER k v", "SMEMBERS 
            "SRANDMEMBER k", "SMOVE k d v", "SINTER x k", "SUNION x k", "SDIFF x k"]
 
 
-def asked(lines):
-    return b"".join(request(*line.split()) for line in lines)
-
-
-class Collections(unittest.TestCase):
-    def answers(self, rows, *words):
-        """Each command on its own, so that the first wrong reply is told."""
-        lines = [line for line, _ in rows]
-        ran = run(asked(lines), "pipe", *words)
-        self.assertEqual((ran.returncode, ran.stderr), (0, b""))
-        rest = ran.stdout
-        for line, reply in rows:
-            self.assertEqual(rest[: len(reply)], reply, line)
-            rest = rest[len(reply):]
-        self.assertEqual(rest, b"")
-
+class Collections(Answering):
     def test_hashes(self):
         self.answers(HASHES)
 

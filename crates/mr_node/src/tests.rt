@@ -145,6 +145,24 @@ fn offsets_count_the_effects(rt: HostRuntime) -> Result<(), Fail> {
 }
 
 #[test]
+fn offsets_count_the_effects_of_strings_and_scores(rt: HostRuntime) -> Result<(), Fail> {
+    let rows: [(&[u8], u64); 4] = [
+        (b"SET k 9223372036854775807\nINCR k\n", 46),
+        (b"MSET a 1 a 2\nMSET a 2\n", 28),
+        (b"ZADD z 5 a\nZADD z GT 3 a\n", 35),
+        (
+            b"ZADD z 1.0 b 1 a 2 c\nZRANGE z 0 -1 WITHSCORES\nZADD z 1.5 d\n",
+            63,
+        ),
+    ];
+    for (lines, offset) in rows {
+        let node = served(&rt, lines)?;
+        shows(&rt, &node, offset);
+    }
+    Ok(())
+}
+
+#[test]
 fn a_link_takes_no_more_than_its_room(rt: HostRuntime) -> Result<(), Fail> {
     let mut node = started(&rt, 64)?;
     let link = opened(&mut node)?;
