@@ -9,6 +9,7 @@ mod lists;
 mod moves;
 mod running;
 mod sets;
+mod sorted_sets;
 mod texts;
 
 use crate::fault::ApplyFault;

@@ -57,8 +57,10 @@ impl Entries {
             Effect::Increase { .. } => Err(ApplyFault::Refused),
             Effect::Rename { .. } => Err(ApplyFault::Refused),
             Effect::Clear => Err(ApplyFault::Refused),
-            Effect::SetScores { .. } => Err(ApplyFault::Refused),
-            Effect::RemoveScores { .. } => Err(ApplyFault::Refused),
+            Effect::SetScores { key, scores } => self.set_scores(key, scores.as_slice()),
+            Effect::RemoveScores { key, members } => {
+                self.remove_scores(key.as_slice(), members.as_slice())
+            }
         }
     }
 
@@ -111,8 +113,12 @@ impl Entries {
             Effect::Increase { .. } => Err(ApplyFault::Refused),
             Effect::Rename { .. } => Err(ApplyFault::Refused),
             Effect::Clear => Err(ApplyFault::Refused),
-            Effect::SetScores { .. } => Err(ApplyFault::Refused),
-            Effect::RemoveScores { .. } => Err(ApplyFault::Refused),
+            Effect::SetScores { key, scores } => {
+                self.set_scores(same(key), scores.as_slice())
+            }
+            Effect::RemoveScores { key, members } => {
+                self.remove_scores(key.as_slice(), members.as_slice())
+            }
         }
     }
 }
