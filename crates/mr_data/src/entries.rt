@@ -10,6 +10,7 @@ mod moves;
 mod running;
 mod sets;
 mod texts;
+mod whole;
 
 use crate::fault::ApplyFault;
 use crate::value::{Entry, Value};
