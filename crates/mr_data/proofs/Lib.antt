@@ -13,3 +13,4 @@ pub mod Seeing
 pub mod Stepping
 pub mod TextChanges
 pub mod TextSteps
+pub mod TextsInOrder
