@@ -7,7 +7,7 @@ use Rattle.mr_ask.specs.Parts.{positive_if_any}
 use Rattle.mr_words.specs.Options.{added}
 use Rattle.mr_ask.specs.Options.{set_text, scan_text, set_option, no_set_options, set_also, set_word, set_options, no_scan_options, scan_also, scan_pair, scan_options}
 use Rattle.mr_ask.specs.Options as options
-use Rattle.mr_ask.specs.Keys.{del, unlink, exists, key_type, matching_keys, scan, dbsize}
+use Rattle.mr_ask.specs.Keys.{del, unlink, exists, key_type, matching_keys, scan, dbsize, rename, renamenx, clear}
 use Rattle.mr_words.specs.Spelling.{Part, Word, Keyword, AreParts, in_a_row}
 use Rattle.mr_ask.specs.Spelled.{scan_option}
 use Rattle.mr_words.proofs.FitLemmas.{all_words}

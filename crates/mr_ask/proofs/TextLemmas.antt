@@ -4,7 +4,7 @@ use Rattle.std.specs.Prelude.{IfOk, IsPermutation, Ok}
 use Rattle.std.proofs.lemmas.List.Sorted.{IsPermutation-refl, IsPermutation-middle}
 use Rattle.mr_ask.specs.Options.{set_text, scan_text, set_option, no_set_options, set_also, set_word, set_options, no_scan_options, scan_also, scan_pair, scan_options}
 use Rattle.mr_ask.specs.Options as options
-use Rattle.mr_ask.specs.Texts.{get, set, strlen, getrange, mget, setnx, getset, getdel}
+use Rattle.mr_ask.specs.Texts.{get, set, strlen, getrange, mget, setnx, getset, getdel, mset, msetnx, append, setrange, step, incrby, decrby}
 use Rattle.mr_words.specs.Spelling.{Part, Keyword, AreParts, in_a_row}
 use Rattle.mr_ask.specs.Spelled.{condition_option, reply_option}
 use Rattle.mr_words.proofs.FitLemmas.{all_words}
