@@ -125,10 +125,7 @@ pub(crate) fn renamenx<'a, 't>(arguments: Arguments<'a, 't>) -> Reading<'a, 't>
 }
 
 /// `FLUSHALL [ASYNC|SYNC]`, `FLUSHDB` the same
-pub(crate) fn clear<'a, 't>(
-    databases: Databases,
-    arguments: Arguments<'a, 't>,
-) -> Reading<'a, 't>
+pub(crate) fn clear<'a, 't>(databases: Databases, arguments: Arguments<'a, 't>) -> Reading<'a, 't>
     ensures { result ≡ clear databases (map cow_slice_items arguments.now) }
 {
     match arguments {

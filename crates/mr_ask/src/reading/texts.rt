@@ -168,11 +168,7 @@ pub(crate) fn setrange<'a, 't>(arguments: Arguments<'a, 't>) -> Reading<'a, 't>
 }
 
 /// `INCR key`, `DECR key`
-pub(crate) fn step<'a, 't>(
-    name: Name,
-    by: Amount,
-    arguments: Arguments<'a, 't>,
-) -> Reading<'a, 't>
+pub(crate) fn step<'a, 't>(name: Name, by: Amount, arguments: Arguments<'a, 't>) -> Reading<'a, 't>
     ensures { result ≡ step name by (map cow_slice_items arguments.now) }
 {
     match arguments {
