@@ -1,12 +1,12 @@
 -- What is read is spelled by the words, and carries no others.
-use Rattle.std.proofs.Common.{ℕ, ◌≡◌, List, [], ◌∷◌, ◌++◌, map, Option, Some, None, refl, sym, ◌∙◌, ap, subst}
-use Rattle.std.specs.Prelude.{IsTrue, IfOk, Result, Ok, Err}
+use Rattle.std.proofs.Common.{ℕ, pos, ◌≡◌, List, [], ◌∷◌, ◌++◌, map, Option, Some, None, refl, sym, ◌∙◌, ap, subst}
+use Rattle.std.specs.Prelude.{neg_ℤ, IsTrue, IfOk, Result, Ok, Err}
 use Rattle.std.specs.List.{list_all, AllByRecursion}
 use Rattle.mr_value.specs.Words.{fits}
 use Rattle.mr_value.specs.declared.ends.End.TheVariants.{Left, Right}
 use Rattle.mr_words.specs.Names.{lowered, text_of, named}
-use Rattle.mr_ask.specs.Texts.{get, set, strlen, getrange, mget, setnx, getset, getdel}
-use Rattle.mr_ask.specs.Keys.{del, unlink, exists, key_type, matching_keys, scan, dbsize}
+use Rattle.mr_ask.specs.Texts.{get, set, strlen, getrange, mget, setnx, getset, getdel, mset, msetnx, append, setrange, step, incrby, decrby}
+use Rattle.mr_ask.specs.Keys.{del, unlink, exists, key_type, matching_keys, scan, dbsize, rename, renamenx, clear}
 use Rattle.mr_ask.specs.Hashes.{set_fields, hsetnx, hget, hmget, list_hash, hdel, hexists, hlen, hstrlen, hincrby}
 use Rattle.mr_ask.specs.Lists.{push, pop, llen, lrange, lindex, lset, linsert, lrem, ltrim, lmove, rpoplpush}
 use Rattle.mr_ask.specs.Sets.{sadd, srem, sismember, smismember, smembers, scard, spop, srandmember, smove, combine}
@@ -18,8 +18,8 @@ use Rattle.mr_ask.specs.Spelled.{cursor_part, scan_option, hash_parts, list_part
 use Rattle.mr_words.proofs.FitLemmas.{carried, carried-words, first, second, both, parts_fit, OptionFits, others_fit, of_parts_fit}
 use Rattle.mr_words.proofs.NameLemmas.{named_is}
 use Rattle.mr_ask.proofs.Carries.{Carries, of_kind_carries}
-use Rattle.mr_ask.proofs.TextLemmas.{get_carries, set_carries, strlen_carries, getrange_carries, mget_carries, setnx_carries, getset_carries, getdel_carries}
-use Rattle.mr_ask.proofs.KeyLemmas.{del_carries, unlink_carries, exists_carries, key_type_carries, matching_keys_carries, scan_carries, dbsize_carries}
+use Rattle.mr_ask.proofs.TextLemmas.{get_carries, set_carries, strlen_carries, getrange_carries, mget_carries, setnx_carries, getset_carries, getdel_carries, mset_carries, msetnx_carries, append_carries, setrange_carries, incr_carries, decr_carries, incrby_carries, decrby_carries}
+use Rattle.mr_ask.proofs.KeyLemmas.{del_carries, unlink_carries, exists_carries, key_type_carries, matching_keys_carries, scan_carries, dbsize_carries, rename_carries, renamenx_carries, clear_carries}
 use Rattle.mr_ask.proofs.HashLemmas.{set_fields_carries, hsetnx_carries, hget_carries, hmget_carries, list_hash_carries, hdel_carries, hexists_carries, hlen_carries, hstrlen_carries, hincrby_carries}
 use Rattle.mr_ask.proofs.ListLemmas.{push_carries, pop_carries, llen_carries, lrange_carries, lindex_carries, lset_carries, linsert_carries, lrem_carries, ltrim_carries, lmove_carries, rpoplpush_carries}
 use Rattle.mr_ask.proofs.SetLemmas.{sadd_carries, srem_carries, sismember_carries, smismember_carries, smembers_carries, scard_carries, spop_carries, srandmember_carries, smove_carries, combine_carries}
@@ -32,8 +32,10 @@ use Rattle.mr_ask.specs.declared.key_ask.Cursor.TheVariants.{Start, Behind}
 use Rattle.mr_ask.specs.declared.key_ask.KindName.{KindName}
 use Rattle.mr_ask.specs.declared.text_ask.TextAsk.{TextAsk}
 use Rattle.mr_ask.specs.declared.text_ask.TextAsk.TheVariants as text
+use Rattle.mr_ask.specs.declared.text_ask.Amount.TheVariants as amount
 use Rattle.mr_ask.specs.declared.key_ask.KeyAsk.{KeyAsk}
 use Rattle.mr_ask.specs.declared.key_ask.KeyAsk.TheVariants as key
+use Rattle.mr_ask.specs.declared.key_ask.Databases.TheVariants as databases
 use Rattle.mr_ask.specs.declared.hash_ask.HashAsk.{HashAsk}
 use Rattle.mr_ask.specs.declared.hash_ask.HashAsk.TheVariants as hash
 use Rattle.mr_ask.specs.declared.hash_ask.FieldsReply.TheVariants.{Added, Done}
@@ -66,6 +68,18 @@ reading_carries name.GetDel ws = of_kind_carries (getdel ws) ask.Texts _ (getdel
 reading_carries name.Keys ws = of_kind_carries (matching_keys ws) ask.Keys _ (matching_keys_carries ws)
 reading_carries name.Scan ws = of_kind_carries (scan ws) ask.Keys _ (scan_carries ws)
 reading_carries name.DbSize ws = of_kind_carries (dbsize ws) ask.Keys _ (dbsize_carries ws)
+reading_carries name.MSet ws = of_kind_carries (mset ws) ask.Texts _ (mset_carries ws)
+reading_carries name.MSetNx ws = of_kind_carries (msetnx ws) ask.Texts _ (msetnx_carries ws)
+reading_carries name.Append ws = of_kind_carries (append ws) ask.Texts _ (append_carries ws)
+reading_carries name.SetRange ws = of_kind_carries (setrange ws) ask.Texts _ (setrange_carries ws)
+reading_carries name.Incr ws = of_kind_carries (step name.Incr amount.One ws) ask.Texts _ (incr_carries ws)
+reading_carries name.Decr ws = of_kind_carries (step name.Decr amount.MinusOne ws) ask.Texts _ (decr_carries ws)
+reading_carries name.IncrBy ws = of_kind_carries (incrby ws) ask.Texts _ (incrby_carries ws)
+reading_carries name.DecrBy ws = of_kind_carries (decrby ws) ask.Texts _ (decrby_carries ws)
+reading_carries name.Rename ws = of_kind_carries (rename ws) ask.Keys _ (rename_carries ws)
+reading_carries name.RenameNx ws = of_kind_carries (renamenx ws) ask.Keys _ (renamenx_carries ws)
+reading_carries name.FlushAll ws = of_kind_carries (clear databases.All ws) ask.Keys _ (clear_carries name.FlushAll databases.All (λ t. refl) ws)
+reading_carries name.FlushDb ws = of_kind_carries (clear databases.Selected ws) ask.Keys _ (clear_carries name.FlushDb databases.Selected (λ t. refl) ws)
 reading_carries name.HSet ws = of_kind_carries (set_fields name.HSet Added ws) ask.Hashes _ (set_fields_carries name.HSet Added (λ k ps. refl) ws)
 reading_carries name.HMSet ws = of_kind_carries (set_fields name.HMSet Done ws) ask.Hashes _ (set_fields_carries name.HMSet Done (λ k ps. refl) ws)
 reading_carries name.HSetNx ws = of_kind_carries (hsetnx ws) ask.Hashes _ (hsetnx_carries ws)
@@ -174,6 +188,11 @@ texts_fit ws (text.Set k v condition reply) s h =
     let all = parts_fit ws (Word k ∷ Word v ∷ in_a_row s.0) s.1.1 h in
     both _ _ (first _ _ all) (both _ _ (first _ _ (second _ _ all)) refl)
 texts_fit ws (text.GetRange k a b) s h = parts_fit ws (Word k ∷ Number a ∷ Number b ∷ []) s h
+texts_fit ws (text.SetRange k o v) s h = parts_fit ws (Word k ∷ Number (pos o) ∷ Word v ∷ []) s h
+texts_fit ws (text.Increase k amount.One) s h = parts_fit ws (Word k ∷ []) s h
+texts_fit ws (text.Increase k amount.MinusOne) s h = parts_fit ws (Word k ∷ []) s h
+texts_fit ws (text.Increase k (amount.Number n)) s h = parts_fit ws (Word k ∷ Number n ∷ []) s h
+texts_fit ws (text.Increase k (amount.Opposite n)) s h = parts_fit ws (Word k ∷ Number (neg_ℤ n) ∷ []) s h
 texts_fit ws a s h = subst (λ (xs : List (List ℕ)). IsTrue (list_all fits xs)) (carried-words (text_words a)) (parts_fit ws (map Word (text_words a)) s h)
 
 keys_fit : (ws : List (List ℕ)) (a : KeyAsk) → AreOfKeys ws a → IsTrue (list_all fits ws) → IsTrue (list_all fits (key_words a))
@@ -182,6 +201,7 @@ keys_fit ws (key.Scan cursor pattern kind) s h =
     let all = parts_fit ws (cursor_part cursor ∷ in_a_row s.are.0) s.are.1.1 h in
     let options = subst (λ (xs : List (List ℕ)). IsTrue (list_all fits xs)) (without_cursor cursor (in_a_row s.are.0)) all in
     pattern_fits cursor pattern kind _ _ (others_fit _ s.are.0 s.are.1.0 options)
+keys_fit ws (key.Clear d t) s h = refl
 keys_fit ws a s h = subst (λ (xs : List (List ℕ)). IsTrue (list_all fits xs)) (carried-words (key_words a)) (parts_fit ws (map Word (key_words a)) s h)
 
 arguments_fit : (ws : List (List ℕ)) (a : Ask) → AreArguments ws a → IsTrue (list_all fits ws) → AskFits a

@@ -7,15 +7,20 @@ use Rattle.mr_ask.specs.Parts.{positive_if_any}
 use Rattle.mr_words.specs.Options.{added}
 use Rattle.mr_ask.specs.Options.{set_text, scan_text, set_option, no_set_options, set_also, set_word, set_options, no_scan_options, scan_also, scan_pair, scan_options}
 use Rattle.mr_ask.specs.Options as options
-use Rattle.mr_ask.specs.Keys.{del, unlink, exists, key_type, matching_keys, scan, dbsize}
+use Rattle.mr_ask.specs.Keys.{del, unlink, exists, key_type, matching_keys, scan, dbsize, rename, renamenx, clear}
 use Rattle.mr_words.specs.Spelling.{Part, Word, Keyword, AreParts, in_a_row}
+use Rattle.mr_ask.specs.Called.{key_name}
 use Rattle.mr_ask.specs.Spelled.{scan_option}
 use Rattle.mr_words.proofs.FitLemmas.{all_words}
 use Rattle.mr_ask.proofs.Carries.{KeyCarries}
 use Rattle.mr_words.proofs.PartLemmas.{with_ok, if_with, if_ok, with_pairs}
-use Rattle.mr_ask.proofs.PartLemmas.{with_cursor, positive_count, scan_option_text}
+use Rattle.mr_ask.proofs.PartLemmas.{with_cursor, with_timing, positive_count, scan_option_text}
 use Rattle.mr_words.proofs.OptionLemmas.{all_added, from_none, each_pair}
+use Rattle.mr_words.specs.declared.name.Name.{Name}
 use Rattle.mr_words.specs.declared.name.Name.TheVariants as name
+use Rattle.mr_ask.specs.declared.key_ask.Databases.{Databases}
+use Rattle.mr_ask.specs.declared.key_ask.Timing.{Timing}
+use Rattle.mr_ask.specs.declared.key_ask.KeyAsk.TheVariants as key
 use Rattle.mr_words.specs.declared.fault.AskFault.TheVariants.{Syntax}
 use Rattle.mr_ask.specs.declared.options.ScanOption.{ScanOption}
 use Rattle.mr_ask.specs.declared.options.ScanOption.TheVariants as scans
@@ -118,3 +123,16 @@ scan_carries (c ∷ ws) = if_with (scan_options ws) _ _ (λ s h. if_with (positi
 pub dbsize_carries : (ws : List (List ℕ)) → IfOk (dbsize ws) (KeyCarries name.DbSize ws)
 dbsize_carries [] = record { name_is = refl; parts = tt }
 dbsize_carries _ = tt
+
+pub rename_carries : (ws : List (List ℕ)) → IfOk (rename ws) (KeyCarries name.Rename ws)
+rename_carries (from ∷ to ∷ []) = record { name_is = refl; parts = (refl, (refl, tt)) }
+rename_carries _ = tt
+
+pub renamenx_carries : (ws : List (List ℕ)) → IfOk (renamenx ws) (KeyCarries name.RenameNx ws)
+renamenx_carries (from ∷ to ∷ []) = record { name_is = refl; parts = (refl, (refl, tt)) }
+renamenx_carries _ = tt
+
+pub clear_carries : (n : Name) (d : Databases) → ((t : Option Timing) → key_name (key.Clear d t) ≡ n) → (ws : List (List ℕ)) → IfOk (clear d ws) (KeyCarries n ws)
+clear_carries n d is [] = record { name_is = is None; parts = tt }
+clear_carries n d is (w ∷ []) = with_timing w _ _ (λ t e. record { name_is = is (Some t); parts = (e, tt) })
+clear_carries n d is _ = tt

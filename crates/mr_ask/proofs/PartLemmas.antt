@@ -1,8 +1,9 @@
 -- What was read of an argument is what its word spells.
 use Rattle.mr_words.proofs.PartLemmas.{with_ok, integer_read}
-use Rattle.std.proofs.Common.{arith, ℕ, zero, suc, ℤ, pos, negsuc, ◌≡◌, List, Bool, true, false, Option, Some, None, refl, ◌∙◌, ap}
-use Rattle.std.specs.Prelude.{IsTrue, IfOk, IfSome, if◌then◌else◌, Result, Ok, Err}
+use Rattle.std.proofs.Common.{arith, ℕ, zero, suc, ℤ, pos, negsuc, ◌≡◌, List, Bool, true, false, Option, Some, None, refl, sym, ◌∙◌, ap}
+use Rattle.std.specs.Prelude.{neg_ℤ, IsTrue, IfOk, IfSome, if◌then◌else◌, Result, Ok, Err}
 use Rattle.std.specs.Option.{ok_or}
+use Rattle.std.proofs.Math.IntN.{neg_ℤ-neg_ℤ}
 use Rattle.std.specs.Fmt.{signed_decimal}
 use Rattle.std.specs.Str.{bytes_eq}
 use Rattle.mr_value.specs.Number.{number_of, is_i64}
@@ -14,7 +15,7 @@ use Rattle.mr_value.specs.declared.ends.Side.{Side}
 use Rattle.mr_value.specs.declared.ends.Side.TheVariants.{Before, After}
 use Rattle.mr_words.specs.Names.{lowered}
 use Rattle.mr_words.specs.Parts.{with, integer}
-use Rattle.mr_ask.specs.Parts.{end_text, side_text, end_of, side_of, not_below_1, positive, positive_if_any, cursor_at, cursor_of}
+use Rattle.mr_ask.specs.Parts.{end_text, side_text, end_of, side_of, not_below_1, positive, positive_if_any, cursor_at, cursor_of, opposite, timing_text, timing_of}
 use Rattle.mr_ask.specs.Options.{set_text, scan_text, set_option, scan_option}
 use Rattle.mr_words.specs.Spelling.{IsPart, IsPositive}
 use Rattle.mr_ask.specs.Spelled.{cursor_part}
@@ -23,6 +24,8 @@ use Rattle.mr_words.specs.declared.fault.AskFault.TheVariants.{Syntax, Other}
 use Rattle.mr_words.specs.declared.fault.BadValue.TheVariants as bad
 use Rattle.mr_ask.specs.declared.key_ask.Cursor.{Cursor}
 use Rattle.mr_ask.specs.declared.key_ask.Cursor.TheVariants.{Start, Behind}
+use Rattle.mr_ask.specs.declared.key_ask.Timing.{Timing}
+use Rattle.mr_ask.specs.declared.key_ask.Timing.TheVariants.{Later, Now}
 use Rattle.mr_ask.specs.declared.text_ask.SetCondition.TheVariants.{Absent, Present}
 use Rattle.mr_ask.specs.declared.options.SetOption.{SetOption}
 use Rattle.mr_ask.specs.declared.options.SetOption.TheVariants as set
@@ -72,6 +75,23 @@ with_cursor w next P h = elim (number_of w) as (λ o. number_of w ≡ o → IfOk
     at (pos zero) e = h Start e.0
     at (pos (suc n)) e = h Behind (suc n, (omega arith, ltb-true _ _ e.1, e.0))
     at (negsuc n) e = tt
+
+pub with_opposite : {A : Type 0} (n : ℤ) (next : ℤ → Result A AskFault) (P : A → Type 0)
+    → ((m : ℤ) → n ≡ neg_ℤ m → IfOk (next m) P) → IfOk (with (opposite n) next) P
+with_opposite n next P h = elim (is_i64 (neg_ℤ n)) as (λ b. IfOk (with (if b then Ok (neg_ℤ n) else Err (Other bad.Decrement)) next) P) [
+  | true ↦ h (neg_ℤ n) (sym (neg_ℤ-neg_ℤ n))
+  | false ↦ tt
+]
+
+pub with_timing : {A : Type 0} (w : List ℕ) (next : Timing → Result A AskFault) (P : A → Type 0)
+    → ((t : Timing) → lowered w ≡ timing_text t → IfOk (next t) P) → IfOk (with (timing_of w) next) P
+with_timing w next P h = by_test (bytes_eq (lowered w) (timing_text Later)) (bytes_eq (lowered w) (timing_text Now)) refl refl
+  where
+    by_test : (a b : Bool) → bytes_eq (lowered w) (timing_text Later) ≡ a → bytes_eq (lowered w) (timing_text Now) ≡ b
+        → IfOk (with (if a then Ok Later else (if b then Ok Now else Err Syntax)) next) P
+    by_test true b s t = h Later (same_bytes _ _ s)
+    by_test false true s t = h Now (same_bytes _ _ t)
+    by_test false false s t = tt
 
 -- an option is spelled by its word
 pub option_text : (w : List ℕ) (o : SetOption) → set_option w ≡ Ok o → lowered w ≡ set_text o

@@ -1,18 +1,21 @@
 -- What is read of a command on strings is spelled by the words.
-use Rattle.std.proofs.Common.{ℕ, ◌≡◌, List, [], ◌∷◌, ◌++◌, Option, Some, None, refl, subst}
+use Rattle.std.proofs.Common.{ℕ, ◌≡◌, List, [], ◌∷◌, ◌++◌, map, Option, Some, None, refl, ◌∙◌, ap, subst}
 use Rattle.std.specs.Prelude.{IfOk, IsPermutation, Ok}
+use Rattle.std.specs.Fmt.{signed_decimal}
 use Rattle.std.proofs.lemmas.List.Sorted.{IsPermutation-refl, IsPermutation-middle}
 use Rattle.mr_ask.specs.Options.{set_text, scan_text, set_option, no_set_options, set_also, set_word, set_options, no_scan_options, scan_also, scan_pair, scan_options}
 use Rattle.mr_ask.specs.Options as options
-use Rattle.mr_ask.specs.Texts.{get, set, strlen, getrange, mget, setnx, getset, getdel}
-use Rattle.mr_words.specs.Spelling.{Part, Keyword, AreParts, in_a_row}
+use Rattle.mr_ask.specs.Texts.{get, set, strlen, getrange, mget, setnx, getset, getdel, mset, msetnx, append, setrange, step, incrby, decrby}
+use Rattle.mr_words.specs.Spelling.{Part, Word, Keyword, AreParts, in_a_row}
 use Rattle.mr_ask.specs.Spelled.{condition_option, reply_option}
 use Rattle.mr_words.proofs.FitLemmas.{all_words}
 use Rattle.mr_ask.proofs.Carries.{TextCarries}
-use Rattle.mr_words.proofs.PartLemmas.{with_ok, if_with, with_integer}
-use Rattle.mr_ask.proofs.PartLemmas.{option_text}
+use Rattle.mr_words.proofs.PartLemmas.{with_ok, if_with, with_integer, with_offset, with_pairs}
+use Rattle.mr_ask.proofs.PartLemmas.{option_text, with_opposite}
 use Rattle.mr_words.proofs.OptionLemmas.{all_added, from_none, each_alone}
 use Rattle.mr_words.specs.declared.name.Name.TheVariants as name
+use Rattle.mr_words.specs.declared.fault.AskFault.TheVariants.{Arity}
+use Rattle.mr_ask.specs.declared.text_ask.Amount.TheVariants as amount
 use Rattle.mr_ask.specs.declared.text_ask.SetCondition.{SetCondition}
 use Rattle.mr_ask.specs.declared.text_ask.SetReply.{SetReply}
 use Rattle.mr_ask.specs.declared.text_ask.SetReply.TheVariants.{Done, Before}
@@ -90,3 +93,35 @@ getset_carries _ = tt
 pub getdel_carries : (ws : List (List ℕ)) → IfOk (getdel ws) (TextCarries name.GetDel ws)
 getdel_carries (k ∷ []) = record { name_is = refl; parts = (refl, tt) }
 getdel_carries _ = tt
+
+pub mset_carries : (ws : List (List ℕ)) → IfOk (mset ws) (TextCarries name.MSet ws)
+mset_carries [] = tt
+mset_carries (w ∷ ws) = with_pairs (w ∷ ws) (Arity name.MSet) _ _ (λ pairs e. record { name_is = refl; parts = subst (λ (xs : List (List ℕ)). AreParts (w ∷ ws) (map Word xs)) e (all_words (w ∷ ws)) })
+
+pub msetnx_carries : (ws : List (List ℕ)) → IfOk (msetnx ws) (TextCarries name.MSetNx ws)
+msetnx_carries [] = tt
+msetnx_carries (w ∷ ws) = with_pairs (w ∷ ws) (Arity name.MSetNx) _ _ (λ pairs e. record { name_is = refl; parts = subst (λ (xs : List (List ℕ)). AreParts (w ∷ ws) (map Word xs)) e (all_words (w ∷ ws)) })
+
+pub append_carries : (ws : List (List ℕ)) → IfOk (append ws) (TextCarries name.Append ws)
+append_carries (k ∷ v ∷ []) = record { name_is = refl; parts = (refl, (refl, tt)) }
+append_carries _ = tt
+
+pub setrange_carries : (ws : List (List ℕ)) → IfOk (setrange ws) (TextCarries name.SetRange ws)
+setrange_carries (k ∷ o ∷ v ∷ []) = with_offset o _ _ (λ n e. record { name_is = refl; parts = (refl, (e, (refl, tt))) })
+setrange_carries _ = tt
+
+pub incr_carries : (ws : List (List ℕ)) → IfOk (step name.Incr amount.One ws) (TextCarries name.Incr ws)
+incr_carries (k ∷ []) = record { name_is = refl; parts = (refl, tt) }
+incr_carries _ = tt
+
+pub decr_carries : (ws : List (List ℕ)) → IfOk (step name.Decr amount.MinusOne ws) (TextCarries name.Decr ws)
+decr_carries (k ∷ []) = record { name_is = refl; parts = (refl, tt) }
+decr_carries _ = tt
+
+pub incrby_carries : (ws : List (List ℕ)) → IfOk (incrby ws) (TextCarries name.IncrBy ws)
+incrby_carries (k ∷ by ∷ []) = with_integer by _ _ (λ n e. record { name_is = refl; parts = (refl, (e, tt)) })
+incrby_carries _ = tt
+
+pub decrby_carries : (ws : List (List ℕ)) → IfOk (decrby ws) (TextCarries name.DecrBy ws)
+decrby_carries (k ∷ by ∷ []) = with_integer by _ _ (λ n e. with_opposite n _ _ (λ m o. record { name_is = refl; parts = (refl, (e ∙ ap signed_decimal o, tt)) }))
+decrby_carries _ = tt

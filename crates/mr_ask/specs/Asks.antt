@@ -3,8 +3,8 @@ use Rattle.std.specs.Prelude.{ℕ, List, [], ◌∷◌, Option, Some, None, Resu
 use Rattle.mr_value.specs.declared.ends.End.TheVariants.{Left, Right}
 use Rattle.mr_words.specs.Names.{lowered, named}
 use Rattle.mr_words.specs.Parts.{with}
-use Rattle.mr_ask.specs.Texts.{get, set, strlen, getrange, mget, setnx, getset, getdel}
-use Rattle.mr_ask.specs.Keys.{del, unlink, exists, key_type, matching_keys, scan, dbsize}
+use Rattle.mr_ask.specs.Texts.{get, set, strlen, getrange, mget, setnx, getset, getdel, mset, msetnx, append, setrange, step, incrby, decrby}
+use Rattle.mr_ask.specs.Keys.{del, unlink, exists, key_type, matching_keys, scan, dbsize, rename, renamenx, clear}
 use Rattle.mr_ask.specs.Hashes.{set_fields, hsetnx, hget, hmget, list_hash, hdel, hexists, hlen, hstrlen, hincrby}
 use Rattle.mr_ask.specs.Lists.{push, pop, llen, lrange, lindex, lset, linsert, lrem, ltrim, lmove, rpoplpush}
 use Rattle.mr_ask.specs.Sets.{sadd, srem, sismember, smismember, smembers, scard, spop, srandmember, smove, combine}
@@ -13,6 +13,8 @@ use Rattle.mr_words.specs.declared.name.Name.{Name}
 use Rattle.mr_words.specs.declared.name.Name.TheVariants as name
 use Rattle.mr_words.specs.declared.fault.AskFault.{AskFault}
 use Rattle.mr_words.specs.declared.fault.AskFault.TheVariants.{Unknown}
+use Rattle.mr_ask.specs.declared.text_ask.Amount.TheVariants as amount
+use Rattle.mr_ask.specs.declared.key_ask.Databases.TheVariants as databases
 use Rattle.mr_ask.specs.declared.hash_ask.FieldsReply.TheVariants.{Added, Done}
 use Rattle.mr_ask.specs.declared.hash_ask.HashPart.TheVariants.{Pairs, Fields, Values}
 use Rattle.mr_ask.specs.declared.list_ask.PushTo.TheVariants.{AnyKey, ExistingKey}
@@ -43,6 +45,18 @@ reading name.GetDel arguments = of_kind ask.Texts (getdel arguments)
 reading name.Keys arguments = of_kind ask.Keys (matching_keys arguments)
 reading name.Scan arguments = of_kind ask.Keys (scan arguments)
 reading name.DbSize arguments = of_kind ask.Keys (dbsize arguments)
+reading name.MSet arguments = of_kind ask.Texts (mset arguments)
+reading name.MSetNx arguments = of_kind ask.Texts (msetnx arguments)
+reading name.Append arguments = of_kind ask.Texts (append arguments)
+reading name.SetRange arguments = of_kind ask.Texts (setrange arguments)
+reading name.Incr arguments = of_kind ask.Texts (step name.Incr amount.One arguments)
+reading name.Decr arguments = of_kind ask.Texts (step name.Decr amount.MinusOne arguments)
+reading name.IncrBy arguments = of_kind ask.Texts (incrby arguments)
+reading name.DecrBy arguments = of_kind ask.Texts (decrby arguments)
+reading name.Rename arguments = of_kind ask.Keys (rename arguments)
+reading name.RenameNx arguments = of_kind ask.Keys (renamenx arguments)
+reading name.FlushAll arguments = of_kind ask.Keys (clear databases.All arguments)
+reading name.FlushDb arguments = of_kind ask.Keys (clear databases.Selected arguments)
 reading name.HSet arguments = of_kind ask.Hashes (set_fields name.HSet Added arguments)
 reading name.HMSet arguments = of_kind ask.Hashes (set_fields name.HMSet Done arguments)
 reading name.HSetNx arguments = of_kind ask.Hashes (hsetnx arguments)

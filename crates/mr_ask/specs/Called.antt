@@ -6,6 +6,8 @@ use Rattle.mr_ask.specs.declared.hash_ask.FieldsReply.TheVariants.{Added, Done}
 use Rattle.mr_ask.specs.declared.hash_ask.HashPart.TheVariants.{Pairs, Fields, Values}
 use Rattle.mr_ask.specs.declared.list_ask.PushTo.TheVariants.{AnyKey, ExistingKey}
 use Rattle.mr_ask.specs.declared.set_ask.SetOperation.TheVariants.{Intersection, Union, Difference}
+use Rattle.mr_ask.specs.declared.text_ask.Amount.TheVariants as amount
+use Rattle.mr_ask.specs.declared.key_ask.Databases.TheVariants as databases
 use Rattle.mr_ask.specs.declared.text_ask.TextAsk.{TextAsk}
 use Rattle.mr_ask.specs.declared.text_ask.TextAsk.TheVariants as text
 use Rattle.mr_ask.specs.declared.key_ask.KeyAsk.{KeyAsk}
@@ -31,6 +33,14 @@ text_name (text.GetAll keys) = name.MGet
 text_name (text.SetNew key value) = name.SetNx
 text_name (text.GetAndSet key value) = name.GetSet
 text_name (text.GetAndDelete key) = name.GetDel
+text_name (text.SetAll pairs) = name.MSet
+text_name (text.SetAllNew pairs) = name.MSetNx
+text_name (text.Append key value) = name.Append
+text_name (text.SetRange key offset value) = name.SetRange
+text_name (text.Increase key amount.One) = name.Incr
+text_name (text.Increase key amount.MinusOne) = name.Decr
+text_name (text.Increase key (amount.Number n)) = name.IncrBy
+text_name (text.Increase key (amount.Opposite n)) = name.DecrBy
 
 -- of a command on keys of any kind
 abbrev pub key_name : KeyAsk → Name
@@ -41,6 +51,10 @@ key_name (key.KeyType key) = name.KeyType
 key_name (key.MatchingKeys pattern) = name.Keys
 key_name (key.Scan cursor pattern kind) = name.Scan
 key_name key.CountKeys = name.DbSize
+key_name (key.Rename from to) = name.Rename
+key_name (key.RenameNew from to) = name.RenameNx
+key_name (key.Clear databases.All timing) = name.FlushAll
+key_name (key.Clear databases.Selected timing) = name.FlushDb
 
 -- of a command on hashes
 abbrev pub hash_name : HashAsk → Name

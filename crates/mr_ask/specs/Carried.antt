@@ -28,6 +28,11 @@ text_words (text.GetAll keys) = keys
 text_words (text.SetNew key value) = key ∷ value ∷ []
 text_words (text.GetAndSet key value) = key ∷ value ∷ []
 text_words (text.GetAndDelete key) = key ∷ []
+text_words (text.SetAll pairs) = unpaired pairs
+text_words (text.SetAllNew pairs) = unpaired pairs
+text_words (text.Append key value) = key ∷ value ∷ []
+text_words (text.SetRange key offset value) = key ∷ value ∷ []
+text_words (text.Increase key by) = key ∷ []
 
 -- of a command on keys of any kind
 abbrev pub key_words : KeyAsk → List (List ℕ)
@@ -39,6 +44,9 @@ key_words (key.MatchingKeys pattern) = pattern ∷ []
 key_words (key.Scan cursor None kind) = []
 key_words (key.Scan cursor (Some pattern) kind) = pattern ∷ []
 key_words key.CountKeys = []
+key_words (key.Rename from to) = from ∷ to ∷ []
+key_words (key.RenameNew from to) = from ∷ to ∷ []
+key_words (key.Clear databases timing) = []
 
 -- of a command on hashes
 abbrev pub hash_words : HashAsk → List (List ℕ)

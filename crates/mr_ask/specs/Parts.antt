@@ -1,9 +1,9 @@
 -- What single arguments say.
 use Rattle.mr_words.specs.Parts.{with, integer}
-use Rattle.std.specs.Prelude.{ℕ, zero, suc, ℤ, pos, negsuc, int_lt, List, [], Bool, if◌then◌else◌, Option, Some, None, Result, Ok, Err, codes}
+use Rattle.std.specs.Prelude.{ℕ, zero, suc, ℤ, pos, negsuc, neg_ℤ, int_lt, List, [], Bool, if◌then◌else◌, Option, Some, None, Result, Ok, Err, codes}
 use Rattle.std.specs.Option.{ok_or}
 use Rattle.std.specs.Str.{bytes_eq}
-use Rattle.mr_value.specs.Number.{number_of}
+use Rattle.mr_value.specs.Number.{number_of, is_i64}
 use Rattle.mr_value.specs.declared.ends.End.{End}
 use Rattle.mr_value.specs.declared.ends.End.TheVariants.{Left, Right}
 use Rattle.mr_value.specs.declared.ends.Side.{Side}
@@ -16,6 +16,10 @@ use Rattle.mr_ask.specs.declared.key_ask.Cursor.{Cursor}
 use Rattle.mr_ask.specs.declared.key_ask.Cursor.TheVariants.{Start, Behind}
 use Rattle.mr_ask.specs.declared.key_ask.KindName.{KindName}
 use Rattle.mr_ask.specs.declared.key_ask.KindName.TheVariants as kind
+use Rattle.mr_ask.specs.declared.key_ask.Timing.{Timing}
+use Rattle.mr_ask.specs.declared.key_ask.Timing.TheVariants.{Later, Now}
+use Rattle.mr_ask.specs.declared.text_ask.Amount.{Amount}
+use Rattle.mr_ask.specs.declared.text_ask.Amount.TheVariants as amount
 
 -- an option word, in lower case
 abbrev pub end_text : End → List ℕ
@@ -55,6 +59,26 @@ cursor_at (negsuc n) = Err (Other bad.Cursor)
 -- .. at a cursor: a whole number of 64 bits that isn't below 0
 abbrev pub cursor_of : List ℕ → Result Cursor AskFault
 cursor_of word = with (ok_or (number_of word) (Other bad.Cursor)) cursor_at
+
+-- what is added to a number
+abbrev pub amount_number : Amount → ℤ
+amount_number amount.One = pos 1
+amount_number amount.MinusOne = negsuc 0
+amount_number (amount.Number n) = n
+amount_number (amount.Opposite n) = n
+
+-- the opposite of a number to be taken away, where it is a number of 64 bits too
+abbrev pub opposite : ℤ → Result ℤ AskFault
+opposite n = if is_i64 (neg_ℤ n) then Ok (neg_ℤ n) else Err (Other bad.Decrement)
+
+-- an option word, in lower case
+abbrev pub timing_text : Timing → List ℕ
+timing_text Later = codes "async"
+timing_text Now = codes "sync"
+
+-- ASYNC or SYNC, in any case
+abbrev pub timing_of : List ℕ → Result Timing AskFault
+timing_of word = if bytes_eq (lowered word) (timing_text Later) then Ok Later else (if bytes_eq (lowered word) (timing_text Now) then Ok Now else Err Syntax)
 
 -- the names of the kinds that there are, in lower case; an unknown one has none
 abbrev pub kind_text : KindName → List ℕ

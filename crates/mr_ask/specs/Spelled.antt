@@ -1,10 +1,10 @@
 -- The words that a command is spelled by.
-use Rattle.std.specs.Prelude.{◌≡◌, ℕ, pos, List, [], ◌∷◌, ◌++◌, map, Option, Some, None, option_map, IfSome}
+use Rattle.std.specs.Prelude.{◌≡◌, ℕ, pos, neg_ℤ, List, [], ◌∷◌, ◌++◌, map, Option, Some, None, option_map, IfSome}
 use Rattle.mr_words.specs.Names.{lowered, text_of}
 use Rattle.mr_words.specs.Spelling.{Part, Word, Number, Keyword, Positive, count_part, IsPositive, AreParts, AreWithOptions}
 use Rattle.mr_ask.specs.Called.{name_of}
 use Rattle.mr_ask.specs.Carried.{text_words, key_words, hash_words, list_words, set_words, server_words}
-use Rattle.mr_ask.specs.Parts.{end_text, side_text, kind_of}
+use Rattle.mr_ask.specs.Parts.{end_text, side_text, timing_text, kind_of}
 use Rattle.mr_ask.specs.Options.{set_text, scan_text}
 use Rattle.mr_ask.specs.Server.{setname, setinfo}
 use Rattle.mr_ask.specs.declared.options.SetOption.TheVariants as option
@@ -16,6 +16,9 @@ use Rattle.mr_ask.specs.declared.text_ask.SetReply.TheVariants.{Done, Before}
 use Rattle.mr_ask.specs.declared.key_ask.Cursor.{Cursor}
 use Rattle.mr_ask.specs.declared.key_ask.Cursor.TheVariants.{Start, Behind}
 use Rattle.mr_ask.specs.declared.key_ask.KindName.{KindName}
+use Rattle.mr_ask.specs.declared.key_ask.Timing.{Timing}
+use Rattle.mr_ask.specs.declared.text_ask.Amount.{Amount}
+use Rattle.mr_ask.specs.declared.text_ask.Amount.TheVariants as amount
 use Rattle.mr_ask.specs.declared.text_ask.TextAsk.{TextAsk}
 use Rattle.mr_ask.specs.declared.text_ask.TextAsk.TheVariants as text
 use Rattle.mr_ask.specs.declared.key_ask.KeyAsk.{KeyAsk}
@@ -36,14 +39,28 @@ abbrev pub cursor_part : Cursor → Part
 cursor_part Start = Number (pos 0)
 cursor_part Behind = Positive
 
+-- a number that is added, or its opposite that is taken away
+abbrev pub amount_part : Amount → List Part
+amount_part (amount.Number n) = Number n ∷ []
+amount_part (amount.Opposite n) = Number (neg_ℤ n) ∷ []
+amount_part _ = []
+
+-- when memory is given back, which may be left out
+abbrev pub timing_part : Option Timing → List Part
+timing_part None = []
+timing_part (Some timing) = Keyword (timing_text timing) ∷ []
+
 -- what stands behind the name of a command on strings, before its options
 abbrev pub text_parts : TextAsk → List Part
 text_parts (text.GetRange key first last) = Word key ∷ Number first ∷ Number last ∷ []
+text_parts (text.SetRange key offset value) = Word key ∷ Number (pos offset) ∷ Word value ∷ []
+text_parts (text.Increase key by) = Word key ∷ amount_part by
 text_parts command = map Word (text_words command)
 
 -- what stands behind the name of a command on keys, before its options
 abbrev pub key_parts : KeyAsk → List Part
 key_parts (key.Scan cursor pattern kind) = cursor_part cursor ∷ []
+key_parts (key.Clear databases timing) = timing_part timing
 key_parts command = map Word (key_words command)
 
 -- an option: its words

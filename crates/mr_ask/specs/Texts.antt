@@ -1,12 +1,18 @@
 -- Commands on strings.
 use Rattle.std.specs.Prelude.{ℕ, List, [], ◌∷◌, Result, Ok, Err}
-use Rattle.mr_words.specs.Parts.{with, integer}
+use Rattle.std.specs.Option.{ok_or}
+use Rattle.mr_words.specs.Pairing.{pairs_of}
+use Rattle.mr_words.specs.Parts.{with, integer, offset}
+use Rattle.mr_ask.specs.Parts.{opposite}
 use Rattle.mr_ask.specs.Options.{set_options}
+use Rattle.mr_words.specs.declared.name.Name.{Name}
 use Rattle.mr_words.specs.declared.name.Name.TheVariants as name
 use Rattle.mr_words.specs.declared.fault.AskFault.{AskFault}
 use Rattle.mr_words.specs.declared.fault.AskFault.TheVariants.{Arity}
 use Rattle.mr_ask.specs.declared.text_ask.TextAsk.{TextAsk}
 use Rattle.mr_ask.specs.declared.text_ask.TextAsk.TheVariants as ask
+use Rattle.mr_ask.specs.declared.text_ask.Amount.{Amount}
+use Rattle.mr_ask.specs.declared.text_ask.Amount.TheVariants as amount
 
 -- GET key
 abbrev pub get : List (List ℕ) → Result TextAsk AskFault
@@ -48,3 +54,38 @@ getset _ = Err (Arity name.GetSet)
 abbrev pub getdel : List (List ℕ) → Result TextAsk AskFault
 getdel (key ∷ []) = Ok (ask.GetAndDelete key)
 getdel _ = Err (Arity name.GetDel)
+
+-- MSET key value [key value ..]; no pair is cut
+abbrev pub mset : List (List ℕ) → Result TextAsk AskFault
+mset [] = Err (Arity name.MSet)
+mset words = with (ok_or (pairs_of words) (Arity name.MSet)) (λ pairs. Ok (ask.SetAll pairs))
+
+-- MSETNX key value [key value ..]; no pair is cut
+abbrev pub msetnx : List (List ℕ) → Result TextAsk AskFault
+msetnx [] = Err (Arity name.MSetNx)
+msetnx words = with (ok_or (pairs_of words) (Arity name.MSetNx)) (λ pairs. Ok (ask.SetAllNew pairs))
+
+-- APPEND key value
+abbrev pub append : List (List ℕ) → Result TextAsk AskFault
+append (key ∷ value ∷ []) = Ok (ask.Append key value)
+append _ = Err (Arity name.Append)
+
+-- SETRANGE key offset value
+abbrev pub setrange : List (List ℕ) → Result TextAsk AskFault
+setrange (key ∷ place ∷ value ∷ []) = with (offset place) (λ n. Ok (ask.SetRange key n value))
+setrange _ = Err (Arity name.SetRange)
+
+-- INCR key, DECR key
+abbrev pub step : Name → Amount → List (List ℕ) → Result TextAsk AskFault
+step name by (key ∷ []) = Ok (ask.Increase key by)
+step name by _ = Err (Arity name)
+
+-- INCRBY key number
+abbrev pub incrby : List (List ℕ) → Result TextAsk AskFault
+incrby (key ∷ by ∷ []) = with (integer by) (λ n. Ok (ask.Increase key (amount.Number n)))
+incrby _ = Err (Arity name.IncrBy)
+
+-- DECRBY key number
+abbrev pub decrby : List (List ℕ) → Result TextAsk AskFault
+decrby (key ∷ by ∷ []) = with (integer by) (λ n. with (opposite n) (λ m. Ok (ask.Increase key (amount.Opposite m))))
+decrby _ = Err (Arity name.DecrBy)

@@ -32,6 +32,21 @@ pub enum KeyAsk<'a, 't> {
     },
     /// `DBSIZE`
     CountKeys,
+    /// `RENAME key key`
+    Rename {
+        from: Argument<'a>,
+        to: Argument<'a>,
+    },
+    /// `RENAMENX key key`
+    RenameNew {
+        from: Argument<'a>,
+        to: Argument<'a>,
+    },
+    /// `FLUSHALL [ASYNC|SYNC]`, `FLUSHDB` the same
+    Clear {
+        databases: Databases,
+        timing: Option<Timing>,
+    },
 }
 
 /// Where a scan goes on.
@@ -58,4 +73,22 @@ pub enum KindName {
     SortedSet,
     /// Any other word: no key is of this kind.
     Unknown,
+}
+
+/// Which databases are cleared. There is one alone, so this says nothing but how the command is called.
+#[derive(Clone, Copy, Debug, PartialEq, Eq)]
+pub enum Databases {
+    /// `FLUSHALL`
+    All,
+    /// `FLUSHDB`
+    Selected,
+}
+
+/// When the memory of what is cleared is to be given back. It is read and says nothing.
+#[derive(Clone, Copy, Debug, PartialEq, Eq)]
+pub enum Timing {
+    /// `ASYNC`
+    Later,
+    /// `SYNC`
+    Now,
 }

@@ -17,14 +17,14 @@ mod text_ask;
 pub use ask::Ask;
 pub use group::Group;
 pub use hash_ask::{FieldsReply, HashAsk, HashPart};
-pub use key_ask::{Cursor, KeyAsk, KindName};
+pub use key_ask::{Cursor, Databases, KeyAsk, KindName, Timing};
 pub use laws::options_stand_in_any_order;
 pub use list_ask::{ListAsk, PushTo};
 pub use mr_words::{Argument, AskFault, BadValue, Name, Pairs, PairsIter, Words};
 pub use reading::read;
 pub use server_ask::ServerAsk;
 pub use set_ask::{SetAsk, SetOperation};
-pub use text_ask::{SetCondition, SetReply, TextAsk};
+pub use text_ask::{Amount, SetCondition, SetReply, TextAsk};
 
 #[cfg(test)]
 mod tests;

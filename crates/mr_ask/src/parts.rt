@@ -4,9 +4,9 @@ ghost use Rattle.std.specs.Cow.{cow_slice_items};
 ghost use Rattle.std.specs.Option.{option_map};
 ghost use Rattle.std.specs.Str.{bytes_eq};
 ghost use Rattle.mr_words.specs.Names.{lowered};
-ghost use Rattle.mr_ask.specs.Parts.{end_of, end_text, side_of, side_text, not_below_1, positive, positive_if_any, cursor_at, cursor_of, is_kind, kind_of};
+ghost use Rattle.mr_ask.specs.Parts.{end_of, end_text, side_of, side_text, not_below_1, positive, positive_if_any, cursor_at, cursor_of, opposite, timing_of, timing_text, is_kind, kind_of};
 
-use crate::key_ask::{Cursor, KindName};
+use crate::key_ask::{Cursor, KindName, Timing};
 use mr_value::{End, Side, read_i64};
 use mr_words::{Argument, AskFault, BadValue};
 use std::borrow::CowSlice;
@@ -97,6 +97,37 @@ fn cursor_at(number: i64) -> Result<Cursor, AskFault>
         Ok(Cursor::Start)
     } else {
         Ok(Cursor::Behind)
+    }
+}
+
+/// The opposite of a number that is to be taken away. Only the least number has none.
+pub(crate) fn opposite(number: i64) -> Result<i64, AskFault>
+    ensures { result ≡ opposite number }
+{
+    number
+        .checked_neg()
+        .ok_or(AskFault::Other(BadValue::Decrement))
+}
+
+/// `ASYNC` or `SYNC`, in any case.
+pub(crate) fn timing_of(word: &CowSlice<'_, u8>) -> Result<Timing, AskFault>
+    ensures { result ≡ timing_of (cow_slice_items word.now) }
+{
+    if is_timing(word, Timing::Later) {
+        Ok(Timing::Later)
+    } else if is_timing(word, Timing::Now) {
+        Ok(Timing::Now)
+    } else {
+        Err(AskFault::Syntax)
+    }
+}
+
+fn is_timing(word: &CowSlice<'_, u8>, timing: Timing) -> bool
+    ensures { result ≡ bytes_eq (lowered (cow_slice_items word.now)) (timing_text timing) }
+{
+    match timing {
+        Timing::Later => word.as_slice().eq_ignore_ascii_case(b"async"),
+        Timing::Now => word.as_slice().eq_ignore_ascii_case(b"sync"),
     }
 }
 

@@ -17,11 +17,11 @@ mod texts;
 
 use crate::ask::Ask;
 use crate::hash_ask::{FieldsReply, HashAsk, HashPart};
-use crate::key_ask::KeyAsk;
+use crate::key_ask::{Databases, KeyAsk};
 use crate::list_ask::{ListAsk, PushTo};
 use crate::server_ask::ServerAsk;
 use crate::set_ask::{SetAsk, SetOperation};
-use crate::text_ask::TextAsk;
+use crate::text_ask::{Amount, TextAsk};
 use mr_value::End;
 use mr_words::{Arguments, AskFault, Name};
 use std::borrow::CowSlice;
@@ -70,6 +70,18 @@ fn read_arguments<'a, 't>(name: Name, arguments: Arguments<'a, 't>) -> Reading<'
         Name::Keys => of_keys(keys::matching_keys(arguments)),
         Name::Scan => of_keys(keys::scan(arguments)),
         Name::DbSize => of_keys(keys::dbsize(arguments)),
+        Name::MSet => of_texts(texts::mset(arguments)),
+        Name::MSetNx => of_texts(texts::msetnx(arguments)),
+        Name::Append => of_texts(texts::append(arguments)),
+        Name::SetRange => of_texts(texts::setrange(arguments)),
+        Name::Incr => of_texts(texts::step(name, Amount::One, arguments)),
+        Name::Decr => of_texts(texts::step(name, Amount::MinusOne, arguments)),
+        Name::IncrBy => of_texts(texts::incrby(arguments)),
+        Name::DecrBy => of_texts(texts::decrby(arguments)),
+        Name::Rename => of_keys(keys::rename(arguments)),
+        Name::RenameNx => of_keys(keys::renamenx(arguments)),
+        Name::FlushAll => of_keys(keys::clear(Databases::All, arguments)),
+        Name::FlushDb => of_keys(keys::clear(Databases::Selected, arguments)),
         Name::HSet => of_hashes(hashes::set_fields(name, FieldsReply::Added, arguments)),
         Name::HMSet => of_hashes(hashes::set_fields(name, FieldsReply::Done, arguments)),
         Name::HSetNx => of_hashes(hashes::hsetnx(arguments)),

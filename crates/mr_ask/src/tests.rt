@@ -1,3 +1,5 @@
+mod changing;
+
 use crate::{
     Ask, Cursor, FieldsReply, Group, HashAsk, KeyAsk, KindName, ListAsk, SetCondition, SetReply,
     TextAsk, read,

@@ -1,5 +1,8 @@
 // Commands on strings, with their arguments.
-use mr_words::{Argument, Words};
+ghost use Rattle.std.specs.Prelude.{◌≡◌};
+ghost use Rattle.mr_ask.specs.Parts.{amount_number};
+
+use mr_words::{Argument, Pairs, Words};
 
 /// A command on strings, with its arguments.
 #[derive(Drop)]
@@ -43,6 +46,30 @@ pub enum TextAsk<'a, 't> {
     GetAndDelete {
         key: Argument<'a>,
     },
+    /// `MSET key value [key value ..]`
+    SetAll {
+        pairs: Pairs<'a, 't>,
+    },
+    /// `MSETNX key value [key value ..]`
+    SetAllNew {
+        pairs: Pairs<'a, 't>,
+    },
+    /// `APPEND key value`
+    Append {
+        key: Argument<'a>,
+        value: Argument<'a>,
+    },
+    /// `SETRANGE key offset value`
+    SetRange {
+        key: Argument<'a>,
+        offset: usize,
+        value: Argument<'a>,
+    },
+    /// `INCR key`, `DECR key`, `INCRBY key number`, `DECRBY key number`
+    Increase {
+        key: Argument<'a>,
+        by: Amount,
+    },
 }
 
 /// Which keys a value is set under.
@@ -61,4 +88,30 @@ pub enum SetReply {
     Done,
     /// The text that was there before (`GET`).
     Before,
+}
+
+/// What is added to a number, by the command that asks for it.
+#[derive(Clone, Copy, Debug, PartialEq, Eq)]
+pub enum Amount {
+    /// 1 (`INCR`).
+    One,
+    /// -1 (`DECR`).
+    MinusOne,
+    /// This number, which stands in the request (`INCRBY`).
+    Number(i64),
+    /// This number, whose opposite stands in the request (`DECRBY`).
+    Opposite(i64),
+}
+
+impl Amount {
+    /// The number that is added.
+    pub fn number(self) -> i64
+        ensures { result ≡ amount_number self }
+    {
+        match self {
+            Amount::One => 1,
+            Amount::MinusOne => -1,
+            Amount::Number(number) | Amount::Opposite(number) => number,
+        }
+    }
 }

@@ -8,10 +8,12 @@ use Rattle.mr_value.specs.Number.{number_of}
 use Rattle.mr_value.proofs.Numbers.{same_bytes, number_text}
 use Rattle.mr_words.specs.Names.{lowered}
 use Rattle.mr_words.specs.Pairing.{paired, unpaired, are_pairs, pairs_of}
-use Rattle.mr_words.specs.Parts.{with, integer, not_below_0, count}
+use Rattle.mr_words.specs.Parts.{with, integer, not_below_0, count, offset}
 use Rattle.mr_words.proofs.PairLemmas.{unpaired-paired}
 use Rattle.mr_words.specs.declared.fault.AskFault.{AskFault}
 use Rattle.mr_words.specs.declared.fault.AskFault.TheVariants.{Integer, Syntax}
+use Rattle.mr_words.specs.declared.fault.BadValue.{BadValue}
+use Rattle.mr_words.specs.declared.fault.BadValue.TheVariants.{Negative, Offset}
 
 -- what was read with an argument, and the argument
 pub with_ok : {A B : Type 0} (r : Result A AskFault) (next : A → Result B AskFault) (b : B) → with r next ≡ Ok b → (a : A) × ((r ≡ Ok a) × (next a ≡ Ok b))
@@ -34,16 +36,24 @@ with_integer w next P h = elim (number_of w) as (λ o. number_of w ≡ o → IfO
   | Some n ↦ λ s. h n (number_text w n s).0
 ] refl
 
-pub with_count : {A : Type 0} (w : List ℕ) (next : ℕ → Result A AskFault) (P : A → Type 0)
-    → ((n : ℕ) → w ≡ signed_decimal (pos n) → IfOk (next n) P) → IfOk (with (count w) next) P
-with_count w next P h = elim (number_of w) as (λ o. number_of w ≡ o → IfOk (with (with (ok_or o Integer) not_below_0) next) P) [
+with_natural : {A : Type 0} (w : List ℕ) (otherwise : BadValue) (next : ℕ → Result A AskFault) (P : A → Type 0)
+    → ((n : ℕ) → w ≡ signed_decimal (pos n) → IfOk (next n) P) → IfOk (with (with (integer w) (not_below_0 otherwise)) next) P
+with_natural w otherwise next P h = elim (number_of w) as (λ o. number_of w ≡ o → IfOk (with (with (ok_or o Integer) (not_below_0 otherwise)) next) P) [
   | None ↦ λ s. tt
   | Some n ↦ λ s. natural n (number_text w n s).0
 ] refl
   where
-    natural : (n : ℤ) → w ≡ signed_decimal n → IfOk (with (not_below_0 n) next) P
+    natural : (n : ℤ) → w ≡ signed_decimal n → IfOk (with (not_below_0 otherwise n) next) P
     natural (pos n) e = h n e
     natural (negsuc n) e = tt
+
+pub with_count : {A : Type 0} (w : List ℕ) (next : ℕ → Result A AskFault) (P : A → Type 0)
+    → ((n : ℕ) → w ≡ signed_decimal (pos n) → IfOk (next n) P) → IfOk (with (count w) next) P
+with_count w next P h = with_natural w Negative next P h
+
+pub with_offset : {A : Type 0} (w : List ℕ) (next : ℕ → Result A AskFault) (P : A → Type 0)
+    → ((n : ℕ) → w ≡ signed_decimal (pos n) → IfOk (next n) P) → IfOk (with (offset w) next) P
+with_offset w next P h = with_natural w Offset next P h
 
 pub with_pairs : {A : Type 0} (ws : List (List ℕ)) (fault : AskFault) (next : List (List ℕ × List ℕ) → Result A AskFault) (P : A → Type 0)
     → ((pairs : List (List ℕ × List ℕ)) → ws ≡ unpaired pairs → IfOk (next pairs) P) → IfOk (with (ok_or (pairs_of ws) fault) next) P

@@ -2,7 +2,7 @@
 use Rattle.std.specs.Prelude.{ℕ, ◌+◌, List, [], ◌∷◌, Bool, nat_lt, if◌then◌else◌, Option, map, find, codes}
 use Rattle.std.specs.Str.{bytes_eq}
 use Rattle.mr_words.specs.declared.name.Name.{Name}
-use Rattle.mr_words.specs.declared.name.Name.TheVariants.{Get, Set, Del, Unlink, Exists, KeyType, StrLen, GetRange, MGet, SetNx, GetSet, GetDel, Keys, Scan, DbSize, HSet, HMSet, HSetNx, HGet, HMGet, HGetAll, HKeys, HVals, HDel, HExists, HLen, HStrLen, HIncrBy, LPush, RPush, LPushX, RPushX, LPop, RPop, LLen, LRange, LIndex, LSet, LInsert, LRem, LTrim, LMove, RPopLPush, SAdd, SRem, SIsMember, SMIsMember, SMembers, SCard, SPop, SRandMember, SMove, SInter, SUnion, SDiff, Ping, Echo, Select, Quit, Command, Client}
+use Rattle.mr_words.specs.declared.name.Name.TheVariants.{Get, Set, Del, Unlink, Exists, KeyType, StrLen, GetRange, MGet, SetNx, GetSet, GetDel, Keys, Scan, DbSize, MSet, MSetNx, Append, SetRange, Incr, Decr, IncrBy, DecrBy, Rename, RenameNx, FlushAll, FlushDb, HSet, HMSet, HSetNx, HGet, HMGet, HGetAll, HKeys, HVals, HDel, HExists, HLen, HStrLen, HIncrBy, LPush, RPush, LPushX, RPushX, LPop, RPop, LLen, LRange, LIndex, LSet, LInsert, LRem, LTrim, LMove, RPopLPush, SAdd, SRem, SIsMember, SMIsMember, SMembers, SCard, SPop, SRandMember, SMove, SInter, SUnion, SDiff, Ping, Echo, Select, Quit, Command, Client}
 
 -- a letter from A to Z in lower case, and any other byte as it is
 abbrev pub lowered_byte : ℕ → ℕ
@@ -28,6 +28,18 @@ text_of GetDel = codes "getdel"
 text_of Keys = codes "keys"
 text_of Scan = codes "scan"
 text_of DbSize = codes "dbsize"
+text_of MSet = codes "mset"
+text_of MSetNx = codes "msetnx"
+text_of Append = codes "append"
+text_of SetRange = codes "setrange"
+text_of Incr = codes "incr"
+text_of Decr = codes "decr"
+text_of IncrBy = codes "incrby"
+text_of DecrBy = codes "decrby"
+text_of Rename = codes "rename"
+text_of RenameNx = codes "renamenx"
+text_of FlushAll = codes "flushall"
+text_of FlushDb = codes "flushdb"
 text_of HSet = codes "hset"
 text_of HMSet = codes "hmset"
 text_of HSetNx = codes "hsetnx"
@@ -77,7 +89,7 @@ text_of Client = codes "client"
 
 -- all of them
 abbrev pub names : List Name
-names = Get ∷ Set ∷ Del ∷ Unlink ∷ Exists ∷ KeyType ∷ StrLen ∷ GetRange ∷ MGet ∷ SetNx ∷ GetSet ∷ GetDel ∷ Keys ∷ Scan ∷ DbSize ∷ HSet ∷ HMSet ∷ HSetNx ∷ HGet ∷ HMGet ∷ HGetAll ∷
+names = Get ∷ Set ∷ Del ∷ Unlink ∷ Exists ∷ KeyType ∷ StrLen ∷ GetRange ∷ MGet ∷ SetNx ∷ GetSet ∷ GetDel ∷ Keys ∷ Scan ∷ DbSize ∷ MSet ∷ MSetNx ∷ Append ∷ SetRange ∷ Incr ∷ Decr ∷ IncrBy ∷ DecrBy ∷ Rename ∷ RenameNx ∷ FlushAll ∷ FlushDb ∷ HSet ∷ HMSet ∷ HSetNx ∷ HGet ∷ HMGet ∷ HGetAll ∷
     HKeys ∷ HVals ∷ HDel ∷ HExists ∷ HLen ∷ HStrLen ∷ HIncrBy ∷ LPush ∷ RPush ∷ LPushX ∷ RPushX ∷ LPop ∷
     RPop ∷ LLen ∷ LRange ∷ LIndex ∷ LSet ∷ LInsert ∷ LRem ∷ LTrim ∷ LMove ∷ RPopLPush ∷ SAdd ∷ SRem ∷
     SIsMember ∷ SMIsMember ∷ SMembers ∷ SCard ∷ SPop ∷ SRandMember ∷ SMove ∷ SInter ∷ SUnion ∷ SDiff ∷ Ping ∷

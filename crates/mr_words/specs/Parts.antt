@@ -4,6 +4,7 @@ use Rattle.std.specs.Option.{ok_or}
 use Rattle.mr_value.specs.Number.{number_of}
 use Rattle.mr_words.specs.declared.fault.AskFault.{AskFault}
 use Rattle.mr_words.specs.declared.fault.AskFault.TheVariants.{Integer, Other}
+use Rattle.mr_words.specs.declared.fault.BadValue.{BadValue}
 use Rattle.mr_words.specs.declared.fault.BadValue.TheVariants as bad
 
 -- what is read with an argument that was read, or that argument's fault
@@ -15,10 +16,13 @@ with (Err fault) next = Err fault
 abbrev pub integer : List ℕ → Result ℤ AskFault
 integer word = ok_or (number_of word) Integer
 
--- a number that isn't below 0
-abbrev pub not_below_0 : ℤ → Result ℕ AskFault
-not_below_0 (pos n) = Ok n
-not_below_0 (negsuc n) = Err (Other bad.Negative)
+-- a number that isn't below 0, where one below 0 is that bad value
+abbrev pub not_below_0 : BadValue → ℤ → Result ℕ AskFault
+not_below_0 otherwise (pos n) = Ok n
+not_below_0 otherwise (negsuc n) = Err (Other otherwise)
 
 abbrev pub count : List ℕ → Result ℕ AskFault
-count word = with (integer word) not_below_0
+count word = with (integer word) (not_below_0 bad.Negative)
+
+abbrev pub offset : List ℕ → Result ℕ AskFault
+offset word = with (integer word) (not_below_0 bad.Offset)

@@ -37,6 +37,12 @@ pub enum BadValue {
     /// A cursor that isn't a number from 0 to 2^63 - 1.
     #[error("invalid cursor")]
     Cursor,
+    /// An offset below 0.
+    #[error("offset is out of range")]
+    Offset,
+    /// A number to be taken away whose opposite doesn't have 64 bits.
+    #[error("decrement would overflow")]
+    Decrement,
 }
 
 impl AskFault {
@@ -67,6 +73,8 @@ fn bad_value(value: BadValue) -> &'static [u8]
         BadValue::Negative => b"ERR value is out of range, must be positive",
         BadValue::Database => b"ERR DB index is out of range",
         BadValue::Cursor => b"ERR invalid cursor",
+        BadValue::Offset => b"ERR offset is out of range",
+        BadValue::Decrement => b"ERR decrement would overflow",
     }
 }
 
@@ -90,6 +98,18 @@ fn wrong_count(name: Name) -> &'static [u8]
         Name::Keys => b"ERR wrong number of arguments for 'keys' command",
         Name::Scan => b"ERR wrong number of arguments for 'scan' command",
         Name::DbSize => b"ERR wrong number of arguments for 'dbsize' command",
+        Name::MSet => b"ERR wrong number of arguments for 'mset' command",
+        Name::MSetNx => b"ERR wrong number of arguments for 'msetnx' command",
+        Name::Append => b"ERR wrong number of arguments for 'append' command",
+        Name::SetRange => b"ERR wrong number of arguments for 'setrange' command",
+        Name::Incr => b"ERR wrong number of arguments for 'incr' command",
+        Name::Decr => b"ERR wrong number of arguments for 'decr' command",
+        Name::IncrBy => b"ERR wrong number of arguments for 'incrby' command",
+        Name::DecrBy => b"ERR wrong number of arguments for 'decrby' command",
+        Name::Rename => b"ERR wrong number of arguments for 'rename' command",
+        Name::RenameNx => b"ERR wrong number of arguments for 'renamenx' command",
+        Name::FlushAll => b"ERR wrong number of arguments for 'flushall' command",
+        Name::FlushDb => b"ERR wrong number of arguments for 'flushdb' command",
         Name::HSet => b"ERR wrong number of arguments for 'hset' command",
         Name::HMSet => b"ERR wrong number of arguments for 'hmset' command",
         Name::HSetNx => b"ERR wrong number of arguments for 'hsetnx' command",

@@ -10,7 +10,7 @@ mod words;
 pub use fault::{AskFault, BadValue};
 pub use laws::names_are_found;
 pub use name::Name;
-pub use numbers::{count, integer};
+pub use numbers::{count, integer, offset};
 pub use words::{Argument, Arguments, Pairs, PairsIter, Words};
 
 #[cfg(test)]

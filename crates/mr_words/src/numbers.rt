@@ -1,7 +1,7 @@
 // Numbers among the words of a request.
 ghost use Rattle.std.specs.Prelude.{◌≡◌};
 ghost use Rattle.std.specs.Cow.{cow_slice_items};
-ghost use Rattle.mr_words.specs.Parts.{integer, not_below_0, count};
+ghost use Rattle.mr_words.specs.Parts.{integer, not_below_0, count, offset};
 
 use crate::fault::{AskFault, BadValue};
 use mr_value::read_i64;
@@ -18,14 +18,21 @@ pub fn integer(word: &CowSlice<'_, u8>) -> Result<i64, AskFault>
 pub fn count(word: &CowSlice<'_, u8>) -> Result<usize, AskFault>
     ensures { result ≡ count (cow_slice_items word.now) }
 {
-    not_below_0(integer(word)?)
+    not_below_0(BadValue::Negative, integer(word)?)
 }
 
-fn not_below_0(number: i64) -> Result<usize, AskFault>
-    ensures { result ≡ not_below_0 number }
+/// An offset that isn't below 0. It takes no memory.
+pub fn offset(word: &CowSlice<'_, u8>) -> Result<usize, AskFault>
+    ensures { result ≡ offset (cow_slice_items word.now) }
+{
+    not_below_0(BadValue::Offset, integer(word)?)
+}
+
+fn not_below_0(otherwise: BadValue, number: i64) -> Result<usize, AskFault>
+    ensures { result ≡ not_below_0 otherwise number }
 {
     if number < 0 {
-        Err(AskFault::Other(BadValue::Negative))
+        Err(AskFault::Other(otherwise))
     } else {
         Ok(number as usize)
     }

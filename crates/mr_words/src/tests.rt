@@ -1,4 +1,4 @@
-use crate::{Argument, AskFault, BadValue, Name, Pairs, Words, count, integer};
+use crate::{Argument, AskFault, BadValue, Name, Pairs, Words, count, integer, offset};
 use std::alloc::Global;
 use std::borrow::CowSlice;
 use std::test::Fail;
@@ -20,6 +20,7 @@ fn word(text: &str) -> CowSlice<'_, u8> {
 fn names(rt: HostRuntime) -> Result<(), Fail> {
     assert_eq!(rt; Name::of(b"dEL").ok_or("none")?, Name::Del);
     assert_eq!(rt; Name::of(b"PINGS"), None);
+    assert_eq!(rt; Name::of(b"FlushDB"), Some(Name::FlushDb));
     assert_eq!(rt; Name::Set.text(), "set");
     assert_eq!(rt;
         format!(in rt.alloc(); "{}", AskFault::Arity(Name::Get))?.as_str(),
@@ -45,7 +46,12 @@ fn numbers(rt: HostRuntime) -> Result<(), Fail> {
     assert_eq!(rt; integer(&word("-12")), Ok(-12));
     assert_eq!(rt; integer(&word("012")), Err(AskFault::Integer));
     assert_eq!(rt; count(&word("3")), Ok(3));
-    assert_eq!(rt; count(&word("-3")), Err(AskFault::Other(BadValue::Negative)));
+    assert_eq!(rt;
+        count(&word("-3")),
+        Err(AskFault::Other(BadValue::Negative))
+    );
     assert_eq!(rt; count(&word("x")), Err(AskFault::Integer));
+    assert_eq!(rt; offset(&word("0")), Ok(0));
+    assert_eq!(rt; offset(&word("-1")), Err(AskFault::Other(BadValue::Offset)));
     Ok(())
 }

@@ -1,11 +1,11 @@
 // Commands on keys of any kind.
 ghost use Rattle.std.specs.Prelude.{◌≡◌, map};
 ghost use Rattle.std.specs.Cow.{cow_slice_items};
-ghost use Rattle.mr_ask.specs.Keys.{del, unlink, exists, key_type, matching_keys, scan, dbsize};
+ghost use Rattle.mr_ask.specs.Keys.{del, unlink, exists, key_type, matching_keys, scan, dbsize, rename, renamenx, clear};
 
-use crate::key_ask::KeyAsk;
+use crate::key_ask::{Databases, KeyAsk};
 use crate::options::ScanOptions;
-use crate::parts::{cursor_of, kind_if_any, positive_if_any};
+use crate::parts::{cursor_of, kind_if_any, positive_if_any, timing_of};
 use mr_words::{Argument, Arguments, AskFault, Name, Words};
 
 type Reading<'a, 't> = Result<KeyAsk<'a, 't>, AskFault>;
@@ -95,5 +95,48 @@ pub(crate) fn dbsize<'a, 't>(arguments: Arguments<'a, 't>) -> Reading<'a, 't>
     match arguments {
         [] => Ok(KeyAsk::CountKeys),
         _ => Err(AskFault::Arity(Name::DbSize)),
+    }
+}
+
+/// `RENAME key key`
+pub(crate) fn rename<'a, 't>(arguments: Arguments<'a, 't>) -> Reading<'a, 't>
+    ensures { result ≡ rename (map cow_slice_items arguments.now) }
+{
+    match arguments {
+        [from, to] => Ok(KeyAsk::Rename {
+            from: Argument::of(from),
+            to: Argument::of(to),
+        }),
+        _ => Err(AskFault::Arity(Name::Rename)),
+    }
+}
+
+/// `RENAMENX key key`
+pub(crate) fn renamenx<'a, 't>(arguments: Arguments<'a, 't>) -> Reading<'a, 't>
+    ensures { result ≡ renamenx (map cow_slice_items arguments.now) }
+{
+    match arguments {
+        [from, to] => Ok(KeyAsk::RenameNew {
+            from: Argument::of(from),
+            to: Argument::of(to),
+        }),
+        _ => Err(AskFault::Arity(Name::RenameNx)),
+    }
+}
+
+/// `FLUSHALL [ASYNC|SYNC]`, `FLUSHDB` the same
+pub(crate) fn clear<'a, 't>(databases: Databases, arguments: Arguments<'a, 't>) -> Reading<'a, 't>
+    ensures { result ≡ clear databases (map cow_slice_items arguments.now) }
+{
+    match arguments {
+        [] => Ok(KeyAsk::Clear {
+            databases,
+            timing: None,
+        }),
+        [timing] => Ok(KeyAsk::Clear {
+            databases,
+            timing: Some(timing_of(timing)?),
+        }),
+        _ => Err(AskFault::Syntax),
     }
 }

@@ -1,11 +1,12 @@
 // Commands on strings.
 ghost use Rattle.std.specs.Prelude.{◌≡◌, map};
 ghost use Rattle.std.specs.Cow.{cow_slice_items};
-ghost use Rattle.mr_ask.specs.Texts.{get, set, strlen, getrange, mget, setnx, getset, getdel};
+ghost use Rattle.mr_ask.specs.Texts.{get, set, strlen, getrange, mget, setnx, getset, getdel, mset, msetnx, append, setrange, step, incrby, decrby};
 
 use crate::options::SetOptions;
-use crate::text_ask::TextAsk;
-use mr_words::{Argument, Arguments, AskFault, Name, Words, integer};
+use crate::parts::opposite;
+use crate::text_ask::{Amount, TextAsk};
+use mr_words::{Argument, Arguments, AskFault, Name, Pairs, Words, integer, offset};
 
 type Reading<'a, 't> = Result<TextAsk<'a, 't>, AskFault>;
 
@@ -112,5 +113,95 @@ pub(crate) fn getdel<'a, 't>(arguments: Arguments<'a, 't>) -> Reading<'a, 't>
             key: Argument::of(key),
         }),
         _ => Err(AskFault::Arity(Name::GetDel)),
+    }
+}
+
+/// `MSET key value [key value ..]`
+pub(crate) fn mset<'a, 't>(arguments: Arguments<'a, 't>) -> Reading<'a, 't>
+    ensures { result ≡ mset (map cow_slice_items arguments.now) }
+{
+    match arguments {
+        [] => Err(AskFault::Arity(Name::MSet)),
+        _ => Ok(TextAsk::SetAll {
+            pairs: Pairs::of(arguments).ok_or(AskFault::Arity(Name::MSet))?,
+        }),
+    }
+}
+
+/// `MSETNX key value [key value ..]`
+pub(crate) fn msetnx<'a, 't>(arguments: Arguments<'a, 't>) -> Reading<'a, 't>
+    ensures { result ≡ msetnx (map cow_slice_items arguments.now) }
+{
+    match arguments {
+        [] => Err(AskFault::Arity(Name::MSetNx)),
+        _ => Ok(TextAsk::SetAllNew {
+            pairs: Pairs::of(arguments).ok_or(AskFault::Arity(Name::MSetNx))?,
+        }),
+    }
+}
+
+/// `APPEND key value`
+pub(crate) fn append<'a, 't>(arguments: Arguments<'a, 't>) -> Reading<'a, 't>
+    ensures { result ≡ append (map cow_slice_items arguments.now) }
+{
+    match arguments {
+        [key, value] => Ok(TextAsk::Append {
+            key: Argument::of(key),
+            value: Argument::of(value),
+        }),
+        _ => Err(AskFault::Arity(Name::Append)),
+    }
+}
+
+/// `SETRANGE key offset value`
+pub(crate) fn setrange<'a, 't>(arguments: Arguments<'a, 't>) -> Reading<'a, 't>
+    ensures { result ≡ setrange (map cow_slice_items arguments.now) }
+{
+    match arguments {
+        [key, place, value] => Ok(TextAsk::SetRange {
+            key: Argument::of(key),
+            offset: offset(place)?,
+            value: Argument::of(value),
+        }),
+        _ => Err(AskFault::Arity(Name::SetRange)),
+    }
+}
+
+/// `INCR key`, `DECR key`
+pub(crate) fn step<'a, 't>(name: Name, by: Amount, arguments: Arguments<'a, 't>) -> Reading<'a, 't>
+    ensures { result ≡ step name by (map cow_slice_items arguments.now) }
+{
+    match arguments {
+        [key] => Ok(TextAsk::Increase {
+            key: Argument::of(key),
+            by,
+        }),
+        _ => Err(AskFault::Arity(name)),
+    }
+}
+
+/// `INCRBY key number`
+pub(crate) fn incrby<'a, 't>(arguments: Arguments<'a, 't>) -> Reading<'a, 't>
+    ensures { result ≡ incrby (map cow_slice_items arguments.now) }
+{
+    match arguments {
+        [key, by] => Ok(TextAsk::Increase {
+            key: Argument::of(key),
+            by: Amount::Number(integer(by)?),
+        }),
+        _ => Err(AskFault::Arity(Name::IncrBy)),
+    }
+}
+
+/// `DECRBY key number`
+pub(crate) fn decrby<'a, 't>(arguments: Arguments<'a, 't>) -> Reading<'a, 't>
+    ensures { result ≡ decrby (map cow_slice_items arguments.now) }
+{
+    match arguments {
+        [key, by] => Ok(TextAsk::Increase {
+            key: Argument::of(key),
+            by: Amount::Opposite(opposite(integer(by)?)?),
+        }),
+        _ => Err(AskFault::Arity(Name::DecrBy)),
     }
 }
