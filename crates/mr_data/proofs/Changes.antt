@@ -149,6 +149,14 @@ change_keeps (effect.RemoveMembers k members) m n old fit h = at_key_keeps (remo
 change_keeps (effect.MoveMember from to member) m n old fit h =
     let both = first (fits from && fits to) (fits member) fit in
     move_member_keeps from to member m n old (first (fits from) (fits to) both) (second (fits from) (fits to) both) (second (fits from && fits to) (fits member) fit) h
+change_keeps (effect.SetAll pairs) m n old fit h = cc
+change_keeps (effect.Append k text) m n old fit h = cc
+change_keeps (effect.SetRange k offset text) m n old fit h = cc
+change_keeps (effect.Increase k by) m n old fit h = cc
+change_keeps (effect.Rename from to) m n old fit h = cc
+change_keeps effect.Clear m n old fit h = cc
+change_keeps (effect.SetScores k scores) m n old fit h = cc
+change_keeps (effect.RemoveScores k members) m n old fit h = cc
 
 -- .. and so does one that was refused, but for memory
 pub applied_keeps : (e : Effect) (m new : Dataset) (r : Result (Unit {0}) ApplyFault) → IsDataset m → IsTrue (words_fit e) → Applies (change e m) m r new → (r ≡ Err Memory → ⊥) → IsDataset new

@@ -97,6 +97,7 @@ hashes_suit = record { none = no_fields; taken = taken_hash; put = λ x some fit
     taken_hash (value.Hash s) x h is = let same : s ≡ x = cc in subst FieldsFit same is.fit
     taken_hash (value.List s) x h is = cc
     taken_hash (value.Set s) x h is = cc
+    taken_hash (value.SortedSet s) x h is = cc
 
 pub lists_suit : Suits lists ItemsFit
 lists_suit = record { none = All-nil IsWord; taken = taken_list; put = λ x some fit. record { some = not_none (length x) some; fit = fit } }
@@ -106,6 +107,7 @@ lists_suit = record { none = All-nil IsWord; taken = taken_list; put = λ x some
     taken_list (value.Hash s) x h is = cc
     taken_list (value.List s) x h is = let same : s ≡ x = cc in subst ItemsFit same is.fit
     taken_list (value.Set s) x h is = cc
+    taken_list (value.SortedSet s) x h is = cc
 
 pub sets_suit : Suits sets MembersFit
 sets_suit = record { none = no_members; taken = taken_set; put = λ x some fit. record { some = not_none (len x) some; fit = fit } }
@@ -115,3 +117,4 @@ sets_suit = record { none = no_members; taken = taken_set; put = λ x some fit. 
     taken_set (value.Hash s) x h is = cc
     taken_set (value.List s) x h is = cc
     taken_set (value.Set s) x h is = let same : s ≡ x = cc in subst MembersFit same is.fit
+    taken_set (value.SortedSet s) x h is = cc

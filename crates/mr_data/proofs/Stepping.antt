@@ -91,15 +91,18 @@ not_a_hash (value.Text s) n = refl
 not_a_hash (value.Hash s) n = absurd (n s refl)
 not_a_hash (value.List s) n = refl
 not_a_hash (value.Set s) n = refl
+not_a_hash (value.SortedSet s) n = refl
 
 pub not_a_list : (v : Value) → ((xs : List Bytes) → v ≡ value.List xs → ⊥) → lists.of v ≡ None
 not_a_list (value.Text s) n = refl
 not_a_list (value.Hash s) n = refl
 not_a_list (value.List s) n = absurd (n s refl)
 not_a_list (value.Set s) n = refl
+not_a_list (value.SortedSet s) n = refl
 
 pub not_a_set : (v : Value) → ((s : ByteMap (Unit {0})) → v ≡ value.Set s → ⊥) → sets.of v ≡ None
 not_a_set (value.Text s) n = refl
 not_a_set (value.Hash s) n = refl
 not_a_set (value.List s) n = refl
 not_a_set (value.Set s) n = absurd (n s refl)
+not_a_set (value.SortedSet s) n = refl

@@ -64,6 +64,14 @@ change (effect.MoveItem from to taken put) = move_item from to taken put
 change (effect.AddMembers k members) = at_key (add_members_step members) k
 change (effect.RemoveMembers k members) = at_key (remove_members_step members) k
 change (effect.MoveMember from to member) = move_member from to member
+change (effect.SetAll pairs) = λ m. None
+change (effect.Append k text) = λ m. None
+change (effect.SetRange k offset text) = λ m. None
+change (effect.Increase k by) = λ m. None
+change (effect.Rename from to) = λ m. None
+change effect.Clear = λ m. None
+change (effect.SetScores k scores) = λ m. None
+change (effect.RemoveScores k members) = λ m. None
 
 -- the dataset after an effect
 unfoldable pub apply : Effect → Dataset → Option Dataset

@@ -75,6 +75,7 @@ fn shown(alloc: Global, held: &Dataset, key: &[u8]) -> Result<Vec<u8>, Fail> {
                 out.push(b',')?;
             }
         }
+        Some(Value::SortedSet(_)) => {}
     }
     Ok(out)
 }

@@ -50,6 +50,15 @@ impl Entries {
             Effect::MoveMember { from, to, member } => {
                 self.move_member(from.as_slice(), to, member)
             }
+            // Not done yet.
+            Effect::SetAll { .. } => Err(ApplyFault::Refused),
+            Effect::Append { .. } => Err(ApplyFault::Refused),
+            Effect::SetRange { .. } => Err(ApplyFault::Refused),
+            Effect::Increase { .. } => Err(ApplyFault::Refused),
+            Effect::Rename { .. } => Err(ApplyFault::Refused),
+            Effect::Clear => Err(ApplyFault::Refused),
+            Effect::SetScores { .. } => Err(ApplyFault::Refused),
+            Effect::RemoveScores { .. } => Err(ApplyFault::Refused),
         }
     }
 
@@ -95,6 +104,15 @@ impl Entries {
             Effect::MoveMember { from, to, member } => {
                 self.move_member(from.as_slice(), same(to), same(member))
             }
+            // Not done yet.
+            Effect::SetAll { .. } => Err(ApplyFault::Refused),
+            Effect::Append { .. } => Err(ApplyFault::Refused),
+            Effect::SetRange { .. } => Err(ApplyFault::Refused),
+            Effect::Increase { .. } => Err(ApplyFault::Refused),
+            Effect::Rename { .. } => Err(ApplyFault::Refused),
+            Effect::Clear => Err(ApplyFault::Refused),
+            Effect::SetScores { .. } => Err(ApplyFault::Refused),
+            Effect::RemoveScores { .. } => Err(ApplyFault::Refused),
         }
     }
 }
