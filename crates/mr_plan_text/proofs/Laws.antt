@@ -24,7 +24,7 @@ use Rattle.mr_ask.specs.declared.text_ask.TextAsk.TheVariants as ask
 use Rattle.mr_ask.specs.declared.text_ask.SetCondition.{SetCondition}
 use Rattle.mr_ask.specs.declared.text_ask.SetReply.{SetReply}
 use Rattle.mr_ask.specs.declared.text_ask.SetReply.TheVariants as asked
-use Rattle.mr_turn.specs.Turns.{Turn, kept, done}
+use Rattle.mr_turn.specs.Turns.{Turn, done}
 use Rattle.mr_turn.specs.Commands.{IsFaithful, on_key}
 use Rattle.mr_turn.proofs.Maps.{put_same}
 use Rattle.mr_turn.proofs.Laws.{IsFaithfulTurn, kept_faithful, stays_faithful, if_faithful, by_turn, by_telling, keys_told}

@@ -98,6 +98,6 @@ fn text_or_null(alloc: Global, value: &Value) -> Result<Reply, AllocError>
 {
     match value {
         Value::Text(text) => bulk(alloc, text.as_slice()),
-        Value::Hash(_) | Value::List(_) | Value::Set(_) | Value::SortedSet(_) => Ok(Reply::NullBulk),
+        _ => Ok(Reply::NullBulk),
     }
 }

@@ -1,4 +1,4 @@
-use Rattle.std.proofs.Common.{rules, ◌∙◌}
+use Rattle.std.proofs.Common.{◌∙◌}
 use Rattle.mr_plan_keys.proofs.Listed.{len_parts}
 use Rattle.mr_plan_keys.proofs.counting.count_keys.Goals as goal
 
