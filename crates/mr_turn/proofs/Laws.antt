@@ -1,6 +1,6 @@
 -- The law of faithful effects, lifted from what is done at one key.
-use Rattle.std.proofs.Common.{◌≡◌, List, [], ◌∷◌, ◌++◌, Bool, true, false, Option, Some, None, refl, sym, ◌∙◌, ap}
-use Rattle.std.specs.Prelude.{IsTrue, ◌↔◌, ℤ, if◌then◌else◌}
+use Rattle.std.proofs.Common.{◌≡◌, List, [], ◌∷◌, Bool, true, false, Option, Some, refl, sym, ◌∙◌, ap}
+use Rattle.std.specs.Prelude.{IsTrue, ℤ, if◌then◌else◌}
 use Rattle.std.specs.List.{list_all}
 use Rattle.std.specs.Option.{option_and_then}
 use Rattle.std.specs.FinMap.{get}
@@ -14,7 +14,7 @@ use Rattle.mr_effect.specs.declared.effect.Effect.{Effect}
 use Rattle.mr_turn.specs.Keys.{past, dels, is_stored}
 use Rattle.mr_turn.specs.Turns.{Turn, kept}
 use Rattle.mr_turn.specs.Outcomes.{Outcome, answered, at_key}
-use Rattle.mr_turn.specs.Commands.{Command, on_key, on_keys, on_none, before, after, own_effects, effects, IsFaithful}
+use Rattle.mr_turn.specs.Commands.{Command, on_key, on_keys, on_none, before, own_effects, IsFaithful}
 use Rattle.mr_turn.proofs.Maps.{get_put, put_same}
 use Rattle.mr_turn.proofs.KeyLists.{apply_all-append, dels_lead, chosen_fits}
 

@@ -11,7 +11,7 @@ use Rattle.mr_effect.specs.declared.effect.Effect.{Effect}
 use Rattle.mr_turn.specs.Keys.{dels, past, purged}
 use Rattle.mr_turn.specs.Turns.{Turn, Takes}
 use Rattle.mr_turn.specs.Outcomes.{answered}
-use Rattle.mr_turn.specs.Commands.{Command, on_key, on_keys, on_none, IsPlan}
+use Rattle.mr_turn.specs.Commands.{on_key, on_keys, on_none, IsPlan}
 use Rattle.mr_turn.proofs.Maps.{is_key_itself}
 use Rattle.mr_turn.proofs.KeyLists.{get_purged}
 
