@@ -3,6 +3,7 @@ use Rattle.std.specs.Prelude.{ℕ}
 use Rattle.mr_turn.specs.Commands.{Command}
 use Rattle.mr_ask.specs.declared.ask.Ask.{Ask}
 use Rattle.mr_ask.specs.declared.ask.Ask.TheVariants as ask
+use Rattle.mr_plan_text.specs.Commands as texts
 use Rattle.mr_plan_keys.specs.Commands as keys
 use Rattle.mr_plan_hash.specs.Commands as hashes
 use Rattle.mr_plan_list.specs.Commands as lists
@@ -10,6 +11,7 @@ use Rattle.mr_plan_set.specs.SetCommands as sets
 
 -- by its kind; a command that draws members takes a random word
 abbrev pub command_of : Ask → ℕ → Command
+command_of (ask.Texts command) word = texts.command command
 command_of (ask.Keys command) word = keys.command command
 command_of (ask.Hashes command) word = hashes.command command
 command_of (ask.Lists command) word = lists.command command

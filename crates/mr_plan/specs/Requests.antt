@@ -7,11 +7,11 @@ use Rattle.mr_data.specs.Meaning.{apply_all}
 use Rattle.mr_data.specs.declared.given.Given.{Given}
 use Rattle.mr_effect.specs.declared.effect.Effect.{Effect}
 use Rattle.mr_ask.specs.Asks.{asked}
-use Rattle.mr_ask.specs.Faults.{fault_text}
+use Rattle.mr_words.specs.Faults.{fault_text}
 use Rattle.mr_ask.specs.declared.ask.Ask.{Ask}
 use Rattle.mr_ask.specs.declared.ask.Ask.TheVariants as ask
 use Rattle.mr_ask.specs.declared.server_ask.ServerAsk.TheVariants as server
-use Rattle.mr_ask.specs.declared.fault.AskFault.{AskFault}
+use Rattle.mr_words.specs.declared.fault.AskFault.{AskFault}
 use Rattle.mr_turn.specs.Commands.{IsPlan}
 use Rattle.mr_plan.specs.PlannedCommands.{command_of}
 use Rattle.mr_plan.specs.declared.requests.Answer.{Answer}

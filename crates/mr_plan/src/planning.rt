@@ -22,6 +22,7 @@ pub fn plan(
     ensures faithful { AskFits ask.now → IsFaithful (command_of ask.now given.word) given.now held.now }
 {
     match ask {
+        Ask::Texts(ask) => mr_plan_text::plan(alloc, held, ask, given),
         Ask::Keys(ask) => mr_plan_keys::plan(alloc, held, ask, given),
         Ask::Hashes(ask) => mr_plan_hash::plan(alloc, held, ask, given),
         Ask::Lists(ask) => mr_plan_list::plan(alloc, held, ask, given),

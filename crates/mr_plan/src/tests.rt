@@ -49,6 +49,7 @@ fn requests_are_answered(rt: HostRuntime) -> Result<(), Fail> {
             "SET k v",
             "+OK\r\n*3\r\n$3\r\nSET\r\n$1\r\nk\r\n$1\r\nv\r\n",
         ),
+        ("DBSIZE", ":1\r\n"),
         (
             "HSET h f v",
             ":1\r\n*4\r\n$4\r\nHSET\r\n$1\r\nh\r\n$1\r\nf\r\n$1\r\nv\r\n",
@@ -81,7 +82,7 @@ fn faults_are_told(rt: HostRuntime) -> Result<(), Fail> {
             "get",
             "-ERR wrong number of arguments for 'get' command\r\n",
         ),
-        ("SET k v NX", "-ERR syntax error\r\n"),
+        ("SET k v NX XX", "-ERR syntax error\r\n"),
         ("NOPE k", "-ERR unknown command\r\n"),
         (
             "LRANGE l 0 x",

@@ -21,7 +21,7 @@ use Rattle.mr_data.specs.Meaning.{change as made}
 use Rattle.mr_data.specs.declared.value.Entry.{Entry}
 use Rattle.mr_data.proofs.Fitting.{no_fields, with_fields_fit}
 use Rattle.mr_data.proofs.Nonempty.{with_fields_some, without_fields_none, no_elements}
-use Rattle.mr_ask.specs.Pairing.{unpaired}
+use Rattle.mr_words.specs.Pairing.{unpaired}
 use Rattle.mr_ask.specs.Carried.{hash_words}
 use Rattle.mr_ask.specs.declared.hash_ask.HashAsk.{HashAsk}
 use Rattle.mr_ask.specs.declared.hash_ask.HashAsk.TheVariants as ask

@@ -79,7 +79,7 @@ fn hash_at<'h>(none: &'h Hash, seen: Option<&'h Entry>) -> Option<&'h Hash>
         None => Some(none),
         Some(entry) => match &entry.value {
             Value::Hash(hash) => Some(hash),
-            Value::Text(_) | Value::List(_) | Value::Set(_) => None,
+            Value::Text(_) | Value::List(_) | Value::Set(_) | Value::SortedSet(_) => None,
         },
     }
 }

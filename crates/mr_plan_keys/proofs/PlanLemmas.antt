@@ -8,18 +8,13 @@ use Rattle.mr_resp.specs.Replies as reply
 use Rattle.mr_data.specs.Dataset.{Dataset, live, seen}
 use Rattle.mr_data.proofs.Seeing.{get-seen}
 use Rattle.mr_effect.specs.declared.effect.Effect.{Effect}
-use Rattle.mr_ask.specs.declared.key_ask.KeyAsk.TheVariants as ask
 use Rattle.mr_turn.specs.Keys.{chosen, dels, is_stored, past}
-use Rattle.mr_turn.specs.Commands.{IsPlan}
+use Rattle.mr_turn.specs.Commands.{IsPlan, on_keys}
 use Rattle.mr_turn.proofs.KeyLists.{present_seen, present_purged, more_words}
-use Rattle.mr_plan_keys.specs.Outcomes.{one_if, present, present_at}
-use Rattle.mr_plan_keys.specs.Commands.{command}
+use Rattle.mr_turn.proofs.PlanLemmas.{keys_plan}
+use Rattle.mr_plan_keys.specs.Outcomes.{one_if, present, present_at, deleted, counted}
 
-append_none : {A : Type 0} (xs : List A) → xs ++ [] ≡ xs
-append_none [] = refl
-append_none (x ∷ xs) = ap (λ ys. x ∷ ys) (append_none xs)
-
-pub del_plan : (ks : List Bytes) (now : ℤ) (m : Dataset) (n : ℤ) (none first second list : List Effect) → none ≡ [] → first ≡ none ++ dels (chosen (is_stored now true) ks m) → n ≡ pos (length (chosen (is_stored now false) ks m)) → second ≡ first ++ dels (chosen (is_stored now false) ks m) → list ≡ second → IsPlan (command (ask.Del ks)) now m (reply.int n) list
+pub del_plan : (ks : List Bytes) (now : ℤ) (m : Dataset) (n : ℤ) (none first second list : List Effect) → none ≡ [] → first ≡ none ++ dels (chosen (is_stored now true) ks m) → n ≡ pos (length (chosen (is_stored now false) ks m)) → second ≡ first ++ dels (chosen (is_stored now false) ks m) → list ≡ second → IsPlan (on_keys ks (deleted ks)) now m (reply.int n) list
 del_plan ks now m n none first second list start es count more all = record {
   reply_is = ap reply.int (count ∙ ap (λ (xs : List Bytes). pos (length xs)) (sym (present_seen now ks m)));
   effects_are = all ∙ more
@@ -51,8 +46,5 @@ module _ {A : Type 0} (f : A → Bytes) (now : ℤ) (m : Dataset) (xs : List A) 
     few = elim b as (λ c. n + one_if c ≤ i + 1) [ true ↦ omega (arith, so_far.few) | false ↦ omega (arith, so_far.few) ];
   }
 
-pub exists_plan : (ks : List Bytes) (now : ℤ) (m : Dataset) (n : ℤ) (none first list : List Effect) → none ≡ [] → first ≡ none ++ dels (chosen (is_stored now true) ks m) → n ≡ pos (present_at now m ks) → list ≡ first → IsPlan (command (ask.Exists ks)) now m (reply.int n) list
-exists_plan ks now m n none first list start es count all = record {
-  reply_is = ap reply.int (count ∙ ap pos (seen_count now m ks));
-  effects_are = all ∙ es ∙ ap (λ xs. xs ++ dels (past now ks m)) start ∙ sym (append_none _);
-}
+pub exists_plan : (ks : List Bytes) (now : ℤ) (m : Dataset) (n : ℤ) (none first list : List Effect) → none ≡ [] → first ≡ none ++ dels (past now ks m) → n ≡ pos (present_at now m ks) → list ≡ first → IsPlan (on_keys ks (counted ks)) now m (reply.int n) list
+exists_plan ks now m n none first list start look count all = keys_plan ks (λ x. reply.int (pos (present x ks))) now m (reply.int n) none first list start look (ap reply.int (count ∙ ap pos (seen_count now m ks))) all

@@ -1,4 +1,5 @@
 pub mod Turns
 pub mod Outcomes
+pub mod Listing
 pub mod Server
 pub mod Commands

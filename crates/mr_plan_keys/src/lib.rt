@@ -1,10 +1,11 @@
-//! Plans of commands on strings and on keys whatever they hold, and of those to the server itself.
+//! Plans of commands on keys whatever they hold, and of those to the server itself.
 #![tactic(auto)]
 
 mod counting;
+mod kinds;
+mod listing;
 mod planning;
 mod server;
-mod turns;
 
 pub use planning::plan;
 pub use server::plan_server;

@@ -1,22 +1,27 @@
-// The plan of a command on strings and keys.
-ghost use Rattle.std.specs.Prelude.{◌≡◌, IfOk, IsTrue};
+// The plan of a command on keys, whatever they hold.
+ghost use Rattle.std.specs.Prelude.{◌≡◌, IfOk, IsTrue, option_copied};
 ghost use Rattle.std.specs.List.{list_all};
 ghost use Rattle.mr_value.specs.Words.{fits};
 ghost use Rattle.mr_resp.specs.ReplyView.{view};
 ghost use Rattle.mr_ask.specs.Carried.{key_words};
-ghost use Rattle.mr_ask.specs.declared.key_ask.KeyAsk.TheVariants as asks;
-ghost use Rattle.mr_turn.specs.Commands.{IsPlan, IsFaithful, on_key};
+ghost use Rattle.mr_turn.specs.Commands.{IsPlan, IsFaithful, on_key, on_keys, on_none};
 ghost use Rattle.mr_plan_keys.specs.Commands.{command};
-ghost use Rattle.mr_plan_keys.specs.Turns.{get_turn, set_turn, type_turn};
+ghost use Rattle.mr_plan_keys.specs.Turns.{type_turn};
+ghost use Rattle.mr_plan_keys.specs.Outcomes.{deleted, counted};
+ghost use Rattle.mr_plan_keys.specs.Listing.{matching, scanned, sized};
 
-use crate::counting::count_present;
-use crate::turns;
-use mr_ask::{Argument, KeyAsk, Words};
+use crate::counting::{count_keys, count_present};
+use crate::{kinds, listing};
+use mr_ask::{Argument, Cursor, KeyAsk, KindName, Words};
 use mr_data::{Dataset, Given, Plan};
 use mr_turn::{Effects, count, integer, look, push_dels};
 use std::alloc::{AllocError, Global};
 
-/// What a command is answered, and its effects. The dataset isn't changed, and the plan owns what it holds.
+/// What a command on keys is answered, and its effects. The dataset isn't changed, and the plan owns what it holds.
+///
+/// # Errors
+///
+/// Memory ran out.
 pub fn plan(
     alloc: Global,
     held: &Dataset,
@@ -24,6 +29,8 @@ pub fn plan(
     given: Given,
 ) -> Result<Plan, AllocError>
     ensures plan { IfOk result (λ p. IsPlan (command ask.now) given.now held.now (view p.reply) p.effects.items) }
+
+    // The effects lead to what the command leaves, and its own ones are there exactly where it changes something.
     ensures faithful { IsTrue (list_all fits (key_words ask.now)) → IsFaithful (command ask.now) given.now held.now }
 {
     planned(alloc, held, ask, given)
@@ -38,51 +45,18 @@ fn planned(
     ensures { IfOk result (λ p. IsPlan (command ask.now) given.now held.now (view p.reply) p.effects.items) }
 {
     match ask {
-        KeyAsk::Get { key } => get(alloc, held, key, given),
-        KeyAsk::Set { key, value } => set(alloc, held, key, value, given),
         KeyAsk::Del { keys } => delete(alloc, held, keys, given),
         KeyAsk::Unlink { keys } => delete(alloc, held, keys, given),
         KeyAsk::Exists { keys } => exists(alloc, held, keys, given),
         KeyAsk::KeyType { key } => key_type(alloc, held, key, given),
+        KeyAsk::MatchingKeys { pattern } => matching_keys(alloc, held, pattern, given),
+        KeyAsk::Scan {
+            cursor,
+            pattern,
+            kind,
+        } => scan(alloc, held, *cursor, pattern, *kind, given),
+        KeyAsk::CountKeys => key_count(alloc, held, given),
     }
-}
-
-fn get(alloc: Global, held: &Dataset, key: &Argument<'_>, given: Given) -> Result<Plan, AllocError>
-    ensures { IfOk result (λ p. IsPlan (on_key key.now get_turn) given.now held.now (view p.reply) p.effects.items) }
-{
-    let mut effects = Effects::new(alloc);
-    let seen = look(alloc, held, key, given, &mut effects)?;
-    let reply = turns::get(alloc, seen)?;
-    Ok(effects.into_plan(reply))
-}
-
-fn set(
-    alloc: Global,
-    held: &Dataset,
-    key: &Argument<'_>,
-    value: &Argument<'_>,
-    given: Given,
-) -> Result<Plan, AllocError>
-    ensures { IfOk result (λ p. IsPlan (on_key key.now (set_turn key.now value.now)) given.now held.now (view p.reply) p.effects.items) }
-{
-    let mut effects = Effects::new(alloc);
-    let seen = look(alloc, held, key, given, &mut effects)?;
-    let reply = turns::set(alloc, key, value, seen, &mut effects)?;
-    Ok(effects.into_plan(reply))
-}
-
-fn key_type(
-    alloc: Global,
-    held: &Dataset,
-    key: &Argument<'_>,
-    given: Given,
-) -> Result<Plan, AllocError>
-    ensures { IfOk result (λ p. IsPlan (on_key key.now type_turn) given.now held.now (view p.reply) p.effects.items) }
-{
-    let mut effects = Effects::new(alloc);
-    let seen = look(alloc, held, key, given, &mut effects)?;
-    let reply = turns::key_type(seen);
-    Ok(effects.into_plan(reply))
 }
 
 fn delete(
@@ -91,7 +65,7 @@ fn delete(
     keys: &Words<'_, '_>,
     given: Given,
 ) -> Result<Plan, AllocError>
-    ensures { IfOk result (λ p. IsPlan (command (asks.Del keys.now)) given.now held.now (view p.reply) p.effects.items) }
+    ensures { IfOk result (λ p. IsPlan (on_keys keys.now (deleted keys.now)) given.now held.now (view p.reply) p.effects.items) }
 {
     let mut effects = Effects::new(alloc);
     push_dels(alloc, held, keys, given, true, &mut effects)?;
@@ -105,10 +79,66 @@ fn exists(
     keys: &Words<'_, '_>,
     given: Given,
 ) -> Result<Plan, AllocError>
-    ensures { IfOk result (λ p. IsPlan (command (asks.Exists keys.now)) given.now held.now (view p.reply) p.effects.items) }
+    ensures { IfOk result (λ p. IsPlan (on_keys keys.now (counted keys.now)) given.now held.now (view p.reply) p.effects.items) }
 {
     let mut effects = Effects::new(alloc);
     push_dels(alloc, held, keys, given, true, &mut effects)?;
     let present = count_present(held, keys.as_slice(), given);
     Ok(effects.into_plan(count(present)))
+}
+
+fn key_type(
+    alloc: Global,
+    held: &Dataset,
+    key: &Argument<'_>,
+    given: Given,
+) -> Result<Plan, AllocError>
+    ensures { IfOk result (λ p. IsPlan (on_key key.now type_turn) given.now held.now (view p.reply) p.effects.items) }
+{
+    let mut effects = Effects::new(alloc);
+    let seen = look(alloc, held, key, given, &mut effects)?;
+    let reply = kinds::key_type(seen);
+    Ok(effects.into_plan(reply))
+}
+
+fn matching_keys(
+    alloc: Global,
+    held: &Dataset,
+    pattern: &Argument<'_>,
+    given: Given,
+) -> Result<Plan, AllocError>
+    ensures { IfOk result (λ p. IsPlan (on_none (matching pattern.now)) given.now held.now (view p.reply) p.effects.items) }
+{
+    let reply = listing::list_keys(alloc, held, Some(pattern.as_slice()), None, given)?;
+    Ok(Effects::new(alloc).into_plan(reply))
+}
+
+fn scan(
+    alloc: Global,
+    held: &Dataset,
+    cursor: Cursor,
+    pattern: &Option<Argument<'_>>,
+    kind: Option<KindName>,
+    given: Given,
+) -> Result<Plan, AllocError>
+    ensures { IfOk result (λ p. IsPlan (on_none (scanned cursor pattern.now kind)) given.now held.now (view p.reply) p.effects.items) }
+{
+    let reply = listing::scan(alloc, held, cursor, bytes_of(pattern), kind, given)?;
+    Ok(Effects::new(alloc).into_plan(reply))
+}
+
+fn bytes_of<'a>(word: &Option<Argument<'a>>) -> Option<&'a [u8]>
+    ensures { option_copied result ≡ word.now }
+{
+    match word {
+        None => None,
+        Some(word) => Some(word.as_slice()),
+    }
+}
+
+fn key_count(alloc: Global, held: &Dataset, given: Given) -> Result<Plan, AllocError>
+    ensures { IfOk result (λ p. IsPlan (on_none sized) given.now held.now (view p.reply) p.effects.items) }
+{
+    let present = count_keys(held, given);
+    Ok(Effects::new(alloc).into_plan(count(present)))
 }

@@ -1,3 +1,4 @@
+// Commands one after another: what each is answered, and the effects that it has, which are then done.
 use crate::{plan, plan_server};
 use mr_ask::{Ask, read};
 use mr_data::{Dataset, Effect, End, Given, Words, encode_all};
@@ -31,7 +32,7 @@ fn answered(
     let plan = match read(words.as_slice())? {
         Ask::Keys(ask) => plan(alloc, held, &ask, given)?,
         Ask::Server(ask) => plan_server(alloc, held, &ask, given)?,
-        _ => return Err("a command on a collection".into()),
+        _ => return Err("no command on keys".into()),
     };
     let mut out = Vec::new(alloc);
     write_reply(&plan.reply, &mut out)?;
@@ -54,49 +55,39 @@ fn all_answered(
     Ok(())
 }
 
-#[test]
-fn texts_are_set_and_got(rt: HostRuntime) -> Result<(), Fail> {
-    let alloc = rt.alloc();
-    let held = Dataset::new(alloc, RandomState::new(&rt)?);
-    all_answered(
-        &rt,
-        alloc,
-        held,
-        &[
-            ("GET k", "$-1\r\n"),
-            (
-                "SET k v",
-                "+OK\r\n*3\r\n$3\r\nSET\r\n$1\r\nk\r\n$1\r\nv\r\n",
-            ),
-            ("set k v", "+OK\r\n"),
-            ("gEt k", "$1\r\nv\r\n"),
-            (
-                "SET k w",
-                "+OK\r\n*3\r\n$3\r\nSET\r\n$1\r\nk\r\n$1\r\nw\r\n",
-            ),
-            ("TYPE k", "+string\r\n"),
-            ("TYPE x", "+none\r\n"),
-        ],
-    )
+// A dataset in which one key, l, holds a list.
+fn with_list(rt: &HostRuntime) -> Result<Dataset, Fail> {
+    let mut held = Dataset::new(rt.alloc(), RandomState::new(rt)?);
+    let mut items = Words::new(rt.alloc());
+    items.push(Word::borrowed(b"v"))?;
+    held.apply_owned(Effect::Push {
+        key: Word::borrowed(b"l"),
+        end: End::Left,
+        items,
+    })?;
+    Ok(held)
+}
+
+// A dataset in which l holds a list, and b, ab and a hold texts.
+fn with_keys(rt: &HostRuntime) -> Result<Dataset, Fail> {
+    let mut held = with_list(rt)?;
+    for key in [b"b".as_slice(), b"ab", b"a"] {
+        held.apply_owned(Effect::Set {
+            key: Word::borrowed(key),
+            value: Word::borrowed(b"v"),
+        })?;
+    }
+    Ok(held)
 }
 
 #[test]
 fn keys_are_counted_and_deleted(rt: HostRuntime) -> Result<(), Fail> {
-    let alloc = rt.alloc();
-    let held = Dataset::new(alloc, RandomState::new(&rt)?);
+    let held = with_keys(&rt)?;
     all_answered(
         &rt,
-        alloc,
+        rt.alloc(),
         held,
         &[
-            (
-                "SET b 2",
-                "+OK\r\n*3\r\n$3\r\nSET\r\n$1\r\nb\r\n$1\r\n2\r\n",
-            ),
-            (
-                "SET a 1",
-                "+OK\r\n*3\r\n$3\r\nSET\r\n$1\r\na\r\n$1\r\n1\r\n",
-            ),
             ("EXISTS b x a b", ":3\r\n"),
             (
                 "DEL b x a b",
@@ -104,11 +95,23 @@ fn keys_are_counted_and_deleted(rt: HostRuntime) -> Result<(), Fail> {
             ),
             ("DEL a", ":0\r\n"),
             ("EXISTS a", ":0\r\n"),
-            (
-                "SET k v",
-                "+OK\r\n*3\r\n$3\r\nSET\r\n$1\r\nk\r\n$1\r\nv\r\n",
-            ),
-            ("UNLINK k k", ":1\r\n*2\r\n$3\r\nDEL\r\n$1\r\nk\r\n"),
+            ("DBSIZE", ":2\r\n"),
+            ("UNLINK l l", ":1\r\n*2\r\n$3\r\nDEL\r\n$1\r\nl\r\n"),
+        ],
+    )
+}
+
+#[test]
+fn keys_have_types(rt: HostRuntime) -> Result<(), Fail> {
+    let held = with_keys(&rt)?;
+    all_answered(
+        &rt,
+        rt.alloc(),
+        held,
+        &[
+            ("TYPE a", "+string\r\n"),
+            ("TYPE l", "+list\r\n"),
+            ("TYPE x", "+none\r\n"),
         ],
     )
 }
@@ -136,25 +139,66 @@ fn the_server_answers(rt: HostRuntime) -> Result<(), Fail> {
 }
 
 #[test]
-fn a_list_is_no_text(rt: HostRuntime) -> Result<(), Fail> {
+fn keys_are_listed_in_byte_order(rt: HostRuntime) -> Result<(), Fail> {
+    let held = with_keys(&rt)?;
+    all_answered(
+        &rt,
+        rt.alloc(),
+        held,
+        &[
+            (
+                "KEYS *",
+                "*4\r\n$1\r\na\r\n$2\r\nab\r\n$1\r\nb\r\n$1\r\nl\r\n",
+            ),
+            ("KEYS a*", "*2\r\n$1\r\na\r\n$2\r\nab\r\n"),
+            ("KEYS ?", "*3\r\n$1\r\na\r\n$1\r\nb\r\n$1\r\nl\r\n"),
+            ("KEYS [b-z]", "*2\r\n$1\r\nb\r\n$1\r\nl\r\n"),
+            ("KEYS ab", "*1\r\n$2\r\nab\r\n"),
+            ("KEYS x*", "*0\r\n"),
+            ("DBSIZE", ":4\r\n"),
+        ],
+    )
+}
+
+#[test]
+fn keys_are_scanned_at_once(rt: HostRuntime) -> Result<(), Fail> {
+    let held = with_keys(&rt)?;
+    all_answered(
+        &rt,
+        rt.alloc(),
+        held,
+        &[
+            (
+                "SCAN 0",
+                "*2\r\n$1\r\n0\r\n*4\r\n$1\r\na\r\n$2\r\nab\r\n$1\r\nb\r\n$1\r\nl\r\n",
+            ),
+            ("SCAN 7", "*2\r\n$1\r\n0\r\n*0\r\n"),
+            (
+                "SCAN 0 COUNT 1 MATCH a*",
+                "*2\r\n$1\r\n0\r\n*2\r\n$1\r\na\r\n$2\r\nab\r\n",
+            ),
+            ("SCAN 0 TYPE list", "*2\r\n$1\r\n0\r\n*1\r\n$1\r\nl\r\n"),
+            (
+                "SCAN 0 MATCH ?b TYPE string",
+                "*2\r\n$1\r\n0\r\n*1\r\n$2\r\nab\r\n",
+            ),
+            ("SCAN 0 TYPE zset", "*2\r\n$1\r\n0\r\n*0\r\n"),
+        ],
+    )
+}
+
+#[test]
+fn an_empty_dataset_has_no_keys(rt: HostRuntime) -> Result<(), Fail> {
     let alloc = rt.alloc();
-    let mut held = Dataset::new(alloc, RandomState::new(&rt)?);
-    let mut items = Words::new(alloc);
-    items.push(Word::borrowed(b"v"))?;
-    held.apply_owned(Effect::Push {
-        key: Word::borrowed(b"k"),
-        end: End::Left,
-        items,
-    })?;
-    let got = answered(&rt, alloc, &mut held, "GET k")?;
-    let want = "-WRONGTYPE Operation against a key holding the wrong kind of value\r\n";
-    assert_eq!(rt; got.as_slice(), want.as_bytes());
-    let got = answered(&rt, alloc, &mut held, "TYPE k")?;
-    assert_eq!(rt; got.as_slice(), b"+list\r\n".as_slice());
-    let got = answered(&rt, alloc, &mut held, "SET k v")?;
-    let want = "+OK\r\n*3\r\n$3\r\nSET\r\n$1\r\nk\r\n$1\r\nv\r\n";
-    assert_eq!(rt; got.as_slice(), want.as_bytes());
-    let got = answered(&rt, alloc, &mut held, "GET k")?;
-    assert_eq!(rt; got.as_slice(), b"$1\r\nv\r\n".as_slice());
-    Ok(())
+    let held = Dataset::new(alloc, RandomState::new(&rt)?);
+    all_answered(
+        &rt,
+        alloc,
+        held,
+        &[
+            ("KEYS *", "*0\r\n"),
+            ("SCAN 0", "*2\r\n$1\r\n0\r\n*0\r\n"),
+            ("DBSIZE", ":0\r\n"),
+        ],
+    )
 }

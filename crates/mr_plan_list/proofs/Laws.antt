@@ -46,6 +46,7 @@ few_items (value.List ys) xs h is = let same : ys ≡ xs = cc in subst (λ (zs :
 few_items (value.Text y) xs h is = cc
 few_items (value.Hash y) xs h is = cc
 few_items (value.Set y) xs h is = cc
+few_items (value.SortedSet y) xs h is = cc
 
 is_short : (o : Option Entry) (xs : List Bytes) → IsShort o → held lists o ≡ Some xs → length xs < 2 ^ 63
 is_short None xs h is = let none : [] ≡ xs = cc in subst (λ (zs : List Bytes). length zs < 2 ^ 63) none (omega arith)

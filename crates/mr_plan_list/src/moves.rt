@@ -122,7 +122,7 @@ fn takes_items(target: Option<&Entry>) -> bool
         None => true,
         Some(entry) => match &entry.value {
             Value::List(_) => true,
-            Value::Text(_) | Value::Hash(_) | Value::Set(_) => false,
+            Value::Text(_) | Value::Hash(_) | Value::Set(_) | Value::SortedSet(_) => false,
         },
     }
 }

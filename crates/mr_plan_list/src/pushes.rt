@@ -33,7 +33,9 @@ pub fn push(
         },
         Some(entry) => match &entry.value {
             Value::List(list) => list.len(),
-            Value::Text(_) | Value::Hash(_) | Value::Set(_) => return Ok(wrong_kind()),
+            Value::Text(_) | Value::Hash(_) | Value::Set(_) | Value::SortedSet(_) => {
+                return Ok(wrong_kind());
+            }
         },
     };
     push_groups(alloc, key, end, items.as_slice(), effects)?;

@@ -52,6 +52,7 @@ set_of_fits (value.Set t) s x i h c = let same : t ≡ s = cc in i.fit x (ap (λ
 set_of_fits (value.Text t) s x i h c = cc
 set_of_fits (value.Hash t) s x i h c = cc
 set_of_fits (value.List t) s x i h c = cc
+set_of_fits (value.SortedSet t) s x i h c = cc
 
 pub held_fits : (m : Dataset) (k : Bytes) (o : Option Entry) (s : Members) (x : Bytes) → IsDataset m → get m k ≡ o → held sets o ≡ Some s → contains_key s x ≡ true → IsTrue (fits x)
 held_fits m k None s x i g h c = let same : empty ≡ s = cc in let wrong : false ≡ true = sym (contains_empty x) ∙ ap (λ (u : Members). contains_key u x) same ∙ c in absurd (cc)

@@ -60,6 +60,7 @@ member_of (value.Set t) s x h c = let same : t ≡ s = cc in ap (λ (u : Members
 member_of (value.Text t) s x h c = cc
 member_of (value.Hash t) s x h c = cc
 member_of (value.List t) s x h c = cc
+member_of (value.SortedSet t) s x h c = cc
 
 member_there : (o : Option Entry) (s : Members) (x : Bytes) → is_some o ≡ true → held sets o ≡ Some s → contains_key s x ≡ true → has_member x o ≡ true
 member_there None s x i h c = cc

@@ -21,7 +21,7 @@ pub fn set_at<'d>(seen: Option<&'d Entry>, empty: &'d SetValue) -> Option<&'d Se
     };
     match &entry.value {
         Value::Set(set) => Some(set),
-        Value::Text(_) | Value::Hash(_) | Value::List(_) => None,
+        Value::Text(_) | Value::Hash(_) | Value::List(_) | Value::SortedSet(_) => None,
     }
 }
 

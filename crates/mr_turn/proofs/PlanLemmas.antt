@@ -4,13 +4,14 @@ use Rattle.std.specs.Prelude.{◌||◌, ℤ, Ok, Err, Result, IfOk}
 use Rattle.std.specs.FinMap.{get}
 use Rattle.mr_map.specs.Bytes.{Bytes}
 use Rattle.mr_resp.specs.Replies.{Tree}
-use Rattle.mr_data.specs.Dataset.{Dataset, live}
+use Rattle.mr_data.specs.Dataset.{Dataset, live, seen}
 use Rattle.mr_data.proofs.Seeing.{get-seen}
 use Rattle.mr_data.specs.declared.value.Entry.{Entry}
 use Rattle.mr_effect.specs.declared.effect.Effect.{Effect}
 use Rattle.mr_turn.specs.Keys.{dels, past, purged}
 use Rattle.mr_turn.specs.Turns.{Turn, Takes}
-use Rattle.mr_turn.specs.Commands.{Command, on_key, IsPlan}
+use Rattle.mr_turn.specs.Outcomes.{answered}
+use Rattle.mr_turn.specs.Commands.{on_key, on_keys, on_none, IsPlan}
 use Rattle.mr_turn.proofs.Maps.{is_key_itself}
 use Rattle.mr_turn.proofs.KeyLists.{get_purged}
 
@@ -40,3 +41,14 @@ append_none (x ∷ xs) = ap (λ ys. x ∷ ys) (append_none xs)
 -- a command that only tells of what is there
 pub told : (turn : Turn) {r : Tree} (old : List Effect) → turn.effects ≡ [] → r ≡ turn.reply → Takes turn r old old
 told turn old none is = record { reply_is = is; effects_are = sym (append_none old) ∙ ap (λ xs. old ++ xs) (sym none) }
+
+-- a command that only tells of several keys
+pub keys_plan : (ks : List Bytes) (answer : Dataset → Tree) (now : ℤ) (m : Dataset) (r : Tree) (none first list : List Effect) → none ≡ [] → first ≡ none ++ dels (past now ks m) → r ≡ answer (seen now m) → list ≡ first → IsPlan (on_keys ks (λ n. answered (answer n) n)) now m r list
+keys_plan ks answer now m r none first list start look reply all = record {
+  reply_is = reply;
+  effects_are = all ∙ look ∙ ap (λ xs. xs ++ dels (past now ks m)) start ∙ sym (append_none _);
+}
+
+-- a command that names no key and only tells
+pub none_plan : (answer : Dataset → Tree) (now : ℤ) (m : Dataset) (r : Tree) (none list : List Effect) → none ≡ [] → r ≡ answer (seen now m) → list ≡ none → IsPlan (on_none (λ n. answered (answer n) n)) now m r list
+none_plan answer now m r none list start reply all = record { reply_is = reply; effects_are = all ∙ start }

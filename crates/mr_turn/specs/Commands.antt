@@ -19,6 +19,14 @@ pub record Command : Type 0 where
 abbrev pub on_key : Bytes → (Option Entry → Turn) → Command
 on_key k turn = record { keys = k ∷ []; outcome = at_key k turn }
 
+-- a command on several keys
+abbrev pub on_keys : List Bytes → (Dataset → Outcome) → Command
+on_keys ks does = record { keys = ks; outcome = does }
+
+-- a command that names no key
+abbrev pub on_none : (Dataset → Outcome) → Command
+on_none does = record { keys = []; outcome = does }
+
 -- the answer, by what is seen at a moment
 abbrev pub answer : Command → ℤ → Dataset → Tree
 answer command now m = (command.outcome (seen now m)).reply

@@ -1,6 +1,6 @@
-use Rattle.std.proofs.Common.{rules, arith, ◌≡◌, ◌≤◌, ◌+◌, ℕ, length, map, take, sym, ap, ◌∙◌, add-zero, true, false}
+use Rattle.std.proofs.Common.{sym, ◌∙◌, add-zero, true, false}
 use Rattle.std.specs.Cow.{cow_slice_items}
-use Rattle.mr_plan_keys.proofs.PlanLemmas.{Counts, counts_word}
+use Rattle.mr_plan_keys.proofs.PlanLemmas.{counts_word}
 use Rattle.mr_plan_keys.proofs.counting.count_present.Goals as goal
 use Rattle.mr_plan_keys.proofs.counting.count_present.Goals.{then-is_present, else-is_present}
 

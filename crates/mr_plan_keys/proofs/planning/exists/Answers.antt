@@ -1,4 +1,4 @@
-use Rattle.std.proofs.Common.{rules, ◌≡◌, ◌∙◌, pos}
+use Rattle.std.proofs.Common.{rules, ◌≡◌, pos}
 use Rattle.mr_resp.specs.Replies as reply
 use Rattle.mr_resp.specs.ReplyView.{view}
 use Rattle.mr_plan_keys.proofs.PlanLemmas.{exists_plan}

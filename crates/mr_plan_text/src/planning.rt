@@ -1,0 +1,174 @@
+// The plan of a command on strings.
+ghost use Rattle.std.specs.Prelude.{◌≡◌, IfOk, IsTrue};
+ghost use Rattle.std.specs.List.{list_all};
+ghost use Rattle.mr_value.specs.Words.{fits};
+ghost use Rattle.mr_resp.specs.ReplyView.{view};
+ghost use Rattle.mr_ask.specs.Carried.{text_words};
+ghost use Rattle.mr_turn.specs.Commands.{IsPlan, IsFaithful, on_key, on_keys};
+ghost use Rattle.mr_plan_text.specs.Commands.{command};
+ghost use Rattle.mr_plan_text.specs.Texts.{get_turn, length_turn, range_turn, texts};
+ghost use Rattle.mr_plan_text.specs.Setting.{set_turn, set_new_turn, get_and_set_turn, get_and_delete_turn};
+
+use crate::{setting, texts};
+use mr_ask::{Argument, SetCondition, SetReply, TextAsk, Words};
+use mr_data::{Dataset, Given, Plan};
+use mr_turn::{Effects, look, push_dels};
+use std::alloc::{AllocError, Global};
+
+/// What a command on strings is answered, and its effects. The dataset isn't changed, and the plan owns what it holds.
+///
+/// # Errors
+///
+/// Memory ran out.
+pub fn plan(
+    alloc: Global,
+    held: &Dataset,
+    ask: &TextAsk<'_, '_>,
+    given: Given,
+) -> Result<Plan, AllocError>
+    ensures plan { IfOk result (λ p. IsPlan (command ask.now) given.now held.now (view p.reply) p.effects.items) }
+
+    // The effects lead to what the command leaves, and its own ones are there exactly where it changes something.
+    ensures faithful { IsTrue (list_all fits (text_words ask.now)) → IsFaithful (command ask.now) given.now held.now }
+{
+    planned(alloc, held, ask, given)
+}
+
+fn planned(
+    alloc: Global,
+    held: &Dataset,
+    ask: &TextAsk<'_, '_>,
+    given: Given,
+) -> Result<Plan, AllocError>
+    ensures { IfOk result (λ p. IsPlan (command ask.now) given.now held.now (view p.reply) p.effects.items) }
+{
+    match ask {
+        TextAsk::Get { key } => get(alloc, held, key, given),
+        TextAsk::Set {
+            key,
+            value,
+            condition,
+            reply,
+        } => set(alloc, held, key, value, *condition, *reply, given),
+        TextAsk::TextLength { key } => text_length(alloc, held, key, given),
+        TextAsk::GetRange { key, first, last } => get_range(alloc, held, key, *first, *last, given),
+        TextAsk::GetAll { keys } => get_all(alloc, held, keys, given),
+        TextAsk::SetNew { key, value } => set_new(alloc, held, key, value, given),
+        TextAsk::GetAndSet { key, value } => get_and_set(alloc, held, key, value, given),
+        TextAsk::GetAndDelete { key } => get_and_delete(alloc, held, key, given),
+    }
+}
+
+fn get(alloc: Global, held: &Dataset, key: &Argument<'_>, given: Given) -> Result<Plan, AllocError>
+    ensures { IfOk result (λ p. IsPlan (on_key key.now get_turn) given.now held.now (view p.reply) p.effects.items) }
+{
+    let mut effects = Effects::new(alloc);
+    let seen = look(alloc, held, key, given, &mut effects)?;
+    let reply = texts::get(alloc, seen)?;
+    Ok(effects.into_plan(reply))
+}
+
+fn text_length(
+    alloc: Global,
+    held: &Dataset,
+    key: &Argument<'_>,
+    given: Given,
+) -> Result<Plan, AllocError>
+    ensures { IfOk result (λ p. IsPlan (on_key key.now length_turn) given.now held.now (view p.reply) p.effects.items) }
+{
+    let mut effects = Effects::new(alloc);
+    let seen = look(alloc, held, key, given, &mut effects)?;
+    let reply = texts::text_length(seen);
+    Ok(effects.into_plan(reply))
+}
+
+fn get_range(
+    alloc: Global,
+    held: &Dataset,
+    key: &Argument<'_>,
+    first: i64,
+    last: i64,
+    given: Given,
+) -> Result<Plan, AllocError>
+    ensures { IfOk result (λ p. IsPlan (on_key key.now (range_turn first last)) given.now held.now (view p.reply) p.effects.items) }
+{
+    let mut effects = Effects::new(alloc);
+    let seen = look(alloc, held, key, given, &mut effects)?;
+    let reply = texts::get_range(alloc, first, last, seen)?;
+    Ok(effects.into_plan(reply))
+}
+
+fn get_all(
+    alloc: Global,
+    held: &Dataset,
+    keys: &Words<'_, '_>,
+    given: Given,
+) -> Result<Plan, AllocError>
+    ensures { IfOk result (λ p. IsPlan (on_keys keys.now (texts keys.now)) given.now held.now (view p.reply) p.effects.items) }
+{
+    let mut effects = Effects::new(alloc);
+    push_dels(alloc, held, keys, given, true, &mut effects)?;
+    let reply = texts::get_all(alloc, held, keys, given)?;
+    Ok(effects.into_plan(reply))
+}
+
+fn set(
+    alloc: Global,
+    held: &Dataset,
+    key: &Argument<'_>,
+    value: &Argument<'_>,
+    condition: Option<SetCondition>,
+    reply: SetReply,
+    given: Given,
+) -> Result<Plan, AllocError>
+    ensures { IfOk result (λ p. IsPlan (on_key key.now (set_turn key.now value.now condition reply)) given.now held.now (view p.reply) p.effects.items) }
+{
+    let mut effects = Effects::new(alloc);
+    let seen = look(alloc, held, key, given, &mut effects)?;
+    let reply = setting::set(alloc, key, value, condition, reply, seen, &mut effects)?;
+    Ok(effects.into_plan(reply))
+}
+
+fn set_new(
+    alloc: Global,
+    held: &Dataset,
+    key: &Argument<'_>,
+    value: &Argument<'_>,
+    given: Given,
+) -> Result<Plan, AllocError>
+    ensures { IfOk result (λ p. IsPlan (on_key key.now (set_new_turn key.now value.now)) given.now held.now (view p.reply) p.effects.items) }
+{
+    let mut effects = Effects::new(alloc);
+    let seen = look(alloc, held, key, given, &mut effects)?;
+    let reply = setting::set_new(alloc, key, value, seen, &mut effects)?;
+    Ok(effects.into_plan(reply))
+}
+
+fn get_and_set(
+    alloc: Global,
+    held: &Dataset,
+    key: &Argument<'_>,
+    value: &Argument<'_>,
+    given: Given,
+) -> Result<Plan, AllocError>
+    ensures { IfOk result (λ p. IsPlan (on_key key.now (get_and_set_turn key.now value.now)) given.now held.now (view p.reply) p.effects.items) }
+{
+    let mut effects = Effects::new(alloc);
+    let seen = look(alloc, held, key, given, &mut effects)?;
+    let reply = setting::get_and_set(alloc, key, value, seen, &mut effects)?;
+    Ok(effects.into_plan(reply))
+}
+
+fn get_and_delete(
+    alloc: Global,
+    held: &Dataset,
+    key: &Argument<'_>,
+    given: Given,
+) -> Result<Plan, AllocError>
+    ensures { IfOk result (λ p. IsPlan (on_key key.now (get_and_delete_turn key.now)) given.now held.now (view p.reply) p.effects.items) }
+{
+    let mut effects = Effects::new(alloc);
+    let seen = look(alloc, held, key, given, &mut effects)?;
+    let reply = setting::get_and_delete(alloc, key, seen, &mut effects)?;
+    Ok(effects.into_plan(reply))
+}

@@ -1,0 +1,205 @@
+// Commands that set a text, or take one away.
+ghost use Rattle.std.specs.Prelude.{◌≡◌, [], ◌∷◌, ◌++◌, IfOk, OnOk, option_copied};
+ghost use Rattle.mr_resp.specs.Replies.{bytes};
+ghost use Rattle.mr_resp.specs.ReplyView.{view};
+ghost use Rattle.mr_effect.specs.declared.effect.Effect.TheVariants as effect;
+ghost use Rattle.mr_turn.specs.Turns.{Takes};
+ghost use Rattle.mr_ask.specs.declared.text_ask.SetReply.TheVariants as asked;
+ghost use Rattle.mr_plan_text.specs.Setting.{put, set_turn, set_new_turn, get_and_set_turn, get_and_delete_turn, allows, is_text, is_plain, is_other, holds_other};
+
+use crate::texts::get;
+use mr_ask::{Argument, SetCondition, SetReply};
+use mr_data::{Effect, Entry, Value};
+use mr_resp::Reply;
+use mr_turn::{Effects, bulk, count, done, wrong_kind};
+use mr_value::Word;
+use std::alloc::{AllocError, Global};
+
+/// `SET`
+pub fn set(
+    alloc: Global,
+    key: &Argument<'_>,
+    text: &Argument<'_>,
+    condition: Option<SetCondition>,
+    reply: SetReply,
+    seen: Option<&Entry>,
+    effects: &mut Effects,
+) -> Result<Reply, AllocError>
+    ensures { IfOk result (λ r. Takes (set_turn key.now text.now condition reply (option_copied seen.entry)) (view r) effects.old effects.new) }
+{
+    match reply {
+        SetReply::Done => set_and_say(alloc, key, text, condition, seen, effects),
+        SetReply::Before => set_and_get(alloc, key, text, condition, seen, effects),
+    }
+}
+
+// SET without GET.
+fn set_and_say(
+    alloc: Global,
+    key: &Argument<'_>,
+    text: &Argument<'_>,
+    condition: Option<SetCondition>,
+    seen: Option<&Entry>,
+    effects: &mut Effects,
+) -> Result<Reply, AllocError>
+    ensures { IfOk result (λ r. Takes (set_turn key.now text.now condition asked.Done (option_copied seen.entry)) (view r) effects.old effects.new) }
+{
+    if !allows(condition, seen) {
+        return Ok(Reply::NullBulk);
+    }
+    put(alloc, key, text, done(), seen, effects)
+}
+
+// SET with GET.
+fn set_and_get(
+    alloc: Global,
+    key: &Argument<'_>,
+    text: &Argument<'_>,
+    condition: Option<SetCondition>,
+    seen: Option<&Entry>,
+    effects: &mut Effects,
+) -> Result<Reply, AllocError>
+    ensures { IfOk result (λ r. Takes (set_turn key.now text.now condition asked.Before (option_copied seen.entry)) (view r) effects.old effects.new) }
+{
+    if holds_other(seen) {
+        return Ok(wrong_kind());
+    }
+    let before = get(alloc, seen)?;
+    if !allows(condition, seen) {
+        return Ok(before);
+    }
+    put(alloc, key, text, before, seen, effects)
+}
+
+/// `SETNX`
+pub fn set_new(
+    alloc: Global,
+    key: &Argument<'_>,
+    text: &Argument<'_>,
+    seen: Option<&Entry>,
+    effects: &mut Effects,
+) -> Result<Reply, AllocError>
+    ensures { IfOk result (λ r. Takes (set_new_turn key.now text.now (option_copied seen.entry)) (view r) effects.old effects.new) }
+{
+    if seen.is_some() {
+        return Ok(count(0));
+    }
+    put(alloc, key, text, count(1), seen, effects)
+}
+
+/// `GETSET`
+pub fn get_and_set(
+    alloc: Global,
+    key: &Argument<'_>,
+    text: &Argument<'_>,
+    seen: Option<&Entry>,
+    effects: &mut Effects,
+) -> Result<Reply, AllocError>
+    ensures { IfOk result (λ r. Takes (get_and_set_turn key.now text.now (option_copied seen.entry)) (view r) effects.old effects.new) }
+{
+    set_and_get(alloc, key, text, None, seen, effects)
+}
+
+/// `GETDEL`
+pub fn get_and_delete(
+    alloc: Global,
+    key: &Argument<'_>,
+    seen: Option<&Entry>,
+    effects: &mut Effects,
+) -> Result<Reply, AllocError>
+    ensures { IfOk result (λ r. Takes (get_and_delete_turn key.now (option_copied seen.entry)) (view r) effects.old effects.new) }
+{
+    let Some(entry) = seen else {
+        return Ok(Reply::NullBulk);
+    };
+    match &entry.value {
+        Value::Text(text) => take(alloc, key, text.as_slice(), effects),
+        Value::Hash(_) | Value::List(_) | Value::Set(_) | Value::SortedSet(_) => Ok(wrong_kind()),
+    }
+}
+
+// The text is answered, and the key goes.
+fn take(
+    alloc: Global,
+    key: &Argument<'_>,
+    text: &[u8],
+    effects: &mut Effects,
+) -> Result<Reply, AllocError>
+    ensures reply { IfOk result (λ r. view r ≡ bytes text.now) }
+    ensures effects { OnOk result (effects.new ≡ effects.old ++ effect.Del key.now ∷ []) }
+{
+    effects.push(Effect::Del {
+        key: Word::copied(alloc, key.as_slice())?,
+    })?;
+    let reply = bulk(alloc, text)?;
+    Ok(reply)
+}
+
+// The key gets the text, and this is answered.
+fn put(
+    alloc: Global,
+    key: &Argument<'_>,
+    text: &Argument<'_>,
+    reply: Reply,
+    seen: Option<&Entry>,
+    effects: &mut Effects,
+) -> Result<Reply, AllocError>
+    ensures { IfOk result (λ r. Takes (put key.now text.now (view reply) (option_copied seen.entry)) (view r) effects.old effects.new) }
+{
+    if !is_plain(text.as_slice(), seen) {
+        effects.push(Effect::Set {
+            key: Word::copied(alloc, key.as_slice())?,
+            value: Word::copied(alloc, text.as_slice())?,
+        })?;
+    }
+    Ok(reply)
+}
+
+// Whether the condition lets the key be set.
+fn allows(condition: Option<SetCondition>, seen: Option<&Entry>) -> bool
+    ensures { result ≡ allows condition (option_copied seen.entry) }
+{
+    match condition {
+        None => true,
+        Some(SetCondition::Absent) => seen.is_none(),
+        Some(SetCondition::Present) => seen.is_some(),
+    }
+}
+
+// Whether the key holds another kind of value.
+fn holds_other(seen: Option<&Entry>) -> bool
+    ensures { result ≡ holds_other (option_copied seen.entry) }
+{
+    match seen {
+        None => false,
+        Some(entry) => is_other(&entry.value),
+    }
+}
+
+fn is_other(value: &Value) -> bool
+    ensures { result ≡ is_other value.now }
+{
+    match value {
+        Value::Text(_) => false,
+        Value::Hash(_) | Value::List(_) | Value::Set(_) | Value::SortedSet(_) => true,
+    }
+}
+
+// Whether the entry is this text already, without a deadline.
+fn is_plain(text: &[u8], seen: Option<&Entry>) -> bool
+    ensures { result ≡ is_plain text.now (option_copied seen.entry) }
+{
+    let Some(entry) = seen else {
+        return false;
+    };
+    entry.deadline.is_none() && is_text(text, &entry.value)
+}
+
+fn is_text(text: &[u8], value: &Value) -> bool
+    ensures { result ≡ is_text text.now value.now }
+{
+    match value {
+        Value::Text(held) => held.as_slice() == text,
+        Value::Hash(_) | Value::List(_) | Value::Set(_) | Value::SortedSet(_) => false,
+    }
+}
