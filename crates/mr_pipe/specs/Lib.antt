@@ -2,3 +2,4 @@ pub mod Sessions
 pub mod Serving
 pub mod Piped
 pub mod Reading
+pub mod Faults

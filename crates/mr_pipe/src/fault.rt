@@ -1,4 +1,7 @@
 // Why a pipe ends early.
+ghost use Rattle.std.specs.Prelude.{◌≡◌};
+ghost use Rattle.mr_pipe.specs.Faults.{fault_of};
+
 use mr_node::NodeFault;
 use thiserror::Error;
 
@@ -23,6 +26,8 @@ pub enum PipeFault {
 }
 
 impl From<NodeFault> for PipeFault {
+    ghost from_gives = { λ refused fault. fault ≡ fault_of refused };
+
     fn from(fault: NodeFault) -> PipeFault {
         match fault {
             NodeFault::Memory | NodeFault::InputFull | NodeFault::NoLink => PipeFault::Memory,
