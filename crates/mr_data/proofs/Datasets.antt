@@ -38,7 +38,7 @@ abbrev pub HasValue : Option Entry → Type 0
 HasValue None = Unit {0}
 HasValue (Some e) = IsValue e.value
 
-put_keeps : (m : Dataset) (k : Bytes) (o : Option Entry) → IsDataset m → IsWord k → HasValue o → IsDataset (put_at m k o)
+pub put_keeps : (m : Dataset) (k : Bytes) (o : Option Entry) → IsDataset m → IsWord k → HasValue o → IsDataset (put_at m k o)
 put_keeps m k None old fit new = updated m _ k None (get-remove nat_list_cmp_total m k) (λ e h. absurd (nothing e h)) old
 put_keeps m k (Some e) old fit new = updated m _ k (Some e) (get-insert nat_list_cmp_total m k e) (λ f h. let same : e ≡ f = cc in subst (IsEntry k) same (record { key = fit; value = new })) old
 

@@ -9,6 +9,8 @@ use std::hash::RandomState;
 use std::process::Abort;
 use std::test::Fail;
 
+mod texts;
+
 const OVER_THE_LIMIT: usize = 16_777_217;
 
 fn set<'a>(key: &'a [u8], value: &'a [u8]) -> Effect<'a> {
