@@ -1,5 +1,5 @@
 -- Effects on texts, and on whole entries, leave a dataset a dataset.
-use Rattle.std.proofs.Common.{◌≡◌, ℕ, ℤ, List, [], ◌∷◌, ◌++◌, Bool, true, false, IsTrue, Option, Some, None, refl, sym, ◌∙◌, ap, subst, codes, length, arith}
+use Rattle.std.proofs.Common.{◌≡◌, ℤ, List, [], ◌∷◌, ◌++◌, true, false, IsTrue, Some, None, refl, subst, codes, length, arith}
 use Rattle.std.specs.Prelude.{◌+ℤ◌, ◌+◌, ◌≤◌, ◌==◌, if◌then◌else◌, unsigned_abs}
 use Rattle.std.specs.Option.{option_map, option_and_then}
 use Rattle.std.specs.List.{list_all}
@@ -14,11 +14,10 @@ use Rattle.mr_value.specs.Words.{fits}
 use Rattle.mr_effect.specs.Effects.{pair_fits}
 use Rattle.mr_data.specs.Dataset.{Dataset, IsWord, IsDataset, IsValue}
 use Rattle.mr_data.specs.Steps.{texts, held, same, on, without_deadline, append_step, set_range_step, increase_step}
-use Rattle.mr_data.specs.Texts.{fitting, sum_of, sum_with, increased}
+use Rattle.mr_data.specs.Texts.{fitting, sum_of, increased}
 use Rattle.mr_data.specs.Meaning.{with_texts, rename}
 use Rattle.mr_data.specs.declared.value.Value.{Value}
 use Rattle.mr_data.specs.declared.value.Value.TheVariants as value
-use Rattle.mr_data.specs.declared.value.Entry.{Entry}
 use Rattle.mr_data.proofs.Fitting.{first, second}
 use Rattle.mr_data.proofs.Datasets.{Keeps, HasValue, Suits, on_keeps, put_keeps}
 

@@ -1,5 +1,5 @@
 -- A text that is written over.
-use Rattle.std.proofs.Common.{◌≡◌, ◌+◌, ◌-◌, ◌≤◌, ℕ, zero, suc, List, [], ◌∷◌, ◌++◌, length, take, drop, replicate, IsTrue, refl, sym, ◌∙◌, ap, arith, append_assoc, length-append, length-take, length-drop, rules}
+use Rattle.std.proofs.Common.{◌≡◌, ◌+◌, ◌-◌, ◌≤◌, ℕ, zero, suc, List, [], ◌∷◌, ◌++◌, length, take, drop, replicate, IsTrue, refl, ◌∙◌, ap, arith, append_assoc, length-append, length-take, length-drop, rules}
 use Rattle.std.proofs.lemmas.Bool.{leb-true}
 use Rattle.std.proofs.lemmas.List.{take-replicate, drop-replicate, length-replicate}
 use Rattle.mr_value.specs.Texts.{overwritten}
@@ -35,9 +35,9 @@ unfolding overwritten
 overwritten_is t v offset z is =
     let zeros : List ℕ = replicate (offset + length v - length t) 0 in
     let front : take offset z ≡ take offset t ++ replicate (offset - length t) 0 =
-      ap (take offset) is ∙ take_append offset t zeros ∙ ap (λ (r : List ℕ). take offset t ++ r) (take-replicate (offset - length t) (offset + length v - length t) 0 (omega arith)) in
+    ap (take offset) is ∙ take_append offset t zeros ∙ ap (λ (r : List ℕ). take offset t ++ r) (take-replicate (offset - length t) (offset + length v - length t) 0 (omega arith)) in
     let back : drop (offset + length v) z ≡ drop (offset + length v) t =
-      ap (drop (offset + length v)) is ∙ drop_append (offset + length v) t zeros ∙ ap (λ (r : List ℕ). drop (offset + length v) t ++ r) (no_zeros_left (offset + length v - length t) 0) ∙ search rules in
+    ap (drop (offset + length v)) is ∙ drop_append (offset + length v) t zeros ∙ ap (λ (r : List ℕ). drop (offset + length v) t ++ r) (no_zeros_left (offset + length v - length t) 0) ∙ search rules in
     rw (front, back) (append_assoc (take offset t) (replicate (offset - length t) 0) (v ++ drop (offset + length v) t))
 
 pub ends_within : (t v : List ℕ) (offset : ℕ) → IsTrue (fits (overwritten offset v t)) → offset + length v ≤ word_limit

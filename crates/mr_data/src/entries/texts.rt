@@ -90,12 +90,7 @@ impl Entries {
         }
     }
 
-    fn write_range(
-        &mut self,
-        key: Word<'_>,
-        offset: usize,
-        part: &[u8],
-    ) -> Result<(), ApplyFault>
+    fn write_range(&mut self, key: Word<'_>, offset: usize, part: &[u8]) -> Result<(), ApplyFault>
         ensures { Applies (at_key (on (texts []) (λ text. fitting (overwritten offset part.now text))) key.entry self.old) self.old result self.new }
     {
         let Some(entry) = self.by_key.get_mut(key.as_slice()) else {

@@ -46,7 +46,11 @@ fn numbers_are_increased(rt: HostRuntime) -> Result<(), Fail> {
             ("INCRBY k 5", "k", "text:5"),
             ("INCRBY k -12", "k", "text:-7"),
             ("INCRBY n 0", "n", "text:0"),
-            ("INCRBY m -9223372036854775808", "m", "text:-9223372036854775808"),
+            (
+                "INCRBY m -9223372036854775808",
+                "m",
+                "text:-9223372036854775808",
+            ),
         ],
     )
 }

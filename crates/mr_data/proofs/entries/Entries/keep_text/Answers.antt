@@ -1,4 +1,4 @@
-use Rattle.std.proofs.Common.{rules, ◌≡◌, [], true, false}
+use Rattle.std.proofs.Common.{rules, ◌≡◌, [], true}
 use Rattle.std.specs.Prelude.{is_some}
 use Rattle.std.specs.FinMap.{get}
 use Rattle.mr_data.specs.Steps.{held, texts}
