@@ -17,13 +17,13 @@ use Rattle.mr_data.specs.declared.value.Value.TheVariants as value
 use Rattle.mr_data.specs.declared.value.Entry.{Entry}
 use Rattle.mr_data.specs.Dataset.{Dataset, IsWord, IsDataset, IsValue}
 use Rattle.mr_data.specs.Collections.{with_fields, without_fields, with_members, without_members, with_scores, without_scores, put_item, pushed, popped, end_item, turned, may_take, is_place_of, is_part_of, place_beside}
-use Rattle.mr_data.specs.Steps.{without_deadline, hashes, lists, sets, sorted_sets, held, set_step, del_step, set_fields_step, remove_fields_step, push_step, pop_step, set_item_step, insert_item_step, remove_items_step, trim_step, turn_step, add_members_step, remove_members_step, set_scores_step, remove_scores_step, append_step, set_range_step, increase_step}
-use Rattle.mr_data.specs.Meaning.{at_key, change, item_at, carry_item, move_item, has_member, carry_member, move_member, with_texts}
+use Rattle.mr_data.specs.Steps.{without_deadline, hashes, lists, sets, sorted_sets, held, set_step, del_step, append_step, set_range_step, increase_step, set_fields_step, remove_fields_step, push_step, pop_step, set_item_step, insert_item_step, remove_items_step, trim_step, turn_step, add_members_step, remove_members_step, set_scores_step, remove_scores_step}
+use Rattle.mr_data.specs.Meaning.{at_key, change, with_texts, item_at, carry_item, move_item, has_member, carry_member, move_member}
 use Rattle.mr_data.specs.Outcome.{Applies}
 use Rattle.mr_data.specs.declared.fault.ApplyFault.{ApplyFault}
 use Rattle.mr_data.specs.declared.fault.ApplyFault.TheVariants.{Refused, Memory}
 use Rattle.mr_data.proofs.Fitting.{first, second, FieldsFit, MembersFit, ScoresFit, ItemsFit, with_fields_fit, without_fields_fit, with_members_fit, without_members_fit, with_scores_fit, without_scores_fit, put_item_fits, pushed_fit, popped_fit, end_item_fits, inserted_fit, set_fit, range_fit, without_fit}
-use Rattle.mr_data.proofs.Datasets.{Keeps, HasValue, at_key_keeps, on_keeps, held_suits, value_at, hashes_suit, lists_suit, sets_suit, sorted_sets_suit, IsDataset-empty}
+use Rattle.mr_data.proofs.Datasets.{IsDataset-empty, Keeps, HasValue, at_key_keeps, on_keeps, held_suits, value_at, hashes_suit, lists_suit, sets_suit, sorted_sets_suit}
 use Rattle.mr_data.proofs.TextChanges.{append_keeps, set_range_keeps, increase_keeps, with_texts_keeps, rename_keeps}
 
 -- f is done everywhere

@@ -10,7 +10,7 @@ use Rattle.mr_effect.specs.declared.effect.Effect.TheVariants as effect
 use Rattle.mr_value.specs.declared.ends.End.{End}
 use Rattle.mr_data.specs.Dataset.{Dataset, put_at}
 use Rattle.mr_data.specs.Collections.{end_item}
-use Rattle.mr_data.specs.Steps.{Step, lists, held, set_step, del_step, set_fields_step, remove_fields_step, push_step, pop_step, set_item_step, insert_item_step, remove_items_step, trim_step, turn_step, add_members_step, remove_members_step, set_scores_step, remove_scores_step, without_deadline, append_step, set_range_step, increase_step}
+use Rattle.mr_data.specs.Steps.{Step, lists, held, without_deadline, set_step, del_step, append_step, set_range_step, increase_step, set_fields_step, remove_fields_step, push_step, pop_step, set_item_step, insert_item_step, remove_items_step, trim_step, turn_step, add_members_step, remove_members_step, set_scores_step, remove_scores_step}
 use Rattle.mr_data.specs.declared.value.Value.{Value}
 use Rattle.mr_data.specs.declared.value.Value.TheVariants as value
 use Rattle.mr_data.specs.declared.value.Entry.{Entry}
