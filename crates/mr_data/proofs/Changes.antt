@@ -1,11 +1,11 @@
 -- Effects whose words are within the limit leave a dataset a dataset.
-use Rattle.std.proofs.Common.{◌≡◌, ℕ, ℤ, List, [], ◌∷◌, Bool, true, false, ◌&&◌, IsTrue, Option, Some, None, Result, Ok, Err, refl, sym, ◌∙◌, ap, subst}
+use Rattle.std.proofs.Common.{◌≡◌, ℤ, List, [], ◌∷◌, Bool, true, false, ◌&&◌, IsTrue, Option, Some, None, Result, Ok, Err, refl, sym, ap, subst}
 use Rattle.std.specs.Prelude.{insert, length, slice_set, slice_range, unsigned_abs, ◌+◌, if◌then◌else◌, pos}
 use Rattle.std.specs.Option.{option_map, option_and_then}
 use Rattle.std.specs.List.{list_all}
 use Rattle.std.specs.Str.{bytes_eq}
 use Rattle.std.specs.FinMap.{get, empty}
-use Rattle.mr_map.specs.Bytes.{Bytes, ByteMap}
+use Rattle.mr_map.specs.Bytes.{Bytes}
 use Rattle.mr_value.specs.Words.{fits}
 use Rattle.mr_value.specs.Lists.{without}
 use Rattle.mr_effect.specs.Effects.{words_fit, has_spelling, pair_fits, member_fits, has_score, is_some_of}
@@ -23,7 +23,7 @@ use Rattle.mr_data.specs.Outcome.{Applies}
 use Rattle.mr_data.specs.declared.fault.ApplyFault.{ApplyFault}
 use Rattle.mr_data.specs.declared.fault.ApplyFault.TheVariants.{Refused, Memory}
 use Rattle.mr_data.proofs.Fitting.{first, second, FieldsFit, MembersFit, ScoresFit, ItemsFit, with_fields_fit, without_fields_fit, with_members_fit, without_members_fit, with_scores_fit, without_scores_fit, put_item_fits, pushed_fit, popped_fit, end_item_fits, inserted_fit, set_fit, range_fit, without_fit}
-use Rattle.mr_data.proofs.Datasets.{IsDataset-empty, Keeps, HasValue, at_key_keeps, on_keeps, held_suits, value_at, hashes_suit, lists_suit, sets_suit, sorted_sets_suit}
+use Rattle.mr_data.proofs.Datasets.{IsDataset-empty, Keeps, at_key_keeps, on_keeps, held_suits, value_at, hashes_suit, lists_suit, sets_suit, sorted_sets_suit}
 use Rattle.mr_data.proofs.TextChanges.{append_keeps, set_range_keeps, increase_keeps, with_texts_keeps, rename_keeps}
 
 -- f is done everywhere

@@ -1,14 +1,14 @@
 -- What a dataset keeps, after a step at one key.
-use Rattle.std.proofs.Common.{◌≡◌, ◌<◌, ℕ, ℤ, zero, suc, List, [], length, Bool, true, false, cond, IsTrue, Option, Some, None, refl, sym, ◌∙◌, ap, subst, arith}
+use Rattle.std.proofs.Common.{◌≡◌, ◌<◌, ℕ, ℤ, List, length, true, false, cond, Option, Some, None, refl, sym, ◌∙◌, subst, arith}
 use Rattle.std.specs.Prelude.{◌==◌, if◌then◌else◌}
 use Rattle.std.specs.Option.{option_map, option_and_then}
 use Rattle.std.specs.Ordering.{eq_by_cmp}
-use Rattle.std.specs.FinMap.{get, empty, insert, remove, len, get-empty, get-insert, get-remove}
+use Rattle.std.specs.FinMap.{get, empty, len, get-empty, get-insert, get-remove}
 use Rattle.std.proofs.lemmas.Cmp.{nat_list_cmp_total}
 use Rattle.std.proofs.lemmas.List.Elements.{All-nil}
 use Rattle.std.proofs.lemmas.Bool.{eqb-false}
 use Rattle.mr_map.specs.Bytes.{Bytes, ByteMap, bytes_cmp}
-use Rattle.mr_data.specs.Dataset.{Dataset, IsWord, IsDataset, IsEntry, IsValue, IsHash, IsList, IsSet, IsScores, put_at}
+use Rattle.mr_data.specs.Dataset.{Dataset, IsWord, IsDataset, IsEntry, IsValue, put_at}
 use Rattle.mr_data.specs.Steps.{Step, Kind, hashes, lists, sets, sorted_sets, on, held, entry_of, deadline_of}
 use Rattle.mr_data.specs.Meaning.{at_key}
 use Rattle.mr_data.specs.declared.value.Value.{Value}

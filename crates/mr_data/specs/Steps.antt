@@ -1,5 +1,5 @@
 -- What each effect makes of the entry at its key.
-use Rattle.std.specs.Prelude.{ℕ, ℤ, ◌+◌, List, [], ◌++◌, length, codes, slice_set, slice_range, insert, unsigned_abs, Bool, false, ◌==◌, if◌then◌else◌, Option, Some, None}
+use Rattle.std.specs.Prelude.{ℤ, ◌+◌, List, [], ◌++◌, length, codes, slice_set, slice_range, insert, unsigned_abs, Bool, false, ◌==◌, if◌then◌else◌, Option, Some, None}
 use Rattle.std.specs.Option.{option_map, option_and_then}
 use Rattle.std.specs.FinMap.{empty, len}
 use Rattle.mr_map.specs.Bytes.{Bytes, ByteMap}

@@ -261,8 +261,16 @@ fn greatest_and_least_scores(rt: HostRuntime) -> Result<(), Fail> {
         Dataset::new(rt.alloc(), RandomState::new(&rt)?),
         Dataset::new(rt.alloc(), RandomState::new(&rt)?),
         &[
-            ("ZADD k 9007199254740992 m", "k", "sorted set:m=9007199254740992,"),
-            ("ZADD k -9007199254740992 m", "k", "sorted set:m=-9007199254740992,"),
+            (
+                "ZADD k 9007199254740992 m",
+                "k",
+                "sorted set:m=9007199254740992,",
+            ),
+            (
+                "ZADD k -9007199254740992 m",
+                "k",
+                "sorted set:m=-9007199254740992,",
+            ),
         ],
     )
 }

@@ -121,9 +121,7 @@ impl Entries {
                 self.clear();
                 Ok(())
             }
-            Effect::SetScores { key, scores } => {
-                self.set_scores(same(key), scores.as_slice())
-            }
+            Effect::SetScores { key, scores } => { self.set_scores(same(key), scores.as_slice()) }
             Effect::RemoveScores { key, members } => {
                 self.remove_scores(key.as_slice(), members.as_slice())
             }

@@ -1,4 +1,4 @@
-use Rattle.std.proofs.Common.{◌≡◌, ℤ, sym, subst, ap, ◌∙◌, to_z, of_z, w64}
+use Rattle.std.proofs.Common.{subst, to_z, of_z, w64}
 use Rattle.std.specs.Prelude.{IsTrue}
 use Rattle.mr_value.specs.Number.{is_i64}
 use Rattle.mr_effect.specs.Effects.{has_spelling}
