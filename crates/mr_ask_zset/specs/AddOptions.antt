@@ -1,5 +1,5 @@
 -- The options of ZADD, which stand in any order, each at most once.
-use Rattle.std.specs.Prelude.{ℕ, suc, List, [], ◌∷◌, Bool, true, false, if◌then◌else◌, Option, Some, None, Result, Ok, Err, codes, find}
+use Rattle.std.specs.Prelude.{ℕ, suc, List, [], ◌∷◌, Bool, true, false, if◌then◌else◌, Option, Some, None, Result, Ok, Err, codes, find, take, drop}
 use Rattle.std.specs.Option.{is_some, ok_or}
 use Rattle.std.specs.Str.{bytes_eq}
 use Rattle.mr_words.specs.Names.{lowered}
@@ -28,14 +28,25 @@ add_text add.Changed = codes "ch"
 abbrev pub is_add_option : List ℕ → AddOption → Bool
 is_add_option text option = bytes_eq text (add_text option)
 
+-- all of them
+abbrev pub all_add_options : List AddOption
+all_add_options = add.Condition Absent ∷ add.Condition Present ∷ add.Comparison Greater ∷ add.Comparison Less ∷ add.Changed ∷ []
+
 -- the option that a word is, in any case
 abbrev pub add_option : List ℕ → Option AddOption
-add_option word = find (is_add_option (lowered word)) (add.Condition Absent ∷ add.Condition Present ∷ add.Comparison Greater ∷ add.Comparison Less ∷ add.Changed ∷ [])
+add_option word = find (is_add_option (lowered word)) all_add_options
 
 -- how many words are options, up to the first that is none
 abbrev pub option_count : List (List ℕ) → ℕ
 option_count [] = 0
 option_count (word ∷ words) = if is_some (add_option word) then suc (option_count words) else 0
+
+-- these words, and those behind them
+abbrev pub option_words : List (List ℕ) → List (List ℕ)
+option_words words = take (option_count words) words
+
+abbrev pub pair_words : List (List ℕ) → List (List ℕ)
+pair_words words = drop (option_count words) words
 
 abbrev pub no_add_options : AddOptions
 no_add_options = record { condition = None; comparison = None; reply = reply.Added }

@@ -29,9 +29,13 @@ limit_text = codes "limit"
 abbrev pub is_range_option : List ℕ → RangeOption → Bool
 is_range_option text option = bytes_eq text (range_text option)
 
--- the option of one word that a word is, in any case
+-- all that are one word
+abbrev pub all_range_options : List RangeOption
+all_range_options = range.ByScore ∷ range.Reverse ∷ range.WithScores ∷ []
+
+-- the one that a word is, in any case
 abbrev pub range_option : List ℕ → Option RangeOption
-range_option word = find (is_range_option (lowered word)) (range.ByScore ∷ range.Reverse ∷ range.WithScores ∷ [])
+range_option word = find (is_range_option (lowered word)) all_range_options
 
 abbrev pub is_limit : List ℕ → Bool
 is_limit word = bytes_eq (lowered word) limit_text

@@ -3,7 +3,7 @@ ghost use Rattle.std.specs.Prelude.{◌≡◌, ◌≤◌, find, length, map};
 ghost use Rattle.std.specs.Cow.{cow_slice_items};
 ghost use Rattle.std.specs.Str.{bytes_eq};
 ghost use Rattle.mr_words.specs.Names.{lowered};
-ghost use Rattle.mr_ask_zset.specs.AddOptions.{add_also, add_option, add_options, add_text, agreeing, is_add_option, no_add_options, option_count};
+ghost use Rattle.mr_ask_zset.specs.AddOptions.{add_also, add_option, add_options, add_text, agreeing, is_add_option, no_add_options, option_count, option_words, pair_words};
 
 use crate::zset_ask::{Comparison, ScoreCondition, ScoresReply};
 use mr_words::{Arguments, AskFault};
@@ -56,8 +56,18 @@ impl AddOption {
     }
 }
 
-/// How many words are options, up to the first that is none.
-pub(crate) fn option_count(words: Arguments<'_, '_>) -> usize
+/// The words up to the first that is no option, and the words from there on.
+pub(crate) fn cut_options<'a, 't>(
+    words: Arguments<'a, 't>,
+) -> (Arguments<'a, 't>, Arguments<'a, 't>)
+    ensures options { map cow_slice_items result.0.now ≡ option_words (map cow_slice_items words.now) }
+    ensures pairs { map cow_slice_items result.1.now ≡ pair_words (map cow_slice_items words.now) }
+{
+    words.split_at(option_count(words))
+}
+
+// How many words are options, up to the first that is none.
+fn option_count(words: Arguments<'_, '_>) -> usize
     ensures count { result ≡ option_count (map cow_slice_items words.now) }
     ensures within { result ≤ length words.now }
 {

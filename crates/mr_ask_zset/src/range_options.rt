@@ -1,9 +1,9 @@
 // The options of ranges, which stand in any order, each at most once.
-ghost use Rattle.std.specs.Prelude.{◌≡◌, find, map};
+ghost use Rattle.std.specs.Prelude.{◌≡◌, ◌∷◌, ◌≤◌, Err, IfErr, IfOk, find, length, map};
 ghost use Rattle.std.specs.Cow.{cow_slice_items};
 ghost use Rattle.std.specs.Str.{bytes_eq};
 ghost use Rattle.mr_words.specs.Names.{lowered};
-ghost use Rattle.mr_ask_zset.specs.RangeOptions.{is_limit, is_range_option, limited, no_range_options, range_also, range_option, range_options};
+ghost use Rattle.mr_ask_zset.specs.RangeOptions.{is_limit, is_range_option, limit_then, limited, no_range_options, range_also, range_option, range_options};
 
 use crate::zset_ask::{Order, RangeReply};
 use mr_words::{Argument, Arguments, AskFault};
@@ -83,22 +83,20 @@ impl<'a> RangeOptions<'a> {
     pub(crate) fn read(words: Arguments<'a, '_>) -> Result<RangeOptions<'a>, AskFault>
         ensures { result ≡ range_options no_range_options (map cow_slice_items words.now) }
     {
-        let mut options = RangeOptions::none();
-        let mut rest = words;
-        while let [word, after @ ..] = rest {
-            if is_limit(word) {
-                let [offset, count, behind @ ..] = after else {
-                    return Err(AskFault::Syntax);
-                };
-                options = options.limited(Argument::of(offset), Argument::of(count))?;
-                rest = behind;
-            } else {
-                let option = RangeOption::of(word.as_slice()).ok_or(AskFault::Syntax)?;
-                options = options.and(option)?;
-                rest = after;
+        RangeOptions::none().and_all(words)
+    }
+
+    // With each option of these words.
+    fn and_all(self, words: Arguments<'a, '_>) -> Result<RangeOptions<'a>, AskFault>
+        ensures { result ≡ range_options self.entry (map cow_slice_items words.now) }
+    {
+        match words {
+            [] => Ok(self),
+            [word, after @ ..] => {
+                let (more, behind) = self.with_first(word, after)?;
+                more.and_all(behind)
             }
         }
-        Ok(options)
     }
 
     fn none() -> RangeOptions<'a>
@@ -109,6 +107,41 @@ impl<'a> RangeOptions<'a> {
             order: Order::Ascending,
             limit: None,
             reply: RangeReply::Members,
+        }
+    }
+
+    // With the option that begins with this word, and the words behind it.
+    fn with_first<'t>(
+        self,
+        word: &CowSlice<'_, u8>,
+        after: Arguments<'a, 't>,
+    ) -> Result<(RangeOptions<'a>, Arguments<'a, 't>), AskFault>
+        ensures ok { IfOk result (λ step. range_options step.0 (map cow_slice_items step.1.now) ≡ range_options self.entry (cow_slice_items word.now ∷ map cow_slice_items after.now)) }
+        ensures shorter { IfOk result (λ step. length step.1.now ≤ length after.now) }
+        ensures err { IfErr result (λ fault. range_options self.entry (cow_slice_items word.now ∷ map cow_slice_items after.now) ≡ Err fault) }
+    {
+        if !is_limit(word) {
+            let option = RangeOption::of(word.as_slice()).ok_or(AskFault::Syntax)?;
+            return Ok((self.and(option)?, after));
+        }
+        self.with_limit(after)
+    }
+
+    // With `LIMIT`, whose words are the first of these, and the words behind them.
+    fn with_limit<'t>(
+        self,
+        words: Arguments<'a, 't>,
+    ) -> Result<(RangeOptions<'a>, Arguments<'a, 't>), AskFault>
+        ensures ok { IfOk result (λ step. range_options step.0 (map cow_slice_items step.1.now) ≡ limit_then self.entry (map cow_slice_items words.now)) }
+        ensures shorter { IfOk result (λ step. length step.1.now ≤ length words.now) }
+        ensures err { IfErr result (λ fault. limit_then self.entry (map cow_slice_items words.now) ≡ Err fault) }
+    {
+        match words {
+            [offset, count, behind @ ..] => {
+                let limited = self.limited(Argument::of(offset), Argument::of(count))?;
+                Ok((limited, behind))
+            }
+            _ => Err(AskFault::Syntax),
         }
     }
 
