@@ -5,3 +5,4 @@ pub mod AddLemmas
 pub mod RangeLemmas
 pub mod ZSetLemmas
 pub mod OrderLemmas
+pub mod RangeOrderLemmas

@@ -14,7 +14,7 @@ use Rattle.mr_ask_zset.specs.declared.zset_ask.Comparison.{Comparison}
 use Rattle.mr_ask_zset.specs.declared.zset_ask.ScoresReply.{ScoresReply}
 use Rattle.mr_ask_zset.specs.declared.zset_ask.ScoresReply.TheVariants.{Added, Changed}
 
-only_found : {A : Type 0} (o : Option A) → OnlySyntax (ok_or o Syntax)
+pub only_found : {A : Type 0} (o : Option A) → OnlySyntax (ok_or o Syntax)
 unfolding OnlySyntax
 only_found None = refl
 only_found (Some a) = tt

@@ -1,5 +1,5 @@
 -- The options of ranges, which stand in any order, each at most once.
-use Rattle.std.specs.Prelude.{ℕ, List, [], ◌∷◌, Bool, if◌then◌else◌, Option, Some, None, Result, Ok, Err, codes, find}
+use Rattle.std.specs.Prelude.{◌≡◌, ℕ, List, [], ◌∷◌, Bool, true, false, if◌then◌else◌, Option, Some, None, Result, Ok, Err, codes, find}
 use Rattle.std.specs.Option.{is_some, ok_or}
 use Rattle.std.specs.Str.{bytes_eq}
 use Rattle.mr_words.specs.Names.{lowered}
@@ -84,3 +84,9 @@ abbrev mutual
   pub offset_then : RangeOptions → List ℕ → List (List ℕ) → Result RangeOptions AskFault
   offset_then options offset [] = Err Syntax
   offset_then options offset (count ∷ words) = with (limited options offset count) (λ next. range_options next words)
+
+-- the words of one option: a word, or LIMIT with two words behind it
+abbrev pub AreOneOption : List (List ℕ) → Type 0
+AreOneOption (word ∷ []) = is_limit word ≡ false
+AreOneOption (word ∷ offset ∷ count ∷ []) = is_limit word ≡ true
+AreOneOption _ = ⊥
