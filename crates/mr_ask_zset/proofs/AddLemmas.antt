@@ -1,15 +1,14 @@
 -- What ZADD's words spell.
-use Rattle.std.proofs.Common.{ℕ, ℤ, ◌≡◌, List, [], ◌∷◌, ◌++◌, map, Bool, true, false, Option, Some, None, refl, sym, ◌∙◌, ap, subst}
-use Rattle.std.specs.Prelude.{IsTrue, IfOk, IsPermutation, Result, Ok, Err, if◌then◌else◌}
+use Rattle.std.proofs.Common.{ℕ, ℤ, ◌≡◌, List, [], ◌∷◌, ◌++◌, map, true, false, Option, Some, None, refl, sym, subst}
+use Rattle.std.specs.Prelude.{IsTrue, IfOk, IsPermutation, Ok, Err, if◌then◌else◌}
 use Rattle.std.specs.Option.{is_some, ok_or}
 use Rattle.std.proofs.lemmas.List.{take-append-drop}
 use Rattle.std.proofs.lemmas.List.Sorted.{IsPermutation-refl, IsPermutation-middle, IsPermutation-append_left}
 use Rattle.mr_value.proofs.Numbers.{same_bytes}
 use Rattle.mr_words.specs.Names.{lowered}
 use Rattle.mr_words.specs.Options.{added}
-use Rattle.mr_words.specs.Pairing.{unpaired, pairs_of}
-use Rattle.mr_words.specs.Parts.{with}
-use Rattle.mr_words.specs.Spelling.{Part, Word, Keyword, AreParts, in_a_row}
+use Rattle.mr_words.specs.Pairing.{unpaired}
+use Rattle.mr_words.specs.Spelling.{Part, Keyword, AreParts, in_a_row}
 use Rattle.mr_words.proofs.FitLemmas.{first, second}
 use Rattle.mr_words.proofs.OptionLemmas.{all_added, each_alone, from_none, parts_joined}
 use Rattle.mr_words.proofs.PartLemmas.{with_ok, if_with, if_ok, with_pairs}

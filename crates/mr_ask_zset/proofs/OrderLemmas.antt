@@ -1,7 +1,6 @@
 -- Options that stand side by side may change places.
 use Rattle.std.proofs.Common.{ℕ, ◌≡◌, List, ◌∷◌, ◌++◌, Option, Some, None, refl, sym, ap}
 use Rattle.std.specs.Option.{is_some, ok_or}
-use Rattle.mr_words.specs.Options.{added}
 use Rattle.mr_words.specs.Parts.{with}
 use Rattle.mr_words.proofs.OrderLemmas.{exchanged, OnlySyntax, words_alike, two_alike, twice_refused, unless}
 use Rattle.mr_words.specs.declared.fault.AskFault.TheVariants.{Syntax}

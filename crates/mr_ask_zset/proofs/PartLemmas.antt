@@ -1,13 +1,12 @@
 -- What was read of an argument is what its word spells.
-use Rattle.std.proofs.Common.{ℕ, ℤ, ◌≡◌, List, [], ◌∷◌, ◌++◌, Bool, true, false, Option, Some, None, refl, sym, ◌∙◌, ap, subst}
-use Rattle.std.specs.Prelude.{IsTrue, IfOk, Result, Ok, Err, find, cond}
+use Rattle.std.proofs.Common.{ℕ, ℤ, ◌≡◌, List, [], ◌∷◌, Bool, true, false, Option, Some, None, refl, sym, ◌∙◌, ap, subst}
+use Rattle.std.specs.Prelude.{IfOk, Result, Ok, find, cond}
 use Rattle.std.specs.Option.{ok_or}
 use Rattle.mr_value.specs.Number.{number_of}
-use Rattle.mr_value.proofs.Numbers.{same_bytes, number_text}
-use Rattle.mr_words.specs.Names.{lowered}
+use Rattle.mr_value.proofs.Numbers.{number_text}
 use Rattle.mr_words.specs.Parts.{with, integer}
 use Rattle.mr_words.specs.Spelling.{Part, Word, Number, Keyword, IsPart, AreParts}
-use Rattle.mr_words.proofs.PartLemmas.{with_ok, if_with, if_ok, integer_read}
+use Rattle.mr_words.proofs.PartLemmas.{with_ok, if_with, integer_read}
 use Rattle.mr_words.specs.declared.fault.AskFault.{AskFault}
 use Rattle.mr_words.specs.declared.fault.AskFault.TheVariants.{Integer, Syntax, Other}
 use Rattle.mr_words.specs.declared.fault.BadValue.TheVariants as bad

@@ -1,12 +1,12 @@
 -- What the words of ranges spell.
-use Rattle.std.proofs.Common.{ℕ, ℤ, ◌≡◌, List, [], ◌∷◌, ◌++◌, Bool, true, false, Option, Some, None, inl, inr, refl, sym, ◌∙◌, ap, subst}
-use Rattle.std.specs.Prelude.{IfOk, IsPermutation, Result, Ok, Err, if◌then◌else◌}
+use Rattle.std.proofs.Common.{ℕ, ℤ, ◌≡◌, List, [], ◌∷◌, ◌++◌, true, false, Option, Some, None, inl, inr, refl, subst}
+use Rattle.std.specs.Prelude.{IfOk, IsPermutation, Ok, if◌then◌else◌}
 use Rattle.std.specs.Option.{ok_or}
 use Rattle.std.proofs.lemmas.List.Sorted.{IsPermutation-refl, IsPermutation-trans, IsPermutation-middle, IsPermutation-append_left, IsPermutation-append_right}
 use Rattle.mr_value.proofs.Numbers.{same_bytes}
 use Rattle.mr_words.specs.Names.{lowered}
 use Rattle.mr_words.specs.Parts.{with}
-use Rattle.mr_words.specs.Spelling.{Part, Word, Number, Keyword, AreParts, in_a_row}
+use Rattle.mr_words.specs.Spelling.{Part, Number, Keyword, AreParts, in_a_row}
 use Rattle.mr_words.proofs.OptionLemmas.{Adds, from_none, parts_joined}
 use Rattle.mr_words.proofs.PartLemmas.{with_ok, if_with, with_integer}
 use Rattle.mr_words.specs.declared.name.Name.{Name}
@@ -14,8 +14,8 @@ use Rattle.mr_words.specs.declared.name.Name.TheVariants as name
 use Rattle.mr_words.specs.declared.fault.AskFault.TheVariants.{Syntax}
 use Rattle.mr_ask_zset.specs.RangeOptions.{all_range_options, by_score_also, is_limit, is_range_option, limit_text, limit_then, limited, no_range_options, range_also, range_option, range_options, range_text, range_word, reverse_also, with_scores_also}
 use Rattle.mr_ask_zset.specs.Parts.{limit_if_any}
-use Rattle.mr_ask_zset.specs.Reading.{range_by_score, range_with, ranks, reversed_with, scores, scores_with, zrange, zrevrange}
-use Rattle.mr_ask_zset.specs.Spelled.{bound_parts, limit_option, order_option, range_word_option, score_range_name, scores_option, ZSetSpells}
+use Rattle.mr_ask_zset.specs.Reading.{range_by_score, range_with, ranks, reversed_with, scores_with, zrange, zrevrange}
+use Rattle.mr_ask_zset.specs.Spelled.{bound_parts, order_option, range_word_option, score_range_name, scores_option, ZSetSpells}
 use Rattle.mr_ask_zset.proofs.PartLemmas.{found_passes, is_number_part, limit_if_any_read, number_part, ok_found, with_bounds, words_option}
 use Rattle.mr_ask_zset.specs.declared.range_options.LimitWords.{LimitWords}
 use Rattle.mr_ask_zset.specs.declared.range_options.RangeBy.{RangeBy}

@@ -1,5 +1,5 @@
 -- Options of a range that stand side by side may change places.
-use Rattle.std.proofs.Common.{ℕ, ◌≡◌, List, [], ◌∷◌, ◌++◌, Bool, true, false, Option, Some, None, refl, sym, ◌∙◌, ap, append_assoc}
+use Rattle.std.proofs.Common.{ℕ, ◌≡◌, List, [], ◌∷◌, ◌++◌, Bool, Option, Some, None, refl, sym, ◌∙◌, ap, append_assoc}
 use Rattle.std.specs.Prelude.{Result, Ok, Err, if◌then◌else◌}
 use Rattle.std.specs.Option.{is_some, ok_or}
 use Rattle.mr_words.specs.Parts.{with}
@@ -7,7 +7,7 @@ use Rattle.mr_words.proofs.OrderLemmas.{with_joined, with_same, OnlySyntax, seco
 use Rattle.mr_words.specs.declared.fault.AskFault.{AskFault}
 use Rattle.mr_words.specs.declared.fault.AskFault.TheVariants.{Syntax}
 use Rattle.mr_ask_zset.proofs.OrderLemmas.{only_found}
-use Rattle.mr_ask_zset.specs.RangeOptions.{AreOneOption, is_limit, limit_then, limited, range_also, range_option, range_options, range_word}
+use Rattle.mr_ask_zset.specs.RangeOptions.{AreOneOption, limit_then, limited, range_also, range_option, range_options, range_word}
 use Rattle.mr_ask_zset.specs.declared.range_options.LimitWords.{LimitWords}
 use Rattle.mr_ask_zset.specs.declared.range_options.RangeBy.{RangeBy}
 use Rattle.mr_ask_zset.specs.declared.range_options.RangeBy.TheVariants.{Rank, Score}

@@ -1,12 +1,12 @@
 -- Scores that are read.
-use Rattle.std.proofs.Common.{ℕ, ℤ, ◌≡◌, List, [], ◌∷◌, map, Bool, true, false, Option, Some, None, refl, sym, ◌∙◌, ap, subst}
-use Rattle.std.specs.Prelude.{IsTrue, IfSome, if◌then◌else◌, option_and_then}
+use Rattle.std.proofs.Common.{ℕ, ◌≡◌, List, [], ◌∷◌, map, Some, None, refl}
+use Rattle.std.specs.Prelude.{IsTrue}
 use Rattle.std.specs.List.{list_all}
 use Rattle.std.specs.Option.{is_some}
 use Rattle.mr_zset.specs.Score.{is_score}
 use Rattle.mr_zset.specs.Texts.{score_of}
 use Rattle.mr_zset.proofs.TextLemmas.{read_spelled}
-use Rattle.mr_ask_zset.specs.Scored.{has_score, have_scores, or_0, scored, is_scored}
+use Rattle.mr_ask_zset.specs.Scored.{have_scores, or_0, scored, is_scored}
 use Rattle.mr_words.proofs.FitLemmas.{first, second, both}
 
 -- what is read is a score

@@ -1,5 +1,5 @@
 -- What is read of a command on sorted sets is spelled by the words, and carries no others.
-use Rattle.std.proofs.Common.{ℕ, ℤ, ◌≡◌, List, [], ◌∷◌, ◌++◌, map, Some, None, inl, inr, refl, ◌∙◌, ap, subst}
+use Rattle.std.proofs.Common.{ℕ, ℤ, ◌≡◌, List, [], ◌∷◌, ◌++◌, map, inl, inr, refl, ◌∙◌, ap, subst}
 use Rattle.std.specs.Prelude.{IsTrue, IfOk}
 use Rattle.std.specs.List.{list_all}
 use Rattle.std.proofs.lemmas.List.Folds.{list_all-append}
@@ -11,10 +11,10 @@ use Rattle.mr_words.specs.declared.name.Name.{Name}
 use Rattle.mr_words.specs.declared.name.Name.TheVariants as name
 use Rattle.mr_ask_zset.specs.Carried.{members_of, zset_words}
 use Rattle.mr_ask_zset.specs.Reading.{zcard, zcount, zincrby, zmscore, zpop, zrank, zrem, zremrangebyrank, zremrangebyscore, zscore}
-use Rattle.mr_ask_zset.specs.Spelled.{bound_parts, pair_parts, pop_name, rank_name, ZSetSpells}
+use Rattle.mr_ask_zset.specs.Spelled.{pair_parts, pop_name, rank_name, ZSetSpells}
 use Rattle.mr_ask_zset.proofs.PartLemmas.{with_bounds, with_score}
 use Rattle.mr_ask_zset.specs.declared.zset_ask.Order.{Order}
-use Rattle.mr_ask_zset.specs.declared.zset_ask.Order.TheVariants.{Ascending, Descending}
+use Rattle.mr_ask_zset.specs.declared.zset_ask.Order.TheVariants.{Ascending}
 use Rattle.mr_ask_zset.specs.declared.zset_ask.ZSetAsk.{ZSetAsk}
 use Rattle.mr_ask_zset.specs.declared.zset_ask.ZSetAsk.TheVariants as ask
 

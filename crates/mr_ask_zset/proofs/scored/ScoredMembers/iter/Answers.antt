@@ -1,4 +1,4 @@
-use Rattle.std.proofs.Common.{sym, subst}
+use Rattle.std.proofs.Common.{subst}
 use Rattle.std.specs.Prelude.{ℕ, ℤ, List, IsTrue}
 use Rattle.std.specs.List.{list_all}
 use Rattle.mr_ask_zset.specs.Scored.{is_scored}
