@@ -1,10 +1,10 @@
 -- What is read is spelled by the words, and carries no others.
-use Rattle.std.proofs.Common.{ℕ, ◌≡◌, List, [], ◌∷◌, ◌++◌, map, Option, Some, None, refl, sym, ◌∙◌, ap, subst}
+use Rattle.std.proofs.Common.{ℕ, ◌≡◌, List, [], ◌∷◌, ◌++◌, map, Option, Some, None, refl, subst}
 use Rattle.std.specs.Prelude.{IsTrue, IfOk, Result, Ok, Err}
 use Rattle.std.specs.List.{list_all, AllByRecursion}
 use Rattle.mr_value.specs.Words.{fits}
 use Rattle.mr_value.specs.declared.ends.End.TheVariants.{Left, Right}
-use Rattle.mr_words.specs.Names.{lowered, text_of, named}
+use Rattle.mr_words.specs.Names.{lowered, named}
 use Rattle.mr_ask.specs.Texts.{get, set, strlen, getrange, mget, setnx, getset, getdel}
 use Rattle.mr_ask.specs.Keys.{del, unlink, exists, key_type, matching_keys, scan, dbsize}
 use Rattle.mr_ask.specs.Hashes.{set_fields, hsetnx, hget, hmget, list_hash, hdel, hexists, hlen, hstrlen, hincrby}

@@ -1,5 +1,5 @@
 -- A command has a name and arguments.
-use Rattle.std.proofs.Common.{ℕ, ◌≡◌, List}
+use Rattle.std.proofs.Common.{ℕ, List}
 use Rattle.std.specs.Prelude.{IfOk, Result, Ok, Err}
 use Rattle.mr_ask.specs.Asks.{of_kind}
 use Rattle.mr_ask.specs.Spelled.{SpellsNamed}
