@@ -109,20 +109,20 @@ abbrev pub AreOfKeys : List (List ℕ) → KeyAsk → Type 0
 AreOfKeys words (key.Scan cursor pattern kind) = AreOfScan words cursor pattern kind
 AreOfKeys words command = AreParts words (key_parts command)
 
--- a command of this name, and the words behind it
-pub record Names (its called : Name) (Arguments : Type 0) : Type 0 where
+-- the command's name is this one, and these are its arguments
+pub record NameAndArguments (its called : Name) (Arguments : Type 0) : Type 0 where
   pub name_is : its ≡ called
   pub parts : Arguments
 
 -- this name and the words behind it spell the command
 abbrev pub SpellsNamed : Name → List (List ℕ) → Ask → Type 0
-SpellsNamed called words (ask.Texts command) = Names (text_name command) called (AreOfTexts words command)
-SpellsNamed called words (ask.Keys command) = Names (key_name command) called (AreOfKeys words command)
-SpellsNamed called words (ask.Hashes command) = Names (hash_name command) called (AreParts words (hash_parts command))
-SpellsNamed called words (ask.Lists command) = Names (list_name command) called (AreParts words (list_parts command))
-SpellsNamed called words (ask.Sets command) = Names (set_name command) called (AreParts words (set_parts command))
+SpellsNamed called words (ask.Texts command) = NameAndArguments (text_name command) called (AreOfTexts words command)
+SpellsNamed called words (ask.Keys command) = NameAndArguments (key_name command) called (AreOfKeys words command)
+SpellsNamed called words (ask.Hashes command) = NameAndArguments (hash_name command) called (AreParts words (hash_parts command))
+SpellsNamed called words (ask.Lists command) = NameAndArguments (list_name command) called (AreParts words (list_parts command))
+SpellsNamed called words (ask.Sets command) = NameAndArguments (set_name command) called (AreParts words (set_parts command))
 SpellsNamed called words (ask.SortedSets command) = ZSetSpells called words command
-SpellsNamed called words (ask.Server command) = Names (server_name command) called (AreParts words (server_parts command))
+SpellsNamed called words (ask.Server command) = NameAndArguments (server_name command) called (AreParts words (server_parts command))
 
 -- These words spell the command: its name in any case, and behind it its arguments.
 abbrev pub Spells : List (List ℕ) → Ask → Type 0

@@ -86,7 +86,7 @@ impl<'a> RangeOptions<'a> {
         RangeOptions::none().and_all(words)
     }
 
-    // With each option of these words.
+    // With each option of these words. An option stands once, so this goes no deeper than there are options.
     fn and_all(self, words: Arguments<'a, '_>) -> Result<RangeOptions<'a>, AskFault>
         ensures { result ≡ range_options self.entry (map cow_slice_items words.now) }
     {
