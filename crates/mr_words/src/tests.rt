@@ -30,6 +30,17 @@ fn names(rt: HostRuntime) -> Result<(), Fail> {
 }
 
 #[test]
+fn names_of_sorted_sets(rt: HostRuntime) -> Result<(), Fail> {
+    let name = Name::of(b"ZRevRangeByScore").ok_or("none")?;
+    assert_eq!(rt; name, Name::ZRevRangeByScore);
+    assert_eq!(rt;
+        format!(in rt.alloc(); "{}", AskFault::Other(BadValue::Bound))?.as_str(),
+        "min or max is not a score"
+    );
+    Ok(())
+}
+
+#[test]
 fn words_that_stay_where_they_lie(rt: HostRuntime) -> Result<(), Fail> {
     let line = words(rt.alloc(), "a b")?;
     assert_eq!(rt; Argument::new(b"k").as_slice(), b"k".as_slice());
