@@ -9,7 +9,7 @@ use Rattle.mr_data.specs.Meaning.{apply, change}
 use Rattle.mr_data.specs.Outcome.{Applies}
 use Rattle.mr_data.specs.declared.fault.ApplyFault.{ApplyFault}
 use Rattle.mr_data.specs.declared.fault.ApplyFault.TheVariants.{Refused, Memory}
-use Rattle.mr_data.proofs.Fitting.{second}
+use Rattle.mr_data.proofs.Fitting.{first, second}
 use Rattle.mr_data.proofs.Datasets.{IsDataset-empty}
 use Rattle.mr_data.proofs.Changes.{applied_keeps}
 
@@ -54,5 +54,5 @@ module _ (e : Effect) (m : Dataset) (r : Result (Unit {0}) ApplyFault) (new : Da
   pub is_dataset : IsDataset m → IsDataset last
   is_dataset old = elim (ran_out r) [
     | inl out ↦ subst IsDataset (sym (spent out)) IsDataset-empty
-    | inr left ↦ subst IsDataset (sym (kept left)) (applied_keeps e m new r old (second (has_spelling e) (words_fit e) possible) h left)
+    | inr left ↦ subst IsDataset (sym (kept left)) (applied_keeps e m new r old (first (has_spelling e) (words_fit e) possible) (second (has_spelling e) (words_fit e) possible) h left)
   ]

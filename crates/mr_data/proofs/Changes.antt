@@ -8,7 +8,7 @@ use Rattle.std.specs.FinMap.{get}
 use Rattle.mr_map.specs.Bytes.{Bytes, ByteMap}
 use Rattle.mr_value.specs.Words.{fits}
 use Rattle.mr_value.specs.Lists.{without}
-use Rattle.mr_effect.specs.Effects.{words_fit, has_spelling, pair_fits}
+use Rattle.mr_effect.specs.Effects.{words_fit, has_spelling, pair_fits, member_fits, has_score, is_some_of}
 use Rattle.mr_effect.specs.declared.effect.Effect.{Effect}
 use Rattle.mr_effect.specs.declared.effect.Effect.TheVariants as effect
 use Rattle.mr_value.specs.declared.ends.End.{End}
@@ -16,14 +16,14 @@ use Rattle.mr_value.specs.declared.ends.Side.{Side}
 use Rattle.mr_data.specs.declared.value.Value.TheVariants as value
 use Rattle.mr_data.specs.declared.value.Entry.{Entry}
 use Rattle.mr_data.specs.Dataset.{Dataset, IsWord, IsDataset, IsValue}
-use Rattle.mr_data.specs.Collections.{with_fields, without_fields, with_members, without_members, put_item, pushed, popped, end_item, turned, may_take, is_place_of, is_part_of, place_beside}
-use Rattle.mr_data.specs.Steps.{without_deadline, hashes, lists, sets, held, set_step, del_step, set_fields_step, remove_fields_step, push_step, pop_step, set_item_step, insert_item_step, remove_items_step, trim_step, turn_step, add_members_step, remove_members_step}
+use Rattle.mr_data.specs.Collections.{with_fields, without_fields, with_members, without_members, with_scores, without_scores, put_item, pushed, popped, end_item, turned, may_take, is_place_of, is_part_of, place_beside}
+use Rattle.mr_data.specs.Steps.{without_deadline, hashes, lists, sets, sorted_sets, held, set_step, del_step, set_fields_step, remove_fields_step, push_step, pop_step, set_item_step, insert_item_step, remove_items_step, trim_step, turn_step, add_members_step, remove_members_step, set_scores_step, remove_scores_step}
 use Rattle.mr_data.specs.Meaning.{at_key, change, item_at, carry_item, move_item, has_member, carry_member, move_member}
 use Rattle.mr_data.specs.Outcome.{Applies}
 use Rattle.mr_data.specs.declared.fault.ApplyFault.{ApplyFault}
 use Rattle.mr_data.specs.declared.fault.ApplyFault.TheVariants.{Refused, Memory}
-use Rattle.mr_data.proofs.Fitting.{first, second, FieldsFit, MembersFit, ItemsFit, with_fields_fit, without_fields_fit, with_members_fit, without_members_fit, put_item_fits, pushed_fit, popped_fit, end_item_fits, inserted_fit, set_fit, range_fit, without_fit}
-use Rattle.mr_data.proofs.Datasets.{Keeps, HasValue, at_key_keeps, on_keeps, held_suits, value_at, hashes_suit, lists_suit, sets_suit}
+use Rattle.mr_data.proofs.Fitting.{first, second, FieldsFit, MembersFit, ScoresFit, ItemsFit, with_fields_fit, without_fields_fit, with_members_fit, without_members_fit, with_scores_fit, without_scores_fit, put_item_fits, pushed_fit, popped_fit, end_item_fits, inserted_fit, set_fit, range_fit, without_fit}
+use Rattle.mr_data.proofs.Datasets.{Keeps, HasValue, at_key_keeps, on_keeps, held_suits, value_at, hashes_suit, lists_suit, sets_suit, sorted_sets_suit}
 
 -- f is done everywhere
 always : {X : Type 0} (P : X → Type 0) (g : X → X) → ((x : X) → P x → P (g x)) → (x y : X) → P x → Some (g x) ≡ Some y → P y
@@ -58,6 +58,12 @@ add_members_keeps members fit = on_keeps sets MembersFit sets_suit (λ s. Some (
 
 remove_members_keeps : (members : List Bytes) → Keeps (remove_members_step members)
 remove_members_keeps members = on_keeps sets MembersFit sets_suit (λ s. Some (without_members members s)) (always MembersFit (without_members members) (λ s old. without_members_fit members s old))
+
+set_scores_keeps : (pairs : List (Bytes × ℤ)) → IsTrue (list_all member_fits pairs) → IsTrue (list_all has_score pairs) → Keeps (set_scores_step pairs)
+set_scores_keeps pairs fit within = on_keeps sorted_sets ScoresFit sorted_sets_suit (λ s. Some (with_scores pairs s)) (always ScoresFit (with_scores pairs) (λ s old. with_scores_fit pairs s fit within old))
+
+remove_scores_keeps : (members : List Bytes) → Keeps (remove_scores_step members)
+remove_scores_keeps members = on_keeps sorted_sets ScoresFit sorted_sets_suit (λ s. Some (without_scores members s)) (always ScoresFit (without_scores members) (λ s old. without_scores_fit members s old))
 
 push_keeps : (end : End) (items : List Bytes) → IsTrue (list_all fits items) → Keeps (push_step end items)
 push_keeps end items fit = on_keeps lists ItemsFit lists_suit (λ xs. Some (pushed end items xs)) (always ItemsFit (pushed end items) (λ xs old. pushed_fit end items xs fit old))
@@ -129,36 +135,45 @@ move_member_keeps from to x m n old fit_from fit_to fit_x h =
     ] h
 
 -- an effect that is done leaves a dataset
-pub change_keeps : (e : Effect) (m n : Dataset) → IsDataset m → IsTrue (words_fit e) → change e m ≡ Some n → IsDataset n
+pub change_keeps : (e : Effect) (m n : Dataset) → IsDataset m → IsTrue (has_spelling e) → IsTrue (words_fit e) → change e m ≡ Some n → IsDataset n
 unfolding change
-change_keeps (effect.Set k text) m n old fit h = at_key_keeps (set_step text) (set_keeps text (second (fits k) (fits text) fit)) k m n old (first (fits k) (fits text) fit) h
-change_keeps (effect.Del k) m n old fit h = at_key_keeps del_step del_keeps k m n old fit h
-change_keeps (effect.SetFields k pairs) m n old fit h = at_key_keeps (set_fields_step pairs) (set_fields_keeps pairs (second (fits k) (list_all pair_fits pairs) fit)) k m n old (first (fits k) (list_all pair_fits pairs) fit) h
-change_keeps (effect.RemoveFields k fields) m n old fit h = at_key_keeps (remove_fields_step fields) (remove_fields_keeps fields) k m n old (first (fits k) (list_all fits fields) fit) h
-change_keeps (effect.Push k end items) m n old fit h = at_key_keeps (push_step end items) (push_keeps end items (second (fits k) (list_all fits items) fit)) k m n old (first (fits k) (list_all fits items) fit) h
-change_keeps (effect.Pop k end count) m n old fit h = at_key_keeps (pop_step end count) (pop_keeps end count) k m n old fit h
-change_keeps (effect.SetItem k place item) m n old fit h = at_key_keeps (set_item_step place item) (set_item_keeps place item (second (fits k) (fits item) fit)) k m n old (first (fits k) (fits item) fit) h
-change_keeps (effect.InsertItem k side pivot item) m n old fit h =
+change_keeps (effect.Set k text) m n old spelled fit h = at_key_keeps (set_step text) (set_keeps text (second (fits k) (fits text) fit)) k m n old (first (fits k) (fits text) fit) h
+change_keeps (effect.Del k) m n old spelled fit h = at_key_keeps del_step del_keeps k m n old fit h
+change_keeps (effect.SetFields k pairs) m n old spelled fit h = at_key_keeps (set_fields_step pairs) (set_fields_keeps pairs (second (fits k) (list_all pair_fits pairs) fit)) k m n old (first (fits k) (list_all pair_fits pairs) fit) h
+change_keeps (effect.RemoveFields k fields) m n old spelled fit h = at_key_keeps (remove_fields_step fields) (remove_fields_keeps fields) k m n old (first (fits k) (list_all fits fields) fit) h
+change_keeps (effect.Push k end items) m n old spelled fit h = at_key_keeps (push_step end items) (push_keeps end items (second (fits k) (list_all fits items) fit)) k m n old (first (fits k) (list_all fits items) fit) h
+change_keeps (effect.Pop k end count) m n old spelled fit h = at_key_keeps (pop_step end count) (pop_keeps end count) k m n old fit h
+change_keeps (effect.SetItem k place item) m n old spelled fit h = at_key_keeps (set_item_step place item) (set_item_keeps place item (second (fits k) (fits item) fit)) k m n old (first (fits k) (fits item) fit) h
+change_keeps (effect.InsertItem k side pivot item) m n old spelled fit h =
     let both = first (fits k && fits pivot) (fits item) fit in
     at_key_keeps (insert_item_step side pivot item) (insert_item_keeps side pivot item (second (fits k && fits pivot) (fits item) fit)) k m n old (first (fits k) (fits pivot) both) h
-change_keeps (effect.RemoveItems k count item) m n old fit h = at_key_keeps (remove_items_step count item) (remove_items_keeps count item) k m n old (first (fits k) (fits item) fit) h
-change_keeps (effect.Trim k first' last) m n old fit h = at_key_keeps (trim_step first' last) (trim_keeps first' last) k m n old fit h
-change_keeps (effect.MoveItem from to taken put) m n old fit h = move_item_keeps from to taken put m n old (first (fits from) (fits to) fit) (second (fits from) (fits to) fit) h
-change_keeps (effect.AddMembers k members) m n old fit h = at_key_keeps (add_members_step members) (add_members_keeps members (second (fits k) (list_all fits members) fit)) k m n old (first (fits k) (list_all fits members) fit) h
-change_keeps (effect.RemoveMembers k members) m n old fit h = at_key_keeps (remove_members_step members) (remove_members_keeps members) k m n old (first (fits k) (list_all fits members) fit) h
-change_keeps (effect.MoveMember from to member) m n old fit h =
+change_keeps (effect.RemoveItems k count item) m n old spelled fit h = at_key_keeps (remove_items_step count item) (remove_items_keeps count item) k m n old (first (fits k) (fits item) fit) h
+change_keeps (effect.Trim k first' last) m n old spelled fit h = at_key_keeps (trim_step first' last) (trim_keeps first' last) k m n old fit h
+change_keeps (effect.MoveItem from to taken put) m n old spelled fit h = move_item_keeps from to taken put m n old (first (fits from) (fits to) fit) (second (fits from) (fits to) fit) h
+change_keeps (effect.AddMembers k members) m n old spelled fit h = at_key_keeps (add_members_step members) (add_members_keeps members (second (fits k) (list_all fits members) fit)) k m n old (first (fits k) (list_all fits members) fit) h
+change_keeps (effect.RemoveMembers k members) m n old spelled fit h = at_key_keeps (remove_members_step members) (remove_members_keeps members) k m n old (first (fits k) (list_all fits members) fit) h
+change_keeps (effect.MoveMember from to member) m n old spelled fit h =
     let both = first (fits from && fits to) (fits member) fit in
     move_member_keeps from to member m n old (first (fits from) (fits to) both) (second (fits from) (fits to) both) (second (fits from && fits to) (fits member) fit) h
+change_keeps (effect.SetAll pairs) m n old spelled fit h = cc
+change_keeps (effect.Append k text) m n old spelled fit h = cc
+change_keeps (effect.SetRange k offset text) m n old spelled fit h = cc
+change_keeps (effect.Increase k by) m n old spelled fit h = cc
+change_keeps (effect.Rename from to) m n old spelled fit h = cc
+change_keeps effect.Clear m n old spelled fit h = cc
+change_keeps (effect.SetScores k scores) m n old spelled fit h =
+    at_key_keeps (set_scores_step scores) (set_scores_keeps scores (second (fits k) (list_all member_fits scores) fit) (second (is_some_of scores) (list_all has_score scores) spelled)) k m n old (first (fits k) (list_all member_fits scores) fit) h
+change_keeps (effect.RemoveScores k members) m n old spelled fit h = at_key_keeps (remove_scores_step members) (remove_scores_keeps members) k m n old (first (fits k) (list_all fits members) fit) h
 
 -- .. and so does one that was refused, but for memory
-pub applied_keeps : (e : Effect) (m new : Dataset) (r : Result (Unit {0}) ApplyFault) → IsDataset m → IsTrue (words_fit e) → Applies (change e m) m r new → (r ≡ Err Memory → ⊥) → IsDataset new
-applied_keeps e m new r old fit h some =
+pub applied_keeps : (e : Effect) (m new : Dataset) (r : Result (Unit {0}) ApplyFault) → IsDataset m → IsTrue (has_spelling e) → IsTrue (words_fit e) → Applies (change e m) m r new → (r ≡ Err Memory → ⊥) → IsDataset new
+applied_keeps e m new r old spelled fit h some =
     elim (change e m) as (λ o. change e m ≡ o → Applies o m r new → IsDataset new) [
       | None ↦ λ t i. subst IsDataset (sym i.1) old
       | Some n ↦ λ t i. left r n t i some
     ] refl h
   where
     left : (r : Result (Unit {0}) ApplyFault) (n : Dataset) → change e m ≡ Some n → Applies (Some n) m r new → (r ≡ Err Memory → ⊥) → IsDataset new
-    left (Ok u) n t i some = subst IsDataset (sym i.1) (change_keeps e m n old fit t)
+    left (Ok u) n t i some = subst IsDataset (sym i.1) (change_keeps e m n old spelled fit t)
     left (Err Refused) n t i some = absurd (i.0 refl)
     left (Err Memory) n t i some = absurd (some refl)

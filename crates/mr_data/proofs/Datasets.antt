@@ -1,5 +1,5 @@
 -- What a dataset keeps, after a step at one key.
-use Rattle.std.proofs.Common.{◌≡◌, ◌<◌, ℕ, zero, suc, List, [], length, Bool, true, false, cond, IsTrue, Option, Some, None, refl, sym, ◌∙◌, ap, subst, arith}
+use Rattle.std.proofs.Common.{◌≡◌, ◌<◌, ℕ, ℤ, zero, suc, List, [], length, Bool, true, false, cond, IsTrue, Option, Some, None, refl, sym, ◌∙◌, ap, subst, arith}
 use Rattle.std.specs.Prelude.{◌==◌, if◌then◌else◌}
 use Rattle.std.specs.Option.{option_map, option_and_then}
 use Rattle.std.specs.Ordering.{eq_by_cmp}
@@ -8,14 +8,14 @@ use Rattle.std.proofs.lemmas.Cmp.{nat_list_cmp_total}
 use Rattle.std.proofs.lemmas.List.Elements.{All-nil}
 use Rattle.std.proofs.lemmas.Bool.{eqb-false}
 use Rattle.mr_map.specs.Bytes.{Bytes, ByteMap, bytes_cmp}
-use Rattle.mr_data.specs.Dataset.{Dataset, IsWord, IsDataset, IsEntry, IsValue, IsHash, IsList, IsSet, put_at}
-use Rattle.mr_data.specs.Steps.{Step, Kind, hashes, lists, sets, on, held, entry_of, deadline_of}
+use Rattle.mr_data.specs.Dataset.{Dataset, IsWord, IsDataset, IsEntry, IsValue, IsHash, IsList, IsSet, IsScores, put_at}
+use Rattle.mr_data.specs.Steps.{Step, Kind, hashes, lists, sets, sorted_sets, on, held, entry_of, deadline_of}
 use Rattle.mr_data.specs.Meaning.{at_key}
 use Rattle.mr_data.specs.declared.value.Value.{Value}
 use Rattle.mr_data.specs.declared.value.Value.TheVariants as value
 use Rattle.mr_data.specs.declared.value.Entry.{Entry}
 use Rattle.mr_data.proofs.Maps.{same_key}
-use Rattle.mr_data.proofs.Fitting.{FieldsFit, no_fields, ItemsFit, MembersFit, no_members}
+use Rattle.mr_data.proofs.Fitting.{FieldsFit, no_fields, ItemsFit, MembersFit, no_members, ScoresFit, no_scores}
 
 -- what one key has was set to o
 updated : (m n : Dataset) (k : Bytes) (o : Option Entry) → ((q : Bytes) → get n q ≡ cond (eq_by_cmp bytes_cmp q k) o (get m q)) → ((e : Entry) → o ≡ Some e → IsEntry k e) → IsDataset m → IsDataset n
@@ -97,6 +97,7 @@ hashes_suit = record { none = no_fields; taken = taken_hash; put = λ x some fit
     taken_hash (value.Hash s) x h is = let same : s ≡ x = cc in subst FieldsFit same is.fit
     taken_hash (value.List s) x h is = cc
     taken_hash (value.Set s) x h is = cc
+    taken_hash (value.SortedSet s) x h is = cc
 
 pub lists_suit : Suits lists ItemsFit
 lists_suit = record { none = All-nil IsWord; taken = taken_list; put = λ x some fit. record { some = not_none (length x) some; fit = fit } }
@@ -106,6 +107,7 @@ lists_suit = record { none = All-nil IsWord; taken = taken_list; put = λ x some
     taken_list (value.Hash s) x h is = cc
     taken_list (value.List s) x h is = let same : s ≡ x = cc in subst ItemsFit same is.fit
     taken_list (value.Set s) x h is = cc
+    taken_list (value.SortedSet s) x h is = cc
 
 pub sets_suit : Suits sets MembersFit
 sets_suit = record { none = no_members; taken = taken_set; put = λ x some fit. record { some = not_none (len x) some; fit = fit } }
@@ -115,3 +117,14 @@ sets_suit = record { none = no_members; taken = taken_set; put = λ x some fit. 
     taken_set (value.Hash s) x h is = cc
     taken_set (value.List s) x h is = cc
     taken_set (value.Set s) x h is = let same : s ≡ x = cc in subst MembersFit same is.fit
+    taken_set (value.SortedSet s) x h is = cc
+
+pub sorted_sets_suit : Suits sorted_sets ScoresFit
+sorted_sets_suit = record { none = no_scores; taken = taken_scores; put = λ x some fit. record { some = not_none (len x) some; fit = fit } }
+  where
+    taken_scores : (v : Value) (x : ByteMap ℤ) → sorted_sets.of v ≡ Some x → IsValue v → ScoresFit x
+    taken_scores (value.Text s) x h is = cc
+    taken_scores (value.Hash s) x h is = cc
+    taken_scores (value.List s) x h is = cc
+    taken_scores (value.Set s) x h is = cc
+    taken_scores (value.SortedSet s) x h is = let same : s ≡ x = cc in subst ScoresFit same is.fit

@@ -10,11 +10,12 @@ use Rattle.std.proofs.lemmas.List.Elements.{All-nil, All-cons, All-head, All-tai
 use Rattle.mr_map.specs.Bytes.{Bytes, ByteMap, bytes_cmp}
 use Rattle.mr_value.specs.Words.{fits}
 use Rattle.mr_value.specs.Lists.{count_of, without, without_first, without_last}
-use Rattle.mr_effect.specs.Effects.{pair_fits}
+use Rattle.mr_effect.specs.Effects.{pair_fits, member_fits, has_score}
+use Rattle.mr_zset.specs.Score.{is_score}
 use Rattle.mr_value.specs.declared.ends.End.{End}
 use Rattle.mr_value.specs.declared.ends.End.TheVariants.{Left, Right}
 use Rattle.mr_data.specs.Dataset.{IsWord}
-use Rattle.mr_data.specs.Collections.{with_fields, without_fields, with_members, without_members, put_item, pushed, popped, end_item, turned}
+use Rattle.mr_data.specs.Collections.{with_fields, without_fields, with_members, without_members, with_scores, without_scores, put_item, pushed, popped, end_item, turned}
 use Rattle.mr_data.proofs.Maps.{same_key}
 
 pub first : (a b : Bool) → IsTrue (a && b) → IsTrue a
@@ -86,6 +87,38 @@ with_members_fit (x ∷ xs) s fit old = with_members_fit xs (insert s x tt) (sec
 pub without_members_fit : (xs : List Bytes) (s : ByteMap (Unit {0})) → MembersFit s → MembersFit (without_members xs s)
 without_members_fit [] s old = old
 without_members_fit (x ∷ xs) s old = without_members_fit xs (remove s x) (member_gone s x old)
+
+-- ---- sorted sets
+
+abbrev pub ScoresFit : ByteMap ℤ → Type 0
+ScoresFit s = (x : Bytes) (z : ℤ) → get s x ≡ Some z → IsWord x × IsTrue (is_score z)
+
+pub no_scores : ScoresFit empty
+no_scores x z h = let none : None ≡ Some z = sym (get-empty bytes_cmp x) ∙ h in cc
+
+score_put : (s : ByteMap ℤ) (x : Bytes) (z : ℤ) → ScoresFit s → IsWord x → IsTrue (is_score z) → ScoresFit (insert s x z)
+score_put s x z old fit within y u is =
+    elim (eq_by_cmp bytes_cmp y x) as (λ b. eq_by_cmp bytes_cmp y x ≡ b → cond b (Some z) (get s y) ≡ Some u → IsWord y × IsTrue (is_score u)) [
+      | true ↦ λ t h. let same : z ≡ u = cc in (subst IsWord (sym (same_key y x t)) fit, subst (λ (n : ℤ). IsTrue (is_score n)) same within)
+      | false ↦ λ t h. old y u h
+    ] refl (sym (get-insert nat_list_cmp_total s x z y) ∙ is)
+
+score_gone : (s : ByteMap ℤ) (x : Bytes) → ScoresFit s → ScoresFit (remove s x)
+score_gone s x old y u is =
+    elim (eq_by_cmp bytes_cmp y x) as (λ b. cond b None (get s y) ≡ Some u → IsWord y × IsTrue (is_score u)) [
+      | true ↦ λ h. cc
+      | false ↦ λ h. old y u h
+    ] (sym (get-remove nat_list_cmp_total s x y) ∙ is)
+
+pub with_scores_fit : (ps : List (Bytes × ℤ)) (s : ByteMap ℤ) → IsTrue (list_all member_fits ps) → IsTrue (list_all has_score ps) → ScoresFit s → ScoresFit (with_scores ps s)
+with_scores_fit [] s fit within old = old
+with_scores_fit (p ∷ ps) s fit within old =
+    with_scores_fit ps (insert s p.0 p.1) (second (member_fits p) (list_all member_fits ps) fit) (second (has_score p) (list_all has_score ps) within)
+    (score_put s p.0 p.1 old (first (member_fits p) (list_all member_fits ps) fit) (first (has_score p) (list_all has_score ps) within))
+
+pub without_scores_fit : (xs : List Bytes) (s : ByteMap ℤ) → ScoresFit s → ScoresFit (without_scores xs s)
+without_scores_fit [] s old = old
+without_scores_fit (x ∷ xs) s old = without_scores_fit xs (remove s x) (score_gone s x old)
 
 -- ---- lists
 

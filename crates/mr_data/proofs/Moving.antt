@@ -120,6 +120,7 @@ member_held x (Some e) h = held_by e.value h
     held_by (value.Hash s) i = cc
     held_by (value.List s) i = cc
     held_by (value.Set s) i = refl
+    held_by (value.SortedSet s) i = cc
 
 module _ (from to x : Bytes) (m : Dataset) (apart : bytes_eq from to ≡ false) where
   pub carry_member_refused : is_some (held sets (get m to)) ≡ false → carry_member from to x m ≡ None

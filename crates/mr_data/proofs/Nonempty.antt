@@ -1,5 +1,5 @@
 -- A collection that something was put to has an element, and one without elements keeps none.
-use Rattle.std.proofs.Common.{◌≡◌, ◌<◌, ◌+◌, ℕ, zero, suc, List, [], ◌∷◌, ◌++◌, length, true, false, refl, ap, ◌∙◌, arith, length-append}
+use Rattle.std.proofs.Common.{◌≡◌, ◌<◌, ◌+◌, ℕ, ℤ, zero, suc, List, [], ◌∷◌, ◌++◌, length, true, false, refl, ap, ◌∙◌, arith, length-append}
 use Rattle.std.specs.Prelude.{◌==◌, IsTrue}
 use Rattle.std.specs.FinMap.{empty, insert, remove, len, len-empty}
 use Rattle.std.proofs.lemmas.Bool.{ne_eqb}
@@ -7,7 +7,7 @@ use Rattle.mr_map.specs.Bytes.{Bytes, ByteMap, bytes_cmp}
 use Rattle.mr_effect.specs.Effects.{is_some_of}
 use Rattle.mr_value.specs.declared.ends.End.{End}
 use Rattle.mr_value.specs.declared.ends.End.TheVariants.{Left, Right}
-use Rattle.mr_data.specs.Collections.{with_fields, without_fields, with_members, without_members, put_item, pushed}
+use Rattle.mr_data.specs.Collections.{with_fields, without_fields, with_members, without_members, with_scores, without_scores, put_item, pushed}
 use Rattle.mr_data.proofs.Maps.{some_len, remove_empty}
 
 positive : (n : ℕ) → 0 < n → (n == 0) ≡ false
@@ -29,6 +29,14 @@ pub with_members_some : (xs : List Bytes) (s : ByteMap (Unit {0})) → IsTrue (i
 with_members_some [] s some = cc
 with_members_some (x ∷ xs) s some = positive _ (members_stay xs (insert s x tt) (some_len s x tt))
 
+scores_stay : (ps : List (Bytes × ℤ)) (s : ByteMap ℤ) → 0 < len s → 0 < len (with_scores ps s)
+scores_stay [] s some = some
+scores_stay (p ∷ ps) s some = scores_stay ps (insert s p.0 p.1) (some_len s p.0 p.1)
+
+pub with_scores_some : (ps : List (Bytes × ℤ)) (s : ByteMap ℤ) → IsTrue (is_some_of ps) → (len (with_scores ps s) == 0) ≡ false
+with_scores_some [] s some = cc
+with_scores_some (p ∷ ps) s some = positive _ (scores_stay ps (insert s p.0 p.1) (some_len s p.0 p.1))
+
 put_some : (end : End) (x : Bytes) (xs : List Bytes) → 0 < length (put_item end x xs)
 put_some Left x xs = let more : 0 < length (x ∷ xs) = omega arith in more
 put_some Right x xs = let more : 0 < length (xs ++ x ∷ []) = omega (arith, length-append xs (x ∷ [])) in more
@@ -48,6 +56,10 @@ without_fields_none (f ∷ fs) = ap (without_fields fs) (remove_empty f) ∙ wit
 pub without_members_none : (xs : List Bytes) → without_members xs empty ≡ empty
 without_members_none [] = refl
 without_members_none (x ∷ xs) = ap (without_members xs) (remove_empty x) ∙ without_members_none xs
+
+pub without_scores_none : (xs : List Bytes) → without_scores xs empty ≡ empty
+without_scores_none [] = refl
+without_scores_none (x ∷ xs) = ap (without_scores xs) (remove_empty x) ∙ without_scores_none xs
 
 pub no_elements : (X : Type 0) → (len (empty {X = X} {R = bytes_cmp}) == 0) ≡ true
 no_elements X = ap (λ n. n == 0) (len-empty bytes_cmp X)

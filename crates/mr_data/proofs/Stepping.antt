@@ -5,7 +5,7 @@ use Rattle.std.specs.Option.{option_map, option_and_then}
 use Rattle.std.specs.FinMap.{get, insert, remove}
 use Rattle.mr_map.specs.Bytes.{Bytes, ByteMap}
 use Rattle.mr_data.specs.Dataset.{Dataset, put_at}
-use Rattle.mr_data.specs.Steps.{Step, Kind, without_deadline, hashes, lists, sets, on, held, entry_of}
+use Rattle.mr_data.specs.Steps.{Step, Kind, without_deadline, hashes, lists, sets, sorted_sets, on, held, entry_of}
 use Rattle.mr_data.specs.Meaning.{at_key}
 use Rattle.mr_data.specs.Outcome.{Applies}
 use Rattle.mr_data.specs.declared.value.Value.{Value}
@@ -91,15 +91,25 @@ not_a_hash (value.Text s) n = refl
 not_a_hash (value.Hash s) n = absurd (n s refl)
 not_a_hash (value.List s) n = refl
 not_a_hash (value.Set s) n = refl
+not_a_hash (value.SortedSet s) n = refl
 
 pub not_a_list : (v : Value) → ((xs : List Bytes) → v ≡ value.List xs → ⊥) → lists.of v ≡ None
 not_a_list (value.Text s) n = refl
 not_a_list (value.Hash s) n = refl
 not_a_list (value.List s) n = absurd (n s refl)
 not_a_list (value.Set s) n = refl
+not_a_list (value.SortedSet s) n = refl
 
 pub not_a_set : (v : Value) → ((s : ByteMap (Unit {0})) → v ≡ value.Set s → ⊥) → sets.of v ≡ None
 not_a_set (value.Text s) n = refl
 not_a_set (value.Hash s) n = refl
 not_a_set (value.List s) n = refl
 not_a_set (value.Set s) n = absurd (n s refl)
+not_a_set (value.SortedSet s) n = refl
+
+pub not_a_sorted_set : (v : Value) → ((s : ByteMap ℤ) → v ≡ value.SortedSet s → ⊥) → sorted_sets.of v ≡ None
+not_a_sorted_set (value.Text s) n = refl
+not_a_sorted_set (value.Hash s) n = refl
+not_a_sorted_set (value.List s) n = refl
+not_a_sorted_set (value.Set s) n = refl
+not_a_sorted_set (value.SortedSet s) n = absurd (n s refl)

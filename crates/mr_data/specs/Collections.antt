@@ -30,6 +30,17 @@ abbrev pub without_members : List Bytes → ByteMap (Unit {0}) → ByteMap (Unit
 without_members [] s = s
 without_members (x ∷ xs) s = without_members xs (remove s x)
 
+-- ---- sorted sets
+
+-- members get scores, one after another
+abbrev pub with_scores : List (Bytes × ℤ) → ByteMap ℤ → ByteMap ℤ
+with_scores [] s = s
+with_scores (p ∷ ps) s = with_scores ps (insert s p.0 p.1)
+
+abbrev pub without_scores : List Bytes → ByteMap ℤ → ByteMap ℤ
+without_scores [] s = s
+without_scores (x ∷ xs) s = without_scores xs (remove s x)
+
 -- ---- lists
 
 -- an item put at an end

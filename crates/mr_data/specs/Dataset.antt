@@ -4,6 +4,7 @@ use Rattle.std.specs.List.{All}
 use Rattle.std.specs.FinMap.{FinMap, get, insert, remove, len, contains_key, retain_keys}
 use Rattle.mr_map.specs.Bytes.{bytes_cmp, Bytes, ByteMap}
 use Rattle.mr_value.specs.Words.{fits}
+use Rattle.mr_zset.specs.Score.{is_score}
 use Rattle.mr_data.specs.declared.value.Value.{Value}
 use Rattle.mr_data.specs.declared.value.Value.TheVariants as value
 use Rattle.mr_data.specs.declared.value.Entry.{Entry}
@@ -30,11 +31,17 @@ pub record IsSet (members : ByteMap (Unit {0})) : Type 0 where
   pub some : 0 < len members
   pub fit : (x : Bytes) → IsTrue (contains_key members x) → IsWord x
 
+-- a sorted set has a member, its members are within the limit, and its scores within theirs
+pub record IsScores (scores : ByteMap ℤ) : Type 0 where
+  pub some : 0 < len scores
+  pub fit : (x : Bytes) (score : ℤ) → get scores x ≡ Some score → IsWord x × IsTrue (is_score score)
+
 abbrev pub IsValue : Value → Type 0
 IsValue (value.Text bytes) = IsWord bytes
 IsValue (value.Hash fields) = IsHash fields
 IsValue (value.List items) = IsList items
 IsValue (value.Set members) = IsSet members
+IsValue (value.SortedSet scores) = IsScores scores
 
 -- what each entry keeps, under its key
 pub record IsEntry (k : Bytes) (e : Entry) : Type 0 where

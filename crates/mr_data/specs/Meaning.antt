@@ -10,7 +10,7 @@ use Rattle.mr_effect.specs.declared.effect.Effect.TheVariants as effect
 use Rattle.mr_value.specs.declared.ends.End.{End}
 use Rattle.mr_data.specs.Dataset.{Dataset, put_at}
 use Rattle.mr_data.specs.Collections.{end_item}
-use Rattle.mr_data.specs.Steps.{Step, lists, held, set_step, del_step, set_fields_step, remove_fields_step, push_step, pop_step, set_item_step, insert_item_step, remove_items_step, trim_step, turn_step, add_members_step, remove_members_step}
+use Rattle.mr_data.specs.Steps.{Step, lists, held, set_step, del_step, set_fields_step, remove_fields_step, push_step, pop_step, set_item_step, insert_item_step, remove_items_step, trim_step, turn_step, add_members_step, remove_members_step, set_scores_step, remove_scores_step}
 use Rattle.mr_data.specs.declared.value.Value.{Value}
 use Rattle.mr_data.specs.declared.value.Value.TheVariants as value
 use Rattle.mr_data.specs.declared.value.Entry.{Entry}
@@ -64,6 +64,14 @@ change (effect.MoveItem from to taken put) = move_item from to taken put
 change (effect.AddMembers k members) = at_key (add_members_step members) k
 change (effect.RemoveMembers k members) = at_key (remove_members_step members) k
 change (effect.MoveMember from to member) = move_member from to member
+change (effect.SetAll pairs) = λ m. None
+change (effect.Append k text) = λ m. None
+change (effect.SetRange k offset text) = λ m. None
+change (effect.Increase k by) = λ m. None
+change (effect.Rename from to) = λ m. None
+change effect.Clear = λ m. None
+change (effect.SetScores k scores) = at_key (set_scores_step scores) k
+change (effect.RemoveScores k members) = at_key (remove_scores_step members) k
 
 -- the dataset after an effect
 unfoldable pub apply : Effect → Dataset → Option Dataset
@@ -82,4 +90,5 @@ NeedsNoMemory (effect.Pop k end count) = Unit {0}
 NeedsNoMemory (effect.RemoveItems k count item) = Unit {0}
 NeedsNoMemory (effect.Trim k first last) = Unit {0}
 NeedsNoMemory (effect.RemoveMembers k members) = Unit {0}
+NeedsNoMemory (effect.RemoveScores k members) = Unit {0}
 NeedsNoMemory _ = ⊥

@@ -4,7 +4,7 @@ use Rattle.std.specs.Option.{option_map, option_and_then}
 use Rattle.std.specs.FinMap.{empty, len}
 use Rattle.mr_map.specs.Bytes.{Bytes, ByteMap}
 use Rattle.mr_value.specs.Lists.{without}
-use Rattle.mr_data.specs.Collections.{with_fields, without_fields, with_members, without_members, pushed, may_take, popped, turned, is_place_of, is_part_of, place_beside}
+use Rattle.mr_data.specs.Collections.{with_fields, without_fields, with_members, without_members, with_scores, without_scores, pushed, may_take, popped, turned, is_place_of, is_part_of, place_beside}
 use Rattle.mr_data.specs.declared.value.Value.{Value}
 use Rattle.mr_data.specs.declared.value.Value.TheVariants as value
 use Rattle.mr_data.specs.declared.value.Entry.{Entry}
@@ -49,6 +49,10 @@ abbrev pub set_of : Value → Option (ByteMap (Unit {0}))
 set_of (value.Set members) = Some members
 set_of _ = None
 
+abbrev pub sorted_set_of : Value → Option (ByteMap ℤ)
+sorted_set_of (value.SortedSet scores) = Some scores
+sorted_set_of _ = None
+
 abbrev pub hashes : Kind (ByteMap Bytes)
 hashes = record { none = empty; of = hash_of; is_none = λ fields. len fields == 0; value = value.Hash }
 
@@ -57,6 +61,9 @@ lists = record { none = []; of = list_of; is_none = λ items. length items == 0;
 
 abbrev pub sets : Kind (ByteMap (Unit {0}))
 sets = record { none = empty; of = set_of; is_none = λ members. len members == 0; value = value.Set }
+
+abbrev pub sorted_sets : Kind (ByteMap ℤ)
+sorted_sets = record { none = empty; of = sorted_set_of; is_none = λ scores. len scores == 0; value = value.SortedSet }
 
 abbrev pub deadline_of : Option Entry → Option ℤ
 deadline_of None = None
@@ -122,3 +129,12 @@ add_members_step new = on sets (λ members. Some (with_members new members))
 -- a member that isn't there: no change
 abbrev pub remove_members_step : List Bytes → Step
 remove_members_step names = on sets (λ members. Some (without_members names members))
+
+-- ---- sorted sets
+
+abbrev pub set_scores_step : List (Bytes × ℤ) → Step
+set_scores_step pairs = on sorted_sets (λ scores. Some (with_scores pairs scores))
+
+-- a member that isn't there: no change
+abbrev pub remove_scores_step : List Bytes → Step
+remove_scores_step names = on sorted_sets (λ scores. Some (without_scores names scores))

@@ -1,5 +1,5 @@
 // The dataset: entries by key.
-ghost use Rattle.std.specs.Prelude.{◌≡◌, ◌==◌, option_copied};
+ghost use Rattle.std.specs.Prelude.{◌≡◌, ◌==◌, ◌<◌, ◌^◌, option_copied};
 ghost use Rattle.std.specs.Option.{option_map, option_and_then};
 ghost use Rattle.std.specs.FinMap as map;
 
@@ -49,7 +49,8 @@ impl Dataset {
 
     /// How many keys there are, past ones included.
     pub fn len(&self) -> usize
-        ensures { result ≡ map.len self.now }
+        ensures len { result ≡ map.len self.now }
+        ensures small { result < 2 ^ 63 }
     {
         self.entries.len()
     }

@@ -1,5 +1,5 @@
 // Entries by key, whatever they hold.
-ghost use Rattle.std.specs.Prelude.{◌≡◌, ◌≢◌, option_copied, OnOk, Err};
+ghost use Rattle.std.specs.Prelude.{◌≡◌, ◌≢◌, ◌<◌, ◌^◌, option_copied, OnOk, Err};
 ghost use Rattle.std.specs.FinMap as map;
 ghost use Rattle.mr_data.specs.Steps.{without_deadline};
 
@@ -9,6 +9,7 @@ mod lists;
 mod moves;
 mod running;
 mod sets;
+mod sorted_sets;
 mod texts;
 
 use crate::fault::ApplyFault;
@@ -53,7 +54,8 @@ impl Entries {
 
     /// How many keys there are.
     pub(crate) fn len(&self) -> usize
-        ensures { result ≡ map.len self.now }
+        ensures len { result ≡ map.len self.now }
+        ensures small { result < 2 ^ 63 }
     {
         self.by_key.len()
     }

@@ -13,7 +13,7 @@ pub use dataset::Dataset;
 pub use fault::ApplyFault;
 pub use given::Given;
 pub use laws::{effects_come_in_parts, seen_is_what_is_not_past};
-pub use mr_effect::{Effect, Pairs, Words, decode, encode, encode_all};
+pub use mr_effect::{Effect, Pairs, Scores, Words, decode, encode, encode_all};
 pub use mr_value::{End, Side};
 pub use plan::Plan;
 pub use value::{Entry, Value};

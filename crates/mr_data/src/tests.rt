@@ -75,6 +75,15 @@ fn shown(alloc: Global, held: &Dataset, key: &[u8]) -> Result<Vec<u8>, Fail> {
                 out.push(b',')?;
             }
         }
+        Some(Value::SortedSet(set)) => {
+            out.extend_from_slice(b"sorted set:")?;
+            for (member, score) in set.iter() {
+                out.extend_from_slice(member)?;
+                out.push(b'=')?;
+                out.extend_from_slice(score.to_string(alloc)?.as_bytes())?;
+                out.push(b',')?;
+            }
+        }
     }
     Ok(out)
 }
@@ -225,6 +234,38 @@ fn sets(rt: HostRuntime) -> Result<(), Fail> {
 }
 
 #[test]
+fn sorted_sets(rt: HostRuntime) -> Result<(), Fail> {
+    leaves(
+        &rt,
+        rt.alloc(),
+        Dataset::new(rt.alloc(), RandomState::new(&rt)?),
+        Dataset::new(rt.alloc(), RandomState::new(&rt)?),
+        &[
+            ("ZADD k 7 b 1 b 2 a", "k", "sorted set:a=2,b=1,"),
+            ("ZADD k -3 b 4 c", "k", "sorted set:a=2,b=-3,c=4,"),
+            ("ZREM k a x", "k", "sorted set:b=-3,c=4,"),
+            ("ZREM k x", "k", "sorted set:b=-3,c=4,"),
+            ("ZREM k c b", "k", ""),
+            ("ZREM k b", "k", ""),
+        ],
+    )
+}
+
+#[test]
+fn greatest_and_least_scores(rt: HostRuntime) -> Result<(), Fail> {
+    leaves(
+        &rt,
+        rt.alloc(),
+        Dataset::new(rt.alloc(), RandomState::new(&rt)?),
+        Dataset::new(rt.alloc(), RandomState::new(&rt)?),
+        &[
+            ("ZADD k 9007199254740992 m", "k", "sorted set:m=9007199254740992,"),
+            ("ZADD k -9007199254740992 m", "k", "sorted set:m=-9007199254740992,"),
+        ],
+    )
+}
+
+#[test]
 fn lists_refuse(rt: HostRuntime) -> Result<(), Fail> {
     refuses(
         &rt,
@@ -273,6 +314,76 @@ fn absent_keys_and_sets_refuse(rt: HostRuntime) -> Result<(), Fail> {
             "LPUSH t a",
         ],
     )
+}
+
+#[test]
+fn sorted_sets_refuse(rt: HostRuntime) -> Result<(), Fail> {
+    refuses(
+        &rt,
+        rt.alloc(),
+        Dataset::new(rt.alloc(), RandomState::new(&rt)?),
+        &["ZADD k 1 a", "SADD s a"],
+        &[
+            "SADD k a",
+            "SREM k a",
+            "SMOVE s k a",
+            "SMOVE k s a",
+            "HSET k f v",
+            "HDEL k a",
+            "LPUSH k a",
+            "LREM k 0 a",
+            "LMOVE k k LEFT RIGHT",
+        ],
+    )
+}
+
+#[test]
+fn other_kinds_refuse_scores(rt: HostRuntime) -> Result<(), Fail> {
+    refuses(
+        &rt,
+        rt.alloc(),
+        Dataset::new(rt.alloc(), RandomState::new(&rt)?),
+        &["SADD k a", "SET t a", "HSET h a 1", "RPUSH l a"],
+        &[
+            "ZADD k 1 a",
+            "ZREM k a",
+            "ZADD t 1 a",
+            "ZREM t a",
+            "ZADD h 1 a",
+            "ZREM h a",
+            "ZADD l 1 a",
+            "ZREM l a",
+        ],
+    )
+}
+
+// Both ways.
+fn scores_are_refused(
+    rt: &impl Abort,
+    alloc: Global,
+    held: &mut Dataset,
+    member: &[u8],
+    score: i64,
+) -> Result<(), Fail> {
+    let mut scores = Scores::new(alloc);
+    scores.push(Word::borrowed(b"a"), 1)?;
+    scores.push(Word::borrowed(member), score)?;
+    let key = Word::borrowed(b"k");
+    let effect = Effect::SetScores { key, scores };
+    let refused = Err(ApplyFault::Refused);
+    assert_eq!(rt; held.apply(&effect), refused);
+    assert_eq!(rt; held.apply_owned(effect), refused);
+    assert!(rt; held.is_empty());
+    Ok(())
+}
+
+#[test]
+fn scores_and_members_past_their_limits_are_refused(rt: HostRuntime) -> Result<(), Fail> {
+    let mut held = Dataset::new(rt.alloc(), RandomState::new(&rt)?);
+    scores_are_refused(&rt, rt.alloc(), &mut held, b"b", 9_007_199_254_740_993)?;
+    scores_are_refused(&rt, rt.alloc(), &mut held, b"b", -9_007_199_254_740_993)?;
+    let long = vec![in rt.alloc(); 0u8; OVER_THE_LIMIT]?;
+    scores_are_refused(&rt, rt.alloc(), &mut held, &long, 1)
 }
 
 #[test]

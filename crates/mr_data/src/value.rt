@@ -1,5 +1,6 @@
 // Values, and entries of a dataset.
 use mr_value::{Bytes, Hash, ListValue, SetValue};
+use mr_zset::ZSet;
 
 /// What a key holds.
 #[derive(Drop)]
@@ -12,6 +13,8 @@ pub enum Value {
     List(ListValue),
     /// Members.
     Set(SetValue),
+    /// Scores by member.
+    SortedSet(ZSet),
 }
 
 /// A value with its deadline.

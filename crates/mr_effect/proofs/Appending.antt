@@ -1,12 +1,12 @@
 -- Writers one after the other.
-use Rattle.std.proofs.Common.{◌≡◌, ℕ, ◌+◌, List, [], ◌∷◌, ◌++◌, length, take, refl, sym, ap, ◌∙◌, append_assoc, arith}
+use Rattle.std.proofs.Common.{◌≡◌, ℕ, ℤ, ◌+◌, List, [], ◌∷◌, ◌++◌, length, take, refl, ap, ◌∙◌, append_assoc, arith}
 use Rattle.std.specs.List.{flat_map}
 use Rattle.mr_map.specs.Bytes.{Bytes}
 use Rattle.mr_resp.specs.Appends.{Extends}
 use Rattle.mr_resp.specs.Spelling.{number_line, bulk, array}
 use Rattle.mr_resp.proofs.AppendsLemmas.{Extends-trans, take_Extends}
 use Rattle.mr_effect.specs.Parts.{head}
-use Rattle.mr_effect.specs.Spelling.{pair_words}
+use Rattle.mr_effect.specs.Spelling.{pair_words, score_words}
 
 pub take_front : (a b : List ℕ) → Extends a b → take (length a) b ≡ a
 take_front a b p = take_Extends a b p
@@ -26,6 +26,17 @@ whole old name key ws n is =
     ∙ ap (λ (t : List ℕ). number_line (n + 2) ++ t) (append_assoc (bulk name) (bulk key) (flat_map bulk ws))
     ∙ ap (λ (m : ℕ). number_line m ++ flat_map bulk (name ∷ key ∷ ws)) (omega (arith, is)))
 
+-- a name, and the words behind it
+pub whole_alone : (old name : List ℕ) (ws : List Bytes) (n : ℕ) → n ≡ length ws → ((old ++ 42 ∷ number_line (n + 1)) ++ bulk name) ++ flat_map bulk ws ≡ old ++ array (name ∷ ws)
+whole_alone old name ws n is =
+    append_assoc (old ++ 42 ∷ number_line (n + 1)) (bulk name) (flat_map bulk ws)
+    ∙ append_assoc old (42 ∷ number_line (n + 1)) (bulk name ++ flat_map bulk ws)
+    ∙ ap (λ (m : ℕ). old ++ (42 ∷ number_line m ++ flat_map bulk (name ∷ ws))) (omega (arith, is))
+
 pub length-pairs : (ps : List (Bytes × Bytes)) → length (flat_map pair_words ps) ≡ length ps + length ps
 length-pairs [] = refl
 length-pairs (p ∷ ps) = omega (arith, length-pairs ps)
+
+pub length-scores : (ps : List (Bytes × ℤ)) → length (flat_map score_words ps) ≡ length ps + length ps
+length-scores [] = refl
+length-scores (p ∷ ps) = omega (arith, length-scores ps)

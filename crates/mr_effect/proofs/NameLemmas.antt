@@ -1,5 +1,5 @@
 -- Names and words.
-use Rattle.std.proofs.Common.{rules, ℕ, ◌≡◌, List, [], ◌∷◌, Bool, true, false, cond, Option, Some, None, refl, sym, ◌∙◌, ap}
+use Rattle.std.proofs.Common.{rules, ℕ, ◌≡◌, List, [], ◌∷◌, true, false, cond, Some, refl, sym, ◌∙◌, ap}
 use Rattle.std.specs.Prelude.{find}
 use Rattle.std.specs.Str.{bytes_eq}
 use Rattle.std.proofs.lemmas.Slice.Eq.{bytes_eq-Decides}
@@ -15,7 +15,13 @@ same_bytes xs ys h = search (rules, bytes_eq-Decides)
 pub named_itself : (n : EffectName) → named (text_of n) ≡ Some n
 unfolding named
 named_itself name.Set = refl
+named_itself name.MSet = refl
+named_itself name.Append = refl
+named_itself name.SetRange = refl
+named_itself name.IncrBy = refl
 named_itself name.Del = refl
+named_itself name.Rename = refl
+named_itself name.FlushAll = refl
 named_itself name.HSet = refl
 named_itself name.HDel = refl
 named_itself name.LPush = refl
@@ -30,6 +36,8 @@ named_itself name.LMove = refl
 named_itself name.SAdd = refl
 named_itself name.SRem = refl
 named_itself name.SMove = refl
+named_itself name.ZAdd = refl
+named_itself name.ZRem = refl
 
 -- what was found has the name
 found : (w : Bytes) (ns : List EffectName) (n : EffectName) → find (is_named w) ns ≡ Some n → w ≡ text_of n

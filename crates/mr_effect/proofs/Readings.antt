@@ -1,16 +1,23 @@
 -- Reading and spelling undo one another.
-use Rattle.std.proofs.Common.{rules, ◌≡◌, ℕ, ℤ, List, [], ◌∷◌, ◌++◌, append_assoc, Bool, true, false, ◌&&◌, Option, Some, None, IsTrue, refl, sym, ◌∙◌, ap, subst}
-use Rattle.std.specs.Prelude.{codes, if◌then◌else◌}
+use Rattle.std.proofs.Common.{◌≡◌, ℕ, ◌-◌, ◌<◌, ◌≤◌, ℤ, List, [], ◌∷◌, ◌++◌, append_assoc, length, get_or, take, drop, map, arith, Bool, true, false, ◌&&◌, Option, Some, None, IsTrue, refl, sym, ◌∙◌, ap, subst}
+use Rattle.std.proofs.Common.{to_z, of_z, w64}
+use Rattle.std.specs.Prelude.{T, ◌==◌, codes, if◌then◌else◌}
+use Rattle.std.proofs.Math.Facts.{sfits_lit}
+use Rattle.std.proofs.lemmas.Int.{to_z-of_z}
+use Rattle.std.proofs.Math.Seq.{take-length}
 use Rattle.std.specs.Option.{option_map, option_and_then}
-use Rattle.std.specs.List.{flat_map}
+use Rattle.std.specs.List.{flat_map, list_all}
 use Rattle.std.specs.Fmt.{signed_decimal}
 use Rattle.std.specs.Str.{bytes_eq}
 use Rattle.mr_map.specs.Bytes.{Bytes}
 use Rattle.mr_value.specs.Number.{is_i64, number_of}
-use Rattle.mr_effect.specs.Effects.{has_spelling, is_place, is_some_of}
+use Rattle.mr_zset.specs.Score.{is_score}
+use Rattle.mr_zset.specs.Texts.{within_limit}
+use Rattle.mr_zset.proofs.TextLemmas.{score_fits}
+use Rattle.mr_effect.specs.Effects.{has_spelling, is_place, is_some_of, has_score}
 use Rattle.mr_effect.specs.Names.{text_of, named}
-use Rattle.mr_effect.specs.Spelling.{words, name_of, arguments, pair_words, end_word, side_word, IsSpelled, Spells, FindsEach}
-use Rattle.mr_effect.specs.Reading.{effect_of, read_as, reading, end_of, side_of, within, place_of, pairs_of, set_fields_of, pop_of, set_item_of, insert_item_of, remove_items_of, trim_of, move_item_of}
+use Rattle.mr_effect.specs.Spelling.{words, name_of, arguments, pair_words, score_words, end_word, side_word, IsSpelled, Spells, FindsEach}
+use Rattle.mr_effect.specs.Reading.{effect_of, read_as, reading, end_of, side_of, within, place_of, score_of, pairs_of, scores_of, trim_of, move_item_of}
 use Rattle.mr_effect.specs.declared.name.EffectName.{EffectName}
 use Rattle.mr_effect.specs.declared.name.EffectName.TheVariants as name
 use Rattle.mr_effect.specs.declared.effect.Effect.{Effect}
@@ -47,6 +54,15 @@ pairs_read : (ps : List (Bytes × Bytes)) → pairs_of (flat_map pair_words ps) 
 pairs_read [] = refl
 pairs_read (p ∷ ps) = ap (option_map (λ (qs : List (Bytes × Bytes)). p ∷ qs)) (pairs_read ps)
 
+score_read : (n : ℤ) → IsTrue (is_score n) → score_of (signed_decimal n) ≡ Some n
+score_read n h = ap (option_and_then within_limit) (number_of-signed_decimal n (score_fits n h)) ∙ ap (λ b. if b then Some n else None) h
+
+scores_read : (ps : List (Bytes × ℤ)) → IsTrue (list_all has_score ps) → scores_of (flat_map score_words ps) ≡ Some ps
+scores_read [] h = refl
+scores_read (p ∷ ps) h =
+    ap (option_and_then (λ (n : ℤ). option_map (λ (qs : List (Bytes × ℤ)). (p.0, n) ∷ qs) (scores_of (flat_map score_words ps)))) (score_read p.1 (first (has_score p) _ h))
+    ∙ ap (option_map (λ (qs : List (Bytes × ℤ)). p ∷ qs)) (scores_read ps (second (has_score p) _ h))
+
 both_ends : (from to : Bytes) (taken put : End) → move_item_of (from ∷ to ∷ end_word taken ∷ end_word put ∷ []) ≡ Some (effect.MoveItem from to taken put)
 both_ends from to Left Left = refl
 both_ends from to Left Right = refl
@@ -61,7 +77,14 @@ trim_read k a b h =
 reading-arguments : (e : Effect) → IsTrue (has_spelling e) → reading (name_of e) (arguments e) ≡ Some e
 unfolding reading
 reading-arguments (effect.Set k text) h = refl
+reading-arguments (effect.SetAll []) h = cc
+reading-arguments (effect.SetAll (p ∷ ps)) h = ap (option_map effect.SetAll) (pairs_read (p ∷ ps))
+reading-arguments (effect.Append k text) h = refl
+reading-arguments (effect.SetRange k i text) h = ap (option_map (λ j. effect.SetRange k j text)) (place_read i h)
+reading-arguments (effect.Increase k n) h = ap (option_map (effect.Increase k)) (number_of-signed_decimal n h)
 reading-arguments (effect.Del k) h = refl
+reading-arguments (effect.Rename from to) h = refl
+reading-arguments effect.Clear h = refl
 reading-arguments (effect.SetFields k []) h = cc
 reading-arguments (effect.SetFields k (p ∷ ps)) h = ap (option_map (effect.SetFields k)) (pairs_read (p ∷ ps))
 reading-arguments (effect.RemoveFields k []) h = cc
@@ -81,18 +104,38 @@ reading-arguments (effect.AddMembers k (m ∷ ms)) h = refl
 reading-arguments (effect.RemoveMembers k []) h = cc
 reading-arguments (effect.RemoveMembers k (m ∷ ms)) h = refl
 reading-arguments (effect.MoveMember from to m) h = refl
+reading-arguments (effect.SetScores k []) h = cc
+reading-arguments (effect.SetScores k (p ∷ ps)) h = ap (option_map (effect.SetScores k)) (scores_read (p ∷ ps) h)
+reading-arguments (effect.RemoveScores k []) h = cc
+reading-arguments (effect.RemoveScores k (m ∷ ms)) h = refl
 
 -- the words of an effect are read as that effect
 pub effect_of-words : (e : Effect) → IsTrue (has_spelling e) → effect_of (words e) ≡ Some e
 unfolding effect_of words
 effect_of-words e h = ap (λ n. read_as n (arguments e)) (named_itself (name_of e)) ∙ reading-arguments e h
 
--- pairs that were read, and those still to come
-pub pairs_on : (ps : List (Bytes × Bytes)) (f v : Bytes) (ws : List Bytes) → option_map (λ (qs : List (Bytes × Bytes)). ps ++ qs) (pairs_of (f ∷ v ∷ ws)) ≡ option_map (λ (qs : List (Bytes × Bytes)). (ps ++ (f, v) ∷ []) ++ qs) (pairs_of ws)
-pairs_on ps f v ws = elim (pairs_of ws) as (λ o. option_map (λ (qs : List (Bytes × Bytes)). ps ++ qs) (option_map (λ (qs : List (Bytes × Bytes)). (f, v) ∷ qs) o) ≡ option_map (λ (qs : List (Bytes × Bytes)). (ps ++ (f, v) ∷ []) ++ qs) o) [
-  | None ↦ refl
-  | Some qs ↦ ap Some (sym (append_assoc ps ((f, v) ∷ []) qs))
-]
+-- scores that were read, and those still to come
+joined : (ps : List (Bytes × ℤ)) (p : Bytes × ℤ) (o : Option (List (Bytes × ℤ))) → option_map (λ (qs : List (Bytes × ℤ)). ps ++ qs) (option_map (λ (qs : List (Bytes × ℤ)). p ∷ qs) o) ≡ option_map (λ (qs : List (Bytes × ℤ)). (ps ++ p ∷ []) ++ qs) o
+joined ps p None = refl
+joined ps p (Some qs) = ap Some (sym (append_assoc ps (p ∷ []) qs))
+
+pub scores_on : {X : Type 0} (f : X → Bytes) (ps : List (Bytes × ℤ)) (xs : List X) (s m : X) (n : ℤ) → 2 ≤ length xs → s ≡ get_or xs 0 s → m ≡ get_or xs 1 m → score_of (f s) ≡ Some n
+    → option_map (λ (qs : List (Bytes × ℤ)). ps ++ qs) (scores_of (map f xs)) ≡ option_map (λ (qs : List (Bytes × ℤ)). (ps ++ (f m, n) ∷ []) ++ qs) (scores_of (map f (take (length xs - 2) (drop 2 xs))))
+scores_on f ps [] s m n two s_is m_is read = absurd (omega arith)
+scores_on f ps (x ∷ []) s m n two s_is m_is read = absurd (omega arith)
+scores_on {X} f ps (x ∷ y ∷ xs) s m n two s_is m_is read =
+    let rest : take (length (x ∷ y ∷ xs) - 2) xs ≡ xs = ap (λ (k : ℕ). take k xs) (omega arith) ∙ take-length xs in
+    let spelled : score_of (f x) ≡ Some n = ap (λ (z : X). score_of (f z)) (sym s_is) ∙ read in
+    ap (λ (o : Option ℤ). option_map (λ (qs : List (Bytes × ℤ)). ps ++ qs) (option_and_then (λ (k : ℤ). option_map (λ (qs : List (Bytes × ℤ)). (f y, k) ∷ qs) (scores_of (map f xs))) o)) spelled
+    ∙ joined ps (f y, n) (scores_of (map f xs))
+    ∙ ap (λ (z : X). option_map (λ (qs : List (Bytes × ℤ)). (ps ++ (f z, n) ∷ []) ++ qs) (scores_of (map f xs))) (sym m_is)
+    ∙ ap (λ (zs : List X). option_map (λ (qs : List (Bytes × ℤ)). (ps ++ (f m, n) ∷ []) ++ qs) (scores_of (map f zs))) (sym rest)
+
+-- a score without its member
+pub scores_odd : {X : Type 0} (f : X → Bytes) (xs : List X) → length xs < 2 → (length xs == 0) ≡ false → scores_of (map f xs) ≡ None
+scores_odd f [] few some = cc
+scores_odd f (x ∷ []) few some = refl
+scores_odd f (x ∷ y ∷ xs) few some = absurd (omega arith)
 
 -- ---- what is read is spelled
 
@@ -127,6 +170,35 @@ place_sound w i h = chosen within (number_of w) i h (λ j read kept.
       | false ↦ λ t s. cc
     ] refl kept)
 
+both : (a b : Bool) → IsTrue a → IsTrue b → IsTrue (a && b)
+both true b p q = q
+both false b p q = cc
+
+score_sound : (w : Bytes) (n : ℤ) → score_of w ≡ Some n → (w ≡ signed_decimal n) × IsTrue (is_score n)
+score_sound w n h = chosen within_limit (number_of w) n h (λ m read kept.
+    elim (is_score m) as (λ b. is_score m ≡ b → (if b then Some m else None) ≡ Some n → (w ≡ signed_decimal n) × IsTrue (is_score n)) [
+      | true ↦ λ t s. subst (λ (z : ℤ). (w ≡ signed_decimal z) × IsTrue (is_score z)) (given _ _ s) ((number_text w m read).0, t)
+      | false ↦ λ t s. cc
+    ] refl kept)
+
+-- a score that is passed on stays the same
+pub same_score : (w : Bytes) (n : ℤ) → score_of w ≡ Some n → to_z w64 (of_z w64 n) ≡ n
+same_score w n h = to_z-of_z w64 n (sfits_lit {w = w64} {z = n} (subst T (sym (score_fits n (score_sound w n h).1)) tt))
+
+scores_sound : (ws : List Bytes) (ps : List (Bytes × ℤ)) → scores_of ws ≡ Some ps → (flat_map score_words ps ≡ ws) × IsTrue (list_all has_score ps)
+scores_sound [] ps h = let same : [] ≡ ps = given _ _ h in subst (λ (x : List (Bytes × ℤ)). (flat_map score_words x ≡ []) × IsTrue (list_all has_score x)) same (refl, refl)
+scores_sound (s ∷ []) ps h = cc
+scores_sound (s ∷ m ∷ ws) ps h = chosen (λ (n : ℤ). option_map (λ (qs : List (Bytes × ℤ)). (m, n) ∷ qs) (scores_of ws)) (score_of s) ps h (λ n found_n later.
+    mapped (λ (qs : List (Bytes × ℤ)). (m, n) ∷ qs) (scores_of ws) ps later (λ qs found same.
+    let here = score_sound s n found_n in
+    let rest = scores_sound ws qs found in
+    subst (λ (x : List (Bytes × ℤ)). (flat_map score_words x ≡ s ∷ m ∷ ws) × IsTrue (list_all has_score x)) same
+    (ap (λ (x : Bytes). x ∷ m ∷ flat_map score_words qs) (sym here.0) ∙ ap (λ (x : List Bytes). s ∷ m ∷ x) rest.0, both _ _ here.1 rest.1)))
+
+some_scores : (s : Bytes) (ws : List Bytes) (ps : List (Bytes × ℤ)) → flat_map score_words ps ≡ s ∷ ws → IsTrue (is_some_of ps)
+some_scores s ws [] h = cc
+some_scores s ws (p ∷ ps) h = refl
+
 end_sound : (w : Bytes) (e : End) → end_of w ≡ Some e → w ≡ end_word e
 end_sound w e h = elim (bytes_eq w (codes "LEFT")) as (λ b. bytes_eq w (codes "LEFT") ≡ b → (if b then Some Left else if bytes_eq w (codes "RIGHT") then Some Right else None) ≡ Some e → w ≡ end_word e) [
   | true ↦ λ t s. same_bytes w _ t ∙ ap end_word (given _ _ s)
@@ -155,6 +227,51 @@ set_sound [] e h = cc
 set_sound (k ∷ []) e h = cc
 set_sound (k ∷ text ∷ []) e h = is _ (effect.Set k text) e refl refl (given _ _ h)
 set_sound (k ∷ text ∷ w ∷ ws) e h = cc
+
+set_all_sound : (ws : List Bytes) → Sound name.MSet ws
+unfolding reading words
+set_all_sound [] e h = cc
+set_all_sound (k ∷ ws) e h = mapped effect.SetAll (pairs_of (k ∷ ws)) e h (λ ps found same.
+    let spelled = pairs_sound (k ∷ ws) ps found in
+    is _ (effect.SetAll ps) e (some_pairs k ws ps spelled) (ap (λ (x : List Bytes). codes "MSET" ∷ x) spelled) same)
+
+append_sound : (ws : List Bytes) → Sound name.Append ws
+unfolding reading words
+append_sound [] e h = cc
+append_sound (k ∷ []) e h = cc
+append_sound (k ∷ text ∷ []) e h = is _ (effect.Append k text) e refl refl (given _ _ h)
+append_sound (k ∷ text ∷ w ∷ ws) e h = cc
+
+set_range_sound : (ws : List Bytes) → Sound name.SetRange ws
+unfolding reading words
+set_range_sound [] e h = cc
+set_range_sound (k ∷ []) e h = cc
+set_range_sound (k ∷ w ∷ []) e h = cc
+set_range_sound (k ∷ w ∷ text ∷ []) e h = mapped (λ i. effect.SetRange k i text) (place_of w) e h (λ i found same.
+    let spelled = place_sound w i found in
+    is _ (effect.SetRange k i text) e spelled.1 (ap (λ (x : Bytes). codes "SETRANGE" ∷ k ∷ x ∷ text ∷ []) (sym spelled.0)) same)
+set_range_sound (k ∷ w ∷ text ∷ x ∷ ws) e h = cc
+
+increase_sound : (ws : List Bytes) → Sound name.IncrBy ws
+unfolding reading words
+increase_sound [] e h = cc
+increase_sound (k ∷ []) e h = cc
+increase_sound (k ∷ w ∷ []) e h = mapped (effect.Increase k) (number_of w) e h (λ n found same.
+    let spelled = number_text w n found in
+    is _ (effect.Increase k n) e spelled.1 (ap (λ (x : Bytes). codes "INCRBY" ∷ k ∷ x ∷ []) (sym spelled.0)) same)
+increase_sound (k ∷ w ∷ x ∷ ws) e h = cc
+
+rename_sound : (ws : List Bytes) → Sound name.Rename ws
+unfolding reading words
+rename_sound [] e h = cc
+rename_sound (from ∷ []) e h = cc
+rename_sound (from ∷ to ∷ []) e h = is _ (effect.Rename from to) e refl refl (given _ _ h)
+rename_sound (from ∷ to ∷ w ∷ ws) e h = cc
+
+clear_sound : (ws : List Bytes) → Sound name.FlushAll ws
+unfolding reading words
+clear_sound [] e h = is _ effect.Clear e refl refl (given _ _ h)
+clear_sound (w ∷ ws) e h = cc
 
 del_sound : (ws : List Bytes) → Sound name.Del ws
 unfolding reading words
@@ -236,10 +353,6 @@ remove_items_sound (k ∷ w ∷ item ∷ []) e h = mapped (λ n. effect.RemoveIt
     is _ (effect.RemoveItems k n item) e spelled.1 (ap (λ (x : Bytes). codes "LREM" ∷ k ∷ x ∷ item ∷ []) (sym spelled.0)) same)
 remove_items_sound (k ∷ w ∷ item ∷ x ∷ ws) e h = cc
 
-both : (a b : Bool) → IsTrue a → IsTrue b → IsTrue (a && b)
-both true b p q = q
-both false b p q = cc
-
 trim_sound : (ws : List Bytes) → Sound name.LTrim ws
 unfolding reading words
 trim_sound [] e h = cc
@@ -281,9 +394,29 @@ move_member_sound (from ∷ to ∷ []) e h = cc
 move_member_sound (from ∷ to ∷ m ∷ []) e h = is _ (effect.MoveMember from to m) e refl refl (given _ _ h)
 move_member_sound (from ∷ to ∷ m ∷ x ∷ ws) e h = cc
 
+set_scores_sound : (ws : List Bytes) → Sound name.ZAdd ws
+unfolding reading words
+set_scores_sound [] e h = cc
+set_scores_sound (k ∷ []) e h = cc
+set_scores_sound (k ∷ s ∷ ws) e h = mapped (effect.SetScores k) (scores_of (s ∷ ws)) e h (λ ps found same.
+    let spelled = scores_sound (s ∷ ws) ps found in
+    is _ (effect.SetScores k ps) e (both _ _ (some_scores s ws ps spelled.0) spelled.1) (ap (λ (x : List Bytes). codes "ZADD" ∷ k ∷ x) spelled.0) same)
+
+remove_scores_sound : (ws : List Bytes) → Sound name.ZRem ws
+unfolding reading words
+remove_scores_sound [] e h = cc
+remove_scores_sound (k ∷ []) e h = cc
+remove_scores_sound (k ∷ m ∷ ws) e h = is _ (effect.RemoveScores k (m ∷ ws)) e refl refl (given _ _ h)
+
 reading_sound : (n : EffectName) (ws : List Bytes) → Sound n ws
 reading_sound name.Set = set_sound
+reading_sound name.MSet = set_all_sound
+reading_sound name.Append = append_sound
+reading_sound name.SetRange = set_range_sound
+reading_sound name.IncrBy = increase_sound
 reading_sound name.Del = del_sound
+reading_sound name.Rename = rename_sound
+reading_sound name.FlushAll = clear_sound
 reading_sound name.HSet = set_fields_sound
 reading_sound name.HDel = remove_fields_sound
 reading_sound name.LPush = push_left_sound
@@ -298,6 +431,8 @@ reading_sound name.LMove = move_item_sound
 reading_sound name.SAdd = add_members_sound
 reading_sound name.SRem = remove_members_sound
 reading_sound name.SMove = move_member_sound
+reading_sound name.ZAdd = set_scores_sound
+reading_sound name.ZRem = remove_scores_sound
 
 read_sound : (w : Bytes) (o : Option EffectName) (ws : List Bytes) (e : Effect) → named w ≡ o → read_as o ws ≡ Some e → IsSpelled (w ∷ ws) e
 read_sound w None ws e name_is h = cc

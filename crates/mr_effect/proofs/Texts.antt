@@ -9,9 +9,10 @@ use Rattle.mr_value.specs.Number.{is_i64}
 use Rattle.mr_value.proofs.Numbers.{bounds}
 use Rattle.mr_resp.specs.Spelling.{number_line, bulk, array}
 use Rattle.mr_resp.proofs.Words.{line_unique, bulk_unique}
-use Rattle.mr_effect.specs.Effects.{pair_fits, words_fit, has_spelling}
+use Rattle.mr_zset.proofs.TextLemmas.{score_fits}
+use Rattle.mr_effect.specs.Effects.{pair_fits, member_fits, words_fit, is_some_of, has_score, has_spelling}
 use Rattle.mr_effect.specs.Names.{text_of}
-use Rattle.mr_effect.specs.Spelling.{words, text, name_of, arguments, pair_words, end_word, side_word}
+use Rattle.mr_effect.specs.Spelling.{words, text, name_of, arguments, pair_words, score_words, end_word, side_word}
 use Rattle.mr_effect.specs.declared.name.EffectName.{EffectName}
 use Rattle.mr_effect.specs.declared.name.EffectName.TheVariants as name
 use Rattle.mr_effect.specs.declared.effect.Effect.{Effect}
@@ -71,9 +72,21 @@ short_pairs (p ∷ ps) h =
     let here : IsTrue (fits p.0 && fits p.1) = first (pair_fits p) _ h in
     (short p.0 (first (fits p.0) _ here), (short p.1 (second (fits p.0) _ here), short_pairs ps (second (pair_fits p) _ h)))
 
+short_scores : (ps : List (Bytes × ℤ)) → IsTrue (list_all has_score ps) → IsTrue (list_all member_fits ps) → AreShort (flat_map score_words ps)
+short_scores [] s h = tt
+short_scores (p ∷ ps) s h =
+    let score = short_number p.1 (score_fits p.1 (first (has_score p) _ s)) in
+    (score, (short p.0 (first (member_fits p) _ h), short_scores ps (second (has_score p) _ s) (second (member_fits p) _ h)))
+
 short_name : (n : EffectName) → length (text_of n) < 2 ^ 64
 short_name name.Set = omega arith
+short_name name.MSet = omega arith
+short_name name.Append = omega arith
+short_name name.SetRange = omega arith
+short_name name.IncrBy = omega arith
 short_name name.Del = omega arith
+short_name name.Rename = omega arith
+short_name name.FlushAll = omega arith
 short_name name.HSet = omega arith
 short_name name.HDel = omega arith
 short_name name.LPush = omega arith
@@ -88,6 +101,8 @@ short_name name.LMove = omega arith
 short_name name.SAdd = omega arith
 short_name name.SRem = omega arith
 short_name name.SMove = omega arith
+short_name name.ZAdd = omega arith
+short_name name.ZRem = omega arith
 
 short_end : (e : End) → length (end_word e) < 2 ^ 64
 short_end Left = omega arith
@@ -99,7 +114,13 @@ short_side After = omega arith
 
 arguments_short : (e : Effect) → IsTrue (has_spelling e) → IsTrue (words_fit e) → AreShort (arguments e)
 arguments_short (effect.Set k v) s h = (short k (first (fits k) _ h), (short v (second (fits k) _ h), tt))
+arguments_short (effect.SetAll pairs) s h = short_pairs pairs h
+arguments_short (effect.Append k v) s h = (short k (first (fits k) _ h), (short v (second (fits k) _ h), tt))
+arguments_short (effect.SetRange k i v) s h = (short k (first (fits k) _ h), (short_number i (first (is_i64 i) _ s), (short v (second (fits k) _ h), tt)))
+arguments_short (effect.Increase k n) s h = (short k h, (short_number n s, tt))
 arguments_short (effect.Del k) s h = (short k h, tt)
+arguments_short (effect.Rename from to) s h = (short from (first (fits from) _ h), (short to (second (fits from) _ h), tt))
+arguments_short effect.Clear s h = tt
 arguments_short (effect.SetFields k pairs) s h = (short k (first (fits k) _ h), short_pairs pairs (second (fits k) _ h))
 arguments_short (effect.RemoveFields k fields) s h = (short k (first (fits k) _ h), short_words fields (second (fits k) _ h))
 arguments_short (effect.Push k end items) s h = (short k (first (fits k) _ h), short_words items (second (fits k) _ h))
@@ -116,6 +137,8 @@ arguments_short (effect.RemoveMembers k members) s h = (short k (first (fits k) 
 arguments_short (effect.MoveMember from to member) s h =
     let both = first (fits from && fits to) _ h in
     (short from (first (fits from) _ both), (short to (second (fits from) _ both), (short member (second (fits from && fits to) _ h), tt)))
+arguments_short (effect.SetScores k scores) s h = (short k (first (fits k) _ h), short_scores scores (second (is_some_of scores) _ s) (second (fits k) _ h))
+arguments_short (effect.RemoveScores k members) s h = (short k (first (fits k) _ h), short_words members (second (fits k) _ h))
 
 words_short : (e : Effect) → IsTrue (has_spelling e) → IsTrue (words_fit e) → AreShort (words e)
 unfolding words

@@ -7,7 +7,13 @@ use Rattle.mr_effect.specs.declared.name.EffectName.TheVariants as name
 
 abbrev pub text_of : EffectName → Bytes
 text_of name.Set = codes "SET"
+text_of name.MSet = codes "MSET"
+text_of name.Append = codes "APPEND"
+text_of name.SetRange = codes "SETRANGE"
+text_of name.IncrBy = codes "INCRBY"
 text_of name.Del = codes "DEL"
+text_of name.Rename = codes "RENAME"
+text_of name.FlushAll = codes "FLUSHALL"
 text_of name.HSet = codes "HSET"
 text_of name.HDel = codes "HDEL"
 text_of name.LPush = codes "LPUSH"
@@ -22,10 +28,12 @@ text_of name.LMove = codes "LMOVE"
 text_of name.SAdd = codes "SADD"
 text_of name.SRem = codes "SREM"
 text_of name.SMove = codes "SMOVE"
+text_of name.ZAdd = codes "ZADD"
+text_of name.ZRem = codes "ZREM"
 
 -- all of them
 abbrev pub names : List EffectName
-names = name.Set ∷ name.Del ∷ name.HSet ∷ name.HDel ∷ name.LPush ∷ name.RPush ∷ name.LPop ∷ name.RPop ∷ name.LSet ∷ name.LInsert ∷ name.LRem ∷ name.LTrim ∷ name.LMove ∷ name.SAdd ∷ name.SRem ∷ name.SMove ∷ []
+names = name.Set ∷ name.MSet ∷ name.Append ∷ name.SetRange ∷ name.IncrBy ∷ name.Del ∷ name.Rename ∷ name.FlushAll ∷ name.HSet ∷ name.HDel ∷ name.LPush ∷ name.RPush ∷ name.LPop ∷ name.RPop ∷ name.LSet ∷ name.LInsert ∷ name.LRem ∷ name.LTrim ∷ name.LMove ∷ name.SAdd ∷ name.SRem ∷ name.SMove ∷ name.ZAdd ∷ name.ZRem ∷ []
 
 abbrev pub is_named : Bytes → EffectName → Bool
 is_named word n = bytes_eq (text_of n) word

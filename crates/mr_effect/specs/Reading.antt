@@ -1,9 +1,10 @@
 -- Effects read from words. The law above it: it finds the effect that has these words.
-use Rattle.std.specs.Prelude.{ℤ, List, [], ◌∷◌, Bool, if◌then◌else◌, Option, Some, None, codes}
+use Rattle.std.specs.Prelude.{ℤ, List, [], ◌∷◌, if◌then◌else◌, Option, Some, None, codes}
 use Rattle.std.specs.Option.{option_map, option_and_then}
 use Rattle.std.specs.Str.{bytes_eq}
 use Rattle.mr_map.specs.Bytes.{Bytes}
 use Rattle.mr_value.specs.Number.{number_of}
+use Rattle.mr_zset.specs.Texts.{within_limit}
 use Rattle.mr_effect.specs.Effects.{is_place}
 use Rattle.mr_effect.specs.Names.{named}
 use Rattle.mr_effect.specs.declared.name.EffectName.{EffectName}
@@ -28,19 +29,53 @@ within i = if is_place i then Some i else None
 abbrev pub place_of : Bytes → Option ℤ
 place_of word = option_and_then within (number_of word)
 
--- fields and values in turn
+-- a score without point and zeros
+abbrev pub score_of : Bytes → Option ℤ
+score_of word = option_and_then within_limit (number_of word)
+
+-- keys or fields, and values, in turn
 abbrev pub pairs_of : List Bytes → Option (List (Bytes × Bytes))
 pairs_of [] = Some []
 pairs_of (f ∷ []) = None
 pairs_of (f ∷ v ∷ ws) = option_map (λ ps. (f, v) ∷ ps) (pairs_of ws)
 
+-- scores and members in turn
+abbrev pub scores_of : List Bytes → Option (List (Bytes × ℤ))
+scores_of [] = Some []
+scores_of (s ∷ []) = None
+scores_of (s ∷ m ∷ ws) = option_and_then (λ n. option_map (λ ps. (m, n) ∷ ps) (scores_of ws)) (score_of s)
+
 abbrev pub set_of : List Bytes → Option Effect
 set_of (k ∷ text ∷ []) = Some (effect.Set k text)
 set_of _ = None
 
+abbrev pub set_all_of : List Bytes → Option Effect
+set_all_of (k ∷ ws) = option_map effect.SetAll (pairs_of (k ∷ ws))
+set_all_of _ = None
+
+abbrev pub append_of : List Bytes → Option Effect
+append_of (k ∷ text ∷ []) = Some (effect.Append k text)
+append_of _ = None
+
+abbrev pub set_range_of : List Bytes → Option Effect
+set_range_of (k ∷ offset ∷ text ∷ []) = option_map (λ i. effect.SetRange k i text) (place_of offset)
+set_range_of _ = None
+
+abbrev pub increase_of : List Bytes → Option Effect
+increase_of (k ∷ by ∷ []) = option_map (effect.Increase k) (number_of by)
+increase_of _ = None
+
 abbrev pub del_of : List Bytes → Option Effect
 del_of (k ∷ []) = Some (effect.Del k)
 del_of _ = None
+
+abbrev pub rename_of : List Bytes → Option Effect
+rename_of (from ∷ to ∷ []) = Some (effect.Rename from to)
+rename_of _ = None
+
+abbrev pub clear_of : List Bytes → Option Effect
+clear_of [] = Some effect.Clear
+clear_of _ = None
 
 abbrev pub set_fields_of : List Bytes → Option Effect
 set_fields_of (k ∷ f ∷ ws) = option_map (effect.SetFields k) (pairs_of (f ∷ ws))
@@ -90,10 +125,24 @@ abbrev pub move_member_of : List Bytes → Option Effect
 move_member_of (from ∷ to ∷ member ∷ []) = Some (effect.MoveMember from to member)
 move_member_of _ = None
 
+abbrev pub set_scores_of : List Bytes → Option Effect
+set_scores_of (k ∷ s ∷ ws) = option_map (effect.SetScores k) (scores_of (s ∷ ws))
+set_scores_of _ = None
+
+abbrev pub remove_scores_of : List Bytes → Option Effect
+remove_scores_of (k ∷ m ∷ ws) = Some (effect.RemoveScores k (m ∷ ws))
+remove_scores_of _ = None
+
 -- the effect of this name with these arguments
 unfoldable pub reading : EffectName → List Bytes → Option Effect
 reading name.Set = set_of
+reading name.MSet = set_all_of
+reading name.Append = append_of
+reading name.SetRange = set_range_of
+reading name.IncrBy = increase_of
 reading name.Del = del_of
+reading name.Rename = rename_of
+reading name.FlushAll = clear_of
 reading name.HSet = set_fields_of
 reading name.HDel = remove_fields_of
 reading name.LPush = push_of Left
@@ -108,6 +157,8 @@ reading name.LMove = move_item_of
 reading name.SAdd = add_members_of
 reading name.SRem = remove_members_of
 reading name.SMove = move_member_of
+reading name.ZAdd = set_scores_of
+reading name.ZRem = remove_scores_of
 
 abbrev pub read_as : Option EffectName → List Bytes → Option Effect
 read_as None ws = None

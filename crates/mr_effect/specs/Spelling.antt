@@ -1,5 +1,5 @@
 -- The one spelling of an effect.
-use Rattle.std.specs.Prelude.{◌≡◌, ◌≢◌, ℕ, List, [], ◌∷◌, length, codes, IsTrue, Option, Some, MatchOption}
+use Rattle.std.specs.Prelude.{◌≡◌, ℕ, ℤ, List, [], ◌∷◌, length, codes, IsTrue, Option, Some, MatchOption}
 use Rattle.std.specs.List.{flat_map}
 use Rattle.std.specs.Fmt.{signed_decimal}
 use Rattle.mr_map.specs.Bytes.{Bytes}
@@ -34,7 +34,13 @@ side_word After = codes "AFTER"
 -- the first word
 abbrev pub name_of : Effect → EffectName
 name_of (effect.Set k text) = name.Set
+name_of (effect.SetAll pairs) = name.MSet
+name_of (effect.Append k text) = name.Append
+name_of (effect.SetRange k offset text) = name.SetRange
+name_of (effect.Increase k by) = name.IncrBy
 name_of (effect.Del k) = name.Del
+name_of (effect.Rename from to) = name.Rename
+name_of effect.Clear = name.FlushAll
 name_of (effect.SetFields k pairs) = name.HSet
 name_of (effect.RemoveFields k fields) = name.HDel
 name_of (effect.Push k end items) = push_name end
@@ -47,15 +53,27 @@ name_of (effect.MoveItem from to taken put) = name.LMove
 name_of (effect.AddMembers k members) = name.SAdd
 name_of (effect.RemoveMembers k members) = name.SRem
 name_of (effect.MoveMember from to member) = name.SMove
+name_of (effect.SetScores k scores) = name.ZAdd
+name_of (effect.RemoveScores k members) = name.ZRem
 
--- each field, and its value behind it
+-- a key or field, and its value behind it
 abbrev pub pair_words : Bytes × Bytes → List Bytes
 pair_words p = p.0 ∷ p.1 ∷ []
+
+-- a member's score, and the member behind it
+abbrev pub score_words : Bytes × ℤ → List Bytes
+score_words p = signed_decimal p.1 ∷ p.0 ∷ []
 
 -- the other words
 abbrev pub arguments : Effect → List Bytes
 arguments (effect.Set k text) = k ∷ text ∷ []
+arguments (effect.SetAll pairs) = flat_map pair_words pairs
+arguments (effect.Append k text) = k ∷ text ∷ []
+arguments (effect.SetRange k offset text) = k ∷ signed_decimal offset ∷ text ∷ []
+arguments (effect.Increase k by) = k ∷ signed_decimal by ∷ []
 arguments (effect.Del k) = k ∷ []
+arguments (effect.Rename from to) = from ∷ to ∷ []
+arguments effect.Clear = []
 arguments (effect.SetFields k pairs) = k ∷ flat_map pair_words pairs
 arguments (effect.RemoveFields k fields) = k ∷ fields
 arguments (effect.Push k end items) = k ∷ items
@@ -68,6 +86,8 @@ arguments (effect.MoveItem from to taken put) = from ∷ to ∷ end_word taken �
 arguments (effect.AddMembers k members) = k ∷ members
 arguments (effect.RemoveMembers k members) = k ∷ members
 arguments (effect.MoveMember from to member) = from ∷ to ∷ member ∷ []
+arguments (effect.SetScores k scores) = k ∷ flat_map score_words scores
+arguments (effect.RemoveScores k members) = k ∷ members
 
 unfoldable pub words : Effect → List Bytes
 words e = text_of (name_of e) ∷ arguments e

@@ -22,7 +22,13 @@ fn read_as<'a>(
 {
     match name {
         EffectName::Set => Ok(reading::set_of(words)),
+        EffectName::MSet => reading::set_all_of(alloc, words),
+        EffectName::Append => Ok(reading::append_of(words)),
+        EffectName::SetRange => Ok(reading::set_range_of(words)),
+        EffectName::IncrBy => Ok(reading::increase_of(words)),
         EffectName::Del => Ok(reading::del_of(words)),
+        EffectName::Rename => Ok(reading::rename_of(words)),
+        EffectName::FlushAll => Ok(reading::clear_of(words)),
         EffectName::HSet => reading::set_fields_of(alloc, words),
         EffectName::HDel => reading::remove_fields_of(alloc, words),
         EffectName::LPush => reading::push_of(alloc, End::Left, words),
@@ -37,6 +43,8 @@ fn read_as<'a>(
         EffectName::SAdd => reading::add_members_of(alloc, words),
         EffectName::SRem => reading::remove_members_of(alloc, words),
         EffectName::SMove => Ok(reading::move_member_of(words)),
+        EffectName::ZAdd => reading::set_scores_of(alloc, words),
+        EffectName::ZRem => reading::remove_scores_of(alloc, words),
     }
 }
 

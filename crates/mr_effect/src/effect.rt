@@ -3,7 +3,7 @@ ghost use Rattle.std.specs.Prelude.{◌≡◌};
 ghost use Rattle.mr_value.specs.Number.{is_i64};
 ghost use Rattle.mr_effect.specs.Effects.{words_fit, has_spelling};
 
-use crate::words::{Pairs, Words};
+use crate::words::{Pairs, Scores, Words};
 use mr_value::{End, Side, Word, fits};
 
 /// What a write does to a dataset, free of clock and chance.
@@ -14,10 +14,38 @@ pub enum Effect<'a> {
         key: Word<'a>,
         value: Word<'a>,
     },
+    /// Keys get these texts, one after another, as `Set` does it.
+    SetAll {
+        pairs: Pairs<'a>,
+    },
+    /// A text is put behind a key's text. A key that isn't there has an empty one.
+    Append {
+        key: Word<'a>,
+        value: Word<'a>,
+    },
+    /// A text takes the place of the bytes of a key's text from an offset on, after zero bytes where that is too
+    /// short. An empty text changes nothing.
+    SetRange {
+        key: Word<'a>,
+        offset: i64,
+        value: Word<'a>,
+    },
+    /// A key's number becomes greater by this much. A key that isn't there has 0.
+    Increase {
+        key: Word<'a>,
+        by: i64,
+    },
     /// The key goes. One that isn't there is left alone.
     Del {
         key: Word<'a>,
     },
+    /// What the one key holds goes to the other, with its deadline, whatever that held.
+    Rename {
+        from: Word<'a>,
+        to: Word<'a>,
+    },
+    /// Every key goes.
+    Clear,
     /// Fields of a hash get these values, one after another.
     SetFields {
         key: Word<'a>,
@@ -88,6 +116,16 @@ pub enum Effect<'a> {
         to: Word<'a>,
         member: Word<'a>,
     },
+    /// Members of a sorted set get these scores, one after another.
+    SetScores {
+        key: Word<'a>,
+        scores: Scores<'a>,
+    },
+    /// Members go from a sorted set. One that isn't there is left alone.
+    RemoveScores {
+        key: Word<'a>,
+        members: Words<'a>,
+    },
 }
 
 impl Effect<'_> {
@@ -97,7 +135,17 @@ impl Effect<'_> {
     {
         match self {
             Effect::Set { key, value } => fits(key.as_slice()) && fits(value.as_slice()),
+            Effect::SetAll { pairs } => pairs.fit(),
+            Effect::Append { key, value } => fits(key.as_slice()) && fits(value.as_slice()),
+            Effect::SetRange {
+                key,
+                offset: _,
+                value,
+            } => { fits(key.as_slice()) && fits(value.as_slice()) }
+            Effect::Increase { key, .. } => fits(key.as_slice()),
             Effect::Del { key } => fits(key.as_slice()),
+            Effect::Rename { from, to } => fits(from.as_slice()) && fits(to.as_slice()),
+            Effect::Clear => true,
             Effect::SetFields { key, pairs } => fits(key.as_slice()) && pairs.fit(),
             Effect::RemoveFields { key, fields } => fits(key.as_slice()) && fields.fit(),
             Effect::Push { key, end: _, items } => fits(key.as_slice()) && items.fit(),
@@ -125,22 +173,32 @@ impl Effect<'_> {
             Effect::MoveMember { from, to, member } => {
                 fits(from.as_slice()) && fits(to.as_slice()) && fits(member.as_slice())
             }
+            Effect::SetScores { key, scores } => fits(key.as_slice()) && scores.fit(),
+            Effect::RemoveScores { key, members } => fits(key.as_slice()) && members.fit(),
         }
     }
 
-    /// Whether it has a spelling: lists of words aren't empty, and the place of an item isn't below 0.
+    /// Whether it has a spelling: lists aren't empty, no place or offset is below 0, and scores are within their limits.
     pub fn has_spelling(&self) -> bool
         ensures { result ≡ has_spelling self.now }
     {
         match self {
+            Effect::SetAll { pairs } => !pairs.is_empty(),
+            Effect::SetRange { offset, .. } => *offset >= 0,
             Effect::SetFields { pairs, .. } => !pairs.is_empty(),
             Effect::RemoveFields { fields, .. } => !fields.is_empty(),
             Effect::Push { items, .. } => !items.is_empty(),
             Effect::SetItem { place, .. } => *place >= 0,
             Effect::AddMembers { members, .. } => !members.is_empty(),
             Effect::RemoveMembers { members, .. } => !members.is_empty(),
+            Effect::SetScores { scores, .. } => !scores.is_empty() && scores.are_within_limits(),
+            Effect::RemoveScores { members, .. } => !members.is_empty(),
             Effect::Set { .. } => true,
+            Effect::Append { .. } => true,
+            Effect::Increase { by, .. } => is_i64(*by),
             Effect::Del { .. } => true,
+            Effect::Rename { .. } => true,
+            Effect::Clear => true,
             Effect::Pop { count, .. } => is_i64(*count),
             Effect::InsertItem { .. } => true,
             Effect::RemoveItems { count, .. } => is_i64(*count),

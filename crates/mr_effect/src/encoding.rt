@@ -6,11 +6,11 @@ ghost use Rattle.mr_resp.specs.Appends.{Extends};
 ghost use Rattle.mr_resp.specs.Spelling.{array, bulk};
 ghost use Rattle.mr_effect.specs.Names.{text_of};
 ghost use Rattle.mr_effect.specs.Parts.{head};
-ghost use Rattle.mr_effect.specs.Spelling.{text, texts, push_name, pop_name, end_word, side_word, pair_words};
+ghost use Rattle.mr_effect.specs.Spelling.{text, texts, push_name, pop_name, end_word, side_word, pair_words, score_words};
 
 use crate::effect::Effect;
 use crate::name::EffectName;
-use crate::words::{Pairs, Words};
+use crate::words::{Pairs, Scores, Words};
 use itoa::Buffer;
 use mr_resp::{push_request, push_word, push_word_count};
 use mr_value::{End, Side, Word};
@@ -87,7 +87,7 @@ fn push_words(
     Ok(())
 }
 
-// A field, and its value behind it.
+// A key or field, and its value behind it.
 #[tactic(auto, using(crate::proofs::Appending::steps))]
 fn push_pair(pair: &(Word<'_>, Word<'_>), out: &mut Vec<u8>) -> Result<(), AllocError>
     ensures ok { OnOk result (out.new.items ≡ out.old.items ++ flat_map bulk (pair_words pair.now)) }
@@ -97,20 +97,83 @@ fn push_pair(pair: &(Word<'_>, Word<'_>), out: &mut Vec<u8>) -> Result<(), Alloc
     push_word(out, pair.1.as_slice())
 }
 
-// A name, a key, and fields each with its value behind it.
+// Each key or field, with its value behind it.
 #[tactic(auto, using(crate::proofs::Appending::steps))]
-fn push_pairs(key: &Word<'_>, pairs: &Pairs<'_>, out: &mut Vec<u8>) -> Result<(), AllocError>
-    ensures ok { OnOk result (out.new.items ≡ out.old.items ++ array (text_of EffectName.HSet ∷ key.now ∷ flat_map pair_words pairs.now)) }
+fn push_each_pair(pairs: &Pairs<'_>, out: &mut Vec<u8>) -> Result<(), AllocError>
+    ensures ok { OnOk result (out.new.items ≡ out.old.items ++ flat_map bulk (flat_map pair_words pairs.now)) }
     ensures kept { Extends out.old.items out.new.items }
 {
-    push_head(EffectName::HSet, key, 2 * pairs.len(), out)?;
     for pair in pairs.as_slice() {
         push_pair(pair, out)?;
     }
     Ok(())
 }
 
+// Keys, each with its value behind it.
+#[tactic(auto, using(crate::proofs::Appending::steps))]
+fn push_keys(pairs: &Pairs<'_>, out: &mut Vec<u8>) -> Result<(), AllocError>
+    ensures ok { OnOk result (out.new.items ≡ out.old.items ++ array (text_of EffectName.MSet ∷ flat_map pair_words pairs.now)) }
+    ensures kept { Extends out.old.items out.new.items }
+{
+    push_word_count(out, 2 * pairs.len() + 1)?;
+    push_word(out, EffectName::MSet.text())?;
+    push_each_pair(pairs, out)?;
+    Ok(())
+}
+
+// A key, and fields each with its value behind it.
+#[tactic(auto, using(crate::proofs::Appending::steps))]
+fn push_fields(key: &Word<'_>, pairs: &Pairs<'_>, out: &mut Vec<u8>) -> Result<(), AllocError>
+    ensures ok { OnOk result (out.new.items ≡ out.old.items ++ array (text_of EffectName.HSet ∷ key.now ∷ flat_map pair_words pairs.now)) }
+    ensures kept { Extends out.old.items out.new.items }
+{
+    push_head(EffectName::HSet, key, 2 * pairs.len(), out)?;
+    push_each_pair(pairs, out)?;
+    Ok(())
+}
+
+// A score, and its member behind it.
+#[tactic(auto, using(crate::proofs::Appending::steps))]
+fn push_score(score: i64, member: &Word<'_>, out: &mut Vec<u8>) -> Result<(), AllocError>
+    ensures ok { OnOk result (out.new.items ≡ out.old.items ++ flat_map bulk (score_words (member.now, score))) }
+    ensures kept { Extends out.old.items out.new.items }
+{
+    let mut buffer = Buffer::new();
+    push_word(out, buffer.format(score).as_bytes())?;
+    push_word(out, member.as_slice())
+}
+
+// Each score, with its member behind it.
+#[tactic(auto, using(crate::proofs::Appending::steps))]
+fn push_each_score(scores: &Scores<'_>, out: &mut Vec<u8>) -> Result<(), AllocError>
+    ensures ok { OnOk result (out.new.items ≡ out.old.items ++ flat_map bulk (flat_map score_words scores.now)) }
+    ensures kept { Extends out.old.items out.new.items }
+{
+    for pair in scores.as_slice() {
+        push_score(pair.1, &pair.0, out)?;
+    }
+    Ok(())
+}
+
+// A key, and scores each with its member behind it.
+#[tactic(auto, using(crate::proofs::Appending::steps))]
+fn push_scores(key: &Word<'_>, scores: &Scores<'_>, out: &mut Vec<u8>) -> Result<(), AllocError>
+    ensures ok { OnOk result (out.new.items ≡ out.old.items ++ array (text_of EffectName.ZAdd ∷ key.now ∷ flat_map score_words scores.now)) }
+    ensures kept { Extends out.old.items out.new.items }
+{
+    push_head(EffectName::ZAdd, key, 2 * scores.len(), out)?;
+    push_each_score(scores, out)?;
+    Ok(())
+}
+
 // Requests of so many words. (The words of an array must stand at one lifetime.)
+fn push_one(first: &[u8], out: &mut Vec<u8>) -> Result<(), AllocError>
+    ensures ok { OnOk result (out.new.items ≡ out.old.items ++ array (first.now ∷ [])) }
+    ensures kept { Extends out.old.items out.new.items }
+{
+    push_request(&[first], out)
+}
+
 fn push_two<'x>(first: &'x [u8], second: &'x [u8], out: &mut Vec<u8>) -> Result<(), AllocError>
     ensures ok { OnOk result (out.new.items ≡ out.old.items ++ array (first.now ∷ second.now ∷ [])) }
     ensures kept { Extends out.old.items out.new.items }
@@ -220,8 +283,18 @@ fn push_effect(effect: &Effect<'_>, out: &mut Vec<u8>) -> Result<(), AllocError>
 {
     match effect {
         Effect::Set { key, value } => push_three(b"SET", key.as_slice(), value.as_slice(), out),
+        Effect::SetAll { pairs } => push_keys(pairs, out),
+        Effect::Append { key, value } => {
+            push_three(b"APPEND", key.as_slice(), value.as_slice(), out)
+        }
+        Effect::SetRange { key, offset, value } => {
+            push_numbered(EffectName::SetRange, key, *offset, value, out)
+        }
+        Effect::Increase { key, by } => push_number(EffectName::IncrBy, key, *by, out),
         Effect::Del { key } => push_two(b"DEL", key.as_slice(), out),
-        Effect::SetFields { key, pairs } => push_pairs(key, pairs, out),
+        Effect::Rename { from, to } => push_three(b"RENAME", from.as_slice(), to.as_slice(), out),
+        Effect::Clear => push_one(b"FLUSHALL", out),
+        Effect::SetFields { key, pairs } => push_fields(key, pairs, out),
         Effect::RemoveFields { key, fields } => push_words(EffectName::HDel, key, fields, out),
         Effect::Push { key, end, items } => push_words(push_name(*end), key, items, out),
         Effect::Pop { key, end, count } => push_number(pop_name(*end), key, *count, out),
@@ -267,6 +340,8 @@ fn push_effect(effect: &Effect<'_>, out: &mut Vec<u8>) -> Result<(), AllocError>
             member.as_slice(),
             out,
         ),
+        Effect::SetScores { key, scores } => push_scores(key, scores, out),
+        Effect::RemoveScores { key, members } => push_words(EffectName::ZRem, key, members, out),
     }
 }
 

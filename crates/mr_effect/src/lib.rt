@@ -14,7 +14,7 @@ pub use effect::Effect;
 pub use encoding::{encode, encode_all};
 pub use laws::{effects_are_told_apart, texts_come_in_parts};
 pub use name::EffectName;
-pub use words::{Pairs, Words};
+pub use words::{Pairs, Scores, Words};
 
 #[cfg(test)]
 mod tests;

@@ -6,7 +6,13 @@ ghost use Rattle.mr_effect.specs.Names.{text_of, is_named, named};
 #[derive(Clone, Copy, Debug, PartialEq, Eq)]
 pub enum EffectName {
     Set,
+    MSet,
+    Append,
+    SetRange,
+    IncrBy,
     Del,
+    Rename,
+    FlushAll,
     HSet,
     HDel,
     LPush,
@@ -21,13 +27,21 @@ pub enum EffectName {
     SAdd,
     SRem,
     SMove,
+    ZAdd,
+    ZRem,
 }
 
 impl EffectName {
     /// All of them.
-    pub const ALL: [EffectName; 16] = [
+    pub const ALL: [EffectName; 24] = [
         EffectName::Set,
+        EffectName::MSet,
+        EffectName::Append,
+        EffectName::SetRange,
+        EffectName::IncrBy,
         EffectName::Del,
+        EffectName::Rename,
+        EffectName::FlushAll,
         EffectName::HSet,
         EffectName::HDel,
         EffectName::LPush,
@@ -42,6 +56,8 @@ impl EffectName {
         EffectName::SAdd,
         EffectName::SRem,
         EffectName::SMove,
+        EffectName::ZAdd,
+        EffectName::ZRem,
     ];
 
     /// The name that a word is, if it is one. Names are in upper case alone.
@@ -65,7 +81,13 @@ impl EffectName {
     {
         match self {
             EffectName::Set => b"SET",
+            EffectName::MSet => b"MSET",
+            EffectName::Append => b"APPEND",
+            EffectName::SetRange => b"SETRANGE",
+            EffectName::IncrBy => b"INCRBY",
             EffectName::Del => b"DEL",
+            EffectName::Rename => b"RENAME",
+            EffectName::FlushAll => b"FLUSHALL",
             EffectName::HSet => b"HSET",
             EffectName::HDel => b"HDEL",
             EffectName::LPush => b"LPUSH",
@@ -80,6 +102,8 @@ impl EffectName {
             EffectName::SAdd => b"SADD",
             EffectName::SRem => b"SREM",
             EffectName::SMove => b"SMOVE",
+            EffectName::ZAdd => b"ZADD",
+            EffectName::ZRem => b"ZREM",
         }
     }
 }

@@ -1,11 +1,12 @@
 // Effects from their arguments, one function for each.
 ghost use Rattle.std.specs.Prelude.{◌≡◌, map, IfOk};
 ghost use Rattle.std.specs.Cow.{cow_slice_items};
-ghost use Rattle.mr_effect.specs.Reading.{end_of, side_of, place_of, pairs_of, set_of, del_of, set_fields_of, remove_fields_of, push_of, pop_of, set_item_of, insert_item_of, remove_items_of, trim_of, move_item_of, add_members_of, remove_members_of, move_member_of};
+ghost use Rattle.mr_effect.specs.Reading.{end_of, side_of, place_of, score_of, pairs_of, scores_of, set_of, set_all_of, append_of, set_range_of, increase_of, del_of, rename_of, clear_of, set_fields_of, remove_fields_of, push_of, pop_of, set_item_of, insert_item_of, remove_items_of, trim_of, move_item_of, add_members_of, remove_members_of, move_member_of, set_scores_of, remove_scores_of};
 
 use crate::effect::Effect;
-use crate::words::{Pairs, Words};
+use crate::words::{Pairs, Scores, Words};
 use mr_value::{End, Side, Word, read_i64};
+use mr_zset::is_score;
 use std::alloc::{AllocError, Global};
 use std::borrow::CowSlice;
 
@@ -49,6 +50,13 @@ fn place_of(word: &[u8]) -> Option<i64>
     Some(place)
 }
 
+fn score_of(word: &[u8]) -> Option<i64>
+    ensures { result ≡ score_of word.now }
+{
+    let score = read_i64(word)?;
+    if is_score(score) { Some(score) } else { None }
+}
+
 fn pairs_of<'a>(
     alloc: Global,
     words: &'a [CowSlice<'_, u8>],
@@ -68,6 +76,28 @@ fn pairs_of<'a>(
     }
 }
 
+fn scores_of<'a>(
+    alloc: Global,
+    words: &'a [CowSlice<'_, u8>],
+) -> Result<Option<Scores<'a>>, AllocError>
+    ensures { IfOk result (λ found. found ≡ scores_of (map cow_slice_items words.now)) }
+{
+    let mut scores = Scores::new(alloc);
+    let mut rest = words;
+    while let [score, member, later @ ..] = rest {
+        let Some(number) = score_of(score.as_slice()) else {
+            return Ok(None);
+        };
+        scores.push(borrowed(member), number)?;
+        rest = later;
+    }
+    if rest.is_empty() {
+        Ok(Some(scores))
+    } else {
+        Ok(None)
+    }
+}
+
 pub(crate) fn set_of<'a>(words: &'a [CowSlice<'_, u8>]) -> Option<Effect<'a>>
     ensures { result ≡ set_of (map cow_slice_items words.now) }
 {
@@ -80,11 +110,84 @@ pub(crate) fn set_of<'a>(words: &'a [CowSlice<'_, u8>]) -> Option<Effect<'a>>
     }
 }
 
+pub(crate) fn set_all_of<'a>(
+    alloc: Global,
+    words: &'a [CowSlice<'_, u8>],
+) -> Result<Option<Effect<'a>>, AllocError>
+    ensures { IfOk result (λ found. found ≡ set_all_of (map cow_slice_items words.now)) }
+{
+    if words.is_empty() {
+        return Ok(None);
+    }
+    let Some(pairs) = pairs_of(alloc, words)? else {
+        return Ok(None);
+    };
+    Ok(Some(Effect::SetAll { pairs }))
+}
+
+pub(crate) fn append_of<'a>(words: &'a [CowSlice<'_, u8>]) -> Option<Effect<'a>>
+    ensures { result ≡ append_of (map cow_slice_items words.now) }
+{
+    match words {
+        [key, value] => Some(Effect::Append {
+            key: borrowed(key),
+            value: borrowed(value),
+        }),
+        _ => None,
+    }
+}
+
+pub(crate) fn set_range_of<'a>(words: &'a [CowSlice<'_, u8>]) -> Option<Effect<'a>>
+    ensures { result ≡ set_range_of (map cow_slice_items words.now) }
+{
+    match words {
+        [key, offset, value] => Some(Effect::SetRange {
+            key: borrowed(key),
+            offset: place_of(offset.as_slice())?,
+            value: borrowed(value),
+        }),
+        _ => None,
+    }
+}
+
+pub(crate) fn increase_of<'a>(words: &'a [CowSlice<'_, u8>]) -> Option<Effect<'a>>
+    ensures { result ≡ increase_of (map cow_slice_items words.now) }
+{
+    match words {
+        [key, by] => Some(Effect::Increase {
+            key: borrowed(key),
+            by: read_i64(by.as_slice())?,
+        }),
+        _ => None,
+    }
+}
+
 pub(crate) fn del_of<'a>(words: &'a [CowSlice<'_, u8>]) -> Option<Effect<'a>>
     ensures { result ≡ del_of (map cow_slice_items words.now) }
 {
     match words {
         [key] => Some(Effect::Del { key: borrowed(key) }),
+        _ => None,
+    }
+}
+
+pub(crate) fn rename_of<'a>(words: &'a [CowSlice<'_, u8>]) -> Option<Effect<'a>>
+    ensures { result ≡ rename_of (map cow_slice_items words.now) }
+{
+    match words {
+        [from, to] => Some(Effect::Rename {
+            from: borrowed(from),
+            to: borrowed(to),
+        }),
+        _ => None,
+    }
+}
+
+pub(crate) fn clear_of<'a>(words: &'a [CowSlice<'_, u8>]) -> Option<Effect<'a>>
+    ensures { result ≡ clear_of (map cow_slice_items words.now) }
+{
+    match words {
+        [] => Some(Effect::Clear),
         _ => None,
     }
 }
@@ -261,5 +364,40 @@ pub(crate) fn move_member_of<'a>(words: &'a [CowSlice<'_, u8>]) -> Option<Effect
             member: borrowed(member),
         }),
         _ => None,
+    }
+}
+
+pub(crate) fn set_scores_of<'a>(
+    alloc: Global,
+    words: &'a [CowSlice<'_, u8>],
+) -> Result<Option<Effect<'a>>, AllocError>
+    ensures { IfOk result (λ found. found ≡ set_scores_of (map cow_slice_items words.now)) }
+{
+    match words {
+        [] | [_] => Ok(None),
+        [key, rest @ ..] => {
+            let Some(scores) = scores_of(alloc, rest)? else {
+                return Ok(None);
+            };
+            Ok(Some(Effect::SetScores {
+                key: borrowed(key),
+                scores,
+            }))
+        }
+    }
+}
+
+pub(crate) fn remove_scores_of<'a>(
+    alloc: Global,
+    words: &'a [CowSlice<'_, u8>],
+) -> Result<Option<Effect<'a>>, AllocError>
+    ensures { IfOk result (λ found. found ≡ remove_scores_of (map cow_slice_items words.now)) }
+{
+    match words {
+        [] | [_] => Ok(None),
+        [key, rest @ ..] => Ok(Some(Effect::RemoveScores {
+            key: borrowed(key),
+            members: Words::borrowed(alloc, rest)?,
+        })),
     }
 }

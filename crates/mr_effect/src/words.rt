@@ -3,9 +3,10 @@ ghost use Rattle.std.specs.Prelude.{◌≡◌, ◌==◌, ◌&&◌, ◌<◌, ◌^
 ghost use Rattle.std.specs.Cow.{cow_slice_items};
 ghost use Rattle.std.specs.List.{list_all};
 ghost use Rattle.mr_value.specs.Words.{fits};
-ghost use Rattle.mr_effect.specs.Effects.{pair_fits};
+ghost use Rattle.mr_effect.specs.Effects.{pair_fits, member_fits, has_score};
 
 use mr_value::{Word, fits};
+use mr_zset::is_score;
 use std::alloc::{AllocError, Global};
 use std::borrow::CowSlice;
 use std::marker::Model;
@@ -98,10 +99,10 @@ fn all_fit(words: &[Word<'_>]) -> bool
     words.iter().all(|word| fits(word.as_slice()))
 }
 
-/// Fields with their values, in order.
+/// Keys or fields with their values, in order.
 #[derive(Drop)]
 pub struct Pairs<'a> {
-    items: Vec<(Word<'a>, Word<'a>)>,
+    pairs: Vec<(Word<'a>, Word<'a>)>,
 }
 
 impl<'a> Model for Pairs<'a> {
@@ -109,7 +110,7 @@ impl<'a> Model for Pairs<'a> {
 
     ghost Value = { List (List ℕ × List ℕ) };
 
-    ghost view = { λ a. a.items.items };
+    ghost view = { λ a. a.pairs.items };
 }
 
 impl<'a> Pairs<'a> {
@@ -118,16 +119,16 @@ impl<'a> Pairs<'a> {
         ensures { result ≡ [] }
     {
         Pairs {
-            items: Vec::new(alloc),
+            pairs: Vec::new(alloc),
         }
     }
 
     /// Puts a pair behind the others.
-    pub fn push(&mut self, field: Word<'a>, value: Word<'a>) -> Result<(), AllocError>
-        ensures ok { OnOk result (self.new ≡ self.old ++ (field.entry, value.entry) ∷ []) }
+    pub fn push(&mut self, name: Word<'a>, value: Word<'a>) -> Result<(), AllocError>
+        ensures ok { OnOk result (self.new ≡ self.old ++ (name.entry, value.entry) ∷ []) }
         ensures err { OnErr result (self.new ≡ self.old) }
     {
-        self.items.push((field, value))?;
+        self.pairs.push((name, value))?;
         Ok(())
     }
 
@@ -136,32 +137,32 @@ impl<'a> Pairs<'a> {
         ensures len { result ≡ length self.now }
         ensures small { result < 2 ^ 63 }
     {
-        self.items.len()
+        self.pairs.len()
     }
 
     /// Whether there is none.
     pub fn is_empty(&self) -> bool
         ensures { result ≡ (length self.now == 0) }
     {
-        self.items.is_empty()
+        self.pairs.is_empty()
     }
 
     /// The pairs.
     pub fn as_slice(&self) -> &[(Word<'a>, Word<'a>)]
         ensures { result.now ≡ self.now }
     {
-        self.items.as_slice()
+        self.pairs.as_slice()
     }
 
     /// The vector of the pairs, which are not copied.
     pub fn into_vec(self) -> Vec<(Word<'a>, Word<'a>)>
         ensures { result.items ≡ self.entry }
     {
-        let Self { items } = self;
-        items
+        let Self { pairs } = self;
+        pairs
     }
 
-    /// Whether each field and each value is within the limit.
+    /// Whether each key or field and each value is within the limit.
     pub fn fit(&self) -> bool
         ensures { result ≡ list_all pair_fits self.now }
     {
@@ -175,4 +176,94 @@ fn all_pairs_fit(pairs: &[(Word<'_>, Word<'_>)]) -> bool
     pairs
         .iter()
         .all(|pair| fits(pair.0.as_slice()) && fits(pair.1.as_slice()))
+}
+
+/// Members with their scores, in order.
+#[derive(Drop)]
+pub struct Scores<'a> {
+    scores: Vec<(Word<'a>, i64)>,
+}
+
+impl<'a> Model for Scores<'a> {
+    ghost use Rattle.std.specs.Prelude.{List, ℕ, ℤ};
+
+    ghost Value = { List (List ℕ × ℤ) };
+
+    ghost view = { λ a. a.scores.items };
+}
+
+impl<'a> Scores<'a> {
+    /// No member. It takes no memory.
+    pub fn new(alloc: Global) -> Scores<'a>
+        ensures { result ≡ [] }
+    {
+        Scores {
+            scores: Vec::new(alloc),
+        }
+    }
+
+    /// Puts a member with its score behind the others.
+    pub fn push(&mut self, member: Word<'a>, score: i64) -> Result<(), AllocError>
+        ensures ok { OnOk result (self.new ≡ self.old ++ (member.entry, score) ∷ []) }
+        ensures err { OnErr result (self.new ≡ self.old) }
+    {
+        self.scores.push((member, score))?;
+        Ok(())
+    }
+
+    /// How many there are.
+    pub fn len(&self) -> usize
+        ensures len { result ≡ length self.now }
+        ensures small { result < 2 ^ 63 }
+    {
+        self.scores.len()
+    }
+
+    /// Whether there is none.
+    pub fn is_empty(&self) -> bool
+        ensures { result ≡ (length self.now == 0) }
+    {
+        self.scores.is_empty()
+    }
+
+    /// The members with their scores.
+    pub fn as_slice(&self) -> &[(Word<'a>, i64)]
+        ensures { result.now ≡ self.now }
+    {
+        self.scores.as_slice()
+    }
+
+    /// The vector of the members with their scores, which are not copied.
+    pub fn into_vec(self) -> Vec<(Word<'a>, i64)>
+        ensures { result.items ≡ self.entry }
+    {
+        let Self { scores } = self;
+        scores
+    }
+
+    /// Whether each member is within the limit of words.
+    pub fn fit(&self) -> bool
+        ensures { result ≡ list_all member_fits self.now }
+    {
+        all_members_fit(self.as_slice())
+    }
+
+    /// Whether each score is within the limits of scores, from -2^53 to 2^53.
+    pub fn are_within_limits(&self) -> bool
+        ensures { result ≡ list_all has_score self.now }
+    {
+        all_have_scores(self.as_slice())
+    }
+}
+
+fn all_members_fit(scores: &[(Word<'_>, i64)]) -> bool
+    ensures { result ≡ list_all member_fits scores.now }
+{
+    scores.iter().all(|pair| fits(pair.0.as_slice()))
+}
+
+fn all_have_scores(scores: &[(Word<'_>, i64)]) -> bool
+    ensures { result ≡ list_all has_score scores.now }
+{
+    scores.iter().all(|pair| is_score(pair.1))
 }

@@ -1,5 +1,5 @@
 // A sorted set.
-ghost use Rattle.std.specs.Prelude.{◌≡◌, ◌==◌, ◌+◌, ◌-◌, ◌<◌, ◌≤◌, IsTrue, OnOk, OnErr, IfOk, IfSome, length, map, option_map, slice_get, slice_range};
+ghost use Rattle.std.specs.Prelude.{◌≡◌, ◌==◌, ◌+◌, ◌-◌, ◌<◌, ◌≤◌, ◌^◌, IsTrue, OnOk, OnErr, IfOk, IfSome, length, map, option_map, slice_get, slice_range};
 ghost use Rattle.std.specs.Option.{option_copied};
 ghost use Rattle.std.specs.FinMap as finite;
 ghost use Rattle.mr_zset.specs.Score.{is_score};
@@ -49,7 +49,8 @@ impl ZSet {
 
     /// How many members there are.
     pub fn len(&self) -> usize
-        ensures { result ≡ finite.len self.now }
+        ensures len { result ≡ finite.len self.now }
+        ensures small { result < 2 ^ 63 }
     {
         self.scores.len()
     }

@@ -25,8 +25,8 @@ impl Dataset {
         outcome
     }
 
-    /// Does an effect, and moves into the dataset the words that own their memory. A dataset for which memory ran out
-    /// is emptied.
+    /// Does an effect, and moves into the dataset the words that own their memory, but for members of sorted sets,
+    /// which are copied. A dataset for which memory ran out is emptied.
     #[tactic(auto, unfolding(crate::specs::Meaning::apply))]
     pub fn apply_owned(&mut self, effect: Effect<'_>) -> Result<(), ApplyFault>
         ensures ok { OnOk result (apply effect.entry self.old ≡ Some self.new) }

@@ -99,7 +99,7 @@ fn is_hash(value: &Value) -> bool
 {
     match value {
         Value::Hash(_) => true,
-        Value::Text(_) | Value::List(_) | Value::Set(_) => false,
+        Value::Text(_) | Value::List(_) | Value::Set(_) | Value::SortedSet(_) => false,
     }
 }
 
@@ -108,7 +108,7 @@ fn is_list(value: &Value) -> bool
 {
     match value {
         Value::List(_) => true,
-        Value::Text(_) | Value::Hash(_) | Value::Set(_) => false,
+        Value::Text(_) | Value::Hash(_) | Value::Set(_) | Value::SortedSet(_) => false,
     }
 }
 
@@ -117,7 +117,7 @@ fn is_set(value: &Value) -> bool
 {
     match value {
         Value::Set(_) => true,
-        Value::Text(_) | Value::Hash(_) | Value::List(_) => false,
+        Value::Text(_) | Value::Hash(_) | Value::List(_) | Value::SortedSet(_) => false,
     }
 }
 

@@ -100,6 +100,6 @@ fn is_member(value: &Value, member: &[u8]) -> bool
 {
     match value {
         Value::Set(set) => set.contains(member),
-        Value::Text(_) | Value::Hash(_) | Value::List(_) => false,
+        Value::Text(_) | Value::Hash(_) | Value::List(_) | Value::SortedSet(_) => false,
     }
 }

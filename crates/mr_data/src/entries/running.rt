@@ -50,6 +50,17 @@ impl Entries {
             Effect::MoveMember { from, to, member } => {
                 self.move_member(from.as_slice(), to, member)
             }
+            // Not done yet.
+            Effect::SetAll { .. } => Err(ApplyFault::Refused),
+            Effect::Append { .. } => Err(ApplyFault::Refused),
+            Effect::SetRange { .. } => Err(ApplyFault::Refused),
+            Effect::Increase { .. } => Err(ApplyFault::Refused),
+            Effect::Rename { .. } => Err(ApplyFault::Refused),
+            Effect::Clear => Err(ApplyFault::Refused),
+            Effect::SetScores { key, scores } => self.set_scores(key, scores.as_slice()),
+            Effect::RemoveScores { key, members } => {
+                self.remove_scores(key.as_slice(), members.as_slice())
+            }
         }
     }
 
@@ -94,6 +105,19 @@ impl Entries {
             }
             Effect::MoveMember { from, to, member } => {
                 self.move_member(from.as_slice(), same(to), same(member))
+            }
+            // Not done yet.
+            Effect::SetAll { .. } => Err(ApplyFault::Refused),
+            Effect::Append { .. } => Err(ApplyFault::Refused),
+            Effect::SetRange { .. } => Err(ApplyFault::Refused),
+            Effect::Increase { .. } => Err(ApplyFault::Refused),
+            Effect::Rename { .. } => Err(ApplyFault::Refused),
+            Effect::Clear => Err(ApplyFault::Refused),
+            Effect::SetScores { key, scores } => {
+                self.set_scores(same(key), scores.as_slice())
+            }
+            Effect::RemoveScores { key, members } => {
+                self.remove_scores(key.as_slice(), members.as_slice())
             }
         }
     }

@@ -1,4 +1,4 @@
-use Rattle.std.proofs.Common.{◌≡◌, ◌++◌, List, ℕ, ◌∙◌, ap}
+use Rattle.std.proofs.Common.{◌++◌, List, ℕ, ◌∙◌, ap}
 use Rattle.std.specs.List.{flat_map}
 use Rattle.mr_resp.specs.Spelling.{bulk}
 use Rattle.mr_effect.specs.Names.{text_of}
