@@ -1,0 +1,9 @@
+pub mod Entries
+pub mod Maps
+pub mod Differences
+pub mod GroupLemmas
+pub mod Pushing
+pub mod TurnLemmas
+pub mod Adds
+pub mod Removals
+pub mod Firsts

@@ -1,14 +1,15 @@
 -- ZREM, ZPOPMIN, ZPOPMAX, ZREMRANGEBYRANK, ZREMRANGEBYSCORE: members go.
 use Rattle.std.specs.Prelude.{ℕ, ℤ, List, [], ◌∷◌, map, take, length, Option, Some, None}
 use Rattle.std.specs.List.{flat_map}
-use Rattle.mr_map.specs.Bytes.{Bytes}
+use Rattle.std.specs.FinMap.{empty, len}
+use Rattle.mr_map.specs.Bytes.{Bytes, ByteMap}
 use Rattle.mr_value.specs.Window.{window_of, windowed}
 use Rattle.mr_resp.specs.Replies as reply
 use Rattle.mr_resp.specs.Replies.{Tree}
 use Rattle.mr_resp.specs.ReplyView.{trees_of}
 use Rattle.mr_zset.specs.Pairs.{pairs_of, range_of}
 use Rattle.mr_zset.specs.declared.bound.Bound.{Bound}
-use Rattle.mr_data.specs.Collections.{without_scores}
+use Rattle.mr_data.specs.Collections.{with_members, without_scores}
 use Rattle.mr_ask_zset.specs.declared.zset_ask.Order.{Order}
 use Rattle.mr_turn.specs.Collections.{Change}
 use Rattle.mr_plan_zset.specs.Scores.{Scores, number, score_reply, pairs_in, lost, reduced_to}
@@ -16,6 +17,10 @@ use Rattle.mr_plan_zset.specs.Scores.{Scores, number, score_reply, pairs_in, los
 -- the members of pairs
 abbrev pub members_of : List (Bytes × ℤ) → List Bytes
 members_of ps = map (λ (p : Bytes × ℤ). p.0) ps
+
+-- these members, each once
+abbrev pub as_set : List Bytes → ByteMap (Unit {0})
+as_set xs = with_members xs empty
 
 -- members go, where they are there, and their number is answered
 abbrev pub remove_all : Bytes → List Bytes → Scores → Change Scores
@@ -27,7 +32,7 @@ remove_members k xs s = remove_all k xs s
 
 -- ZREMRANGEBYRANK key first last: the pairs in the window of all pairs in order
 abbrev pub remove_ranks : Bytes → ℤ → ℤ → Scores → Change Scores
-remove_ranks k first last s = remove_all k (members_of (windowed (window_of first last (length (pairs_of s))) (pairs_of s))) s
+remove_ranks k first last s = remove_all k (members_of (windowed (window_of first last (len s)) (pairs_of s))) s
 
 -- ZREMRANGEBYSCORE key min max
 abbrev pub remove_scores : Bytes → Bound → Bound → Scores → Change Scores

@@ -4,6 +4,7 @@ ghost use Rattle.std.specs.FinMap as map;
 ghost use Rattle.mr_resp.specs.ReplyView.{view};
 ghost use Rattle.mr_data.specs.Steps.{sorted_sets, held};
 ghost use Rattle.mr_plan_zset.specs.Scores.{score_reply};
+ghost use Rattle.mr_plan_zset.specs.Adding.{out_of_range};
 
 use itoa::Buffer;
 use mr_data::{Entry, Value};
@@ -11,6 +12,7 @@ use mr_resp::Reply;
 use mr_turn::bulk;
 use mr_zset::ZSet;
 use std::alloc::{AllocError, Global};
+use std::borrow::CowSlice;
 
 /// The sorted set at a key: an empty one where the key is absent, and none where it holds another kind.
 pub fn set_at<'d>(seen: Option<&'d Entry>, empty: &'d ZSet) -> Option<&'d ZSet>
@@ -32,4 +34,11 @@ pub fn score_bulk(alloc: Global, score: i64) -> Result<Reply, AllocError>
 {
     let mut buffer = Buffer::new();
     bulk(alloc, buffer.format(score).as_bytes())
+}
+
+/// The sum is outside the limits of scores.
+pub fn out_of_range() -> Reply
+    ensures { view result ≡ out_of_range }
+{
+    Reply::Error(CowSlice::Borrowed(b"ERR resulting score is out of range"))
 }
