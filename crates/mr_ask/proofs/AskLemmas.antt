@@ -10,19 +10,24 @@ use Rattle.mr_ask.specs.Keys.{del, unlink, exists, key_type, matching_keys, scan
 use Rattle.mr_ask.specs.Hashes.{set_fields, hsetnx, hget, hmget, list_hash, hdel, hexists, hlen, hstrlen, hincrby}
 use Rattle.mr_ask.specs.Lists.{push, pop, llen, lrange, lindex, lset, linsert, lrem, ltrim, lmove, rpoplpush}
 use Rattle.mr_ask.specs.Sets.{sadd, srem, sismember, smismember, smembers, scard, spop, srandmember, smove, combine}
+use Rattle.mr_ask_zset.specs.Reading.{zadd, zincrby, zrem, zcard, zcount, zscore, zmscore, zrank, zrange, zrevrange, range_by_score, zpop, zremrangebyrank, zremrangebyscore}
 use Rattle.mr_ask.specs.Server.{ping, echo, select, quit, command, client}
 use Rattle.mr_ask.specs.Asks.{asked, asked_by, reading}
 use Rattle.mr_ask.specs.Carried.{text_words, key_words, hash_words, list_words, set_words, server_words, AskFits}
 use Rattle.mr_words.specs.Spelling.{Part, Word, Number, in_a_row}
-use Rattle.mr_ask.specs.Spelled.{cursor_part, scan_option, hash_parts, list_parts, set_parts, server_parts, AreOfTexts, AreOfKeys, AreArguments, Spells}
+use Rattle.mr_ask.specs.Spelled.{cursor_part, scan_option, hash_parts, list_parts, set_parts, server_parts, AreOfTexts, AreOfKeys, SpellsNamed, Spells}
 use Rattle.mr_words.proofs.FitLemmas.{carried, carried-words, first, second, both, parts_fit, OptionFits, others_fit, of_parts_fit}
 use Rattle.mr_words.proofs.NameLemmas.{named_is}
-use Rattle.mr_ask.proofs.Carries.{Carries, of_kind_carries}
+use Rattle.mr_ask.proofs.Carries.{of_kind_carries}
 use Rattle.mr_ask.proofs.TextLemmas.{get_carries, set_carries, strlen_carries, getrange_carries, mget_carries, setnx_carries, getset_carries, getdel_carries}
 use Rattle.mr_ask.proofs.KeyLemmas.{del_carries, unlink_carries, exists_carries, key_type_carries, matching_keys_carries, scan_carries, dbsize_carries}
 use Rattle.mr_ask.proofs.HashLemmas.{set_fields_carries, hsetnx_carries, hget_carries, hmget_carries, list_hash_carries, hdel_carries, hexists_carries, hlen_carries, hstrlen_carries, hincrby_carries}
 use Rattle.mr_ask.proofs.ListLemmas.{push_carries, pop_carries, llen_carries, lrange_carries, lindex_carries, lset_carries, linsert_carries, lrem_carries, ltrim_carries, lmove_carries, rpoplpush_carries}
 use Rattle.mr_ask.proofs.SetLemmas.{sadd_carries, srem_carries, sismember_carries, smismember_carries, smembers_carries, scard_carries, spop_carries, srandmember_carries, smove_carries, combine_carries}
+use Rattle.mr_ask_zset.proofs.AddLemmas.{zadd_spells}
+use Rattle.mr_ask_zset.proofs.RangeLemmas.{zrange_spells, zrevrange_spells, range_by_score_spells}
+use Rattle.mr_ask_zset.proofs.ZSetLemmas.{zincrby_spells, zrem_spells, zcard_spells, zcount_spells, zscore_spells, zmscore_spells, zrank_spells, zpop_spells, zremrangebyrank_spells, zremrangebyscore_spells, zset_fits}
+use Rattle.mr_ask_zset.specs.declared.zset_ask.Order.TheVariants.{Ascending, Descending}
 use Rattle.mr_ask.proofs.ServerLemmas.{ping_carries, echo_carries, select_carries, quit_carries, command_carries, client_carries}
 use Rattle.mr_words.specs.declared.name.Name.{Name}
 use Rattle.mr_words.specs.declared.name.Name.TheVariants as name
@@ -50,7 +55,7 @@ use Rattle.mr_ask.specs.declared.ask.Ask.{Ask}
 use Rattle.mr_ask.specs.declared.ask.Ask.TheVariants as ask
 use Rattle.mr_words.specs.declared.fault.AskFault.{AskFault}
 
-reading_carries : (n : Name) (ws : List (List ℕ)) → IfOk (reading n ws) (Carries n ws)
+reading_carries : (n : Name) (ws : List (List ℕ)) → IfOk (reading n ws) (SpellsNamed n ws)
 reading_carries name.Get ws = of_kind_carries (get ws) ask.Texts _ (get_carries ws)
 reading_carries name.Set ws = of_kind_carries (set ws) ask.Texts _ (set_carries ws)
 reading_carries name.Del ws = of_kind_carries (del ws) ask.Keys _ (del_carries ws)
@@ -106,19 +111,36 @@ reading_carries name.SMove ws = of_kind_carries (smove ws) ask.Sets _ (smove_car
 reading_carries name.SInter ws = of_kind_carries (combine name.SInter Intersection ws) ask.Sets _ (combine_carries name.SInter Intersection (λ ks. refl) ws)
 reading_carries name.SUnion ws = of_kind_carries (combine name.SUnion Union ws) ask.Sets _ (combine_carries name.SUnion Union (λ ks. refl) ws)
 reading_carries name.SDiff ws = of_kind_carries (combine name.SDiff Difference ws) ask.Sets _ (combine_carries name.SDiff Difference (λ ks. refl) ws)
+reading_carries name.ZAdd ws = of_kind_carries (zadd ws) ask.SortedSets (SpellsNamed name.ZAdd ws) (zadd_spells ws)
+reading_carries name.ZIncrBy ws = of_kind_carries (zincrby ws) ask.SortedSets (SpellsNamed name.ZIncrBy ws) (zincrby_spells ws)
+reading_carries name.ZRem ws = of_kind_carries (zrem ws) ask.SortedSets (SpellsNamed name.ZRem ws) (zrem_spells ws)
+reading_carries name.ZCard ws = of_kind_carries (zcard ws) ask.SortedSets (SpellsNamed name.ZCard ws) (zcard_spells ws)
+reading_carries name.ZCount ws = of_kind_carries (zcount ws) ask.SortedSets (SpellsNamed name.ZCount ws) (zcount_spells ws)
+reading_carries name.ZScore ws = of_kind_carries (zscore ws) ask.SortedSets (SpellsNamed name.ZScore ws) (zscore_spells ws)
+reading_carries name.ZMScore ws = of_kind_carries (zmscore ws) ask.SortedSets (SpellsNamed name.ZMScore ws) (zmscore_spells ws)
+reading_carries name.ZRank ws = of_kind_carries (zrank name.ZRank Ascending ws) ask.SortedSets (SpellsNamed name.ZRank ws) (zrank_spells name.ZRank Ascending refl ws)
+reading_carries name.ZRevRank ws = of_kind_carries (zrank name.ZRevRank Descending ws) ask.SortedSets (SpellsNamed name.ZRevRank ws) (zrank_spells name.ZRevRank Descending refl ws)
+reading_carries name.ZRange ws = of_kind_carries (zrange ws) ask.SortedSets (SpellsNamed name.ZRange ws) (zrange_spells ws)
+reading_carries name.ZRevRange ws = of_kind_carries (zrevrange ws) ask.SortedSets (SpellsNamed name.ZRevRange ws) (zrevrange_spells ws)
+reading_carries name.ZRangeByScore ws = of_kind_carries (range_by_score name.ZRangeByScore Ascending ws) ask.SortedSets (SpellsNamed name.ZRangeByScore ws) (range_by_score_spells name.ZRangeByScore Ascending refl ws)
+reading_carries name.ZRevRangeByScore ws = of_kind_carries (range_by_score name.ZRevRangeByScore Descending ws) ask.SortedSets (SpellsNamed name.ZRevRangeByScore ws) (range_by_score_spells name.ZRevRangeByScore Descending refl ws)
+reading_carries name.ZPopMin ws = of_kind_carries (zpop name.ZPopMin Ascending ws) ask.SortedSets (SpellsNamed name.ZPopMin ws) (zpop_spells name.ZPopMin Ascending refl ws)
+reading_carries name.ZPopMax ws = of_kind_carries (zpop name.ZPopMax Descending ws) ask.SortedSets (SpellsNamed name.ZPopMax ws) (zpop_spells name.ZPopMax Descending refl ws)
+reading_carries name.ZRemRangeByRank ws = of_kind_carries (zremrangebyrank ws) ask.SortedSets (SpellsNamed name.ZRemRangeByRank ws) (zremrangebyrank_spells ws)
+reading_carries name.ZRemRangeByScore ws = of_kind_carries (zremrangebyscore ws) ask.SortedSets (SpellsNamed name.ZRemRangeByScore ws) (zremrangebyscore_spells ws)
 reading_carries name.Ping ws = of_kind_carries (ping ws) ask.Server _ (ping_carries ws)
 reading_carries name.Echo ws = of_kind_carries (echo ws) ask.Server _ (echo_carries ws)
 reading_carries name.Select ws = of_kind_carries (select ws) ask.Server _ (select_carries ws)
 reading_carries name.Quit ws = of_kind_carries (quit ws) ask.Server _ (quit_carries ws)
-reading_carries name.Command ws = of_kind_carries (command ws) ask.Server (Carries name.Command ws) (command_carries ws)
+reading_carries name.Command ws = of_kind_carries (command ws) ask.Server (SpellsNamed name.Command ws) (command_carries ws)
 reading_carries name.Client ws = of_kind_carries (client ws) ask.Server _ (client_carries ws)
 
 carried_by : (w : List ℕ) (o : Option Name) (ws : List (List ℕ)) → named (lowered w) ≡ o → IfOk (asked_by o ws) (Spells (w ∷ ws))
 carried_by w None ws h = tt
 carried_by w (Some n) ws h = spelled (reading n ws) (reading_carries n ws)
   where
-    spelled : (r : Result Ask AskFault) → IfOk r (Carries n ws) → IfOk r (Spells (w ∷ ws))
-    spelled (Ok a) c = (named_is (lowered w) n h ∙ ap text_of (sym c.name_is), c.parts)
+    spelled : (r : Result Ask AskFault) → IfOk r (SpellsNamed n ws) → IfOk r (Spells (w ∷ ws))
+    spelled (Ok a) c = (n, (named_is (lowered w) n h, c))
     spelled (Err f) c = tt
 
 pub asked_spelled : (ws : List (List ℕ)) → IfOk (asked ws) (Spells ws)
@@ -184,18 +206,19 @@ keys_fit ws (key.Scan cursor pattern kind) s h =
     pattern_fits cursor pattern kind _ _ (others_fit _ s.are.0 s.are.1.0 options)
 keys_fit ws a s h = subst (λ (xs : List (List ℕ)). IsTrue (list_all fits xs)) (carried-words (key_words a)) (parts_fit ws (map Word (key_words a)) s h)
 
-arguments_fit : (ws : List (List ℕ)) (a : Ask) → AreArguments ws a → IsTrue (list_all fits ws) → AskFits a
-arguments_fit ws (ask.Texts a) s h = texts_fit ws a s h
-arguments_fit ws (ask.Keys a) s h = keys_fit ws a s h
-arguments_fit ws (ask.Hashes a) s h = of_parts_fit ws _ _ (carried_hashes a) s h
-arguments_fit ws (ask.Lists a) s h = of_parts_fit ws _ _ (carried_lists a) s h
-arguments_fit ws (ask.Sets a) s h = of_parts_fit ws _ _ (carried_sets a) s h
-arguments_fit ws (ask.Server a) s h = of_parts_fit ws _ _ (carried_server a) s h
+arguments_fit : (n : Name) (ws : List (List ℕ)) (a : Ask) → SpellsNamed n ws a → IsTrue (list_all fits ws) → AskFits a
+arguments_fit n ws (ask.Texts a) s h = texts_fit ws a s.parts h
+arguments_fit n ws (ask.Keys a) s h = keys_fit ws a s.parts h
+arguments_fit n ws (ask.Hashes a) s h = of_parts_fit ws _ _ (carried_hashes a) s.parts h
+arguments_fit n ws (ask.Lists a) s h = of_parts_fit ws _ _ (carried_lists a) s.parts h
+arguments_fit n ws (ask.Sets a) s h = of_parts_fit ws _ _ (carried_sets a) s.parts h
+arguments_fit n ws (ask.SortedSets a) s h = zset_fits n ws a s h
+arguments_fit n ws (ask.Server a) s h = of_parts_fit ws _ _ (carried_server a) s.parts h
 
 spelled_fits : (ws : List (List ℕ)) (r : Result Ask AskFault) → IfOk r (Spells ws) → IsTrue (list_all fits ws) → IfOk r AskFits
 spelled_fits ws (Err f) s h = tt
 spelled_fits [] (Ok a) s h = absurd s
-spelled_fits (w ∷ ws) (Ok a) s h = arguments_fit ws a s.1 (second (fits w) _ h)
+spelled_fits (w ∷ ws) (Ok a) s h = arguments_fit s.0 ws a s.1.1 (second (fits w) _ h)
 
 pub asked_fits : (ws : List (List ℕ)) → IsTrue (list_all fits ws) → IfOk (asked ws) AskFits
 asked_fits ws h = spelled_fits ws (asked ws) (asked_spelled ws) h

@@ -2,8 +2,7 @@
 use Rattle.std.proofs.Common.{ℕ, ◌≡◌, List}
 use Rattle.std.specs.Prelude.{IfOk, Result, Ok, Err}
 use Rattle.mr_ask.specs.Asks.{of_kind}
-use Rattle.mr_ask.specs.Called.{name_of}
-use Rattle.mr_ask.specs.Spelled.{AreArguments}
+use Rattle.mr_ask.specs.Spelled.{SpellsNamed}
 use Rattle.mr_words.specs.declared.name.Name.{Name}
 use Rattle.mr_words.specs.declared.fault.AskFault.{AskFault}
 use Rattle.mr_ask.specs.declared.text_ask.TextAsk.{TextAsk}
@@ -15,28 +14,23 @@ use Rattle.mr_ask.specs.declared.server_ask.ServerAsk.{ServerAsk}
 use Rattle.mr_ask.specs.declared.ask.Ask.{Ask}
 use Rattle.mr_ask.specs.declared.ask.Ask.TheVariants as ask
 
--- the command has this name, and these are its arguments
-pub record Carries (n : Name) (arguments : List (List ℕ)) (command : Ask) : Type 0 where
-  pub name_is : name_of command ≡ n
-  pub parts : AreArguments arguments command
-
 abbrev pub TextCarries : Name → List (List ℕ) → TextAsk → Type 0
-TextCarries n arguments command = Carries n arguments (ask.Texts command)
+TextCarries n arguments command = SpellsNamed n arguments (ask.Texts command)
 
 abbrev pub KeyCarries : Name → List (List ℕ) → KeyAsk → Type 0
-KeyCarries n arguments command = Carries n arguments (ask.Keys command)
+KeyCarries n arguments command = SpellsNamed n arguments (ask.Keys command)
 
 abbrev pub HashCarries : Name → List (List ℕ) → HashAsk → Type 0
-HashCarries n arguments command = Carries n arguments (ask.Hashes command)
+HashCarries n arguments command = SpellsNamed n arguments (ask.Hashes command)
 
 abbrev pub ListCarries : Name → List (List ℕ) → ListAsk → Type 0
-ListCarries n arguments command = Carries n arguments (ask.Lists command)
+ListCarries n arguments command = SpellsNamed n arguments (ask.Lists command)
 
 abbrev pub SetCarries : Name → List (List ℕ) → SetAsk → Type 0
-SetCarries n arguments command = Carries n arguments (ask.Sets command)
+SetCarries n arguments command = SpellsNamed n arguments (ask.Sets command)
 
 abbrev pub ServerCarries : Name → List (List ℕ) → ServerAsk → Type 0
-ServerCarries n arguments command = Carries n arguments (ask.Server command)
+ServerCarries n arguments command = SpellsNamed n arguments (ask.Server command)
 
 -- what holds of what is read of one kind holds of the command
 pub of_kind_carries : {A : Type 0} (r : Result A AskFault) (kind : A → Ask) (P : Ask → Type 0) → IfOk r (λ a. P (kind a)) → IfOk (of_kind kind r) P

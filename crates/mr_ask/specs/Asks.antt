@@ -8,6 +8,7 @@ use Rattle.mr_ask.specs.Keys.{del, unlink, exists, key_type, matching_keys, scan
 use Rattle.mr_ask.specs.Hashes.{set_fields, hsetnx, hget, hmget, list_hash, hdel, hexists, hlen, hstrlen, hincrby}
 use Rattle.mr_ask.specs.Lists.{push, pop, llen, lrange, lindex, lset, linsert, lrem, ltrim, lmove, rpoplpush}
 use Rattle.mr_ask.specs.Sets.{sadd, srem, sismember, smismember, smembers, scard, spop, srandmember, smove, combine}
+use Rattle.mr_ask_zset.specs.Reading.{zadd, zincrby, zrem, zcard, zcount, zscore, zmscore, zrank, zrange, zrevrange, range_by_score, zpop, zremrangebyrank, zremrangebyscore}
 use Rattle.mr_ask.specs.Server.{ping, echo, select, quit, command, client}
 use Rattle.mr_words.specs.declared.name.Name.{Name}
 use Rattle.mr_words.specs.declared.name.Name.TheVariants as name
@@ -17,6 +18,7 @@ use Rattle.mr_ask.specs.declared.hash_ask.FieldsReply.TheVariants.{Added, Done}
 use Rattle.mr_ask.specs.declared.hash_ask.HashPart.TheVariants.{Pairs, Fields, Values}
 use Rattle.mr_ask.specs.declared.list_ask.PushTo.TheVariants.{AnyKey, ExistingKey}
 use Rattle.mr_ask.specs.declared.set_ask.SetOperation.TheVariants.{Intersection, Union, Difference}
+use Rattle.mr_ask_zset.specs.declared.zset_ask.Order.TheVariants.{Ascending, Descending}
 use Rattle.mr_ask.specs.declared.group.Group.{Group}
 use Rattle.mr_ask.specs.declared.group.Group.TheVariants as group
 use Rattle.mr_ask.specs.declared.ask.Ask.{Ask}
@@ -83,6 +85,23 @@ reading name.SMove arguments = of_kind ask.Sets (smove arguments)
 reading name.SInter arguments = of_kind ask.Sets (combine name.SInter Intersection arguments)
 reading name.SUnion arguments = of_kind ask.Sets (combine name.SUnion Union arguments)
 reading name.SDiff arguments = of_kind ask.Sets (combine name.SDiff Difference arguments)
+reading name.ZAdd arguments = of_kind ask.SortedSets (zadd arguments)
+reading name.ZIncrBy arguments = of_kind ask.SortedSets (zincrby arguments)
+reading name.ZRem arguments = of_kind ask.SortedSets (zrem arguments)
+reading name.ZCard arguments = of_kind ask.SortedSets (zcard arguments)
+reading name.ZCount arguments = of_kind ask.SortedSets (zcount arguments)
+reading name.ZScore arguments = of_kind ask.SortedSets (zscore arguments)
+reading name.ZMScore arguments = of_kind ask.SortedSets (zmscore arguments)
+reading name.ZRank arguments = of_kind ask.SortedSets (zrank name.ZRank Ascending arguments)
+reading name.ZRevRank arguments = of_kind ask.SortedSets (zrank name.ZRevRank Descending arguments)
+reading name.ZRange arguments = of_kind ask.SortedSets (zrange arguments)
+reading name.ZRevRange arguments = of_kind ask.SortedSets (zrevrange arguments)
+reading name.ZRangeByScore arguments = of_kind ask.SortedSets (range_by_score name.ZRangeByScore Ascending arguments)
+reading name.ZRevRangeByScore arguments = of_kind ask.SortedSets (range_by_score name.ZRevRangeByScore Descending arguments)
+reading name.ZPopMin arguments = of_kind ask.SortedSets (zpop name.ZPopMin Ascending arguments)
+reading name.ZPopMax arguments = of_kind ask.SortedSets (zpop name.ZPopMax Descending arguments)
+reading name.ZRemRangeByRank arguments = of_kind ask.SortedSets (zremrangebyrank arguments)
+reading name.ZRemRangeByScore arguments = of_kind ask.SortedSets (zremrangebyscore arguments)
 reading name.Ping arguments = of_kind ask.Server (ping arguments)
 reading name.Echo arguments = of_kind ask.Server (echo arguments)
 reading name.Select arguments = of_kind ask.Server (select arguments)
@@ -106,4 +125,5 @@ group_of (ask.Keys command) = group.Keys
 group_of (ask.Hashes command) = group.Collections
 group_of (ask.Lists command) = group.Collections
 group_of (ask.Sets command) = group.Collections
+group_of (ask.SortedSets command) = group.Collections
 group_of (ask.Server command) = group.Server

@@ -18,8 +18,6 @@ use Rattle.mr_ask.specs.declared.set_ask.SetAsk.{SetAsk}
 use Rattle.mr_ask.specs.declared.set_ask.SetAsk.TheVariants as set
 use Rattle.mr_ask.specs.declared.server_ask.ServerAsk.{ServerAsk}
 use Rattle.mr_ask.specs.declared.server_ask.ServerAsk.TheVariants as server
-use Rattle.mr_ask.specs.declared.ask.Ask.{Ask}
-use Rattle.mr_ask.specs.declared.ask.Ask.TheVariants as ask
 
 -- of a command on strings
 abbrev pub text_name : TextAsk → Name
@@ -100,11 +98,3 @@ server_name server.Quit = name.Quit
 server_name (server.Command arguments) = name.Command
 server_name (server.SetClientName label) = name.Client
 server_name (server.SetClientInfo attribute value) = name.Client
-
-abbrev pub name_of : Ask → Name
-name_of (ask.Texts command) = text_name command
-name_of (ask.Keys command) = key_name command
-name_of (ask.Hashes command) = hash_name command
-name_of (ask.Lists command) = list_name command
-name_of (ask.Sets command) = set_name command
-name_of (ask.Server command) = server_name command

@@ -3,6 +3,7 @@ use Rattle.std.specs.Prelude.{ℕ, List, [], ◌∷◌, IsTrue, Some, None}
 use Rattle.std.specs.List.{list_all}
 use Rattle.mr_value.specs.Words.{fits}
 use Rattle.mr_words.specs.Pairing.{unpaired}
+use Rattle.mr_ask_zset.specs.Carried.{zset_words}
 use Rattle.mr_ask.specs.declared.text_ask.TextAsk.{TextAsk}
 use Rattle.mr_ask.specs.declared.text_ask.TextAsk.TheVariants as text
 use Rattle.mr_ask.specs.declared.key_ask.KeyAsk.{KeyAsk}
@@ -97,6 +98,7 @@ words_of (ask.Keys command) = key_words command
 words_of (ask.Hashes command) = hash_words command
 words_of (ask.Lists command) = list_words command
 words_of (ask.Sets command) = set_words command
+words_of (ask.SortedSets command) = zset_words command
 words_of (ask.Server command) = server_words command
 
 -- .. are within the word limit

@@ -2,7 +2,9 @@
 use Rattle.std.specs.Prelude.{◌≡◌, ℕ, pos, List, [], ◌∷◌, ◌++◌, map, Option, Some, None, option_map, IfSome}
 use Rattle.mr_words.specs.Names.{lowered, text_of}
 use Rattle.mr_words.specs.Spelling.{Part, Word, Number, Keyword, Positive, count_part, IsPositive, AreParts, AreWithOptions}
-use Rattle.mr_ask.specs.Called.{name_of}
+use Rattle.mr_words.specs.declared.name.Name.{Name}
+use Rattle.mr_ask_zset.specs.Spelled.{ZSetSpells}
+use Rattle.mr_ask.specs.Called.{text_name, key_name, hash_name, list_name, set_name, server_name}
 use Rattle.mr_ask.specs.Carried.{text_words, key_words, hash_words, list_words, set_words, server_words}
 use Rattle.mr_ask.specs.Parts.{end_text, side_text, kind_of}
 use Rattle.mr_ask.specs.Options.{set_text, scan_text}
@@ -107,16 +109,22 @@ abbrev pub AreOfKeys : List (List ℕ) → KeyAsk → Type 0
 AreOfKeys words (key.Scan cursor pattern kind) = AreOfScan words cursor pattern kind
 AreOfKeys words command = AreParts words (key_parts command)
 
--- the words that stand behind the name of a command
-abbrev pub AreArguments : List (List ℕ) → Ask → Type 0
-AreArguments words (ask.Texts command) = AreOfTexts words command
-AreArguments words (ask.Keys command) = AreOfKeys words command
-AreArguments words (ask.Hashes command) = AreParts words (hash_parts command)
-AreArguments words (ask.Lists command) = AreParts words (list_parts command)
-AreArguments words (ask.Sets command) = AreParts words (set_parts command)
-AreArguments words (ask.Server command) = AreParts words (server_parts command)
+-- a command of this name, and the words behind it
+pub record Names (its called : Name) (Arguments : Type 0) : Type 0 where
+  pub name_is : its ≡ called
+  pub parts : Arguments
+
+-- this name and the words behind it spell the command
+abbrev pub SpellsNamed : Name → List (List ℕ) → Ask → Type 0
+SpellsNamed called words (ask.Texts command) = Names (text_name command) called (AreOfTexts words command)
+SpellsNamed called words (ask.Keys command) = Names (key_name command) called (AreOfKeys words command)
+SpellsNamed called words (ask.Hashes command) = Names (hash_name command) called (AreParts words (hash_parts command))
+SpellsNamed called words (ask.Lists command) = Names (list_name command) called (AreParts words (list_parts command))
+SpellsNamed called words (ask.Sets command) = Names (set_name command) called (AreParts words (set_parts command))
+SpellsNamed called words (ask.SortedSets command) = ZSetSpells called words command
+SpellsNamed called words (ask.Server command) = Names (server_name command) called (AreParts words (server_parts command))
 
 -- These words spell the command: its name in any case, and behind it its arguments.
 abbrev pub Spells : List (List ℕ) → Ask → Type 0
 Spells [] command = ⊥
-Spells (name ∷ words) command = (lowered name ≡ text_of (name_of command)) × AreArguments words command
+Spells (word ∷ words) command = (called : Name) × ((lowered word ≡ text_of called) × SpellsNamed called words command)

@@ -5,6 +5,7 @@ use crate::list_ask::ListAsk;
 use crate::server_ask::ServerAsk;
 use crate::set_ask::SetAsk;
 use crate::text_ask::TextAsk;
+use mr_ask_zset::ZSetAsk;
 
 /// A command with its arguments, which are borrowed from the request; by its kind, so that what serves the commands of one kind
 /// takes a type of its own.
@@ -17,6 +18,7 @@ pub enum Ask<'a, 't> {
     Hashes(HashAsk<'a, 't>),
     Lists(ListAsk<'a, 't>),
     Sets(SetAsk<'a, 't>),
+    SortedSets(ZSetAsk<'a, 't>),
     /// To the server itself.
     Server(ServerAsk<'a, 't>),
 }

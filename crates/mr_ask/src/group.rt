@@ -9,7 +9,7 @@ use crate::ask::Ask;
 pub enum Group {
     /// Strings, and keys whatever they hold.
     Keys,
-    /// Hashes, lists and sets.
+    /// Hashes, lists, sets and sorted sets.
     Collections,
     /// The server itself. No key is looked at.
     Server,
@@ -22,7 +22,9 @@ impl Ask<'_, '_> {
     {
         match self {
             Ask::Texts(_) | Ask::Keys(_) => Group::Keys,
-            Ask::Hashes(_) | Ask::Lists(_) | Ask::Sets(_) => Group::Collections,
+            Ask::Hashes(_) | Ask::Lists(_) | Ask::Sets(_) | Ask::SortedSets(_) => {
+                Group::Collections
+            }
             Ask::Server(_) => Group::Server,
         }
     }

@@ -20,6 +20,10 @@ pub use hash_ask::{FieldsReply, HashAsk, HashPart};
 pub use key_ask::{Cursor, KeyAsk, KindName};
 pub use laws::options_stand_in_any_order;
 pub use list_ask::{ListAsk, PushTo};
+pub use mr_ask_zset::{
+    Comparison, Limit, Order, RangeReply, ScoreCondition, ScoredMembers, ScoredMembersIter,
+    ScoresReply, ZSetAsk,
+};
 pub use mr_words::{Argument, AskFault, BadValue, Name, Pairs, PairsIter, Words};
 pub use reading::read;
 pub use server_ask::ServerAsk;

@@ -22,6 +22,8 @@ use crate::list_ask::{ListAsk, PushTo};
 use crate::server_ask::ServerAsk;
 use crate::set_ask::{SetAsk, SetOperation};
 use crate::text_ask::TextAsk;
+use mr_ask_zset as zset;
+use mr_ask_zset::{Order, ZSetAsk};
 use mr_value::End;
 use mr_words::{Arguments, AskFault, Name};
 use std::borrow::CowSlice;
@@ -110,6 +112,31 @@ fn read_arguments<'a, 't>(name: Name, arguments: Arguments<'a, 't>) -> Reading<'
         Name::SInter => of_sets(sets::combine(name, SetOperation::Intersection, arguments)),
         Name::SUnion => of_sets(sets::combine(name, SetOperation::Union, arguments)),
         Name::SDiff => of_sets(sets::combine(name, SetOperation::Difference, arguments)),
+        Name::ZAdd => of_sorted_sets(zset::zadd(arguments)),
+        Name::ZIncrBy => of_sorted_sets(zset::zincrby(arguments)),
+        Name::ZRem => of_sorted_sets(zset::zrem(arguments)),
+        Name::ZCard => of_sorted_sets(zset::zcard(arguments)),
+        Name::ZCount => of_sorted_sets(zset::zcount(arguments)),
+        Name::ZScore => of_sorted_sets(zset::zscore(arguments)),
+        Name::ZMScore => of_sorted_sets(zset::zmscore(arguments)),
+        Name::ZRank => of_sorted_sets(zset::zrank(name, Order::Ascending, arguments)),
+        Name::ZRevRank => of_sorted_sets(zset::zrank(name, Order::Descending, arguments)),
+        Name::ZRange => of_sorted_sets(zset::zrange(arguments)),
+        Name::ZRevRange => of_sorted_sets(zset::zrevrange(arguments)),
+        Name::ZRangeByScore => of_sorted_sets(zset::range_by_score(
+            name,
+            Order::Ascending,
+            arguments,
+        )),
+        Name::ZRevRangeByScore => of_sorted_sets(zset::range_by_score(
+            name,
+            Order::Descending,
+            arguments,
+        )),
+        Name::ZPopMin => of_sorted_sets(zset::zpop(name, Order::Ascending, arguments)),
+        Name::ZPopMax => of_sorted_sets(zset::zpop(name, Order::Descending, arguments)),
+        Name::ZRemRangeByRank => of_sorted_sets(zset::zremrangebyrank(arguments)),
+        Name::ZRemRangeByScore => of_sorted_sets(zset::zremrangebyscore(arguments)),
         Name::Ping => of_server(server::ping(arguments)),
         Name::Echo => of_server(server::echo(arguments)),
         Name::Select => of_server(server::select(arguments)),
@@ -147,6 +174,12 @@ fn of_sets<'a, 't>(reading: Result<SetAsk<'a, 't>, AskFault>) -> Reading<'a, 't>
     ensures { result ≡ of_kind kind.Sets reading.entry }
 {
     Ok(Ask::Sets(reading?))
+}
+
+fn of_sorted_sets<'a, 't>(reading: Result<ZSetAsk<'a, 't>, AskFault>) -> Reading<'a, 't>
+    ensures { result ≡ of_kind kind.SortedSets reading.entry }
+{
+    Ok(Ask::SortedSets(reading?))
 }
 
 fn of_server<'a, 't>(reading: Result<ServerAsk<'a, 't>, AskFault>) -> Reading<'a, 't>

@@ -37,6 +37,7 @@ fn kind_text(ask: &Ask<'_, '_>) -> &'static [u8] {
         Ask::Hashes(_) => b"hash",
         Ask::Lists(_) => b"list",
         Ask::Sets(_) => b"set",
+        Ask::SortedSets(_) => b"zset",
         Ask::Server(_) => b"server",
     }
 }
@@ -53,6 +54,8 @@ fn all_told(rt: &impl Abort, alloc: Global, lines: &[(&str, &str)]) -> Result<()
 const INTEGER: &str = "-ERR value is not an integer or out of range\r\n";
 
 const CURSOR: &str = "-ERR invalid cursor\r\n";
+
+const BOUND: &str = "-ERR min or max is not a score\r\n";
 
 const NEGATIVE: &str = "-ERR value is out of range, must be positive\r\n";
 
@@ -344,6 +347,54 @@ fn sets(rt: HostRuntime) -> Result<(), Fail> {
             ),
             ("SUNION a b", "set"),
             ("SDIFF a", "set"),
+        ],
+    )
+}
+
+#[test]
+fn sorted_sets(rt: HostRuntime) -> Result<(), Fail> {
+    all_told(
+        &rt,
+        rt.alloc(),
+        &[
+            ("ZADD z NX CH 1 a 2 b", "zset"),
+            ("ZADD z NX GT 1 a", SYNTAX),
+            (
+                "ZADD z 1",
+                "-ERR wrong number of arguments for 'zadd' command\r\n",
+            ),
+            ("ZADD z x a", INTEGER),
+            ("ZINCRBY z 1.0 a", "zset"),
+            ("ZREM z a b", "zset"),
+            ("ZCARD z", "zset"),
+            ("ZCOUNT z (1 +inf", "zset"),
+            ("ZCOUNT z 1 1.5", BOUND),
+            ("ZSCORE z a", "zset"),
+            ("ZMSCORE z a b", "zset"),
+            ("ZRANK z a", "zset"),
+            (
+                "ZREVRANK z",
+                "-ERR wrong number of arguments for 'zrevrank' command\r\n",
+            ),
+        ],
+    )
+}
+
+#[test]
+fn ranges_of_sorted_sets(rt: HostRuntime) -> Result<(), Fail> {
+    all_told(
+        &rt,
+        rt.alloc(),
+        &[
+            ("ZRANGE z 0 -1 REV WITHSCORES", "zset"),
+            ("ZRANGE z 0 1 LIMIT 0 1", SYNTAX),
+            ("ZREVRANGE z 0 -1", "zset"),
+            ("ZRANGEBYSCORE z -inf 3 LIMIT 0 1", "zset"),
+            ("ZREVRANGEBYSCORE z x 3", BOUND),
+            ("ZPOPMIN z", "zset"),
+            ("ZPOPMAX z -1", NEGATIVE),
+            ("ZREMRANGEBYRANK z 0 x", INTEGER),
+            ("ZREMRANGEBYSCORE z 1 (2", "zset"),
         ],
     )
 }

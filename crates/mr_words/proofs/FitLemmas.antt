@@ -6,7 +6,7 @@ use Rattle.std.proofs.lemmas.List.Elements.{All-from_recursion, recursion_from_A
 use Rattle.std.proofs.lemmas.List.Folds.{list_all-append}
 use Rattle.std.proofs.lemmas.List.Sorted.{All-permutation, IsPermutation-sym}
 use Rattle.mr_value.specs.Words.{fits}
-use Rattle.mr_words.specs.Spelling.{Part, Word, Number, Keyword, Positive, AreParts, in_a_row}
+use Rattle.mr_words.specs.Spelling.{Part, Word, Number, Keyword, Positive, Score, ScoreBound, AreParts, in_a_row}
 
 pub all_words : (ws : List (List ℕ)) → AreParts ws (map Word ws)
 all_words [] = tt
@@ -19,6 +19,8 @@ carried (Word w ∷ ps) = w ∷ carried ps
 carried (Number n ∷ ps) = carried ps
 carried (Keyword w ∷ ps) = carried ps
 carried (Positive ∷ ps) = carried ps
+carried (Score n ∷ ps) = carried ps
+carried (ScoreBound b ∷ ps) = carried ps
 
 pub carried-words : (ws : List (List ℕ)) → carried (map Word ws) ≡ ws
 unfolding carried
@@ -46,6 +48,8 @@ parts_fit (w ∷ ws) (Word t ∷ ps) a h = both _ _ (subst (λ (x : List ℕ). I
 parts_fit (w ∷ ws) (Number n ∷ ps) a h = parts_fit ws ps a.1 (second _ _ h)
 parts_fit (w ∷ ws) (Keyword t ∷ ps) a h = parts_fit ws ps a.1 (second _ _ h)
 parts_fit (w ∷ ws) (Positive ∷ ps) a h = parts_fit ws ps a.1 (second _ _ h)
+parts_fit (w ∷ ws) (Score n ∷ ps) a h = parts_fit ws ps a.1 (second _ _ h)
+parts_fit (w ∷ ws) (ScoreBound b ∷ ps) a h = parts_fit ws ps a.1 (second _ _ h)
 
 pub carried-joined : (ps qs : List Part) → carried (ps ++ qs) ≡ carried ps ++ carried qs
 unfolding carried
@@ -54,6 +58,8 @@ carried-joined (Word w ∷ ps) qs = ap (λ (xs : List (List ℕ)). w ∷ xs) (ca
 carried-joined (Number n ∷ ps) qs = carried-joined ps qs
 carried-joined (Keyword w ∷ ps) qs = carried-joined ps qs
 carried-joined (Positive ∷ ps) qs = carried-joined ps qs
+carried-joined (Score n ∷ ps) qs = carried-joined ps qs
+carried-joined (ScoreBound b ∷ ps) qs = carried-joined ps qs
 
 unfoldable pub OptionFits : List Part → Type 0
 OptionFits option = IsTrue (list_all fits (carried option))

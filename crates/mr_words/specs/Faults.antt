@@ -3,7 +3,7 @@ use Rattle.std.specs.Prelude.{ℕ, List, ◌++◌, codes}
 use Rattle.mr_words.specs.Names.{text_of}
 use Rattle.mr_words.specs.declared.name.Name.{Name}
 use Rattle.mr_words.specs.declared.fault.BadValue.{BadValue}
-use Rattle.mr_words.specs.declared.fault.BadValue.TheVariants.{Negative, Database, Cursor}
+use Rattle.mr_words.specs.declared.fault.BadValue.TheVariants.{Negative, Database, Cursor, Bound}
 use Rattle.mr_words.specs.declared.fault.AskFault.{AskFault}
 use Rattle.mr_words.specs.declared.fault.AskFault.TheVariants.{Unknown, Arity, Syntax, Integer, Other}
 
@@ -14,6 +14,7 @@ abbrev pub bad_value : BadValue → List ℕ
 bad_value Negative = codes "ERR value is out of range, must be positive"
 bad_value Database = codes "ERR DB index is out of range"
 bad_value Cursor = codes "ERR invalid cursor"
+bad_value Bound = codes "ERR min or max is not a score"
 
 -- what is answered, behind the mark of an error
 abbrev pub fault_text : AskFault → List ℕ

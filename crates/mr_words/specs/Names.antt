@@ -2,7 +2,7 @@
 use Rattle.std.specs.Prelude.{ℕ, ◌+◌, List, [], ◌∷◌, Bool, nat_lt, if◌then◌else◌, Option, map, find, codes}
 use Rattle.std.specs.Str.{bytes_eq}
 use Rattle.mr_words.specs.declared.name.Name.{Name}
-use Rattle.mr_words.specs.declared.name.Name.TheVariants.{Get, Set, Del, Unlink, Exists, KeyType, StrLen, GetRange, MGet, SetNx, GetSet, GetDel, Keys, Scan, DbSize, HSet, HMSet, HSetNx, HGet, HMGet, HGetAll, HKeys, HVals, HDel, HExists, HLen, HStrLen, HIncrBy, LPush, RPush, LPushX, RPushX, LPop, RPop, LLen, LRange, LIndex, LSet, LInsert, LRem, LTrim, LMove, RPopLPush, SAdd, SRem, SIsMember, SMIsMember, SMembers, SCard, SPop, SRandMember, SMove, SInter, SUnion, SDiff, Ping, Echo, Select, Quit, Command, Client}
+use Rattle.mr_words.specs.declared.name.Name.TheVariants.{Get, Set, Del, Unlink, Exists, KeyType, StrLen, GetRange, MGet, SetNx, GetSet, GetDel, Keys, Scan, DbSize, HSet, HMSet, HSetNx, HGet, HMGet, HGetAll, HKeys, HVals, HDel, HExists, HLen, HStrLen, HIncrBy, LPush, RPush, LPushX, RPushX, LPop, RPop, LLen, LRange, LIndex, LSet, LInsert, LRem, LTrim, LMove, RPopLPush, SAdd, SRem, SIsMember, SMIsMember, SMembers, SCard, SPop, SRandMember, SMove, SInter, SUnion, SDiff, ZAdd, ZIncrBy, ZRem, ZCard, ZCount, ZScore, ZMScore, ZRank, ZRevRank, ZRange, ZRevRange, ZRangeByScore, ZRevRangeByScore, ZPopMin, ZPopMax, ZRemRangeByRank, ZRemRangeByScore, Ping, Echo, Select, Quit, Command, Client}
 
 -- a letter from A to Z in lower case, and any other byte as it is
 abbrev pub lowered_byte : ℕ → ℕ
@@ -68,6 +68,23 @@ text_of SMove = codes "smove"
 text_of SInter = codes "sinter"
 text_of SUnion = codes "sunion"
 text_of SDiff = codes "sdiff"
+text_of ZAdd = codes "zadd"
+text_of ZIncrBy = codes "zincrby"
+text_of ZRem = codes "zrem"
+text_of ZCard = codes "zcard"
+text_of ZCount = codes "zcount"
+text_of ZScore = codes "zscore"
+text_of ZMScore = codes "zmscore"
+text_of ZRank = codes "zrank"
+text_of ZRevRank = codes "zrevrank"
+text_of ZRange = codes "zrange"
+text_of ZRevRange = codes "zrevrange"
+text_of ZRangeByScore = codes "zrangebyscore"
+text_of ZRevRangeByScore = codes "zrevrangebyscore"
+text_of ZPopMin = codes "zpopmin"
+text_of ZPopMax = codes "zpopmax"
+text_of ZRemRangeByRank = codes "zremrangebyrank"
+text_of ZRemRangeByScore = codes "zremrangebyscore"
 text_of Ping = codes "ping"
 text_of Echo = codes "echo"
 text_of Select = codes "select"
@@ -80,7 +97,9 @@ abbrev pub names : List Name
 names = Get ∷ Set ∷ Del ∷ Unlink ∷ Exists ∷ KeyType ∷ StrLen ∷ GetRange ∷ MGet ∷ SetNx ∷ GetSet ∷ GetDel ∷ Keys ∷ Scan ∷ DbSize ∷ HSet ∷ HMSet ∷ HSetNx ∷ HGet ∷ HMGet ∷ HGetAll ∷
     HKeys ∷ HVals ∷ HDel ∷ HExists ∷ HLen ∷ HStrLen ∷ HIncrBy ∷ LPush ∷ RPush ∷ LPushX ∷ RPushX ∷ LPop ∷
     RPop ∷ LLen ∷ LRange ∷ LIndex ∷ LSet ∷ LInsert ∷ LRem ∷ LTrim ∷ LMove ∷ RPopLPush ∷ SAdd ∷ SRem ∷
-    SIsMember ∷ SMIsMember ∷ SMembers ∷ SCard ∷ SPop ∷ SRandMember ∷ SMove ∷ SInter ∷ SUnion ∷ SDiff ∷ Ping ∷
+    SIsMember ∷ SMIsMember ∷ SMembers ∷ SCard ∷ SPop ∷ SRandMember ∷ SMove ∷ SInter ∷ SUnion ∷ SDiff ∷
+    ZAdd ∷ ZIncrBy ∷ ZRem ∷ ZCard ∷ ZCount ∷ ZScore ∷ ZMScore ∷ ZRank ∷ ZRevRank ∷
+    ZRange ∷ ZRevRange ∷ ZRangeByScore ∷ ZRevRangeByScore ∷ ZPopMin ∷ ZPopMax ∷ ZRemRangeByRank ∷ ZRemRangeByScore ∷ Ping ∷
     Echo ∷ Select ∷ Quit ∷ Command ∷ Client ∷ []
 
 abbrev pub is_named : List ℕ → Name → Bool

@@ -1,14 +1,18 @@
 -- How the arguments of a command are spelled.
 use Rattle.std.specs.Prelude.{◌≡◌, ◌<◌, ◌^◌, ℕ, ℤ, pos, List, [], ◌∷◌, ◌++◌, IsPermutation, Option, Some, None}
 use Rattle.std.specs.Fmt.{signed_decimal}
+use Rattle.mr_zset.specs.declared.bound.Bound.{Bound}
+use Rattle.mr_zset.specs.Texts.{IsScoreText, bound_of}
 use Rattle.mr_words.specs.Names.{lowered}
 
--- an argument: this word as it is, the text of this number, this option word in any case, or the text of some number from 1 on
+-- an argument: this word as it is, the text of this number, this option word in any case, the text of some number from 1 on, or a text of this score or of this bound on scores
 pub data Part : Type 0 where
   Word : List ℕ → Part
   Number : ℤ → Part
   Keyword : List ℕ → Part
   Positive : Part
+  Score : ℤ → Part
+  ScoreBound : Bound → Part
 
 -- a count that may be left out
 abbrev pub count_part : Option ℕ → List Part
@@ -25,6 +29,8 @@ IsPart word (Word text) = word ≡ text
 IsPart word (Number n) = word ≡ signed_decimal n
 IsPart word (Keyword text) = lowered word ≡ text
 IsPart word Positive = IsPositive word
+IsPart word (Score n) = IsScoreText word n
+IsPart word (ScoreBound bound) = bound_of word ≡ Some bound
 
 -- each word is the argument in its place, and there are no others
 abbrev pub AreParts : List (List ℕ) → List Part → Type 0
@@ -40,3 +46,7 @@ in_a_row (option ∷ options) = option ++ in_a_row options
 -- the words are these arguments, and behind them these options, in some order
 abbrev pub AreWithOptions : List (List ℕ) → List Part → List (List Part) → Type 0
 AreWithOptions words parts options = (order : List (List Part)) × (IsPermutation options order × AreParts words (parts ++ in_a_row order))
+
+-- the words are these arguments, then these options, in some order, and then further arguments
+abbrev pub AreAroundOptions : List (List ℕ) → List Part → List (List Part) → List Part → Type 0
+AreAroundOptions words front options back = (order : List (List Part)) × (IsPermutation options order × AreParts words (front ++ in_a_row order ++ back))

@@ -37,6 +37,9 @@ pub enum BadValue {
     /// A cursor that isn't a number from 0 to 2^63 - 1.
     #[error("invalid cursor")]
     Cursor,
+    /// A bound of a range that is neither a score nor infinite.
+    #[error("min or max is not a score")]
+    Bound,
 }
 
 impl AskFault {
@@ -67,6 +70,7 @@ fn bad_value(value: BadValue) -> &'static [u8]
         BadValue::Negative => b"ERR value is out of range, must be positive",
         BadValue::Database => b"ERR DB index is out of range",
         BadValue::Cursor => b"ERR invalid cursor",
+        BadValue::Bound => b"ERR min or max is not a score",
     }
 }
 
@@ -130,6 +134,23 @@ fn wrong_count(name: Name) -> &'static [u8]
         Name::SInter => b"ERR wrong number of arguments for 'sinter' command",
         Name::SUnion => b"ERR wrong number of arguments for 'sunion' command",
         Name::SDiff => b"ERR wrong number of arguments for 'sdiff' command",
+        Name::ZAdd => b"ERR wrong number of arguments for 'zadd' command",
+        Name::ZIncrBy => b"ERR wrong number of arguments for 'zincrby' command",
+        Name::ZRem => b"ERR wrong number of arguments for 'zrem' command",
+        Name::ZCard => b"ERR wrong number of arguments for 'zcard' command",
+        Name::ZCount => b"ERR wrong number of arguments for 'zcount' command",
+        Name::ZScore => b"ERR wrong number of arguments for 'zscore' command",
+        Name::ZMScore => b"ERR wrong number of arguments for 'zmscore' command",
+        Name::ZRank => b"ERR wrong number of arguments for 'zrank' command",
+        Name::ZRevRank => b"ERR wrong number of arguments for 'zrevrank' command",
+        Name::ZRange => b"ERR wrong number of arguments for 'zrange' command",
+        Name::ZRevRange => b"ERR wrong number of arguments for 'zrevrange' command",
+        Name::ZRangeByScore => b"ERR wrong number of arguments for 'zrangebyscore' command",
+        Name::ZRevRangeByScore => b"ERR wrong number of arguments for 'zrevrangebyscore' command",
+        Name::ZPopMin => b"ERR wrong number of arguments for 'zpopmin' command",
+        Name::ZPopMax => b"ERR wrong number of arguments for 'zpopmax' command",
+        Name::ZRemRangeByRank => b"ERR wrong number of arguments for 'zremrangebyrank' command",
+        Name::ZRemRangeByScore => b"ERR wrong number of arguments for 'zremrangebyscore' command",
         Name::Ping => b"ERR wrong number of arguments for 'ping' command",
         Name::Echo => b"ERR wrong number of arguments for 'echo' command",
         Name::Select => b"ERR wrong number of arguments for 'select' command",

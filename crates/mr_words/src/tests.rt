@@ -45,7 +45,10 @@ fn numbers(rt: HostRuntime) -> Result<(), Fail> {
     assert_eq!(rt; integer(&word("-12")), Ok(-12));
     assert_eq!(rt; integer(&word("012")), Err(AskFault::Integer));
     assert_eq!(rt; count(&word("3")), Ok(3));
-    assert_eq!(rt; count(&word("-3")), Err(AskFault::Other(BadValue::Negative)));
+    assert_eq!(rt;
+        count(&word("-3")),
+        Err(AskFault::Other(BadValue::Negative))
+    );
     assert_eq!(rt; count(&word("x")), Err(AskFault::Integer));
     Ok(())
 }
