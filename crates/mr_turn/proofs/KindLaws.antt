@@ -23,18 +23,21 @@ hash_value (value.Hash y) x h = ap value.Hash (sym (same_some h))
 hash_value (value.Text y) x h = absurd (not_none h)
 hash_value (value.List y) x h = absurd (not_none h)
 hash_value (value.Set y) x h = absurd (not_none h)
+hash_value (value.SortedSet y) x h = absurd (not_none h)
 
 list_value : (v : Value) (x : List Bytes) → list_of v ≡ Some x → value.List x ≡ v
 list_value (value.List y) x h = ap value.List (sym (same_some h))
 list_value (value.Text y) x h = absurd (not_none h)
 list_value (value.Hash y) x h = absurd (not_none h)
 list_value (value.Set y) x h = absurd (not_none h)
+list_value (value.SortedSet y) x h = absurd (not_none h)
 
 set_value : (v : Value) (x : ByteMap (Unit {0})) → set_of v ≡ Some x → value.Set x ≡ v
 set_value (value.Set y) x h = ap value.Set (sym (same_some h))
 set_value (value.Text y) x h = absurd (not_none h)
 set_value (value.Hash y) x h = absurd (not_none h)
 set_value (value.List y) x h = absurd (not_none h)
+set_value (value.SortedSet y) x h = absurd (not_none h)
 
 never : (n : ℕ) → suc n ≡ 0 → ⊥
 never n h = omega (arith, h)
@@ -76,18 +79,21 @@ hash_some (value.Hash y) x i h = ap (λ (z : ByteMap Bytes). len z == 0) (sym (s
 hash_some (value.Text y) x i h = absurd (not_none h)
 hash_some (value.List y) x i h = absurd (not_none h)
 hash_some (value.Set y) x i h = absurd (not_none h)
+hash_some (value.SortedSet y) x i h = absurd (not_none h)
 
 list_some : (v : Value) (x : List Bytes) → IsValue v → list_of v ≡ Some x → (length x == 0) ≡ false
 list_some (value.List y) x i h = ap (λ (z : List Bytes). length z == 0) (sym (same_some h)) ∙ positive (length y) i.some
 list_some (value.Text y) x i h = absurd (not_none h)
 list_some (value.Hash y) x i h = absurd (not_none h)
 list_some (value.Set y) x i h = absurd (not_none h)
+list_some (value.SortedSet y) x i h = absurd (not_none h)
 
 set_some : (v : Value) (x : ByteMap (Unit {0})) → IsValue v → set_of v ≡ Some x → (len x == 0) ≡ false
 set_some (value.Set y) x i h = ap (λ (z : ByteMap (Unit {0})). len z == 0) (sym (same_some h)) ∙ positive (len y) i.some
 set_some (value.Text y) x i h = absurd (not_none h)
 set_some (value.Hash y) x i h = absurd (not_none h)
 set_some (value.List y) x i h = absurd (not_none h)
+set_some (value.SortedSet y) x i h = absurd (not_none h)
 
 pub hashes_kept : (m : Dataset) (k : Bytes) → IsDataset m → IsKept hashes (get m k)
 hashes_kept m k h e is x held = hash_some e.value x (h.entries k e is).value held
