@@ -1,0 +1,3 @@
+pub mod Scores
+pub mod Adding
+pub mod Removing
