@@ -1,3 +1,5 @@
 pub mod Scores
 pub mod Adding
 pub mod Removing
+pub mod Telling
+pub mod Ranges
