@@ -1,6 +1,6 @@
 -- Parts of lists that are turned or limited, and replies to pairs one by one.
-use Rattle.std.proofs.Common.{◌≡◌, ℕ, zero, suc, ◌+◌, ◌-◌, ◌*◌, ◌<◌, ◌≤◌, length, get_or, take, drop, append_assoc, map, List, [], ◌∷◌, ◌++◌, Option, Some, None, refl, sym, ◌∙◌, ap, subst, arith}
-use Rattle.std.specs.Prelude.{ℤ, pos, negsuc, Bool, true, false, int_lt, unsigned_abs, min, reverse, slice_range}
+use Rattle.std.proofs.Common.{◌≡◌, ℕ, suc, ◌+◌, ◌-◌, ◌*◌, ◌<◌, ◌≤◌, length, take, drop, append_assoc, map, List, [], ◌∷◌, ◌++◌, Option, Some, None, refl, sym, ◌∙◌, ap, subst, arith}
+use Rattle.std.specs.Prelude.{ℤ, pos, negsuc, true, false, int_lt, unsigned_abs, min, reverse, slice_range}
 use Rattle.std.specs.List.{flat_map}
 use Rattle.std.proofs.lemmas.List.{reverse-append, length-reverse, length-drop, length-take-le, drop_at, take_at, take_min, drop_min, take_rest}
 use Rattle.std.proofs.lemmas.List.Edits.{split_between}
@@ -30,8 +30,8 @@ reverse_range xs i j s e from to up =
     let part = slice_range xs i j in
     let back = drop j xs in
     let turned : reverse xs ≡ reverse back ++ (reverse part ++ reverse front) =
-        ap reverse (split_between xs i j (omega arith)) ∙ reverse-append front (part ++ back)
-        ∙ ap (λ ys. ys ++ reverse front) (reverse-append part back) ∙ append_assoc (reverse back) (reverse part) (reverse front) in
+    ap reverse (split_between xs i j (omega arith)) ∙ reverse-append front (part ++ back)
+    ∙ ap (λ ys. ys ++ reverse front) (reverse-append part back) ∙ append_assoc (reverse back) (reverse part) (reverse front) in
     let behind : length (reverse back) ≡ s = length-reverse back ∙ length-drop j xs ∙ omega arith in
     let rest : length (drop i xs) ≡ length xs - i = length-drop i xs in
     let long : length (reverse part) ≡ e - s = length-reverse part ∙ length-take-le (j - i) (drop i xs) (omega arith) ∙ omega arith in

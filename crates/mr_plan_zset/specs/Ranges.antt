@@ -1,5 +1,5 @@
 -- Commands that answer a range of the pairs of a sorted set. An absent key has a set without members.
-use Rattle.std.specs.Prelude.{ℤ, pos, negsuc, List, [], ◌∷◌, map, take, drop, reverse, Option, Some, None}
+use Rattle.std.specs.Prelude.{ℤ, pos, negsuc, List, [], ◌∷◌, take, drop, reverse, Option, Some, None}
 use Rattle.std.specs.List.{flat_map}
 use Rattle.std.specs.FinMap.{len}
 use Rattle.mr_map.specs.Bytes.{Bytes}

@@ -2,10 +2,9 @@
 #![tactic(auto)]
 
 mod ranges;
-mod replies;
-mod telling;
-
 #[cfg(test)]
 mod reading_tests;
+mod replies;
+mod telling;
 #[cfg(test)]
 mod tests;

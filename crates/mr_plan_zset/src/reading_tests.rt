@@ -12,7 +12,9 @@ use std::borrow::CowSlice;
 use std::test::Fail;
 
 const WRONG_KIND: &str = "-WRONGTYPE Operation against a key holding the wrong kind of value\r\n";
+
 const NO_ITEM: &str = "*0\r\n";
+
 const NIL: &str = "$-1\r\n";
 
 // A sorted set of these members with their scores.
@@ -156,7 +158,13 @@ fn scores_stand_behind_their_members(rt: HostRuntime) -> Result<(), Fail> {
         RangeReply::WithScores,
         Some(&entry),
     )?;
-    assert!(rt; is_told(alloc, above, "*4\r\n$1\r\nb\r\n$1\r\n2\r\n$1\r\nc\r\n$1\r\n3\r\n")?);
+    assert!(rt;
+        is_told(
+            alloc,
+            above,
+            "*4\r\n$1\r\nb\r\n$1\r\n2\r\n$1\r\nc\r\n$1\r\n3\r\n"
+        )?
+    );
     Ok(())
 }
 
@@ -186,27 +194,64 @@ fn an_absent_key_has_no_member(rt: HostRuntime) -> Result<(), Fail> {
     assert!(rt; is_told(alloc, count_members(alloc, None), ":0\r\n")?);
     assert!(rt; is_told(alloc, count_scores(alloc, min, max, None), ":0\r\n")?);
     assert!(rt; is_told(alloc, score(alloc, &Argument::new(b"a"), None)?, NIL)?);
-    assert!(rt; is_told(alloc, scores_of_a_and_d(alloc, None)?, "*2\r\n$-1\r\n$-1\r\n")?);
-    assert!(rt; is_told(alloc, rank(alloc, Order::Ascending, &Argument::new(b"a"), None), NIL)?);
+    assert!(rt;
+        is_told(
+            alloc,
+            scores_of_a_and_d(alloc, None)?,
+            "*2\r\n$-1\r\n$-1\r\n"
+        )?
+    );
+    assert!(rt;
+        is_told(
+            alloc,
+            rank(alloc, Order::Ascending, &Argument::new(b"a"), None),
+            NIL
+        )?
+    );
     let range = by_rank(alloc, 0, -1, Order::Descending, RangeReply::Members, None)?;
     assert!(rt; is_told(alloc, range, NO_ITEM)?);
-    assert!(rt; is_told(alloc, limited(alloc, Order::Ascending, 0, -1, None)?, NO_ITEM)?);
+    assert!(rt;
+        is_told(
+            alloc,
+            limited(alloc, Order::Ascending, 0, -1, None)?,
+            NO_ITEM
+        )?
+    );
     Ok(())
+}
+
+// Whether the commands that count members and places refuse what is there.
+fn counts_are_refused(alloc: Global, seen: Option<&Entry>) -> Result<bool, AllocError> {
+    let (min, max) = (Bound::NegativeInfinity, Bound::PositiveInfinity);
+    let member = Argument::new(b"a");
+    let members = is_told(alloc, count_members(alloc, seen), WRONG_KIND)?;
+    let scores = is_told(alloc, count_scores(alloc, min, max, seen), WRONG_KIND)?;
+    let place = is_told(
+        alloc,
+        rank(alloc, Order::Ascending, &member, seen),
+        WRONG_KIND,
+    )?;
+    Ok(members && scores && place)
+}
+
+fn scores_are_refused(alloc: Global, seen: Option<&Entry>) -> Result<bool, AllocError> {
+    let one = is_told(alloc, score(alloc, &Argument::new(b"a"), seen)?, WRONG_KIND)?;
+    let two = is_told(alloc, scores_of_a_and_d(alloc, seen)?, WRONG_KIND)?;
+    Ok(one && two)
+}
+
+fn ranges_are_refused(alloc: Global, seen: Option<&Entry>) -> Result<bool, AllocError> {
+    let ranked = by_rank(alloc, 0, -1, Order::Descending, RangeReply::Members, seen)?;
+    let scored = limited(alloc, Order::Ascending, 0, -1, seen)?;
+    Ok(is_told(alloc, ranked, WRONG_KIND)? && is_told(alloc, scored, WRONG_KIND)?)
 }
 
 #[test]
 fn another_kind_is_refused(rt: HostRuntime) -> Result<(), Fail> {
     let alloc = rt.alloc();
     let entry = set_entry(alloc);
-    let seen = Some(&entry);
-    let (min, max) = (Bound::NegativeInfinity, Bound::PositiveInfinity);
-    assert!(rt; is_told(alloc, count_members(alloc, seen), WRONG_KIND)?);
-    assert!(rt; is_told(alloc, count_scores(alloc, min, max, seen), WRONG_KIND)?);
-    assert!(rt; is_told(alloc, score(alloc, &Argument::new(b"a"), seen)?, WRONG_KIND)?);
-    assert!(rt; is_told(alloc, scores_of_a_and_d(alloc, seen)?, WRONG_KIND)?);
-    assert!(rt; is_told(alloc, rank(alloc, Order::Ascending, &Argument::new(b"a"), seen), WRONG_KIND)?);
-    let range = by_rank(alloc, 0, -1, Order::Descending, RangeReply::Members, seen)?;
-    assert!(rt; is_told(alloc, range, WRONG_KIND)?);
-    assert!(rt; is_told(alloc, limited(alloc, Order::Ascending, 0, -1, seen)?, WRONG_KIND)?);
+    assert!(rt; counts_are_refused(alloc, Some(&entry))?);
+    assert!(rt; scores_are_refused(alloc, Some(&entry))?);
+    assert!(rt; ranges_are_refused(alloc, Some(&entry))?);
     Ok(())
 }

@@ -17,7 +17,7 @@ returns c =
     let past : (end - 1) + 1 ≡ end = omega arith in
     let places : Some (c.in-Some-window.first, c.in-Some-window.last) ≡ window_of c.args.first c.args.last (len set) = search rules in
     if_ok c.listed.result (λ r listed.
-        listed
-        ∙ ap (λ ps. pairs_reply c.args.shape (ordered c.args.order ps)) (ap (map shown) c.as_slice.ensures.value ∙ c.in_ok-pairs.ensures ∙ ap (slice_range (pairs_of set) start) past)
-        ∙ ap (pairs_reply c.args.shape) (ranked_part c.args.first c.args.last c.args.order set c.in-Some-window.first c.in-Some-window.last start end places (c.places_in-start.ensures.same (pairs_of set) (length-pairs_of set ∙ sym c.len-2.ensures.len)))
-        ∙ told_of (λ scores. pairs_reply c.args.shape (ranked c.args.first c.args.last c.args.order scores)) (option_copied c.args.seen) set c.in-Some.ensures) c.listed.ensures
+    listed
+    ∙ ap (λ ps. pairs_reply c.args.shape (ordered c.args.order ps)) (ap (map shown) c.as_slice.ensures.value ∙ c.in_ok-pairs.ensures ∙ ap (slice_range (pairs_of set) start) past)
+    ∙ ap (pairs_reply c.args.shape) (ranked_part c.args.first c.args.last c.args.order set c.in-Some-window.first c.in-Some-window.last start end places (c.places_in-start.ensures.same (pairs_of set) (length-pairs_of set ∙ sym c.len-2.ensures.len)))
+    ∙ told_of (λ scores. pairs_reply c.args.shape (ranked c.args.first c.args.last c.args.order scores)) (option_copied c.args.seen) set c.in-Some.ensures) c.listed.ensures
