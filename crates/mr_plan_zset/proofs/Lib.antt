@@ -7,3 +7,6 @@ pub mod TurnLemmas
 pub mod Adds
 pub mod Removals
 pub mod Firsts
+pub mod RangeLemmas
+pub mod Changes
+pub mod CommandLaws

@@ -1,5 +1,5 @@
 -- The order of pairs, and the entries of a map as pairs.
-use Rattle.std.proofs.Common.{◌≡◌, ℕ, zero, suc, ◌<◌, ◌+◌, ◌-◌, length, take, drop, append_assoc, map, List, [], ◌∷◌, ◌++◌, Option, Some, None, Bool, true, false, cond, refl, sym, ◌∙◌, ap, subst, arith}
+use Rattle.std.proofs.Common.{◌≡◌, ℕ, zero, suc, ◌<◌, ◌≤◌, ◌+◌, ◌-◌, length, take, drop, append_assoc, map, List, [], ◌∷◌, ◌++◌, Option, Some, None, Bool, true, false, cond, refl, sym, ◌∙◌, ap, subst, arith}
 use Rattle.std.specs.Prelude.{ℤ, IsTrue, IfSome, IfOk, OnOk, OnErr, filter, slice_get, slice_range, count_by, option_map}
 use Rattle.std.specs.declared.result.Result.{Result}
 use Rattle.std.specs.declared.result.Result.TheVariants.{Ok, Err}
@@ -13,11 +13,14 @@ use Rattle.std.proofs.lemmas.Map.Lookups.{exact_signed, exact_bytes, exact_pairs
 use Rattle.std.proofs.lemmas.List.Sorted.{IsPermutation-map, length_permutation, sum_by-IsPermutation}
 use Rattle.std.proofs.lemmas.List.{length-map, map_push, take-map, drop-map}
 use Rattle.std.proofs.lemmas.List.Sums.{length-filter}
+use Rattle.std.proofs.lemmas.Option.{slice_get_within}
 use Rattle.mr_map.specs.Bytes.{bytes_cmp, ByteMap}
+use Rattle.mr_zset.specs.declared.bound.Bound.{Bound}
 use Rattle.mr_zset.specs.declared.pair.Pair.{Pair}
+use Rattle.mr_zset.specs.Bounds.{is_within}
 use Rattle.mr_zset.specs.Score.{is_score, HasScores}
 use Rattle.mr_zset.specs.Order.{in_order}
-use Rattle.mr_zset.specs.Pairs.{pair_cmp, pairs_of, rank_of, shown}
+use Rattle.mr_zset.specs.Pairs.{pair_cmp, pairs_of, range_of, rank_of, shown}
 use Rattle.mr_zset.proofs.Orders.{Ascends-sorted, IsPermutation-in_order, sorted_filter, one, times, times-cons, times-itself, place-in_order}
 
 pub pairs_total : IsTotalOrder pair_cmp
@@ -136,3 +139,28 @@ last-shown ps = slice_get-shown ps (length ps - 1) ∙ ap (λ (n : ℕ). slice_g
 
 pub length-all : (m : ByteMap ℤ) (ps : List Pair) → map shown ps ≡ pairs_of m → length ps ≡ len m
 length-all m ps e = sym (length-map ps shown) ∙ ap length e ∙ length_permutation (entries m) (pairs_of m) (IsPermutation-in_order pair_cmp (entries m)) ∙ sym (len-entries m)
+
+-- how many pairs there are, in all and within bounds
+
+pub length-pairs_of : (m : ByteMap ℤ) → length (pairs_of m) ≡ len m
+length-pairs_of m = length_permutation (entries m) (pairs_of m) (IsPermutation-in_order pair_cmp (entries m)) ∙ sym (len-entries m)
+
+fewer : (test : List ℕ × ℤ → Bool) (ps : List (List ℕ × ℤ)) → length (filter test ps) ≤ length ps
+fewer test [] = omega arith
+fewer test (p ∷ ps) = elim (test p) as (λ b. length (cond b (p ∷ filter test ps) (filter test ps)) ≤ suc (length ps)) [
+  | true ↦ (let rest : length (filter test ps) ≤ length ps = fewer test ps in omega arith)
+  | false ↦ (let rest : length (filter test ps) ≤ length ps = fewer test ps in omega arith)
+]
+
+pub length-range_of : (from to : Bound) (m : ByteMap ℤ) → length (range_of from to m) ≤ len m
+length-range_of from to m = let most : length (range_of from to m) ≤ length (pairs_of m) = fewer (λ p. is_within from to p.1) (pairs_of m) in omega (arith, length-pairs_of m)
+
+-- a member's place is one of them
+pub within-rank_of : (m : ByteMap ℤ) (k : List ℕ) (r : ℕ) → Some r ≡ rank_of m k → r < len m
+within-rank_of m k r e = elim (get m k) as (λ o. get m k ≡ o → Some r ≡ option_map (λ s. count_by (λ p. is_lt (pair_cmp p (k, s))) (entries m)) o → r < len m) [
+  | None ↦ λ g h. cc
+  | Some z ↦ λ g h. (
+      let there : slice_get (pairs_of m) r ≡ Some (k, z) = ap (slice_get (pairs_of m)) (some_inj h) ∙ place-rank m k z g in
+      let within : r < length (pairs_of m) = slice_get_within (pairs_of m) r (k, z) there in
+      omega (arith, length-pairs_of m))
+] refl e

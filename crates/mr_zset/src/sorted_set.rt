@@ -99,6 +99,7 @@ impl ZSet {
     /// memory.
     pub fn rank(&self, member: &[u8]) -> Option<usize>
         ensures count { result ≡ rank_of self.now member.now }
+        ensures within { IfSome result (λ rank. rank < finite.len self.now) }
         ensures place { IfSome result (λ rank. IfSome (slice_get (pairs_of self.now) rank) (λ pair. pair.0 ≡ member.now)) }
     {
         let score = self.score(member)?;
@@ -124,9 +125,12 @@ impl ZSet {
 
     /// How many scores are within two bounds. It takes no memory.
     pub fn count(&self, from: Bound, to: Bound) -> usize
-        ensures { result ≡ length (range_of from to self.now) }
+        ensures count { result ≡ length (range_of from to self.now) }
+        ensures small { result < 2 ^ 63 }
     {
-        count_within(&self.scores, from, to)
+        let count = count_within(&self.scores, from, to);
+        prove!(count <= self.len());
+        count
     }
 
     /// The members with their scores, in the order of the members' bytes. It takes no memory.
