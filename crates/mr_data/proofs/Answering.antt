@@ -1,5 +1,5 @@
 -- What a call that applies an effect answers.
-use Rattle.std.proofs.Common.{◌≡◌, Bool, true, ◌&&◌, Option, Some, None, Result, Ok, Err, ◌⊎◌, inl, inr, refl, sym, ◌∙◌, ap, subst}
+use Rattle.std.proofs.Common.{◌≡◌, true, ◌&&◌, Option, Some, None, Result, Ok, Err, ◌⊎◌, inl, inr, refl, sym, ◌∙◌, ap, subst}
 use Rattle.std.specs.Prelude.{OnOk, ◌↔◌, if◌then◌else◌}
 use Rattle.mr_effect.specs.Effects.{words_fit, has_spelling}
 use Rattle.mr_effect.specs.declared.effect.Effect.{Effect}

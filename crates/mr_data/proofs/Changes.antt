@@ -1,11 +1,11 @@
 -- Effects whose words are within the limit leave a dataset a dataset.
-use Rattle.std.proofs.Common.{◌≡◌, ℕ, ℤ, List, [], ◌∷◌, Bool, true, false, ◌&&◌, IsTrue, Option, Some, None, Result, Ok, Err, refl, sym, ◌∙◌, ap, subst}
+use Rattle.std.proofs.Common.{◌≡◌, ℤ, List, [], ◌∷◌, Bool, true, false, ◌&&◌, IsTrue, Option, Some, None, Result, Ok, Err, refl, sym, ap, subst}
 use Rattle.std.specs.Prelude.{insert, length, slice_set, slice_range, unsigned_abs, ◌+◌, if◌then◌else◌, pos}
 use Rattle.std.specs.Option.{option_map, option_and_then}
 use Rattle.std.specs.List.{list_all}
 use Rattle.std.specs.Str.{bytes_eq}
-use Rattle.std.specs.FinMap.{get}
-use Rattle.mr_map.specs.Bytes.{Bytes, ByteMap}
+use Rattle.std.specs.FinMap.{get, empty}
+use Rattle.mr_map.specs.Bytes.{Bytes}
 use Rattle.mr_value.specs.Words.{fits}
 use Rattle.mr_value.specs.Lists.{without}
 use Rattle.mr_effect.specs.Effects.{words_fit, has_spelling, pair_fits, member_fits, has_score, is_some_of}
@@ -17,13 +17,14 @@ use Rattle.mr_data.specs.declared.value.Value.TheVariants as value
 use Rattle.mr_data.specs.declared.value.Entry.{Entry}
 use Rattle.mr_data.specs.Dataset.{Dataset, IsWord, IsDataset, IsValue}
 use Rattle.mr_data.specs.Collections.{with_fields, without_fields, with_members, without_members, with_scores, without_scores, put_item, pushed, popped, end_item, turned, may_take, is_place_of, is_part_of, place_beside}
-use Rattle.mr_data.specs.Steps.{without_deadline, hashes, lists, sets, sorted_sets, held, set_step, del_step, set_fields_step, remove_fields_step, push_step, pop_step, set_item_step, insert_item_step, remove_items_step, trim_step, turn_step, add_members_step, remove_members_step, set_scores_step, remove_scores_step}
-use Rattle.mr_data.specs.Meaning.{at_key, change, item_at, carry_item, move_item, has_member, carry_member, move_member}
+use Rattle.mr_data.specs.Steps.{without_deadline, hashes, lists, sets, sorted_sets, held, set_step, del_step, append_step, set_range_step, increase_step, set_fields_step, remove_fields_step, push_step, pop_step, set_item_step, insert_item_step, remove_items_step, trim_step, turn_step, add_members_step, remove_members_step, set_scores_step, remove_scores_step}
+use Rattle.mr_data.specs.Meaning.{at_key, change, with_texts, item_at, carry_item, move_item, has_member, carry_member, move_member}
 use Rattle.mr_data.specs.Outcome.{Applies}
 use Rattle.mr_data.specs.declared.fault.ApplyFault.{ApplyFault}
 use Rattle.mr_data.specs.declared.fault.ApplyFault.TheVariants.{Refused, Memory}
 use Rattle.mr_data.proofs.Fitting.{first, second, FieldsFit, MembersFit, ScoresFit, ItemsFit, with_fields_fit, without_fields_fit, with_members_fit, without_members_fit, with_scores_fit, without_scores_fit, put_item_fits, pushed_fit, popped_fit, end_item_fits, inserted_fit, set_fit, range_fit, without_fit}
-use Rattle.mr_data.proofs.Datasets.{Keeps, HasValue, at_key_keeps, on_keeps, held_suits, value_at, hashes_suit, lists_suit, sets_suit, sorted_sets_suit}
+use Rattle.mr_data.proofs.Datasets.{IsDataset-empty, Keeps, at_key_keeps, on_keeps, held_suits, value_at, hashes_suit, lists_suit, sets_suit, sorted_sets_suit}
+use Rattle.mr_data.proofs.TextChanges.{append_keeps, set_range_keeps, increase_keeps, with_texts_keeps, rename_keeps}
 
 -- f is done everywhere
 always : {X : Type 0} (P : X → Type 0) (g : X → X) → ((x : X) → P x → P (g x)) → (x y : X) → P x → Some (g x) ≡ Some y → P y
@@ -155,12 +156,12 @@ change_keeps (effect.RemoveMembers k members) m n old spelled fit h = at_key_kee
 change_keeps (effect.MoveMember from to member) m n old spelled fit h =
     let both = first (fits from && fits to) (fits member) fit in
     move_member_keeps from to member m n old (first (fits from) (fits to) both) (second (fits from) (fits to) both) (second (fits from && fits to) (fits member) fit) h
-change_keeps (effect.SetAll pairs) m n old spelled fit h = cc
-change_keeps (effect.Append k text) m n old spelled fit h = cc
-change_keeps (effect.SetRange k offset text) m n old spelled fit h = cc
-change_keeps (effect.Increase k by) m n old spelled fit h = cc
-change_keeps (effect.Rename from to) m n old spelled fit h = cc
-change_keeps effect.Clear m n old spelled fit h = cc
+change_keeps (effect.SetAll pairs) m n old spelled fit h = let same : with_texts pairs m ≡ n = cc in subst IsDataset same (with_texts_keeps pairs m fit old)
+change_keeps (effect.Append k more) m n old spelled fit h = at_key_keeps (append_step more) (append_keeps more) k m n old (first (fits k) (fits more) fit) h
+change_keeps (effect.SetRange k offset part) m n old spelled fit h = at_key_keeps (set_range_step offset part) (set_range_keeps offset part) k m n old (first (fits k) (fits part) fit) h
+change_keeps (effect.Increase k by) m n old spelled fit h = at_key_keeps (increase_step by) (increase_keeps by) k m n old fit h
+change_keeps (effect.Rename from to) m n old spelled fit h = rename_keeps from to m n old (first (fits from) (fits to) fit) (second (fits from) (fits to) fit) h
+change_keeps effect.Clear m n old spelled fit h = let same : empty ≡ n = cc in subst IsDataset same IsDataset-empty
 change_keeps (effect.SetScores k scores) m n old spelled fit h =
     at_key_keeps (set_scores_step scores) (set_scores_keeps scores (second (fits k) (list_all member_fits scores) fit) (second (is_some_of scores) (list_all has_score scores) spelled)) k m n old (first (fits k) (list_all member_fits scores) fit) h
 change_keeps (effect.RemoveScores k members) m n old spelled fit h = at_key_keeps (remove_scores_step members) (remove_scores_keeps members) k m n old (first (fits k) (list_all fits members) fit) h

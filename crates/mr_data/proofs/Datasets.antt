@@ -1,14 +1,14 @@
 -- What a dataset keeps, after a step at one key.
-use Rattle.std.proofs.Common.{◌≡◌, ◌<◌, ℕ, ℤ, zero, suc, List, [], length, Bool, true, false, cond, IsTrue, Option, Some, None, refl, sym, ◌∙◌, ap, subst, arith}
+use Rattle.std.proofs.Common.{◌≡◌, ◌<◌, ℕ, ℤ, List, length, true, false, cond, Option, Some, None, refl, sym, ◌∙◌, subst, arith}
 use Rattle.std.specs.Prelude.{◌==◌, if◌then◌else◌}
 use Rattle.std.specs.Option.{option_map, option_and_then}
 use Rattle.std.specs.Ordering.{eq_by_cmp}
-use Rattle.std.specs.FinMap.{get, empty, insert, remove, len, get-empty, get-insert, get-remove}
+use Rattle.std.specs.FinMap.{get, empty, len, get-empty, get-insert, get-remove}
 use Rattle.std.proofs.lemmas.Cmp.{nat_list_cmp_total}
 use Rattle.std.proofs.lemmas.List.Elements.{All-nil}
 use Rattle.std.proofs.lemmas.Bool.{eqb-false}
 use Rattle.mr_map.specs.Bytes.{Bytes, ByteMap, bytes_cmp}
-use Rattle.mr_data.specs.Dataset.{Dataset, IsWord, IsDataset, IsEntry, IsValue, IsHash, IsList, IsSet, IsScores, put_at}
+use Rattle.mr_data.specs.Dataset.{Dataset, IsWord, IsDataset, IsEntry, IsValue, put_at}
 use Rattle.mr_data.specs.Steps.{Step, Kind, hashes, lists, sets, sorted_sets, on, held, entry_of, deadline_of}
 use Rattle.mr_data.specs.Meaning.{at_key}
 use Rattle.mr_data.specs.declared.value.Value.{Value}
@@ -38,7 +38,7 @@ abbrev pub HasValue : Option Entry → Type 0
 HasValue None = Unit {0}
 HasValue (Some e) = IsValue e.value
 
-put_keeps : (m : Dataset) (k : Bytes) (o : Option Entry) → IsDataset m → IsWord k → HasValue o → IsDataset (put_at m k o)
+pub put_keeps : (m : Dataset) (k : Bytes) (o : Option Entry) → IsDataset m → IsWord k → HasValue o → IsDataset (put_at m k o)
 put_keeps m k None old fit new = updated m _ k None (get-remove nat_list_cmp_total m k) (λ e h. absurd (nothing e h)) old
 put_keeps m k (Some e) old fit new = updated m _ k (Some e) (get-insert nat_list_cmp_total m k e) (λ f h. let same : e ≡ f = cc in subst (IsEntry k) same (record { key = fit; value = new })) old
 

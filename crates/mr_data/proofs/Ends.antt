@@ -1,12 +1,12 @@
 -- The last item of a list.
-use Rattle.std.proofs.Common.{◌≡◌, ◌<◌, ◌+◌, ◌-◌, ℕ, zero, suc, List, [], ◌∷◌, ◌++◌, length, take, drop, Bool, true, Option, Some, None, refl, sym, ◌∙◌, ap, arith, length-append}
+use Rattle.std.proofs.Common.{◌≡◌, ◌<◌, ◌-◌, ℕ, zero, suc, List, [], ◌∷◌, ◌++◌, length, take, drop, true, Option, Some, None, refl, sym, ◌∙◌, ap, arith, length-append}
 use Rattle.std.specs.Prelude.{ℤ, negsuc, ◌==◌, slice_get, MatchOption, pos}
 use Rattle.std.specs.Option.{option_map}
 use Rattle.std.proofs.lemmas.Bool.{le-leb, eqb-true}
 use Rattle.mr_map.specs.Bytes.{Bytes}
 use Rattle.mr_value.specs.declared.ends.End.{End}
 use Rattle.mr_value.specs.declared.ends.End.TheVariants.{Left, Right}
-use Rattle.mr_data.specs.Collections.{put_item, popped, end_item, turned, may_take, place_beside}
+use Rattle.mr_data.specs.Collections.{popped, end_item, turned, may_take, place_beside}
 use Rattle.mr_value.specs.declared.ends.Side.{Side}
 use Rattle.mr_value.specs.declared.ends.Side.TheVariants.{Before, After}
 use Rattle.mr_value.specs.Lists.{first_place, without}

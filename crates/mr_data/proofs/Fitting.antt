@@ -1,12 +1,12 @@
 -- What is done to a collection leaves each of its byte strings within the limit.
-use Rattle.std.proofs.Common.{ℕ, zero, suc, ℤ, ◌-◌, ◌≡◌, ◌<◌, List, [], ◌∷◌, ◌++◌, length, take, drop, get_or, Bool, true, false, ◌&&◌, cond, IsTrue, Option, Some, None, refl, sym, ◌∙◌, ap, subst, arith}
-use Rattle.std.specs.Prelude.{is_some, slice_get, slice_set, slice_range, insert as insert_at, filter, not, nat_lt, if◌then◌else◌, pos, negsuc}
+use Rattle.std.proofs.Common.{ℕ, zero, suc, ℤ, ◌-◌, ◌≡◌, List, [], ◌∷◌, length, take, drop, Bool, true, false, ◌&&◌, cond, IsTrue, Some, None, refl, sym, ◌∙◌, ap, subst}
+use Rattle.std.specs.Prelude.{is_some, slice_get, slice_set, slice_range, insert as insert_at, not, nat_lt, if◌then◌else◌, pos, negsuc}
 use Rattle.std.specs.List.{All, list_all}
 use Rattle.std.specs.Str.{bytes_eq}
 use Rattle.std.specs.FinMap.{get, insert, remove, empty, contains_key, get-empty, get-insert, get-remove}
 use Rattle.std.specs.Ordering.{eq_by_cmp}
 use Rattle.std.proofs.lemmas.Cmp.{nat_list_cmp_total}
-use Rattle.std.proofs.lemmas.List.Elements.{All-nil, All-cons, All-head, All-tail, All-append, All-set, All-push, All-take, All-drop, All-filter}
+use Rattle.std.proofs.lemmas.List.Elements.{All-cons, All-head, All-tail, All-append, All-set, All-push, All-take, All-drop, All-filter}
 use Rattle.mr_map.specs.Bytes.{Bytes, ByteMap, bytes_cmp}
 use Rattle.mr_value.specs.Words.{fits}
 use Rattle.mr_value.specs.Lists.{count_of, without, without_first, without_last}
@@ -15,7 +15,7 @@ use Rattle.mr_zset.specs.Score.{is_score}
 use Rattle.mr_value.specs.declared.ends.End.{End}
 use Rattle.mr_value.specs.declared.ends.End.TheVariants.{Left, Right}
 use Rattle.mr_data.specs.Dataset.{IsWord}
-use Rattle.mr_data.specs.Collections.{with_fields, without_fields, with_members, without_members, with_scores, without_scores, put_item, pushed, popped, end_item, turned}
+use Rattle.mr_data.specs.Collections.{with_fields, without_fields, with_members, without_members, with_scores, without_scores, put_item, pushed, popped, end_item}
 use Rattle.mr_data.proofs.Maps.{same_key}
 
 pub first : (a b : Bool) → IsTrue (a && b) → IsTrue a

@@ -8,5 +8,9 @@ pub mod Maps
 pub mod Moving
 pub mod Nonempty
 pub mod Numbers
+pub mod Renaming
 pub mod Seeing
 pub mod Stepping
+pub mod TextChanges
+pub mod TextSteps
+pub mod TextsInOrder

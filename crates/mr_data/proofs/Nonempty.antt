@@ -1,7 +1,7 @@
 -- A collection that something was put to has an element, and one without elements keeps none.
-use Rattle.std.proofs.Common.{◌≡◌, ◌<◌, ◌+◌, ℕ, ℤ, zero, suc, List, [], ◌∷◌, ◌++◌, length, true, false, refl, ap, ◌∙◌, arith, length-append}
+use Rattle.std.proofs.Common.{◌≡◌, ◌<◌, ℕ, ℤ, List, [], ◌∷◌, ◌++◌, length, true, false, refl, ap, ◌∙◌, arith, length-append}
 use Rattle.std.specs.Prelude.{◌==◌, IsTrue}
-use Rattle.std.specs.FinMap.{empty, insert, remove, len, len-empty}
+use Rattle.std.specs.FinMap.{empty, insert, len, len-empty}
 use Rattle.std.proofs.lemmas.Bool.{ne_eqb}
 use Rattle.mr_map.specs.Bytes.{Bytes, ByteMap, bytes_cmp}
 use Rattle.mr_effect.specs.Effects.{is_some_of}

@@ -1,11 +1,11 @@
 -- A step at one key, as a call leaves it in the map.
-use Rattle.std.proofs.Common.{◌≡◌, ◌≢◌, ℤ, List, Option, Some, None, Result, Ok, Err, Bool, true, false, refl, sym, ◌∙◌, ap, subst}
+use Rattle.std.proofs.Common.{◌≡◌, ℤ, List, Option, Some, None, Result, Ok, Err, Bool, true, false, refl, sym, ◌∙◌, ap, subst}
 use Rattle.std.specs.Prelude.{OnOk, if◌then◌else◌}
 use Rattle.std.specs.Option.{option_map, option_and_then}
 use Rattle.std.specs.FinMap.{get, insert, remove}
 use Rattle.mr_map.specs.Bytes.{Bytes, ByteMap}
-use Rattle.mr_data.specs.Dataset.{Dataset, put_at}
-use Rattle.mr_data.specs.Steps.{Step, Kind, without_deadline, hashes, lists, sets, sorted_sets, on, held, entry_of}
+use Rattle.mr_data.specs.Dataset.{Dataset}
+use Rattle.mr_data.specs.Steps.{Step, Kind, without_deadline, hashes, lists, sets, sorted_sets, on, entry_of}
 use Rattle.mr_data.specs.Meaning.{at_key}
 use Rattle.mr_data.specs.Outcome.{Applies}
 use Rattle.mr_data.specs.declared.value.Value.{Value}

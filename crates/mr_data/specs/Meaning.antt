@@ -1,7 +1,7 @@
 -- What each effect makes of a dataset, and where it is undefined.
 use Rattle.std.specs.Prelude.{pos, List, [], ◌∷◌, Bool, false, ◌&&◌, if◌then◌else◌, Option, Some, None}
 use Rattle.std.specs.Option.{option_map, option_and_then}
-use Rattle.std.specs.FinMap.{get, contains_key}
+use Rattle.std.specs.FinMap.{empty, get, insert, remove, contains_key}
 use Rattle.std.specs.Str.{bytes_eq}
 use Rattle.mr_map.specs.Bytes.{Bytes}
 use Rattle.mr_effect.specs.Effects.{words_fit, has_spelling}
@@ -10,7 +10,7 @@ use Rattle.mr_effect.specs.declared.effect.Effect.TheVariants as effect
 use Rattle.mr_value.specs.declared.ends.End.{End}
 use Rattle.mr_data.specs.Dataset.{Dataset, put_at}
 use Rattle.mr_data.specs.Collections.{end_item}
-use Rattle.mr_data.specs.Steps.{Step, lists, held, set_step, del_step, set_fields_step, remove_fields_step, push_step, pop_step, set_item_step, insert_item_step, remove_items_step, trim_step, turn_step, add_members_step, remove_members_step, set_scores_step, remove_scores_step}
+use Rattle.mr_data.specs.Steps.{Step, lists, held, without_deadline, set_step, del_step, append_step, set_range_step, increase_step, set_fields_step, remove_fields_step, push_step, pop_step, set_item_step, insert_item_step, remove_items_step, trim_step, turn_step, add_members_step, remove_members_step, set_scores_step, remove_scores_step}
 use Rattle.mr_data.specs.declared.value.Value.{Value}
 use Rattle.mr_data.specs.declared.value.Value.TheVariants as value
 use Rattle.mr_data.specs.declared.value.Entry.{Entry}
@@ -18,6 +18,15 @@ use Rattle.mr_data.specs.declared.value.Entry.{Entry}
 -- the dataset after a step at one key
 abbrev pub at_key : Step → Bytes → Dataset → Option Dataset
 at_key step k m = option_map (put_at m k) (step (get m k))
+
+-- keys are set to texts, one after another
+abbrev pub with_texts : List (Bytes × Bytes) → Dataset → Dataset
+with_texts [] m = m
+with_texts (p ∷ ps) m = with_texts ps (insert m p.0 (without_deadline (value.Text p.1)))
+
+-- What one key has goes to another, whatever that has. Onto itself nothing changes.
+abbrev pub rename : Bytes → Bytes → Dataset → Option Dataset
+rename from to m = option_map (insert (remove m from) to) (get m from)
 
 -- the item at an end of the list at a key
 abbrev pub item_at : End → Option Entry → Option Bytes
@@ -64,12 +73,12 @@ change (effect.MoveItem from to taken put) = move_item from to taken put
 change (effect.AddMembers k members) = at_key (add_members_step members) k
 change (effect.RemoveMembers k members) = at_key (remove_members_step members) k
 change (effect.MoveMember from to member) = move_member from to member
-change (effect.SetAll pairs) = λ m. None
-change (effect.Append k text) = λ m. None
-change (effect.SetRange k offset text) = λ m. None
-change (effect.Increase k by) = λ m. None
-change (effect.Rename from to) = λ m. None
-change effect.Clear = λ m. None
+change (effect.SetAll pairs) = λ m. Some (with_texts pairs m)
+change (effect.Append k more) = at_key (append_step more) k
+change (effect.SetRange k offset part) = at_key (set_range_step offset part) k
+change (effect.Increase k by) = at_key (increase_step by) k
+change (effect.Rename from to) = rename from to
+change effect.Clear = λ m. Some empty
 change (effect.SetScores k scores) = at_key (set_scores_step scores) k
 change (effect.RemoveScores k members) = at_key (remove_scores_step members) k
 
@@ -85,6 +94,7 @@ apply_all (e ∷ es) m = option_and_then (apply_all es) (apply e m)
 -- the effect only takes away
 abbrev pub NeedsNoMemory : Effect → Type 0
 NeedsNoMemory (effect.Del k) = Unit {0}
+NeedsNoMemory effect.Clear = Unit {0}
 NeedsNoMemory (effect.RemoveFields k fields) = Unit {0}
 NeedsNoMemory (effect.Pop k end count) = Unit {0}
 NeedsNoMemory (effect.RemoveItems k count item) = Unit {0}

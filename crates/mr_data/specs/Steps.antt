@@ -1,9 +1,11 @@
 -- What each effect makes of the entry at its key.
-use Rattle.std.specs.Prelude.{ℕ, ℤ, ◌+◌, List, [], length, slice_set, slice_range, insert, unsigned_abs, Bool, ◌==◌, if◌then◌else◌, Option, Some, None}
+use Rattle.std.specs.Prelude.{ℤ, ◌+◌, List, [], ◌++◌, length, codes, slice_set, slice_range, insert, unsigned_abs, Bool, false, ◌==◌, if◌then◌else◌, Option, Some, None}
 use Rattle.std.specs.Option.{option_map, option_and_then}
 use Rattle.std.specs.FinMap.{empty, len}
 use Rattle.mr_map.specs.Bytes.{Bytes, ByteMap}
 use Rattle.mr_value.specs.Lists.{without}
+use Rattle.mr_value.specs.Texts.{overwritten}
+use Rattle.mr_data.specs.Texts.{fitting, increased}
 use Rattle.mr_data.specs.Collections.{with_fields, without_fields, with_members, without_members, with_scores, without_scores, pushed, may_take, popped, turned, is_place_of, is_part_of, place_beside}
 use Rattle.mr_data.specs.declared.value.Value.{Value}
 use Rattle.mr_data.specs.declared.value.Value.TheVariants as value
@@ -28,14 +30,18 @@ set_step text before = Some (Some (without_deadline (value.Text text)))
 abbrev pub del_step : Step
 del_step before = Some None
 
--- ---- collections
+-- ---- kinds of values
 
--- a kind of collection: the one without elements, the one that a value is, which ones have no elements, and the value
+-- a kind of value: what an absent key counts as, what a value of the kind is, which ones go as they have no elements, and the value
 pub record Kind (X : Type 0) : Type 0 where
   pub none : X
   pub of : Value → Option X
   pub is_none : X → Bool
   pub value : X → Value
+
+abbrev pub text_of : Value → Option Bytes
+text_of (value.Text text) = Some text
+text_of _ = None
 
 abbrev pub hash_of : Value → Option (ByteMap Bytes)
 hash_of (value.Hash fields) = Some fields
@@ -52,6 +58,10 @@ set_of _ = None
 abbrev pub sorted_set_of : Value → Option (ByteMap ℤ)
 sorted_set_of (value.SortedSet scores) = Some scores
 sorted_set_of _ = None
+
+-- texts, where an absent key counts as this one; an empty text stays as others do
+abbrev pub texts : Bytes → Kind Bytes
+texts absent = record { none = absent; of = text_of; is_none = λ text. false; value = value.Text }
 
 abbrev pub hashes : Kind (ByteMap Bytes)
 hashes = record { none = empty; of = hash_of; is_none = λ fields. len fields == 0; value = value.Hash }
@@ -70,7 +80,7 @@ deadline_of None = None
 deadline_of (Some e) = e.deadline
 
 module _ {X : Type 0} (kind : Kind X) where
-  -- the collection at a key: one without elements where the key is absent, and none where it holds another kind
+  -- what a key holds: as an absent key counts where there is none, and nothing where it holds another kind
   abbrev pub held : Option Entry → Option X
   held None = Some kind.none
   held (Some e) = kind.of e.value
@@ -79,9 +89,27 @@ module _ {X : Type 0} (kind : Kind X) where
   abbrev pub entry_of : Option ℤ → X → Option Entry
   entry_of deadline x = if kind.is_none x then None else Some (record { value = kind.value x; deadline = deadline })
 
-  -- The collection at a key becomes what f makes of it, and the deadline stays. Another kind of value is undefined.
+  -- What the key holds becomes what f makes of it, and the deadline stays. Another kind of value is undefined.
   abbrev pub on : (X → Option X) → Step
   on f before = option_and_then (λ x. option_map (entry_of (deadline_of before)) (f x)) (held before)
+
+  -- No change, at a key that holds this kind or is absent. Another kind of value is undefined.
+  abbrev pub same : Step
+  same before = option_map (λ x. before) (held before)
+
+-- ---- texts that are there
+
+-- undefined past the word limit
+abbrev pub append_step : Bytes → Step
+append_step more = on (texts []) (λ text. fitting (text ++ more))
+
+-- undefined past the word limit; an empty part changes nothing, and makes no key
+abbrev pub set_range_step : ℤ → Bytes → Step
+set_range_step offset part = if length part == 0 then same (texts []) else on (texts []) (λ text. fitting (overwritten (unsigned_abs offset) part text))
+
+-- an absent key counts as 0; undefined where the text spells no number, and where the sum hasn't 64 bits
+abbrev pub increase_step : ℤ → Step
+increase_step by = on (texts (codes "0")) (increased by)
 
 -- ---- hashes
 

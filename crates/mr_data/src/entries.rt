@@ -11,6 +11,7 @@ mod running;
 mod sets;
 mod sorted_sets;
 mod texts;
+mod whole;
 
 use crate::fault::ApplyFault;
 use crate::value::{Entry, Value};

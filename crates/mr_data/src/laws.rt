@@ -1,11 +1,13 @@
 // Laws of the definitions that the contracts cite.
-ghost use Rattle.std.specs.Prelude.{ℤ, ◌≡◌, ◌++◌, List};
+ghost use Rattle.std.specs.Prelude.{ℤ, ◌≡◌, ◌++◌, List, map, IsTrue, Some};
 ghost use Rattle.std.specs.Option.{option_and_then};
-ghost use Rattle.std.specs.FinMap.{get};
+ghost use Rattle.std.specs.FinMap.{contains_key, get};
 ghost use Rattle.mr_map.specs.Bytes.{Bytes};
 ghost use Rattle.mr_data.specs.Dataset.{Dataset, live, seen};
-ghost use Rattle.mr_data.specs.Meaning.{apply_all};
+ghost use Rattle.mr_data.specs.Meaning.{apply, apply_all, rename};
+ghost use Rattle.mr_effect.specs.Effects.{has_spelling, words_fit};
 ghost use Rattle.mr_effect.specs.declared.effect.Effect.{Effect};
+ghost use Rattle.mr_effect.specs.declared.effect.Effect.TheVariants as effect;
 
 /// Effects in two parts are done one part after the other.
 pub fn effects_come_in_parts()
@@ -15,4 +17,14 @@ pub fn effects_come_in_parts()
 /// What is seen at a moment is what is stored and not past.
 pub fn seen_is_what_is_not_past()
     ensures { (now : ℤ) (m : Dataset) (k : Bytes) → get (seen now m) k ≡ live now (get m k) }
+{}
+
+/// Texts that are set together are set one after another.
+pub fn texts_are_set_in_order()
+    ensures { (pairs : List (Bytes × Bytes)) (m : Dataset) → IsTrue (has_spelling (effect.SetAll pairs)) → IsTrue (words_fit (effect.SetAll pairs)) → apply (effect.SetAll pairs) m ≡ apply_all (map (λ p. effect.Set p.0 p.1) pairs) m }
+{}
+
+/// A key that is renamed to itself stays as it is.
+pub fn renaming_to_itself_changes_nothing()
+    ensures { (m : Dataset) (k : Bytes) → IsTrue (contains_key m k) → rename k k m ≡ Some m }
 {}

@@ -12,7 +12,10 @@ mod value;
 pub use dataset::Dataset;
 pub use fault::ApplyFault;
 pub use given::Given;
-pub use laws::{effects_come_in_parts, seen_is_what_is_not_past};
+pub use laws::{
+    effects_come_in_parts, renaming_to_itself_changes_nothing, seen_is_what_is_not_past,
+    texts_are_set_in_order,
+};
 pub use mr_effect::{Effect, Pairs, Scores, Words, decode, encode, encode_all};
 pub use mr_value::{End, Side};
 pub use plan::Plan;

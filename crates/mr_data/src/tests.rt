@@ -9,6 +9,8 @@ use std::hash::RandomState;
 use std::process::Abort;
 use std::test::Fail;
 
+mod texts;
+
 const OVER_THE_LIMIT: usize = 16_777_217;
 
 fn set<'a>(key: &'a [u8], value: &'a [u8]) -> Effect<'a> {
@@ -259,8 +261,16 @@ fn greatest_and_least_scores(rt: HostRuntime) -> Result<(), Fail> {
         Dataset::new(rt.alloc(), RandomState::new(&rt)?),
         Dataset::new(rt.alloc(), RandomState::new(&rt)?),
         &[
-            ("ZADD k 9007199254740992 m", "k", "sorted set:m=9007199254740992,"),
-            ("ZADD k -9007199254740992 m", "k", "sorted set:m=-9007199254740992,"),
+            (
+                "ZADD k 9007199254740992 m",
+                "k",
+                "sorted set:m=9007199254740992,",
+            ),
+            (
+                "ZADD k -9007199254740992 m",
+                "k",
+                "sorted set:m=-9007199254740992,",
+            ),
         ],
     )
 }

@@ -5,3 +5,4 @@ pub mod Windows
 pub mod Uniform
 pub mod Places
 pub mod Fitting
+pub mod Texts

@@ -1,5 +1,6 @@
 pub mod Fitting
 pub mod Lists
 pub mod Number
+pub mod Texts
 pub mod Window
 pub mod Words

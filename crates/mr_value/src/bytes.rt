@@ -1,6 +1,9 @@
 // Bytes that own their memory.
-ghost use Rattle.std.specs.Prelude.{◌≡◌, IfOk};
+ghost use Rattle.std.specs.Prelude.{◌≡◌, ◌≤◌, ◌+◌, ◌-◌, ◌++◌, drop, length, replicate, take, IfOk, IsTrue, OnErr, OnOk};
+ghost use Rattle.mr_value.specs.Texts.{overwritten};
+ghost use Rattle.mr_value.specs.Words.{fits};
 
+use crate::word::{WORD_LIMIT, fits};
 use std::alloc::{AllocError, Global};
 use std::marker::Model;
 
@@ -49,4 +52,59 @@ impl Bytes {
     {
         self.items.as_slice()
     }
+
+    /// Whether these bytes with more behind them are within the word limit.
+    pub fn fits_with(&self, more: &[u8]) -> bool
+        ensures { result ≡ fits (self.now ++ more.now) }
+    {
+        self.items.len() <= WORD_LIMIT && more.len() <= WORD_LIMIT - self.items.len()
+    }
+
+    /// Puts more bytes behind these.
+    pub fn extend_from_slice(&mut self, more: &[u8]) -> Result<(), AllocError>
+        ensures ok { OnOk result (self.new ≡ self.old ++ more.now) }
+        ensures err { OnErr result (self.new ≡ self.old) }
+    {
+        self.items.extend_from_slice(more)?;
+        Ok(())
+    }
+
+    /// Whether these bytes, once a text is written over them from an offset on, are within the word limit.
+    #[tactic(auto, unfolding(crate::specs::Texts::overwritten))]
+    pub fn fits_overwritten(&self, offset: usize, text: &[u8]) -> bool
+        ensures { result ≡ fits (overwritten offset text.now self.now) }
+    {
+        fits(self.as_slice()) && text.len() <= WORD_LIMIT && offset <= WORD_LIMIT - text.len()
+    }
+
+    /// Writes a text over the bytes from an offset on. Where they end before it, zero bytes come between.
+    #[tactic(auto, using(crate::proofs::Texts::overwritten_is, crate::proofs::Texts::ends_within))]
+    pub fn overwrite(&mut self, offset: usize, text: &[u8]) -> Result<(), AllocError>
+        requires { IsTrue (fits (overwritten offset text.now self.old)) }
+        ensures ok { OnOk result (self.new ≡ overwritten offset text.now self.old) }
+        ensures err { OnErr result (self.new ≡ self.old) }
+    {
+        fill_up(&mut self.items, offset + text.len())?;
+        put(&mut self.items, offset, text);
+        Ok(())
+    }
+}
+
+// Puts zero bytes behind others, as many as are missing to a length.
+fn fill_up(bytes: &mut Vec<u8>, len: usize) -> Result<(), AllocError>
+    ensures ok { OnOk result (bytes.new.items ≡ bytes.old.items ++ replicate (len - length bytes.old.items) 0) }
+    ensures err { OnErr result (bytes.new.items ≡ bytes.old.items) }
+{
+    if bytes.len() < len {
+        bytes.resize(len, 0)?;
+    }
+    Ok(())
+}
+
+// Writes a text over bytes.
+fn put(bytes: &mut Vec<u8>, offset: usize, text: &[u8])
+    requires { offset + length text.now ≤ length bytes.old.items }
+    ensures { bytes.new.items ≡ take offset bytes.old.items ++ (text.now ++ drop (offset + length text.now) bytes.old.items) }
+{
+    bytes[offset..offset + text.len()].copy_from_slice(text);
 }

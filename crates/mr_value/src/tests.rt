@@ -294,3 +294,29 @@ fn words_own_or_borrow(rt: HostRuntime) -> Result<(), Fail> {
     assert_eq!(rt; again.as_slice(), b"word".as_slice());
     Ok(())
 }
+
+#[test]
+fn bytes_grow_and_are_written_over(rt: HostRuntime) -> Result<(), Fail> {
+    let mut text = bytes(rt.alloc(), "ab")?;
+    assert!(rt; text.fits_with(b"cd"));
+    text.extend_from_slice(b"cd")?;
+    assert_eq!(rt; text.as_slice(), b"abcd".as_slice());
+    assert!(rt; text.fits_overwritten(1, b"xy"));
+    text.overwrite(1, b"xy")?;
+    assert_eq!(rt; text.as_slice(), b"axyd".as_slice());
+    assert!(rt; text.fits_overwritten(6, b"z"));
+    text.overwrite(6, b"z")?;
+    assert_eq!(rt; text.as_slice(), b"axyd\0\0z".as_slice());
+    Ok(())
+}
+
+#[test]
+fn bytes_grow_to_the_word_limit(rt: HostRuntime) -> Result<(), Fail> {
+    let text = Bytes::from_vec(vec![in rt.alloc(); 0u8; 16_777_215]?);
+    assert!(rt; text.fits_with(b"a"));
+    assert!(rt; !text.fits_with(b"ab"));
+    assert!(rt; text.fits_overwritten(16_777_214, b"ab"));
+    assert!(rt; !text.fits_overwritten(16_777_215, b"ab"));
+    assert!(rt; !text.fits_overwritten(usize::MAX, b"ab"));
+    Ok(())
+}

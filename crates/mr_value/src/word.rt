@@ -62,9 +62,12 @@ impl<'a> Word<'a> {
     }
 }
 
+// The most bytes of a word.
+pub(crate) const WORD_LIMIT: usize = 16_777_216;
+
 /// Whether a word is within the limit of 16,777,216 bytes.
 pub fn fits(word: &[u8]) -> bool
     ensures { result ≡ fits word.now }
 {
-    word.len() <= 16_777_216
+    word.len() <= WORD_LIMIT
 }

@@ -50,13 +50,17 @@ impl Entries {
             Effect::MoveMember { from, to, member } => {
                 self.move_member(from.as_slice(), to, member)
             }
-            // Not done yet.
-            Effect::SetAll { .. } => Err(ApplyFault::Refused),
-            Effect::Append { .. } => Err(ApplyFault::Refused),
-            Effect::SetRange { .. } => Err(ApplyFault::Refused),
-            Effect::Increase { .. } => Err(ApplyFault::Refused),
-            Effect::Rename { .. } => Err(ApplyFault::Refused),
-            Effect::Clear => Err(ApplyFault::Refused),
+            Effect::SetAll { pairs } => self.set_all(pairs),
+            Effect::Append { key, value } => self.append(key, value),
+            Effect::SetRange { key, offset, value } => {
+                self.set_range(key, offset, value.as_slice())
+            }
+            Effect::Increase { key, by } => self.increase(key, by),
+            Effect::Rename { from, to } => self.rename(from.as_slice(), to),
+            Effect::Clear => {
+                self.clear();
+                Ok(())
+            }
             Effect::SetScores { key, scores } => self.set_scores(key, scores.as_slice()),
             Effect::RemoveScores { key, members } => {
                 self.remove_scores(key.as_slice(), members.as_slice())
@@ -106,16 +110,18 @@ impl Entries {
             Effect::MoveMember { from, to, member } => {
                 self.move_member(from.as_slice(), same(to), same(member))
             }
-            // Not done yet.
-            Effect::SetAll { .. } => Err(ApplyFault::Refused),
-            Effect::Append { .. } => Err(ApplyFault::Refused),
-            Effect::SetRange { .. } => Err(ApplyFault::Refused),
-            Effect::Increase { .. } => Err(ApplyFault::Refused),
-            Effect::Rename { .. } => Err(ApplyFault::Refused),
-            Effect::Clear => Err(ApplyFault::Refused),
-            Effect::SetScores { key, scores } => {
-                self.set_scores(same(key), scores.as_slice())
+            Effect::SetAll { pairs } => self.copy_all(pairs),
+            Effect::Append { key, value } => self.append(same(key), same(value)),
+            Effect::SetRange { key, offset, value } => {
+                self.set_range(same(key), *offset, value.as_slice())
             }
+            Effect::Increase { key, by } => self.increase(same(key), *by),
+            Effect::Rename { from, to } => self.rename(from.as_slice(), same(to)),
+            Effect::Clear => {
+                self.clear();
+                Ok(())
+            }
+            Effect::SetScores { key, scores } => { self.set_scores(same(key), scores.as_slice()) }
             Effect::RemoveScores { key, members } => {
                 self.remove_scores(key.as_slice(), members.as_slice())
             }

@@ -1,9 +1,9 @@
-use Rattle.std.proofs.Common.{rules, ◌≡◌, true, false, Some}
+use Rattle.std.proofs.Common.{rules, ◌≡◌, false, Some}
 use Rattle.std.specs.Prelude.{is_some}
 use Rattle.std.specs.FinMap.{get}
 use Rattle.mr_data.specs.Collections.{with_members}
 use Rattle.mr_data.specs.Steps.{sets, held}
-use Rattle.mr_data.proofs.Moving.{refused_there, lacks_there}
+use Rattle.mr_data.proofs.Moving.{refused_there}
 use Rattle.mr_data.proofs.entries.Entries.copy_members.Goals as goal
 
 pub returns-then-not-takes_members : goal.returns-then-not-takes_members

@@ -1,5 +1,5 @@
 use Rattle.std.proofs.Common.{subst, []}
-use Rattle.std.specs.FinMap.{get, empty}
+use Rattle.std.specs.FinMap.{get}
 use Rattle.mr_data.specs.Meaning.{at_key}
 use Rattle.mr_data.specs.Outcome.{Applies}
 use Rattle.mr_data.specs.Collections.{pushed}

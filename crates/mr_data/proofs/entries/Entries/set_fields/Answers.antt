@@ -1,4 +1,4 @@
-use Rattle.std.proofs.Common.{subst, []}
+use Rattle.std.proofs.Common.{subst}
 use Rattle.std.specs.FinMap.{get, empty}
 use Rattle.mr_data.specs.Meaning.{at_key}
 use Rattle.mr_data.specs.Outcome.{Applies}

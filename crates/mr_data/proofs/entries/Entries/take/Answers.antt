@@ -1,10 +1,10 @@
-use Rattle.std.proofs.Common.{◌≡◌, ℤ, sym, subst, ap, ◌∙◌, to_z, of_z, w64}
+use Rattle.std.proofs.Common.{subst, to_z, of_z, w64}
 use Rattle.std.specs.Prelude.{IsTrue}
 use Rattle.mr_value.specs.Number.{is_i64}
 use Rattle.mr_effect.specs.Effects.{has_spelling}
 use Rattle.mr_data.specs.Meaning.{change, at_key}
 use Rattle.mr_data.specs.Outcome.{Applies}
-use Rattle.mr_data.specs.Steps.{pop_step, set_item_step, remove_items_step, trim_step}
+use Rattle.mr_data.specs.Steps.{increase_step, pop_step, set_item_step, remove_items_step, trim_step}
 use Rattle.mr_data.proofs.Fitting.{first, second}
 use Rattle.mr_data.proofs.Numbers.{same_number}
 use Rattle.mr_data.proofs.entries.Entries.take.Goals as goal
@@ -47,3 +47,11 @@ returns-in-SetItem-clause-applies c =
     let possible = subst (λ e. IsTrue (has_spelling e)) a.is c.requires in
     rw a.is (subst (λ k. Applies (at_key (set_item_step a.place a.item) k m) m c.set_item.result c.set_item.new.self) c.as_slice-in-SetItem.ensures
     (subst (λ z. Applies (at_key (set_item_step z a.item) c.as_slice-in-SetItem.result.now m) m c.set_item.result c.set_item.new.self) (same_number a.place (first (is_i64 a.place) _ possible)) c.set_item.ensures))
+
+pub returns-in-Increase-clause-applies : goal.returns-in-Increase-clause-applies
+unfolding change
+returns-in-Increase-clause-applies c =
+    let m = c.args.self.now in
+    let a = c.in-Increase in
+    let possible : IsTrue (is_i64 a.by) = subst (λ e. IsTrue (has_spelling e)) a.is c.requires in
+    rw a.is (subst (λ z. Applies (at_key (increase_step z) a.key m) m c.increase.result c.increase.new.self) (same_number a.by possible) c.increase.ensures)

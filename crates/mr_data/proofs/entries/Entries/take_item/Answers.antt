@@ -1,5 +1,5 @@
 use Rattle.std.specs.Prelude.{pos, if◌then◌else◌}
-use Rattle.std.proofs.Common.{rules, ◌≡◌, ap, refl, sym, ◌∙◌, true, Some, None, List, ℕ, length}
+use Rattle.std.proofs.Common.{rules, ◌≡◌, ap, sym, ◌∙◌, true, Some, None, List, ℕ, length}
 use Rattle.std.specs.Option.{option_and_then}
 use Rattle.mr_data.specs.declared.value.Entry.{Entry}
 use Rattle.mr_data.specs.declared.value.Value.TheVariants as value
