@@ -20,12 +20,14 @@ use Rattle.mr_zset.specs.Bounds.{is_within}
 use Rattle.mr_zset.specs.declared.bound.Bound.{Bound}
 use Rattle.mr_ask_zset.specs.declared.zset_ask.Order.{Order}
 use Rattle.mr_ask_zset.specs.declared.zset_ask.Order.TheVariants as order
+use Rattle.mr_ask_zset.specs.declared.zset_ask.RangeReply.TheVariants.{WithScores}
 use Rattle.mr_data.specs.Collections.{with_members, without_scores}
 use Rattle.mr_turn.specs.Taken.{is_key, has}
 use Rattle.mr_turn.proofs.Maps.{same_key}
 use Rattle.mr_turn.proofs.KeyLists.{more_words}
 use Rattle.mr_plan_zset.specs.Scores.{Scores, number, lost, pairs_in, reduced_to, Makes}
-use Rattle.mr_plan_zset.specs.Removing.{members_of, as_set, remove_all, pairs_reply}
+use Rattle.mr_plan_zset.specs.Removing.{members_of, as_set, remove_all}
+use Rattle.mr_plan_zset.specs.Ranges.{pairs_reply}
 use Rattle.mr_plan_zset.proofs.Entries.{own_entries}
 use Rattle.mr_plan_zset.proofs.Maps.{get_without, get_retained}
 
@@ -208,8 +210,8 @@ pairs_made k ps qs s r old new same a told put =
     let keys_are = ap (λ (xs : List (Bytes × ℤ)). keys (as_set (members_of xs))) same ∙ all_lost s ps a in
     reduced_made k (members_of ps) s (as_set (members_of qs)) r _ old new keys_are told refl put
 
-pub taken_made : (k : Bytes) (ps qs : List (Bytes × ℤ)) (s : Scores) (r : Tree) (there : ByteMap (Unit {0})) (old new : List Effect) → qs ≡ ps → AreIn s ps → there ≡ as_set (members_of qs) → r ≡ pairs_reply qs → new ≡ old ++ map (effect.RemoveScores k) (cut (keys there)) → Makes (reduced_to k (pairs_reply ps) s (without_scores (members_of ps) s)) r old new
+pub taken_made : (k : Bytes) (ps qs : List (Bytes × ℤ)) (s : Scores) (r : Tree) (there : ByteMap (Unit {0})) (old new : List Effect) → qs ≡ ps → AreIn s ps → there ≡ as_set (members_of qs) → r ≡ pairs_reply WithScores qs → new ≡ old ++ map (effect.RemoveScores k) (cut (keys there)) → Makes (reduced_to k (pairs_reply WithScores ps) s (without_scores (members_of ps) s)) r old new
 taken_made k ps qs s r there old new same a is told put = record {
-  reply_is = told ∙ ap pairs_reply same;
+  reply_is = told ∙ ap (pairs_reply WithScores) same;
   effects_are = put ∙ ap (λ ks. old ++ map (effect.RemoveScores k) (cut ks)) (ap keys is ∙ ap (λ (xs : List (Bytes × ℤ)). keys (as_set (members_of xs))) same ∙ all_lost s ps a);
 }

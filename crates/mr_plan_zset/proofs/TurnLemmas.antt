@@ -1,11 +1,11 @@
 -- Turns from what is done to a sorted set.
-use Rattle.std.proofs.Common.{◌≡◌, List, ◌++◌, Option, Some, None, sym, ◌∙◌, ap}
+use Rattle.std.proofs.Common.{◌≡◌, List, [], ◌++◌, Option, Some, None, refl, sym, ◌∙◌, ap}
 use Rattle.mr_resp.specs.Replies.{Tree}
 use Rattle.mr_effect.specs.declared.effect.Effect.{Effect}
 use Rattle.mr_data.specs.Steps.{sorted_sets, held}
 use Rattle.mr_data.specs.declared.value.Entry.{Entry}
 use Rattle.mr_turn.specs.Turns.{Turn, Takes, wrong_kind}
-use Rattle.mr_turn.specs.Collections.{Change, changed, changing}
+use Rattle.mr_turn.specs.Collections.{Change, changed, changing, telling, told as tells}
 use Rattle.mr_turn.proofs.PlanLemmas.{told}
 use Rattle.mr_plan_zset.specs.Scores.{Scores, Makes}
 
@@ -23,3 +23,11 @@ takes_made change o s r old new is made =
       reply_is = made.reply_is ∙ sym (ap (λ (t : Turn). t.reply) same);
       effects_are = made.effects_are ∙ ap (λ es. old ++ es) (sym (ap (λ (t : Turn). t.effects) same));
     }
+
+-- a command that only tells of a set
+pub takes_told : (answer : Scores → Tree) (o : Option Entry) (r : Tree) (old : List Effect) → r ≡ (telling sorted_sets answer o).reply → Takes (telling sorted_sets answer o) r old old
+takes_told answer o r old is = told (telling sorted_sets answer o) old (silent (held sorted_sets o)) is
+  where
+    silent : (h : Option Scores) → (tells sorted_sets answer h o).effects ≡ []
+    silent None = refl
+    silent (Some s) = refl

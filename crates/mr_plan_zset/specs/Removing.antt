@@ -1,18 +1,16 @@
 -- ZREM, ZPOPMIN, ZPOPMAX, ZREMRANGEBYRANK, ZREMRANGEBYSCORE: members go.
-use Rattle.std.specs.Prelude.{ℕ, ℤ, List, [], ◌∷◌, map, take, length, Option, Some, None}
-use Rattle.std.specs.List.{flat_map}
+use Rattle.std.specs.Prelude.{ℕ, ℤ, List, map, take, length, Option, Some, None}
 use Rattle.std.specs.FinMap.{empty, len}
 use Rattle.mr_map.specs.Bytes.{Bytes, ByteMap}
 use Rattle.mr_value.specs.Window.{window_of, windowed}
-use Rattle.mr_resp.specs.Replies as reply
-use Rattle.mr_resp.specs.Replies.{Tree}
-use Rattle.mr_resp.specs.ReplyView.{trees_of}
 use Rattle.mr_zset.specs.Pairs.{pairs_of, range_of}
 use Rattle.mr_zset.specs.declared.bound.Bound.{Bound}
 use Rattle.mr_data.specs.Collections.{with_members, without_scores}
 use Rattle.mr_ask_zset.specs.declared.zset_ask.Order.{Order}
+use Rattle.mr_ask_zset.specs.declared.zset_ask.RangeReply.TheVariants.{WithScores}
 use Rattle.mr_turn.specs.Collections.{Change}
-use Rattle.mr_plan_zset.specs.Scores.{Scores, number, score_reply, pairs_in, lost, reduced_to}
+use Rattle.mr_plan_zset.specs.Scores.{Scores, number, pairs_in, lost, reduced_to}
+use Rattle.mr_plan_zset.specs.Ranges.{pairs_reply}
 
 -- the members of pairs
 abbrev pub members_of : List (Bytes × ℤ) → List Bytes
@@ -48,12 +46,6 @@ count_or_one (Some n) = n
 abbrev pub taken : Order → Option ℕ → Scores → List (Bytes × ℤ)
 taken order count s = take (count_or_one count) (pairs_in order s)
 
--- a member, and behind it its score
-abbrev pub pair_replies : Bytes × ℤ → List Tree
-pair_replies p = reply.bytes p.0 ∷ score_reply p.1 ∷ []
-
-abbrev pub pairs_reply : List (Bytes × ℤ) → Tree
-pairs_reply ps = reply.array (trees_of (flat_map pair_replies ps))
-
+-- each member, and behind it its score
 abbrev pub take_pairs : Bytes → Order → Option ℕ → Scores → Change Scores
-take_pairs k order count s = reduced_to k (pairs_reply (taken order count s)) s (without_scores (members_of (taken order count s)) s)
+take_pairs k order count s = reduced_to k (pairs_reply WithScores (taken order count s)) s (without_scores (members_of (taken order count s)) s)

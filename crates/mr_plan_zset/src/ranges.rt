@@ -110,8 +110,8 @@ fn listed(
     }
 }
 
-// Pairs answered as they stand.
-fn forward(alloc: Global, pairs: &[Pair<'_>], shape: RangeReply) -> Result<Reply, AllocError>
+/// Pairs answered as they stand.
+pub fn forward(alloc: Global, pairs: &[Pair<'_>], shape: RangeReply) -> Result<Reply, AllocError>
     ensures { IfOk result (λ r. view r ≡ pairs_reply shape (map shown pairs.now)) }
 {
     let mut replies = Vec::with_capacity(alloc, replies_to(pairs, shape))?;

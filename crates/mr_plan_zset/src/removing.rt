@@ -12,15 +12,16 @@ ghost use Rattle.mr_turn.specs.Cuts.{cut};
 ghost use Rattle.mr_turn.specs.Turns.{Takes};
 ghost use Rattle.mr_turn.specs.Collections.{changing};
 ghost use Rattle.mr_plan_zset.specs.Scores.{number, pairs_in, lost, Makes};
-ghost use Rattle.mr_plan_zset.specs.Removing.{members_of, remove_members, remove_ranks, remove_scores, as_set, pairs_reply, take_pairs};
+ghost use Rattle.mr_plan_zset.specs.Removing.{members_of, remove_members, remove_ranks, remove_scores, as_set, take_pairs};
 
 use crate::grouping::push_lost;
-use crate::replies::{score_bulk, set_at};
-use mr_ask_zset::Order;
+use crate::ranges::forward;
+use crate::replies::set_at;
+use mr_ask_zset::{Order, RangeReply};
 use mr_data::Entry;
 use mr_map::SliceMap;
 use mr_resp::Reply;
-use mr_turn::{Effects, bulk, count, wrong_kind};
+use mr_turn::{Effects, count, wrong_kind};
 use mr_value::window;
 use mr_words::{Argument, Words};
 use mr_zset::{Bound, Pair, ZSet};
@@ -192,7 +193,7 @@ fn take_from(
     let pairs = first_pairs(alloc, order, count, set)?;
     let lost = in_byte_order(alloc, &pairs)?;
     push_lost(alloc, key, &lost, effects)?;
-    let reply = told(alloc, &pairs)?;
+    let reply = forward(alloc, &pairs, RangeReply::WithScores)?;
     Ok(reply)
 }
 
@@ -221,16 +222,4 @@ fn first_pairs(
             Ok(pairs)
         }
     }
-}
-
-// Each member, and behind it its score.
-fn told(alloc: Global, pairs: &[Pair<'_>]) -> Result<Reply, AllocError>
-    ensures { IfOk result (λ r. view r ≡ pairs_reply (map shown pairs.now)) }
-{
-    let mut replies = Vec::with_capacity(alloc, pairs.len())?;
-    for pair in pairs {
-        replies.push(bulk(alloc, pair.member)?)?;
-        replies.push(score_bulk(alloc, pair.score)?)?;
-    }
-    Ok(Reply::Array(replies))
 }
