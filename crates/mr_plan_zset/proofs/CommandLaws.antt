@@ -2,10 +2,12 @@
 use Rattle.std.proofs.Common.{◌≡◌, ℤ, ◌+ℤ◌, List, [], ◌∷◌, Bool, true, false, ◌&&◌, Option, Some, None, refl}
 use Rattle.std.specs.Prelude.{IsTrue, if◌then◌else◌}
 use Rattle.std.specs.List.{list_all}
-use Rattle.std.specs.FinMap.{get, insert}
+use Rattle.std.specs.FinMap.{get, insert, len}
 use Rattle.mr_map.specs.Bytes.{Bytes}
 use Rattle.mr_value.specs.Words.{fits}
+use Rattle.mr_value.specs.Window.{window_of, windowed}
 use Rattle.mr_zset.specs.Score.{is_score}
+use Rattle.mr_zset.specs.Pairs.{pairs_of, range_of}
 use Rattle.mr_resp.specs.Replies.{Tree}
 use Rattle.mr_data.specs.Dataset.{Dataset, IsDataset}
 use Rattle.mr_data.specs.Steps.{sorted_sets, held}
@@ -22,7 +24,7 @@ use Rattle.mr_turn.proofs.Laws.{faithful, at_key_faithful}
 use Rattle.mr_turn.proofs.Changing.{IsFaithfulChange, telling_faithful}
 use Rattle.mr_plan_zset.specs.Scores.{Scores, score_reply, unchanged, set_to}
 use Rattle.mr_plan_zset.specs.Adding.{is_set, with_pair, with_pairs, add_scores, increase_score, set_score, out_of_range, score_or_0}
-use Rattle.mr_plan_zset.specs.Removing.{remove_members, take_pairs, remove_ranks, remove_scores}
+use Rattle.mr_plan_zset.specs.Removing.{members_of as names_of, taken, remove_members, take_pairs, remove_ranks, remove_scores}
 use Rattle.mr_plan_zset.specs.Commands.{key_of, turn, command, HasScores}
 use Rattle.mr_plan_zset.proofs.Changes.{both, left, right, AreKept, IsGrown, is_kept, insert_kept, insert_grown, set_faithful, reduced_faithful, unchanged_faithful, changing_set}
 
@@ -69,6 +71,6 @@ zset_faithful (ask.GetScores k xs) now m kept scores h = told_faithful k _ now m
 zset_faithful (ask.GetRank k x order) now m kept scores h = told_faithful k _ now m (left (fits k) _ h)
 zset_faithful (ask.RangeByRank k first last order reply) now m kept scores h = told_faithful k _ now m (left (fits k) _ h)
 zset_faithful (ask.RangeByScore k min max order limit reply) now m kept scores h = told_faithful k _ now m (left (fits k) _ h)
-zset_faithful (ask.TakePairs k order count) now m kept scores h = changing_set k (take_pairs k order count) now m kept (left (fits k) _ h) (λ s o fine is. reduced_faithful k _ _ s o (left (fits k) _ h) fine is)
-zset_faithful (ask.RemoveRanks k first last) now m kept scores h = changing_set k (remove_ranks k first last) now m kept (left (fits k) _ h) (λ s o fine is. reduced_faithful k _ _ s o (left (fits k) _ h) fine is)
-zset_faithful (ask.RemoveScores k min max) now m kept scores h = changing_set k (remove_scores k min max) now m kept (left (fits k) _ h) (λ s o fine is. reduced_faithful k _ _ s o (left (fits k) _ h) fine is)
+zset_faithful (ask.TakePairs k order count) now m kept scores h = changing_set k (take_pairs k order count) now m kept (left (fits k) _ h) (λ s o fine is. reduced_faithful k _ (names_of (taken order count s)) s o (left (fits k) _ h) fine is)
+zset_faithful (ask.RemoveRanks k first last) now m kept scores h = changing_set k (remove_ranks k first last) now m kept (left (fits k) _ h) (λ s o fine is. reduced_faithful k _ (names_of (windowed (window_of first last (len s)) (pairs_of s))) s o (left (fits k) _ h) fine is)
+zset_faithful (ask.RemoveScores k min max) now m kept scores h = changing_set k (remove_scores k min max) now m kept (left (fits k) _ h) (λ s o fine is. reduced_faithful k _ (names_of (range_of min max s)) s o (left (fits k) _ h) fine is)
