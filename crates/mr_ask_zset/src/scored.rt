@@ -1,5 +1,5 @@
 // Scores with their members among the words of a request.
-ghost use Rattle.std.specs.Prelude.{◌≡◌, IsTrue, length, option_map};
+ghost use Rattle.std.specs.Prelude.{◌≡◌, ◌<◌, ◌^◌, IsTrue, length, option_map};
 ghost use Rattle.std.specs.Iterator.{YieldsFirstBy, item_count};
 ghost use Rattle.std.specs.List.{list_all};
 ghost use Rattle.mr_ask_zset.specs.Scored.{has_score, have_scores, is_scored, read_scored, scored_of};
@@ -39,7 +39,8 @@ impl<'a, 't> ScoredMembers<'a, 't> {
 
     /// How many there are.
     pub fn len(&self) -> usize
-        ensures { result ≡ length self.now }
+        ensures len { result ≡ length self.now }
+        ensures small { result < 2 ^ 63 }
     {
         self.pairs.len()
     }

@@ -1,5 +1,5 @@
 // A map from byte strings that lie elsewhere.
-ghost use Rattle.std.specs.Prelude.{◌≡◌, ◌==◌, ◌<◌, ◌^◌, OnOk, OnErr, IfOk};
+ghost use Rattle.std.specs.Prelude.{◌≡◌, ◌==◌, ◌<◌, ◌^◌, OnOk, OnErr, IfOk, option_copied};
 ghost use Rattle.std.specs.FinMap as map;
 
 use crate::slice_pairs::SlicePairs;
@@ -49,6 +49,13 @@ impl<'a, V> SliceMap<'a, V> {
         ensures { result ≡ (map.len self.now == 0) }
     {
         self.len() == 0
+    }
+
+    /// The value of a key. It takes no memory.
+    pub fn get(&self, key: &[u8]) -> Option<&V>
+        ensures { option_copied result ≡ map.get self.now key.now }
+    {
+        self.tree.get(key)
     }
 
     /// The keys with their values, in byte order. It takes no memory.

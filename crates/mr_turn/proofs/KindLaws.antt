@@ -1,11 +1,11 @@
 -- What each kind of collection keeps.
-use Rattle.std.proofs.Common.{◌≡◌, ◌<◌, ℕ, zero, suc, List, [], ◌∷◌, length, Bool, true, false, Option, Some, None, refl, sym, ◌∙◌, ap, arith}
+use Rattle.std.proofs.Common.{◌≡◌, ◌<◌, ℕ, ℤ, zero, suc, List, [], ◌∷◌, length, Bool, true, false, Option, Some, None, refl, sym, ◌∙◌, ap, arith}
 use Rattle.std.specs.Prelude.{◌==◌}
 use Rattle.std.specs.FinMap.{get, empty, len, empty_of_len}
 use Rattle.std.proofs.lemmas.Bool.{ne_eqb, eqb-true}
 use Rattle.mr_map.specs.Bytes.{Bytes, ByteMap, bytes_cmp}
 use Rattle.mr_data.specs.Dataset.{Dataset, IsDataset, IsEntry, IsValue}
-use Rattle.mr_data.specs.Steps.{Kind, hashes, lists, sets, hash_of, list_of, set_of}
+use Rattle.mr_data.specs.Steps.{Kind, hashes, lists, sets, sorted_sets, hash_of, list_of, set_of, sorted_set_of}
 use Rattle.mr_data.specs.declared.value.Value.{Value}
 use Rattle.mr_data.specs.declared.value.Value.TheVariants as value
 use Rattle.mr_data.specs.declared.value.Entry.{Entry}
@@ -39,6 +39,13 @@ set_value (value.Hash y) x h = absurd (not_none h)
 set_value (value.List y) x h = absurd (not_none h)
 set_value (value.SortedSet y) x h = absurd (not_none h)
 
+sorted_set_value : (v : Value) (x : ByteMap ℤ) → sorted_set_of v ≡ Some x → value.SortedSet x ≡ v
+sorted_set_value (value.SortedSet y) x h = ap value.SortedSet (sym (same_some h))
+sorted_set_value (value.Text y) x h = absurd (not_none h)
+sorted_set_value (value.Hash y) x h = absurd (not_none h)
+sorted_set_value (value.List y) x h = absurd (not_none h)
+sorted_set_value (value.Set y) x h = absurd (not_none h)
+
 never : (n : ℕ) → suc n ≡ 0 → ⊥
 never n h = omega (arith, h)
 
@@ -70,6 +77,14 @@ sets_are = record {
   is_none = no_elements (Unit {0});
 }
 
+pub sorted_sets_are : IsKind sorted_sets
+sorted_sets_are = record {
+  of_value = λ x. refl;
+  value_of = sorted_set_value;
+  none_is = λ x h. empty_of_len x (eqb-true (len x) 0 h);
+  is_none = no_elements ℤ;
+}
+
 -- ---- a collection in a dataset has an element
 positive : (n : ℕ) → 0 < n → (n == 0) ≡ false
 positive n h = ne_eqb n 0 (λ e. omega (arith, e, h))
@@ -95,6 +110,13 @@ set_some (value.Hash y) x i h = absurd (not_none h)
 set_some (value.List y) x i h = absurd (not_none h)
 set_some (value.SortedSet y) x i h = absurd (not_none h)
 
+sorted_set_some : (v : Value) (x : ByteMap ℤ) → IsValue v → sorted_set_of v ≡ Some x → (len x == 0) ≡ false
+sorted_set_some (value.SortedSet y) x i h = ap (λ (z : ByteMap ℤ). len z == 0) (sym (same_some h)) ∙ positive (len y) i.some
+sorted_set_some (value.Text y) x i h = absurd (not_none h)
+sorted_set_some (value.Hash y) x i h = absurd (not_none h)
+sorted_set_some (value.List y) x i h = absurd (not_none h)
+sorted_set_some (value.Set y) x i h = absurd (not_none h)
+
 pub hashes_kept : (m : Dataset) (k : Bytes) → IsDataset m → IsKept hashes (get m k)
 hashes_kept m k h e is x held = hash_some e.value x (h.entries k e is).value held
 
@@ -103,3 +125,6 @@ lists_kept m k h e is x held = list_some e.value x (h.entries k e is).value held
 
 pub sets_kept : (m : Dataset) (k : Bytes) → IsDataset m → IsKept sets (get m k)
 sets_kept m k h e is x held = set_some e.value x (h.entries k e is).value held
+
+pub sorted_sets_kept : (m : Dataset) (k : Bytes) → IsDataset m → IsKept sorted_sets (get m k)
+sorted_sets_kept m k h e is x held = sorted_set_some e.value x (h.entries k e is).value held

@@ -1,5 +1,5 @@
 // Words of a request that stay where they lie.
-ghost use Rattle.std.specs.Prelude.{◌≡◌, map, length};
+ghost use Rattle.std.specs.Prelude.{◌≡◌, ◌<◌, ◌^◌, map, length};
 ghost use Rattle.std.specs.Cow.{cow_slice_items};
 ghost use Rattle.std.specs.Iterator.{YieldsFirstBy, item_count};
 ghost use Rattle.mr_words.specs.Pairing.{are_pairs, pairs_of, read_pair};
@@ -108,7 +108,8 @@ impl<'a, 't> Pairs<'a, 't> {
 
     /// How many there are.
     pub fn len(&self) -> usize
-        ensures { result ≡ length self.now }
+        ensures len { result ≡ length self.now }
+        ensures small { result < 2 ^ 63 }
     {
         self.words.len() / 2
     }

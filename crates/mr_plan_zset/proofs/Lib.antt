@@ -1,0 +1,12 @@
+pub mod Entries
+pub mod Maps
+pub mod Differences
+pub mod GroupLemmas
+pub mod Pushing
+pub mod TurnLemmas
+pub mod Adds
+pub mod Removals
+pub mod Firsts
+pub mod RangeLemmas
+pub mod Changes
+pub mod CommandLaws

@@ -1,0 +1,16 @@
+use Rattle.std.proofs.Common.{rules, ◌≡◌, ◌∙◌, ap, sym, Some, w64, FitsSigned}
+use Rattle.std.specs.Prelude.{◌+ℤ◌}
+use Rattle.std.proofs.lemmas.Int.{to_z-of_z}
+use Rattle.mr_resp.specs.ReplyView.{view}
+use Rattle.mr_zset.specs.Texts.{within_limit}
+use Rattle.mr_plan_zset.specs.Scores.{score_reply}
+use Rattle.mr_plan_zset.specs.Adding.{score_or_0}
+use Rattle.mr_plan_zset.proofs.Adds.{sum_made}
+use Rattle.mr_plan_zset.proofs.adding.increase_in.Goals as goal
+
+pub returns : goal.returns
+returns c =
+    let z = c.in-Some.score in
+    let fits : FitsSigned w64 z = search rules in
+    let same = to_z-of_z w64 z fits in
+    sum_made c.args.key.now c.args.member.now c.args.by _ z c.args.set.now _ _ _ c.score-before.result (to_z-of_z w64 c.args.by c.ranges.by) c.score-before.ensures.value (sym c.increased.ensures ∙ c.in-Some.is) (c.in_ok-reply.ensures ∙ ap score_reply same) (simp to_z-of_z at c.in_ok-push_changed_alone.ensures)

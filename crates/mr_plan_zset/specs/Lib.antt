@@ -1,0 +1,7 @@
+pub mod Scores
+pub mod Groups
+pub mod Telling
+pub mod Ranges
+pub mod Adding
+pub mod Removing
+pub mod Commands
