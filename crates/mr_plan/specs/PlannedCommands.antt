@@ -8,6 +8,7 @@ use Rattle.mr_plan_keys.specs.Commands as keys
 use Rattle.mr_plan_hash.specs.Commands as hashes
 use Rattle.mr_plan_list.specs.Commands as lists
 use Rattle.mr_plan_set.specs.SetCommands as sets
+use Rattle.mr_plan_zset.specs.Commands as scores
 
 -- by its kind; a command that draws members takes a random word
 abbrev pub command_of : Ask → ℕ → Command
@@ -16,4 +17,5 @@ command_of (ask.Keys command) word = keys.command command
 command_of (ask.Hashes command) word = hashes.command command
 command_of (ask.Lists command) word = lists.command command
 command_of (ask.Sets command) word = sets.command command word
+command_of (ask.SortedSets command) word = scores.command command
 command_of (ask.Server command) word = keys.server_command command

@@ -27,6 +27,7 @@ pub fn plan(
         Ask::Hashes(ask) => mr_plan_hash::plan(alloc, held, ask, given),
         Ask::Lists(ask) => mr_plan_list::plan(alloc, held, ask, given),
         Ask::Sets(ask) => mr_plan_set::plan(alloc, held, ask, given),
+        Ask::SortedSets(ask) => mr_plan_zset::plan(alloc, held, ask, given),
         Ask::Server(ask) => mr_plan_keys::plan_server(alloc, held, ask, given),
     }
 }
