@@ -1,10 +1,10 @@
 -- What is read is spelled by the words, and carries no others.
-use Rattle.std.proofs.Common.{ℕ, pos, ◌≡◌, List, [], ◌∷◌, ◌++◌, map, Option, Some, None, refl, sym, ◌∙◌, ap, subst}
+use Rattle.std.proofs.Common.{ℕ, pos, ◌≡◌, List, [], ◌∷◌, ◌++◌, map, Option, Some, None, refl, subst}
 use Rattle.std.specs.Prelude.{neg_ℤ, IsTrue, IfOk, Result, Ok, Err}
 use Rattle.std.specs.List.{list_all, AllByRecursion}
 use Rattle.mr_value.specs.Words.{fits}
 use Rattle.mr_value.specs.declared.ends.End.TheVariants.{Left, Right}
-use Rattle.mr_words.specs.Names.{lowered, text_of, named}
+use Rattle.mr_words.specs.Names.{lowered, named}
 use Rattle.mr_ask.specs.Texts.{get, set, strlen, getrange, mget, setnx, getset, getdel, mset, msetnx, append, setrange, step, incrby, decrby}
 use Rattle.mr_ask.specs.Keys.{del, unlink, exists, key_type, matching_keys, scan, dbsize, rename, renamenx, clear}
 use Rattle.mr_ask.specs.Hashes.{set_fields, hsetnx, hget, hmget, list_hash, hdel, hexists, hlen, hstrlen, hincrby}
@@ -18,7 +18,7 @@ use Rattle.mr_words.specs.Spelling.{Part, Word, Number, in_a_row}
 use Rattle.mr_ask.specs.Spelled.{cursor_part, scan_option, hash_parts, list_parts, set_parts, server_parts, AreOfTexts, AreOfKeys, SpellsNamed, Spells}
 use Rattle.mr_words.proofs.FitLemmas.{carried, carried-words, first, second, both, parts_fit, OptionFits, others_fit, of_parts_fit}
 use Rattle.mr_words.proofs.NameLemmas.{named_is}
-use Rattle.mr_ask.proofs.Carries.{Carries, of_kind_carries}
+use Rattle.mr_ask.proofs.Carries.{of_kind_carries}
 use Rattle.mr_ask.proofs.TextLemmas.{get_carries, set_carries, strlen_carries, getrange_carries, mget_carries, setnx_carries, getset_carries, getdel_carries, mset_carries, msetnx_carries, append_carries, setrange_carries, incr_carries, decr_carries, incrby_carries, decrby_carries}
 use Rattle.mr_ask.proofs.KeyLemmas.{del_carries, unlink_carries, exists_carries, key_type_carries, matching_keys_carries, scan_carries, dbsize_carries, rename_carries, renamenx_carries, clear_carries}
 use Rattle.mr_ask.proofs.HashLemmas.{set_fields_carries, hsetnx_carries, hget_carries, hmget_carries, list_hash_carries, hdel_carries, hexists_carries, hlen_carries, hstrlen_carries, hincrby_carries}
