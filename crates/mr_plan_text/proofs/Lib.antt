@@ -1,2 +1,5 @@
+pub mod SameTexts
+pub mod ChangingLaws
+pub mod SettingAllLaws
 pub mod Laws
 pub mod PlanLemmas
