@@ -2,4 +2,5 @@ pub mod SameTexts
 pub mod ChangingLaws
 pub mod SettingAllLaws
 pub mod Laws
+pub mod WritingOver
 pub mod PlanLemmas

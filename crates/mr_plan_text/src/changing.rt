@@ -1,5 +1,6 @@
 // Commands that change a text where it is.
-ghost use Rattle.std.specs.Prelude.{◌≡◌, ◌==◌, ◌&&◌, ◌+◌, ◌<◌, ◌^◌, pos, int_eq, codes, length, is_some, IfOk, option_copied};
+ghost use Rattle.std.specs.Prelude.{◌≡◌, ◌==◌, ◌&&◌, ◌+◌, ◌<◌, ◌^◌, pos, codes, length, is_some, IfOk, option_copied};
+ghost use Rattle.std.specs.Ordering.{int_eq};
 ghost use Rattle.std.specs.Str.{bytes_eq};
 ghost use Rattle.mr_resp.specs.ReplyView.{view};
 ghost use Rattle.mr_value.specs.Texts.{overwritten};
@@ -101,7 +102,7 @@ fn holds_part(text: &[u8], offset: usize, part: &[u8]) -> bool
     ensures { result ≡ bytes_eq text.now (overwritten offset part.now text.now) }
 {
     let end = offset + part.len();
-    end <= text.len() && text[offset..end] == *part
+    end <= text.len() && text[offset..end] == part[..]
 }
 
 // How long a text is once another was written over it from an offset on.

@@ -158,7 +158,7 @@ fn push_past(
 
 // The effect of texts that keys get, unless there is none.
 fn push_texts(texts: Texts<'static>, effects: &mut Effects) -> Result<(), AllocError>
-    ensures { OnOk result (effects.new ≡ effects.old ++ set_effects texts) }
+    ensures { OnOk result (effects.new ≡ effects.old ++ set_effects texts.entry) }
 {
     if texts.is_empty() {
         return Ok(());
