@@ -5,11 +5,14 @@ use Rattle.std.specs.Fmt.{signed_decimal}
 use Rattle.std.specs.Ordering.{int_eq}
 use Rattle.std.specs.Str.{bytes_eq}
 use Rattle.std.proofs.lemmas.Bool.{lt-ltb}
-use Rattle.std.proofs.lemmas.List.{length-replicate, take-append-drop, drop_split, append_cancel_left, append_cancel_right}
+use Rattle.std.proofs.lemmas.List.{length-replicate, take-append-drop, append_cancel_left, append_cancel_right}
+use Rattle.std.proofs.lemmas.List.Folds.{drop_split}
 use Rattle.mr_map.specs.Bytes.{Bytes}
 use Rattle.mr_value.specs.Number.{is_i64, number_of}
 use Rattle.mr_value.specs.Texts.{overwritten}
 use Rattle.mr_value.specs.Words.{fits, word_limit}
+use Rattle.std.proofs.lemmas.Int.{ints}
+use Rattle.mr_value.proofs.Numbers.{number_of-signed_decimal}
 use Rattle.mr_value.proofs.Texts.{ends_within}
 use Rattle.mr_resp.specs.Replies as reply
 use Rattle.mr_resp.specs.Replies.{Tree}
@@ -44,8 +47,8 @@ same_tests true b f g = sym (f refl)
 same_tests false true f g = g refl
 same_tests false false f g = refl
 
-no_zeros : (n : ℕ) → n ≡ 0 → replicate n 0 ≡ []
-no_zeros n h = ap (λ k. replicate k 0) h
+no_zeros : (n : ℕ) → n ≡ 0 → replicate {A = ℕ} n 0 ≡ []
+no_zeros n h = ap (λ k. replicate {A = ℕ} k 0) h
 
 inside : (t v : List ℕ) (offset : ℕ) → offset + length v ≤ length t → overwritten offset v t ≡ take offset t ++ (v ++ drop (offset + length v) t)
 unfolding overwritten
@@ -121,3 +124,38 @@ module _ (k part text : Bytes) (offset : ℕ) (o : Option Entry) (is : held (str
   written_over r old new differs told_so put =
       subst (λ t. Takes t r old new) (sym put_over_is)
       (record { reply_is = told_so; effects_are = put ∙ ap (λ b. old ++ (if b then [] else effect.SetRange k (pos offset) part ∷ [])) (sym (not_there differs)) })
+
+-- ---- INCR and its kin
+no_more : (n by : ℤ) → n ≡ n +ℤ by → by ≡ pos 0
+no_more n by h = omega (arith, ints, h)
+
+module _ (k text : Bytes) (by n : ℤ) (o : Option Entry) (is : held (strings (codes "0")) o ≡ Some text) (spelled : number_of text ≡ Some n) (within : is_i64 (n +ℤ by) ≡ true) where
+  increase_is : increase_turn k by o ≡ rewritten (signed_decimal (n +ℤ by)) (effect.Increase k by) (reply.int (n +ℤ by)) o
+  increase_is =
+      ap (λ h. increase_text k by h o) is
+      ∙ ap (λ a. increase_from k by a o) spelled
+      ∙ ap (λ b. if b then rewritten (signed_decimal (n +ℤ by)) (effect.Increase k by) (reply.int (n +ℤ by)) o else record { reply = overflow; entry = o; effects = [] }) within
+
+  not_zero : int_eq by (pos 0) ≡ false → bytes_eq text (signed_decimal (n +ℤ by)) ≡ false
+  not_zero differs = elim (bytes_eq text (signed_decimal (n +ℤ by))) as (λ b. bytes_eq text (signed_decimal (n +ℤ by)) ≡ b → b ≡ false) [
+    | true ↦ λ e.
+        let both : Some n ≡ Some (n +ℤ by) = sym spelled ∙ ap number_of (same_bytes text _ e) ∙ number_of-signed_decimal (n +ℤ by) within in
+        let same : n ≡ n +ℤ by = cc in
+        let wrong : true ≡ false = ap (λ z. int_eq z (pos 0)) (sym (no_more n by same)) ∙ differs in
+        cc
+    | false ↦ λ e. refl
+  ] refl
+
+  other : (is_some o && int_eq by (pos 0)) ≡ false → holds (signed_decimal (n +ℤ by)) o ≡ false
+  other differs = elim o as (λ (x : Option Entry). held (strings (codes "0")) x ≡ Some text → (is_some x && int_eq by (pos 0)) ≡ false → holds (signed_decimal (n +ℤ by)) x ≡ false) [
+    | None ↦ λ e d. refl
+    | Some f ↦ λ e d. held_is (signed_decimal (n +ℤ by)) text f.value e ∙ not_zero d
+  ] is differs
+
+  pub increased : (sum : ℤ) (r : Tree) (old new : List Effect) → (is_some o && int_eq by (pos 0)) ≡ false → sum ≡ n +ℤ by → r ≡ reply.int sum → new ≡ old ++ effect.Increase k by ∷ [] → Takes (increase_turn k by o) r old new
+  increased sum r old new differs total told_so put =
+      subst (λ t. Takes t r old new) (sym increase_is)
+      (record { reply_is = told_so ∙ ap reply.int total; effects_are = put ∙ ap (λ b. old ++ (if b then [] else effect.Increase k by ∷ [])) (sym (other differs)) })
+
+pub is_i64-fits : (n : ℤ) → FitsSigned w64 n → is_i64 n ≡ true
+is_i64-fits n h = lt-ltb _ _ h.sfits

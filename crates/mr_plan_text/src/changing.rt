@@ -102,7 +102,13 @@ fn holds_part(text: &[u8], offset: usize, part: &[u8]) -> bool
     ensures { result ≡ bytes_eq text.now (overwritten offset part.now text.now) }
 {
     let end = offset + part.len();
-    end <= text.len() && text[offset..end] == part[..]
+    end <= text.len() && same(&text[offset..end], part)
+}
+
+fn same(left: &[u8], right: &[u8]) -> bool
+    ensures { result ≡ bytes_eq left.now right.now }
+{
+    left == right
 }
 
 // How long a text is once another was written over it from an offset on.
