@@ -20,6 +20,7 @@ use Rattle.mr_plan_keys.specs.Outcomes.{deleted, present}
 use Rattle.mr_plan_keys.specs.Listing.{listed, bulks, scan_reply, from_cursor}
 use Rattle.mr_plan_keys.specs.Server.{server_reply}
 use Rattle.mr_plan_keys.specs.Commands.{command, server_command}
+use Rattle.mr_plan_keys.proofs.Renamings.{renamed_faithful, renamed_new_faithful, cleared_faithful}
 
 -- DEL, UNLINK
 dels_none : (ks : List Bytes) → dels ks ≡ [] → ks ≡ []
@@ -42,6 +43,9 @@ keys_faithful (ask.KeyType k) now m h = by_telling k type_reply now m h
 keys_faithful (ask.MatchingKeys p) now m h = none_told (λ n. bulks (listed (Some p) None n)) now m
 keys_faithful (ask.Scan c p k) now m h = none_told (λ n. scan_reply (from_cursor c (listed p k n))) now m
 keys_faithful ask.CountKeys now m h = none_told (λ n. reply.int (pos (len n))) now m
+keys_faithful (ask.Rename from to) now m h = renamed_faithful from to now m h
+keys_faithful (ask.RenameNew from to) now m h = renamed_new_faithful from to now m h
+keys_faithful (ask.Clear databases timing) now m h = cleared_faithful now m
 
 pub server_faithful : (c : ServerAsk) (now : ℤ) (m : Dataset) → IsFaithful (server_command c) now m
 server_faithful c now m = none_told (λ n. server_reply c) now m

@@ -1,3 +1,4 @@
+pub mod Renamings
 pub mod Laws
 pub mod Listed
 pub mod PlanLemmas

@@ -1,5 +1,6 @@
 pub mod Turns
 pub mod Outcomes
+pub mod Renaming
 pub mod Listing
 pub mod Server
 pub mod Commands

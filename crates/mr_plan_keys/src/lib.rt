@@ -5,6 +5,7 @@ mod counting;
 mod kinds;
 mod listing;
 mod planning;
+mod renaming;
 mod server;
 
 pub use planning::plan;

@@ -8,13 +8,15 @@ ghost use Rattle.mr_turn.specs.Commands.{IsPlan, IsFaithful, on_key, on_keys, on
 ghost use Rattle.mr_plan_keys.specs.Commands.{command};
 ghost use Rattle.mr_plan_keys.specs.Turns.{type_turn};
 ghost use Rattle.mr_plan_keys.specs.Outcomes.{deleted, counted};
+ghost use Rattle.mr_plan_keys.specs.Renaming.{cleared};
 ghost use Rattle.mr_plan_keys.specs.Listing.{matching, scanned, sized};
 
 use crate::counting::{count_keys, count_present};
+use crate::renaming::{rename, rename_new};
 use crate::{kinds, listing};
 use mr_ask::{Argument, Cursor, KeyAsk, KindName, Words};
-use mr_data::{Dataset, Given, Plan};
-use mr_turn::{Effects, count, integer, look, push_dels};
+use mr_data::{Dataset, Effect, Given, Plan};
+use mr_turn::{Effects, count, done, integer, look, push_dels};
 use std::alloc::{AllocError, Global};
 
 /// What a command on keys is answered, and its effects. The dataset isn't changed, and the plan owns what it holds.
@@ -56,6 +58,9 @@ fn planned(
             kind,
         } => scan(alloc, held, *cursor, pattern, *kind, given),
         KeyAsk::CountKeys => key_count(alloc, held, given),
+        KeyAsk::Rename { from, to } => rename(alloc, held, from, to, given),
+        KeyAsk::RenameNew { from, to } => rename_new(alloc, held, from, to, given),
+        KeyAsk::Clear { .. } => clear(alloc, held, given),
     }
 }
 
@@ -141,4 +146,14 @@ fn key_count(alloc: Global, held: &Dataset, given: Given) -> Result<Plan, AllocE
 {
     let present = count_keys(held, given);
     Ok(Effects::new(alloc).into_plan(count(present)))
+}
+
+fn clear(alloc: Global, held: &Dataset, given: Given) -> Result<Plan, AllocError>
+    ensures { IfOk result (λ p. IsPlan (on_none cleared) given.now held.now (view p.reply) p.effects.items) }
+{
+    let mut effects = Effects::new(alloc);
+    if !held.is_empty() {
+        effects.push(Effect::Clear)?;
+    }
+    Ok(effects.into_plan(done()))
 }

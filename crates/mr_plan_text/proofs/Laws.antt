@@ -30,28 +30,12 @@ use Rattle.mr_turn.proofs.Maps.{put_same}
 use Rattle.mr_turn.proofs.Laws.{IsFaithfulTurn, kept_faithful, stays_faithful, if_faithful, by_turn, by_telling, keys_told}
 use Rattle.mr_plan_text.specs.Texts.{get_reply, length_reply, range_reply, found}
 use Rattle.mr_plan_text.specs.Setting.{plain, is_text, is_plain, put, allows, holds_other, set_turn, set_new_turn, get_and_set_turn, taken, get_and_delete_turn}
-use Rattle.mr_plan_text.specs.Commands.{command}
-
-same_bytes : (xs ys : List ℕ) → bytes_eq xs ys ≡ true → xs ≡ ys
-same_bytes xs ys h = search (rules, bytes_eq-Decides)
-
-bytes_itself : (xs : List ℕ) → bytes_eq xs xs ≡ true
-bytes_itself xs = search (rules, bytes_eq-Decides)
-
-is_this_text : (text : Bytes) (v : Value) → is_text text v ≡ true → v ≡ value.Text text
-is_this_text text (value.Text t) h = ap value.Text (same_bytes t text h)
-is_this_text text (value.Hash t) h = cc
-is_this_text text (value.List t) h = cc
-is_this_text text (value.Set t) h = cc
-is_this_text text (value.SortedSet t) h = cc
-
-plain_at : (text : Bytes) (v : Value) (d : Option ℤ) → is_none d && is_text text v ≡ true → record { value = v; deadline = d } ≡ plain text
-plain_at text v None h = ap (λ (x : Value). let e : Entry = record { value = x; deadline = None } in e) (is_this_text text v h)
-plain_at text v (Some d) h = cc
-
-plain_is : (text : Bytes) (o : Option Entry) → is_plain text o ≡ true → o ≡ Some (plain text)
-plain_is text None h = cc
-plain_is text (Some e) h = ap Some (plain_at text e.value e.deadline h)
+use Rattle.mr_ask.specs.Parts.{amount_number}
+use Rattle.mr_plan_text.specs.Changing.{append_turn, set_range_turn, increase_turn}
+use Rattle.mr_plan_text.specs.Commands.{command, HasNumber}
+use Rattle.mr_plan_text.proofs.SameTexts.{bytes_itself, plain_is}
+use Rattle.mr_plan_text.proofs.ChangingLaws.{append_faithful, set_range_faithful, increase_faithful}
+use Rattle.mr_plan_text.proofs.SettingAllLaws.{set_all_faithful, set_all_new_faithful}
 
 first : (a b : Bool) → a && b ≡ true → a ≡ true
 first true b h = refl
@@ -119,12 +103,17 @@ get_and_delete_faithful k m h = elim (get m k) as (λ o. get m k ≡ o → IsFai
 ] refl
 
 -- ---- each command
-pub texts_faithful : (c : TextAsk) (now : ℤ) (m : Dataset) → IsTrue (list_all fits (text_words c)) → IsFaithful (command c) now m
-texts_faithful (ask.Get k) now m h = by_telling k get_reply now m h
-texts_faithful (ask.Set k text when says) now m h = by_setting k text (set_turn k text when says) now m h (set_faithful k text when says)
-texts_faithful (ask.TextLength k) now m h = by_telling k length_reply now m h
-texts_faithful (ask.GetRange k a b) now m h = by_telling k (range_reply a b) now m h
-texts_faithful (ask.GetAll ks) now m h = keys_told ks (λ n. reply.array (trees_of (map (λ k. found (get n k)) ks))) now m h
-texts_faithful (ask.SetNew k text) now m h = by_setting k text (set_new_turn k text) now m h (set_new_faithful k text)
-texts_faithful (ask.GetAndSet k text) now m h = by_setting k text (get_and_set_turn k text) now m h (get_and_set_faithful k text)
-texts_faithful (ask.GetAndDelete k) now m h = by_turn k (get_and_delete_turn k) now m h (λ n. get_and_delete_faithful k n (first _ _ h))
+pub texts_faithful : (c : TextAsk) (now : ℤ) (m : Dataset) → IsTrue (list_all fits (text_words c)) → HasNumber c → IsFaithful (command c) now m
+texts_faithful (ask.Get k) now m h number = by_telling k get_reply now m h
+texts_faithful (ask.Set k text when says) now m h number = by_setting k text (set_turn k text when says) now m h (set_faithful k text when says)
+texts_faithful (ask.TextLength k) now m h number = by_telling k length_reply now m h
+texts_faithful (ask.GetRange k a b) now m h number = by_telling k (range_reply a b) now m h
+texts_faithful (ask.GetAll ks) now m h number = keys_told ks (λ n. reply.array (trees_of (map (λ k. found (get n k)) ks))) now m h
+texts_faithful (ask.SetNew k text) now m h number = by_setting k text (set_new_turn k text) now m h (set_new_faithful k text)
+texts_faithful (ask.GetAndSet k text) now m h number = by_setting k text (get_and_set_turn k text) now m h (get_and_set_faithful k text)
+texts_faithful (ask.GetAndDelete k) now m h number = by_turn k (get_and_delete_turn k) now m h (λ n. get_and_delete_faithful k n (first _ _ h))
+texts_faithful (ask.SetAll ps) now m h number = set_all_faithful ps now m h
+texts_faithful (ask.SetAllNew ps) now m h number = set_all_new_faithful ps now m h
+texts_faithful (ask.Append k more) now m h number = by_setting k more (append_turn k more) now m h (append_faithful k more)
+texts_faithful (ask.SetRange k offset part) now m h number = by_setting k part (set_range_turn k offset part) now m h (set_range_faithful k offset part)
+texts_faithful (ask.Increase k by) now m h number = by_turn k (increase_turn k (amount_number by)) now m h (λ n. increase_faithful k (amount_number by) n (first _ _ h) number)

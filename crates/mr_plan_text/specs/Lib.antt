@@ -1,3 +1,6 @@
 pub mod Texts
 pub mod Setting
+pub mod Changing
+pub mod SettingAll
+pub mod Finding
 pub mod Commands

@@ -1,15 +1,18 @@
 // The plan of a command on strings.
 ghost use Rattle.std.specs.Prelude.{◌≡◌, IfOk, IsTrue};
 ghost use Rattle.std.specs.List.{list_all};
+ghost use Rattle.mr_value.specs.Number.{is_i64};
 ghost use Rattle.mr_value.specs.Words.{fits};
 ghost use Rattle.mr_resp.specs.ReplyView.{view};
 ghost use Rattle.mr_ask.specs.Carried.{text_words};
 ghost use Rattle.mr_turn.specs.Commands.{IsPlan, IsFaithful, on_key, on_keys};
-ghost use Rattle.mr_plan_text.specs.Commands.{command};
+ghost use Rattle.mr_plan_text.specs.Commands.{command, HasNumber};
 ghost use Rattle.mr_plan_text.specs.Texts.{get_turn, length_turn, range_turn, texts};
 ghost use Rattle.mr_plan_text.specs.Setting.{set_turn, set_new_turn, get_and_set_turn, get_and_delete_turn};
+ghost use Rattle.mr_plan_text.specs.Changing.{append_turn, set_range_turn, increase_turn};
 
-use crate::{setting, texts};
+use crate::setting_all::{set_all, set_all_new};
+use crate::{changing, setting, texts};
 use mr_ask::{Argument, SetCondition, SetReply, TextAsk, Words};
 use mr_data::{Dataset, Given, Plan};
 use mr_turn::{Effects, look, push_dels};
@@ -40,7 +43,8 @@ fn planned(
     ask: &TextAsk<'_, '_>,
     given: Given,
 ) -> Result<Plan, AllocError>
-    ensures { IfOk result (λ p. IsPlan (command ask.now) given.now held.now (view p.reply) p.effects.items) }
+    ensures number { HasNumber ask.now }
+    ensures plan { IfOk result (λ p. IsPlan (command ask.now) given.now held.now (view p.reply) p.effects.items) }
 {
     match ask {
         TextAsk::Get { key } => get(alloc, held, key, given),
@@ -56,6 +60,13 @@ fn planned(
         TextAsk::SetNew { key, value } => set_new(alloc, held, key, value, given),
         TextAsk::GetAndSet { key, value } => get_and_set(alloc, held, key, value, given),
         TextAsk::GetAndDelete { key } => get_and_delete(alloc, held, key, given),
+        TextAsk::SetAll { pairs } => set_all(alloc, held, pairs, given),
+        TextAsk::SetAllNew { pairs } => set_all_new(alloc, held, pairs, given),
+        TextAsk::Append { key, value } => append(alloc, held, key, value, given),
+        TextAsk::SetRange { key, offset, value } => {
+            set_range(alloc, held, key, *offset, value, given)
+        }
+        TextAsk::Increase { key, by } => increase(alloc, held, key, by.number(), given),
     }
 }
 
@@ -170,5 +181,52 @@ fn get_and_delete(
     let mut effects = Effects::new(alloc);
     let seen = look(alloc, held, key, given, &mut effects)?;
     let reply = setting::get_and_delete(alloc, key, seen, &mut effects)?;
+    Ok(effects.into_plan(reply))
+}
+
+fn append(
+    alloc: Global,
+    held: &Dataset,
+    key: &Argument<'_>,
+    more: &Argument<'_>,
+    given: Given,
+) -> Result<Plan, AllocError>
+    ensures { IfOk result (λ p. IsPlan (on_key key.now (append_turn key.now more.now)) given.now held.now (view p.reply) p.effects.items) }
+{
+    let mut effects = Effects::new(alloc);
+    let seen = look(alloc, held, key, given, &mut effects)?;
+    let reply = changing::append(alloc, key, more, seen, &mut effects)?;
+    Ok(effects.into_plan(reply))
+}
+
+fn set_range(
+    alloc: Global,
+    held: &Dataset,
+    key: &Argument<'_>,
+    offset: usize,
+    part: &Argument<'_>,
+    given: Given,
+) -> Result<Plan, AllocError>
+    ensures { IfOk result (λ p. IsPlan (on_key key.now (set_range_turn key.now offset part.now)) given.now held.now (view p.reply) p.effects.items) }
+{
+    let mut effects = Effects::new(alloc);
+    let seen = look(alloc, held, key, given, &mut effects)?;
+    let reply = changing::set_range(alloc, key, offset, part, seen, &mut effects)?;
+    Ok(effects.into_plan(reply))
+}
+
+fn increase(
+    alloc: Global,
+    held: &Dataset,
+    key: &Argument<'_>,
+    by: i64,
+    given: Given,
+) -> Result<Plan, AllocError>
+    ensures number { IsTrue (is_i64 by) }
+    ensures plan { IfOk result (λ p. IsPlan (on_key key.now (increase_turn key.now by)) given.now held.now (view p.reply) p.effects.items) }
+{
+    let mut effects = Effects::new(alloc);
+    let seen = look(alloc, held, key, given, &mut effects)?;
+    let reply = changing::increase(alloc, key, by, seen, &mut effects)?;
     Ok(effects.into_plan(reply))
 }

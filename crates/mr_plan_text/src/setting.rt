@@ -185,8 +185,8 @@ fn is_other(value: &Value) -> bool
     }
 }
 
-// Whether the entry is this text already, without a deadline.
-fn is_plain(text: &[u8], seen: Option<&Entry>) -> bool
+/// Whether the entry is this text already, without a deadline.
+pub fn is_plain(text: &[u8], seen: Option<&Entry>) -> bool
     ensures { result ≡ is_plain text.now (option_copied seen.entry) }
 {
     let Some(entry) = seen else {

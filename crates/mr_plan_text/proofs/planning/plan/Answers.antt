@@ -2,4 +2,4 @@ use Rattle.mr_plan_text.proofs.Laws.{texts_faithful}
 use Rattle.mr_plan_text.proofs.planning.plan.Goals as goal
 
 pub returns-clause-faithful : goal.returns-clause-faithful
-returns-clause-faithful c = texts_faithful c.args.ask.now c.args.given.now c.args.held.now
+returns-clause-faithful c = λ fit. texts_faithful c.args.ask.now c.args.given.now c.args.held.now fit c.planned.ensures.number

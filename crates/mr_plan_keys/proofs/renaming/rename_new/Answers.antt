@@ -1,0 +1,13 @@
+use Rattle.std.proofs.Common.{option_copied, ap, ◌∙◌, sym}
+use Rattle.mr_plan_keys.specs.Renaming.{renamed_new}
+use Rattle.mr_plan_keys.proofs.Renamings.{both_plan}
+use Rattle.mr_plan_keys.proofs.renaming.rename_new.Goals as goal
+
+pub returns : goal.returns
+returns c =
+    let from = c.args.from.now in
+    let to = c.args.to.now in
+    let m = c.args.held.now in
+    rw c.into_plan.ensures.reply (both_plan c.args.given.now from to m (renamed_new from to) _ _ _ _ _ _ _
+    c.in_ok-source.ensures.source c.in_ok-source.ensures.target c.new-effects.ensures c.in_ok-source.ensures.past c.into_plan.ensures.effects
+    c.in_ok-reply.ensures)
