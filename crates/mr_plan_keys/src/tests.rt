@@ -202,3 +202,81 @@ fn an_empty_dataset_has_no_keys(rt: HostRuntime) -> Result<(), Fail> {
         ],
     )
 }
+
+#[test]
+fn keys_are_renamed(rt: HostRuntime) -> Result<(), Fail> {
+    let alloc = rt.alloc();
+    let held = with_keys(&rt)?;
+    all_answered(
+        &rt,
+        alloc,
+        held,
+        &[
+            ("RENAME x y", "-ERR no such key\r\n"),
+            ("RENAME a a", "+OK\r\n"),
+            (
+                "RENAME a b",
+                "+OK\r\n*3\r\n$6\r\nRENAME\r\n$1\r\na\r\n$1\r\nb\r\n",
+            ),
+            ("EXISTS a b", ":1\r\n"),
+            (
+                "RENAME l ab",
+                "+OK\r\n*3\r\n$6\r\nRENAME\r\n$1\r\nl\r\n$2\r\nab\r\n",
+            ),
+            ("TYPE ab", "+list\r\n"),
+        ],
+    )
+}
+
+#[test]
+fn keys_are_renamed_to_new_names(rt: HostRuntime) -> Result<(), Fail> {
+    let alloc = rt.alloc();
+    let held = with_keys(&rt)?;
+    all_answered(
+        &rt,
+        alloc,
+        held,
+        &[
+            ("RENAMENX x a", "-ERR no such key\r\n"),
+            ("RENAMENX a b", ":0\r\n"),
+            ("RENAMENX a a", ":0\r\n"),
+            (
+                "RENAMENX a c",
+                ":1\r\n*3\r\n$6\r\nRENAME\r\n$1\r\na\r\n$1\r\nc\r\n",
+            ),
+            ("EXISTS a c", ":1\r\n"),
+        ],
+    )
+}
+
+#[test]
+fn all_keys_are_deleted(rt: HostRuntime) -> Result<(), Fail> {
+    let alloc = rt.alloc();
+    let held = with_keys(&rt)?;
+    all_answered(
+        &rt,
+        alloc,
+        held,
+        &[
+            ("FLUSHALL", "+OK\r\n*1\r\n$8\r\nFLUSHALL\r\n"),
+            ("DBSIZE", ":0\r\n"),
+            ("FLUSHALL SYNC", "+OK\r\n"),
+            ("FLUSHDB ASYNC", "+OK\r\n"),
+        ],
+    )
+}
+
+#[test]
+fn the_one_database_is_cleared(rt: HostRuntime) -> Result<(), Fail> {
+    let alloc = rt.alloc();
+    let held = with_list(&rt)?;
+    all_answered(
+        &rt,
+        alloc,
+        held,
+        &[
+            ("FLUSHDB", "+OK\r\n*1\r\n$8\r\nFLUSHALL\r\n"),
+            ("DBSIZE", ":0\r\n"),
+        ],
+    )
+}

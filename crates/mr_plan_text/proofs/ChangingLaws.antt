@@ -1,5 +1,5 @@
 -- The effects of commands that change a text where it is are faithful.
-use Rattle.std.proofs.Common.{ℕ, ℤ, pos, ◌≡◌, ◌≤◌, ◌<◌, ◌+◌, ◌^◌, List, [], ◌∷◌, ◌++◌, length, Bool, true, false, ◌&&◌, Option, Some, None, refl, sym, ◌∙◌, ap, arith}
+use Rattle.std.proofs.Common.{ℕ, ℤ, pos, ◌≡◌, ◌≤◌, ◌<◌, ◌+◌, ◌^◌, List, [], ◌∷◌, ◌++◌, length, true, false, ◌&&◌, Option, Some, None, refl, sym, ◌∙◌, ap, arith}
 use Rattle.std.specs.Prelude.{◌+ℤ◌, ◌==◌, codes, int_le, if◌then◌else◌}
 use Rattle.std.specs.Option.{option_map, option_and_then}
 use Rattle.std.specs.FinMap.{get}
@@ -22,9 +22,9 @@ use Rattle.mr_data.specs.Meaning.{apply, change, apply_all}
 use Rattle.mr_data.specs.declared.value.Value.TheVariants as value
 use Rattle.mr_data.specs.declared.value.Entry.{Entry}
 use Rattle.mr_turn.proofs.Maps.{put_same}
-use Rattle.mr_turn.proofs.Running.{IsStep, one_step}
+use Rattle.mr_turn.proofs.Running.{one_step}
 use Rattle.mr_turn.proofs.Laws.{IsFaithfulTurn, stays_faithful}
-use Rattle.mr_plan_text.specs.Changing.{holds, rewritten, length_of, too_long, lengthened, appended, append_turn, put_over, set_range_turn, no_integer, overflow, set_number, increase_from, increase_text, increase_turn}
+use Rattle.mr_plan_text.specs.Changing.{holds, rewritten, length_of, too_long, lengthened, appended, append_turn, put_over, set_range_turn, overflow, increase_from, increase_text, increase_turn}
 use Rattle.mr_plan_text.proofs.SameTexts.{is_this_text, bytes_itself, both}
 
 -- the entry with another text

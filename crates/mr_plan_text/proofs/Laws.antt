@@ -1,11 +1,9 @@
 -- The effects of commands on strings are faithful.
-use Rattle.std.proofs.Common.{rules, ℕ, ◌≡◌, List, [], ◌∷◌, Bool, true, false, ◌&&◌, Option, Some, None, refl, sym, ◌∙◌, ap}
+use Rattle.std.proofs.Common.{◌≡◌, List, [], ◌∷◌, Bool, true, false, ◌&&◌, Option, Some, None, refl, sym, ◌∙◌, ap}
 use Rattle.std.specs.Prelude.{IsTrue, is_none, if◌then◌else◌, ℤ, map}
 use Rattle.std.specs.List.{list_all}
 use Rattle.std.specs.Option.{option_and_then}
 use Rattle.std.specs.FinMap.{get}
-use Rattle.std.specs.Str.{bytes_eq}
-use Rattle.std.proofs.lemmas.Slice.Eq.{bytes_eq-Decides}
 use Rattle.mr_map.specs.Bytes.{Bytes}
 use Rattle.mr_value.specs.Words.{fits}
 use Rattle.mr_resp.specs.Replies as reply
@@ -29,7 +27,7 @@ use Rattle.mr_turn.specs.Commands.{IsFaithful, on_key}
 use Rattle.mr_turn.proofs.Maps.{put_same}
 use Rattle.mr_turn.proofs.Laws.{IsFaithfulTurn, kept_faithful, stays_faithful, if_faithful, by_turn, by_telling, keys_told}
 use Rattle.mr_plan_text.specs.Texts.{get_reply, length_reply, range_reply, found}
-use Rattle.mr_plan_text.specs.Setting.{plain, is_text, is_plain, put, allows, holds_other, set_turn, set_new_turn, get_and_set_turn, taken, get_and_delete_turn}
+use Rattle.mr_plan_text.specs.Setting.{plain, is_plain, put, allows, holds_other, set_turn, set_new_turn, get_and_set_turn, taken, get_and_delete_turn}
 use Rattle.mr_ask.specs.Parts.{amount_number}
 use Rattle.mr_plan_text.specs.Changing.{append_turn, set_range_turn, increase_turn}
 use Rattle.mr_plan_text.specs.Commands.{command, HasNumber}

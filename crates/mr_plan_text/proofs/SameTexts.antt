@@ -1,5 +1,5 @@
 -- Texts that are one.
-use Rattle.std.proofs.Common.{ℕ, ◌≡◌, List, Bool, true, false, ◌&&◌, refl, sym, ◌∙◌, ap, rules}
+use Rattle.std.proofs.Common.{ℕ, ◌≡◌, List, Bool, true, false, ◌&&◌, ap, rules}
 use Rattle.std.specs.Prelude.{ℤ, Option, Some, None, is_none}
 use Rattle.std.specs.Str.{bytes_eq}
 use Rattle.std.proofs.lemmas.Slice.Eq.{bytes_eq-Decides}

@@ -1,5 +1,5 @@
 -- The effects of commands that set texts at several keys are faithful.
-use Rattle.std.proofs.Common.{ℕ, ℤ, ◌≡◌, List, [], ◌∷◌, Bool, true, false, ◌&&◌, not, cond, Option, Some, None, refl, sym, ◌∙◌, ap, T}
+use Rattle.std.proofs.Common.{ℤ, ◌≡◌, List, [], ◌∷◌, Bool, true, false, ◌&&◌, not, cond, Option, Some, None, refl, sym, ◌∙◌, ap, T}
 use Rattle.std.specs.Prelude.{IsTrue, filter, if◌then◌else◌, pos}
 use Rattle.std.specs.List.{AllByRecursion, list_all}
 use Rattle.std.specs.Option.{option_and_then}
@@ -15,8 +15,6 @@ use Rattle.mr_value.specs.Words.{fits}
 use Rattle.mr_resp.specs.Replies as reply
 use Rattle.mr_resp.specs.Replies.{Tree}
 use Rattle.mr_effect.specs.Effects.{pair_fits}
-use Rattle.mr_effect.specs.declared.effect.Effect.{Effect}
-use Rattle.mr_effect.specs.declared.effect.Effect.TheVariants as effect
 use Rattle.mr_data.specs.Dataset.{Dataset}
 use Rattle.mr_data.specs.Collections.{with_fields}
 use Rattle.mr_data.specs.Meaning.{apply, change, apply_all, with_texts}

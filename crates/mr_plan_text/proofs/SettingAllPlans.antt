@@ -1,8 +1,8 @@
 -- The plans of commands that set texts at several keys.
-use Rattle.std.proofs.Common.{ℤ, pos, ◌≡◌, List, [], ◌∷◌, ◌++◌, Bool, true, false, ◌&&◌, not, cond, Option, Some, None, refl, sym, ◌∙◌, ap, subst}
+use Rattle.std.proofs.Common.{ℤ, pos, ◌≡◌, List, [], ◌∷◌, ◌++◌, Bool, true, false, not, cond, Option, Some, None, refl, sym, ◌∙◌, ap}
 use Rattle.std.specs.Prelude.{◌||◌, filter, is_some, if◌then◌else◌}
 use Rattle.std.specs.List.{AllByRecursion, list_any}
-use Rattle.std.specs.FinMap.{empty, get, insert, remove, entries, find, get-entries, get-empty, get-insert}
+use Rattle.std.specs.FinMap.{empty, get, insert, entries, find, get-entries, get-empty, get-insert}
 use Rattle.std.proofs.lemmas.Cmp.{nat_list_cmp_total}
 use Rattle.mr_map.specs.Bytes.{Bytes, ByteMap, bytes_cmp}
 use Rattle.mr_resp.specs.Replies as reply

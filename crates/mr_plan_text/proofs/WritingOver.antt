@@ -1,5 +1,5 @@
 -- Texts that are written over, and numbers that are added to.
-use Rattle.std.proofs.Common.{ℕ, ℤ, pos, ◌≡◌, ◌≤◌, ◌<◌, ◌+◌, ◌-◌, ◌^◌, List, [], ◌∷◌, ◌++◌, length, take, drop, replicate, append_assoc, length-append, length-take, length-drop, Bool, true, false, ◌&&◌, Option, Some, None, FitsSigned, w64, refl, sym, ◌∙◌, ap, subst, arith}
+use Rattle.std.proofs.Common.{ℕ, ℤ, pos, ◌≡◌, ◌≤◌, ◌<◌, ◌+◌, ◌-◌, ◌^◌, List, [], ◌∷◌, ◌++◌, length, take, drop, replicate, length-append, length-take, length-drop, Bool, true, false, ◌&&◌, Option, Some, None, FitsSigned, w64, refl, sym, ◌∙◌, ap, subst, arith}
 use Rattle.std.specs.Prelude.{◌+ℤ◌, ◌==◌, codes, is_some, slice_range, if◌then◌else◌}
 use Rattle.std.specs.Fmt.{signed_decimal}
 use Rattle.std.specs.Ordering.{int_eq}
@@ -10,7 +10,7 @@ use Rattle.std.proofs.lemmas.List.Folds.{drop_split}
 use Rattle.mr_map.specs.Bytes.{Bytes}
 use Rattle.mr_value.specs.Number.{is_i64, number_of}
 use Rattle.mr_value.specs.Texts.{overwritten}
-use Rattle.mr_value.specs.Words.{fits, word_limit}
+use Rattle.mr_value.specs.Words.{fits}
 use Rattle.std.proofs.lemmas.Int.{ints}
 use Rattle.mr_value.proofs.Numbers.{number_of-signed_decimal}
 use Rattle.mr_value.proofs.Texts.{ends_within}
@@ -25,7 +25,7 @@ use Rattle.mr_data.specs.declared.value.Entry.{Entry}
 use Rattle.mr_turn.specs.Turns.{Takes}
 use Rattle.mr_turn.proofs.PlanLemmas.{told}
 use Rattle.mr_plan_text.specs.Setting.{is_text}
-use Rattle.mr_plan_text.specs.Changing.{holds, rewritten, length_of, too_long, lengthened, put_over, set_range_turn, overflow, set_number, increase_from, increase_text, increase_turn}
+use Rattle.mr_plan_text.specs.Changing.{holds, rewritten, length_of, too_long, lengthened, put_over, set_range_turn, overflow, increase_from, increase_text, increase_turn}
 use Rattle.mr_plan_text.proofs.SameTexts.{same_bytes, bytes_itself}
 
 -- ---- how long a text is that is written over
@@ -64,7 +64,7 @@ part_there t v offset h =
     same_tests _ _
     (λ a. let same : t ≡ overwritten offset v t = whole t v offset ∙ ap (λ xs. take offset t ++ (xs ++ rest)) (same_bytes s v a) ∙ sym (inside t v offset h) in ap (bytes_eq t) (sym same) ∙ bytes_itself t)
     (λ b. let same : s ++ rest ≡ v ++ rest = append_cancel_left (take offset t) (s ++ rest) (v ++ rest) (sym (whole t v offset) ∙ same_bytes t (overwritten offset v t) b ∙ inside t v offset h) in
-        ap (bytes_eq s) (sym (append_cancel_right s v rest same)) ∙ bytes_itself s)
+    ap (bytes_eq s) (sym (append_cancel_right s v rest same)) ∙ bytes_itself s)
 
 pub part_behind : (t v : List ℕ) (offset : ℕ) → length t < offset + length v → false ≡ bytes_eq t (overwritten offset v t)
 part_behind t v offset h = elim (bytes_eq t (overwritten offset v t)) as (λ b. bytes_eq t (overwritten offset v t) ≡ b → false ≡ b) [

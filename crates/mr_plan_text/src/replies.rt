@@ -17,16 +17,12 @@ pub fn too_long() -> Reply
 pub fn no_integer() -> Reply
     ensures { view result ≡ no_integer }
 {
-    Reply::Error(CowSlice::Borrowed(
-        b"ERR value is not an integer or out of range",
-    ))
+    Reply::Error(CowSlice::Borrowed(b"ERR value is not an integer or out of range"))
 }
 
 /// The sum is outside 64 bits.
 pub fn overflow() -> Reply
     ensures { view result ≡ overflow }
 {
-    Reply::Error(CowSlice::Borrowed(
-        b"ERR increment or decrement would overflow",
-    ))
+    Reply::Error(CowSlice::Borrowed(b"ERR increment or decrement would overflow"))
 }

@@ -121,10 +121,7 @@ fn find_any(held: &Dataset, pairs: &Pairs<'_, '_>, given: Given) -> (bool, bool)
 }
 
 // All keys with their texts.
-fn copied(
-    alloc: Global,
-    values: &SliceMap<'_, Argument<'_>>,
-) -> Result<Texts<'static>, AllocError>
+fn copied(alloc: Global, values: &SliceMap<'_, Argument<'_>>) -> Result<Texts<'static>, AllocError>
     ensures { IfOk result (λ texts. texts ≡ entries values.now) }
 {
     let mut texts = Texts::new(alloc);

@@ -217,3 +217,171 @@ fn texts_are_exchanged(rt: HostRuntime) -> Result<(), Fail> {
         ],
     )
 }
+
+#[test]
+fn several_texts_are_set(rt: HostRuntime) -> Result<(), Fail> {
+    let alloc = rt.alloc();
+    let held = Dataset::new(alloc, RandomState::new(&rt)?);
+    all_answered(
+        &rt,
+        alloc,
+        held,
+        &[
+            (
+                "MSET b 1 a 2 b 3",
+                "+OK\r\n*5\r\n$4\r\nMSET\r\n$1\r\na\r\n$1\r\n2\r\n$1\r\nb\r\n$1\r\n3\r\n",
+            ),
+            ("MSET b 3 a 2", "+OK\r\n"),
+            (
+                "MSET a 2 c 4",
+                "+OK\r\n*3\r\n$4\r\nMSET\r\n$1\r\nc\r\n$1\r\n4\r\n",
+            ),
+            ("MSETNX d 1 a 5", ":0\r\n"),
+            (
+                "MSETNX e 1 d 1",
+                ":1\r\n*5\r\n$4\r\nMSET\r\n$1\r\nd\r\n$1\r\n1\r\n$1\r\ne\r\n$1\r\n1\r\n",
+            ),
+            (
+                "MGET a b c d",
+                "*4\r\n$1\r\n2\r\n$1\r\n3\r\n$1\r\n4\r\n$1\r\n1\r\n",
+            ),
+        ],
+    )
+}
+
+#[test]
+fn texts_get_longer(rt: HostRuntime) -> Result<(), Fail> {
+    let alloc = rt.alloc();
+    let held = Dataset::new(alloc, RandomState::new(&rt)?);
+    all_answered(
+        &rt,
+        alloc,
+        held,
+        &[
+            (
+                "APPEND k ",
+                ":0\r\n*3\r\n$6\r\nAPPEND\r\n$1\r\nk\r\n$0\r\n\r\n",
+            ),
+            ("APPEND k ", ":0\r\n"),
+            (
+                "APPEND k ab",
+                ":2\r\n*3\r\n$6\r\nAPPEND\r\n$1\r\nk\r\n$2\r\nab\r\n",
+            ),
+            (
+                "APPEND k c",
+                ":3\r\n*3\r\n$6\r\nAPPEND\r\n$1\r\nk\r\n$1\r\nc\r\n",
+            ),
+            ("GET k", "$3\r\nabc\r\n"),
+        ],
+    )
+}
+
+#[test]
+fn texts_are_written_over(rt: HostRuntime) -> Result<(), Fail> {
+    let alloc = rt.alloc();
+    let held = Dataset::new(alloc, RandomState::new(&rt)?);
+    all_answered(
+        &rt,
+        alloc,
+        held,
+        &[
+            ("SETRANGE k 3 ", ":0\r\n"),
+            ("GET k", "$-1\r\n"),
+            (
+                "SETRANGE k 1 ab",
+                ":3\r\n*4\r\n$8\r\nSETRANGE\r\n$1\r\nk\r\n$1\r\n1\r\n$2\r\nab\r\n",
+            ),
+            ("GET k", "$3\r\n\0ab\r\n"),
+            ("SETRANGE k 1 ab", ":3\r\n"),
+            (
+                "SETRANGE k 2 x",
+                ":3\r\n*4\r\n$8\r\nSETRANGE\r\n$1\r\nk\r\n$1\r\n2\r\n$1\r\nx\r\n",
+            ),
+            ("SETRANGE k 9 ", ":3\r\n"),
+            ("SETRANGE k 16777216 x", "-ERR string too long\r\n"),
+            ("GETRANGE k 1 -1", "$2\r\nax\r\n"),
+        ],
+    )
+}
+
+#[test]
+fn numbers_are_added_to(rt: HostRuntime) -> Result<(), Fail> {
+    let alloc = rt.alloc();
+    let held = Dataset::new(alloc, RandomState::new(&rt)?);
+    all_answered(
+        &rt,
+        alloc,
+        held,
+        &[
+            (
+                "INCR k",
+                ":1\r\n*3\r\n$6\r\nINCRBY\r\n$1\r\nk\r\n$1\r\n1\r\n",
+            ),
+            (
+                "DECR k",
+                ":0\r\n*3\r\n$6\r\nINCRBY\r\n$1\r\nk\r\n$2\r\n-1\r\n",
+            ),
+            (
+                "INCRBY k 5",
+                ":5\r\n*3\r\n$6\r\nINCRBY\r\n$1\r\nk\r\n$1\r\n5\r\n",
+            ),
+            (
+                "DECRBY k 7",
+                ":-2\r\n*3\r\n$6\r\nINCRBY\r\n$1\r\nk\r\n$2\r\n-7\r\n",
+            ),
+            ("INCRBY k 0", ":-2\r\n"),
+            (
+                "INCRBY x 0",
+                ":0\r\n*3\r\n$6\r\nINCRBY\r\n$1\r\nx\r\n$1\r\n0\r\n",
+            ),
+            ("MGET k x", "*2\r\n$2\r\n-2\r\n$1\r\n0\r\n"),
+        ],
+    )
+}
+
+#[test]
+fn what_is_no_number_stays(rt: HostRuntime) -> Result<(), Fail> {
+    let alloc = rt.alloc();
+    let held = Dataset::new(alloc, RandomState::new(&rt)?);
+    all_answered(
+        &rt,
+        alloc,
+        held,
+        &[
+            (
+                "SET k 01",
+                "+OK\r\n*3\r\n$3\r\nSET\r\n$1\r\nk\r\n$2\r\n01\r\n",
+            ),
+            ("INCR k", "-ERR value is not an integer or out of range\r\n"),
+            (
+                "SET k 9223372036854775807",
+                "+OK\r\n*3\r\n$3\r\nSET\r\n$1\r\nk\r\n$19\r\n9223372036854775807\r\n",
+            ),
+            ("INCR k", "-ERR increment or decrement would overflow\r\n"),
+            ("GET k", "$19\r\n9223372036854775807\r\n"),
+        ],
+    )
+}
+
+#[test]
+fn another_kind_is_changed_by_mset_alone(rt: HostRuntime) -> Result<(), Fail> {
+    let alloc = rt.alloc();
+    let held = with_list(&rt)?;
+    all_answered(
+        &rt,
+        alloc,
+        held,
+        &[
+            ("APPEND l v", WRONG_KIND),
+            ("SETRANGE l 0 v", WRONG_KIND),
+            ("SETRANGE l 0 ", WRONG_KIND),
+            ("INCR l", WRONG_KIND),
+            ("MSETNX x v l v", ":0\r\n"),
+            (
+                "MSET l v",
+                "+OK\r\n*3\r\n$4\r\nMSET\r\n$1\r\nl\r\n$1\r\nv\r\n",
+            ),
+            ("GET l", "$1\r\nv\r\n"),
+        ],
+    )
+}

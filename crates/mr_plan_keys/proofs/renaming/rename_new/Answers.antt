@@ -1,4 +1,3 @@
-use Rattle.std.proofs.Common.{option_copied, ap, ◌∙◌, sym}
 use Rattle.mr_plan_keys.specs.Renaming.{renamed_new}
 use Rattle.mr_plan_keys.proofs.Renamings.{both_plan}
 use Rattle.mr_plan_keys.proofs.renaming.rename_new.Goals as goal

@@ -1,4 +1,4 @@
-use Rattle.std.proofs.Common.{◌≡◌, ◌∙◌, ◌++◌, ◌∷◌, [], ◌&&◌, ℤ, pos, false, Some, option_copied, FitsSigned, w64, rules, ap}
+use Rattle.std.proofs.Common.{◌≡◌, ◌∙◌, ◌++◌, ◌∷◌, [], ◌&&◌, pos, false, Some, option_copied, FitsSigned, w64, rules, ap}
 use Rattle.std.specs.Prelude.{◌+ℤ◌, codes, is_some}
 use Rattle.std.specs.Ordering.{int_eq}
 use Rattle.std.proofs.lemmas.Int.{to_z-of_z}

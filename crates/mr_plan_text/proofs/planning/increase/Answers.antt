@@ -1,8 +1,5 @@
-use Rattle.std.proofs.Common.{ap, subst, to_z, of_z, w64, ℤ}
-use Rattle.std.specs.Option.{option_copied}
+use Rattle.std.proofs.Common.{w64}
 use Rattle.std.proofs.lemmas.Int.{to_z-of_z}
-use Rattle.mr_resp.specs.ReplyView.{view}
-use Rattle.mr_turn.specs.Turns.{Takes}
 use Rattle.mr_turn.proofs.PlanLemmas.{key_plan}
 use Rattle.mr_plan_text.specs.Changing.{increase_turn}
 use Rattle.mr_plan_text.proofs.planning.increase.Goals as goal

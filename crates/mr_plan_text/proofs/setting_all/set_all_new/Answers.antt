@@ -1,4 +1,4 @@
-use Rattle.std.proofs.Common.{◌≡◌, ◌∙◌, ◌++◌, ap, sym, false, rules}
+use Rattle.std.proofs.Common.{◌≡◌, ◌∙◌, ◌++◌, ap, sym, rules}
 use Rattle.std.specs.FinMap.{entries}
 use Rattle.mr_turn.specs.Keys.{dels, past}
 use Rattle.mr_plan_text.specs.SettingAll.{names, last_texts, set_effects}
