@@ -114,6 +114,8 @@ fn names_in_order(rt: HostRuntime) -> Result<(), Fail> {
         assert_eq!(rt; map.insert(key, value)?, None);
     }
     assert_eq!(rt; map.insert(b"ab", 12)?, Some(2));
+    assert_eq!(rt; map.get(b"ab").copied(), Some(12));
+    assert!(rt; map.get(b"abc").is_none());
     assert_eq!(rt; map.len(), 5);
     assert_eq!(rt; map.iter().count(), 5);
     for (place, (key, value)) in map.iter().enumerate() {

@@ -1,12 +1,11 @@
 -- The effects of commands that change a sorted set are faithful.
 use Rattle.std.proofs.Common.{◌≡◌, ◌≢◌, ℤ, List, [], ◌∷◌, ◌++◌, map, Bool, true, false, ◌&&◌, cond, Option, Some, None, refl, sym, ◌∙◌, ap}
-use Rattle.std.specs.Prelude.{IsTrue, ◌==◌, is_some, if◌then◌else◌}
-use Rattle.std.specs.List.{AllByRecursion, list_all}
+use Rattle.std.specs.Prelude.{IsTrue, ◌==◌, is_some}
+use Rattle.std.specs.List.{list_all}
 use Rattle.std.specs.FinMap.{get, empty, insert, len, get-empty, get-insert}
 use Rattle.std.proofs.lemmas.Cmp.{nat_list_cmp_total}
 use Rattle.mr_map.specs.Bytes.{Bytes, bytes_cmp}
 use Rattle.mr_value.specs.Words.{fits}
-use Rattle.mr_zset.specs.Score.{is_score}
 use Rattle.mr_resp.specs.Replies.{Tree}
 use Rattle.mr_effect.specs.Effects.{is_some_of, member_fits, has_score}
 use Rattle.mr_effect.specs.declared.effect.Effect.{Effect}

@@ -1,5 +1,5 @@
 -- The law of faithful effects for each command on sorted sets.
-use Rattle.std.proofs.Common.{◌≡◌, ℤ, ◌+ℤ◌, List, [], ◌∷◌, Bool, true, false, ◌&&◌, Option, Some, None, refl}
+use Rattle.std.proofs.Common.{◌≡◌, ℤ, ◌+ℤ◌, List, [], ◌∷◌, true, false, Option, Some, refl}
 use Rattle.std.specs.Prelude.{IsTrue, if◌then◌else◌}
 use Rattle.std.specs.List.{list_all}
 use Rattle.std.specs.FinMap.{get, insert, len}
@@ -25,7 +25,7 @@ use Rattle.mr_turn.proofs.Changing.{IsFaithfulChange, telling_faithful}
 use Rattle.mr_plan_zset.specs.Scores.{Scores, score_reply, unchanged, set_to}
 use Rattle.mr_plan_zset.specs.Adding.{is_set, with_pair, with_pairs, add_scores, increase_score, set_score, out_of_range, score_or_0}
 use Rattle.mr_plan_zset.specs.Removing.{members_of as names_of, taken, remove_members, take_pairs, remove_ranks, remove_scores}
-use Rattle.mr_plan_zset.specs.Commands.{key_of, turn, command, HasScores}
+use Rattle.mr_plan_zset.specs.Commands.{command, HasScores}
 use Rattle.mr_plan_zset.proofs.Changes.{both, left, right, AreKept, IsGrown, is_kept, insert_kept, insert_grown, set_faithful, reduced_faithful, unchanged_faithful, changing_set}
 
 -- ---- pairs one after another

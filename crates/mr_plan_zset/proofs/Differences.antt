@@ -9,7 +9,7 @@ use Rattle.std.proofs.lemmas.Cmp.{nat_list_cmp_total}
 use Rattle.mr_map.specs.Bytes.{Bytes, bytes_cmp}
 use Rattle.mr_data.specs.Collections.{with_scores, without_scores}
 use Rattle.mr_turn.specs.Taken.{is_key, has}
-use Rattle.mr_turn.proofs.Maps.{is_key_itself, same_key}
+use Rattle.mr_turn.proofs.Maps.{same_key}
 use Rattle.mr_plan_zset.specs.Scores.{Scores, is_same, changed, changed_alone, lost, over}
 use Rattle.mr_plan_zset.proofs.Entries.{own_entries, entries_retained, all_map, all_true}
 use Rattle.mr_plan_zset.proofs.Maps.{same_score, same_itself, or_else, get_over, same_scores, get_without, get_retained, has_keys, no_entries, retained_none}
@@ -100,6 +100,7 @@ get_only x q a (Some z) = elim (is_same a (Some z)) as (λ c. get (if c then emp
   | true ↦ get-empty bytes_cmp q ∙ sym (cond_none (is_key q x))
   | false ↦ get-insert nat_list_cmp_total empty x z q ∙ ap (cond (is_key q x) (Some z)) (get-empty bytes_cmp q)
 ]
+
 pub changed_one : (s t : Scores) (x : Bytes) → ((q : Bytes) → is_key q x ≡ false → get t q ≡ get s q) → changed s t ≡ changed_alone x (get s x) (get t x)
 changed_one s t x others = ap entries (same_scores _ _ (λ q.
     get_retained t (differs s t) q

@@ -1,6 +1,6 @@
 -- Entries of maps: their keys are apart, and each is what its key has.
-use Rattle.std.proofs.Common.{◌≡◌, List, [], ◌∷◌, Bool, true, false, ◌&&◌, cond, Option, Some, None, refl, sym, ◌∙◌, ap, T}
-use Rattle.std.specs.Prelude.{filter, IsTrue}
+use Rattle.std.proofs.Common.{◌≡◌, List, [], ◌∷◌, Bool, true, false, ◌&&◌, cond, Some, None, refl, sym, ◌∙◌, ap, T}
+use Rattle.std.specs.Prelude.{filter}
 use Rattle.std.specs.List.{AllByRecursion, list_all}
 use Rattle.std.specs.Ordering.{is_eq, is_lt, ordering_reverse}
 use Rattle.std.specs.declared.cmp.Ordering.{Ordering}
@@ -77,6 +77,6 @@ module _ {X : Type 0} where
       let es = where_key bytes_cmp p (entries m) in
       let sorted = is_sorted-where_key bytes_cmp p (entries m) (entries_sorted m) in
       ap entries (same_map nat_list_cmp_total exact_bytes (retain_keys m p) (from_sorted es) (λ q.
-          get-retain_keys m p q (alike q) ∙ ap (λ o. cond (p q) o None) (get-entries m q)
-          ∙ sym (get-from_sorted bytes_cmp es q sorted ∙ find-where_key bytes_cmp p q (alike q) (entries m))))
+      get-retain_keys m p q (alike q) ∙ ap (λ o. cond (p q) o None) (get-entries m q)
+      ∙ sym (get-from_sorted bytes_cmp es q sorted ∙ find-where_key bytes_cmp p q (alike q) (entries m))))
       ∙ entries-from_sorted bytes_cmp es sorted

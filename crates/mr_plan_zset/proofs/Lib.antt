@@ -10,3 +10,4 @@ pub mod Firsts
 pub mod RangeLemmas
 pub mod Changes
 pub mod CommandLaws
+pub mod PlaceLemmas

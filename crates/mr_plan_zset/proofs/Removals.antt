@@ -1,13 +1,13 @@
 -- Members that go.
-use Rattle.std.proofs.Common.{ℕ, zero, suc, ℤ, ◌≡◌, ◌+◌, ◌-◌, ◌<◌, List, [], ◌∷◌, ◌++◌, map, length, take, drop, reverse, get_or, Bool, true, false, ◌&&◌, not, cond, Option, Some, None, refl, sym, ◌∙◌, ap, subst, arith}
+use Rattle.std.proofs.Common.{ℕ, zero, suc, ℤ, ◌≡◌, ◌+◌, ◌<◌, List, [], ◌∷◌, ◌++◌, map, length, take, drop, reverse, get_or, Bool, true, false, ◌&&◌, not, cond, Option, Some, None, refl, sym, ◌∙◌, ap, subst}
 use Rattle.std.proofs.lemmas.Grind.{reverse_onto}
-use Rattle.std.specs.Prelude.{◌||◌, is_some, filter, if◌then◌else◌, slice_range}
+use Rattle.std.specs.Prelude.{◌||◌, is_some, filter, if◌then◌else◌}
 use Rattle.std.specs.List.{AllByRecursion}
 use Rattle.std.specs.Ordering.{is_lt}
 use Rattle.std.specs.FinMap.{get, empty, insert, keys, len, entries, contains_key, retain_keys, get-empty, get-insert, len-entries}
 use Rattle.std.proofs.lemmas.List.{length-map}
 use Rattle.std.proofs.lemmas.Cmp.{nat_list_cmp_total}
-use Rattle.mr_map.specs.Bytes.{Bytes, ByteMap, bytes_cmp, HaveSameKeys}
+use Rattle.mr_map.specs.Bytes.{Bytes, ByteMap, bytes_cmp}
 use Rattle.mr_map.proofs.Domains.{same_keys}
 use Rattle.mr_value.specs.Window.{windowed}
 use Rattle.mr_resp.specs.Replies.{Tree}

@@ -1,5 +1,5 @@
 -- The commands on sorted sets. Each names one key.
-use Rattle.std.specs.Prelude.{List, IsTrue, Option}
+use Rattle.std.specs.Prelude.{IsTrue, Option}
 use Rattle.std.specs.List.{list_all}
 use Rattle.mr_map.specs.Bytes.{Bytes}
 use Rattle.mr_data.specs.Steps.{sorted_sets}

@@ -51,10 +51,14 @@ abbrev pub counted_from : Order → ℕ → ℕ → ℕ
 counted_from Ascending count place = place
 counted_from Descending count place = count - 1 - place
 
+-- a member's place in an order
+abbrev pub place_of : Order → Bytes → Scores → Option ℕ
+place_of order member scores = option_map (counted_from order (len scores)) (rank_of scores member)
+
 -- the place, or nil
 abbrev pub place_reply : Option ℕ → Tree
 place_reply None = reply.null_bulk
 place_reply (Some place) = number place
 
 abbrev pub rank_turn : Order → Bytes → Option Entry → Turn
-rank_turn order member = telling sorted_sets (λ scores. place_reply (option_map (counted_from order (len scores)) (rank_of scores member)))
+rank_turn order member = telling sorted_sets (λ scores. place_reply (place_of order member scores))

@@ -4,15 +4,18 @@
 mod adding;
 mod grouping;
 mod groups;
+mod place_law;
 mod planning;
 mod ranges;
-#[cfg(test)]
-mod reading_tests;
 mod removing;
 mod replies;
 mod rules;
 mod telling;
+
+pub use place_law::members_stand_at_their_places;
+pub use planning::plan;
+
+#[cfg(test)]
+mod reading_tests;
 #[cfg(test)]
 mod tests;
-
-pub use planning::plan;

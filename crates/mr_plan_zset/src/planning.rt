@@ -30,12 +30,12 @@ pub fn plan(
     // The effects lead to what the command leaves, and its own ones are there exactly where it changes something.
     ensures faithful { IsTrue (list_all fits (zset_words ask.now)) → IsFaithful (command ask.now) given.now held.now }
 {
-    check_scores(ask);
+    scores_are_limited(ask);
     planned(alloc, held, ask, given)
 }
 
-// The scores that a command sets were read, so each is within the limits.
-fn check_scores(ask: &ZSetAsk<'_, '_>)
+// Each score that a command sets was read from its text, so it is within the limits of scores.
+fn scores_are_limited(ask: &ZSetAsk<'_, '_>)
     ensures { HasScores ask.now }
 {
     if let ZSetAsk::AddScores { pairs, .. } = ask {

@@ -1,4 +1,5 @@
 // What commands that read a sorted set answer.
+use crate::members_stand_at_their_places;
 use crate::ranges::{by_rank, by_score};
 use crate::telling::{count_members, count_scores, rank, score, scores};
 use mr_ask_zset::{Limit, Order, RangeReply};
@@ -102,6 +103,7 @@ fn scores_are_answered(rt: HostRuntime) -> Result<(), Fail> {
 #[test]
 fn places_are_counted_from_both_ends(rt: HostRuntime) -> Result<(), Fail> {
     let alloc = rt.alloc();
+    members_stand_at_their_places();
     let entry = three(alloc)?;
     for (order, member, place) in [
         (Order::Ascending, b"a", ":0\r\n"),

@@ -98,12 +98,7 @@ pub fn remove_ranks(
 }
 
 // The pairs between two indexes, both included.
-fn pairs_at(
-    alloc: Global,
-    set: &ZSet,
-    first: i64,
-    last: i64,
-) -> Result<Vec<Pair<'_>>, AllocError>
+fn pairs_at(alloc: Global, set: &ZSet, first: i64, last: i64) -> Result<Vec<Pair<'_>>, AllocError>
     ensures { IfOk result (λ pairs. map shown pairs.items ≡ windowed (window_of first last (finite.len set.now)) (pairs_of set.now)) }
 {
     match window(first, last, set.len()) {
@@ -148,10 +143,7 @@ fn remove_pairs(
 }
 
 // The members of pairs in byte order. They are not copied.
-fn in_byte_order<'d>(
-    alloc: Global,
-    pairs: &[Pair<'d>],
-) -> Result<SliceMap<'d, ()>, AllocError>
+fn in_byte_order<'d>(alloc: Global, pairs: &[Pair<'d>]) -> Result<SliceMap<'d, ()>, AllocError>
     ensures { IfOk result (λ members. members ≡ as_set (members_of (map shown pairs.now))) }
 {
     let mut members = SliceMap::new(alloc);

@@ -1,10 +1,6 @@
-use Rattle.std.proofs.Common.{rules, ◌≡◌, ◌∙◌, ap, sym, Some, w64, FitsSigned}
-use Rattle.std.specs.Prelude.{◌+ℤ◌}
+use Rattle.std.proofs.Common.{rules, ◌∙◌, ap, sym, w64, FitsSigned}
 use Rattle.std.proofs.lemmas.Int.{to_z-of_z}
-use Rattle.mr_resp.specs.ReplyView.{view}
-use Rattle.mr_zset.specs.Texts.{within_limit}
 use Rattle.mr_plan_zset.specs.Scores.{score_reply}
-use Rattle.mr_plan_zset.specs.Adding.{score_or_0}
 use Rattle.mr_plan_zset.proofs.Adds.{sum_made}
 use Rattle.mr_plan_zset.proofs.adding.increase_in.Goals as goal
 

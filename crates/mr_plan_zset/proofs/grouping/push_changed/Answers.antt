@@ -1,4 +1,4 @@
-use Rattle.std.proofs.Common.{◌∙◌, ap, ◌++◌, map, List, sym}
+use Rattle.std.proofs.Common.{◌∙◌, ap, ◌++◌, map, sym}
 use Rattle.std.specs.FinMap.{entries}
 use Rattle.mr_map.specs.Bytes.{Bytes}
 use Rattle.mr_effect.specs.declared.effect.Effect.TheVariants as made

@@ -1,4 +1,4 @@
-use Rattle.std.proofs.Common.{◌≡◌, ◌∙◌, ap, sym, map, take, reverse}
+use Rattle.std.proofs.Common.{◌∙◌, ap, sym, map, take, reverse}
 use Rattle.mr_zset.specs.Pairs.{pairs_of, shown}
 use Rattle.mr_ask_zset.specs.declared.zset_ask.Order.{Order}
 use Rattle.mr_plan_zset.specs.Scores.{pairs_in}

@@ -1,4 +1,4 @@
-use Rattle.std.proofs.Common.{◌≡◌, ◌∙◌, ap, sym, subst, List, take_all, map}
+use Rattle.std.proofs.Common.{◌∙◌, ap, sym, subst, List, take_all, map}
 use Rattle.std.specs.Cow.{cow_slice_items}
 use Rattle.std.specs.Prelude.{is_some}
 use Rattle.mr_map.specs.Bytes.{Bytes}
