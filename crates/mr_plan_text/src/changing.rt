@@ -105,6 +105,7 @@ fn holds_part(text: &[u8], offset: usize, part: &[u8]) -> bool
     end <= text.len() && same(&text[offset..end], part)
 }
 
+// Whether two texts are one.
 fn same(left: &[u8], right: &[u8]) -> bool
     ensures { result ≡ bytes_eq left.now right.now }
 {
