@@ -14,6 +14,8 @@ LAUNCHER = os.path.join(ROOT, "minired")
 PAIRS = 500_000
 KEYS = 1_000_000
 VALUE = b"xxx"
+# of the same length: a text in place of itself changes nothing, and would leave out what a change costs
+OTHER = b"yyy"
 MIB = 1 << 20
 
 
@@ -35,10 +37,9 @@ def get_of(name):
 
 
 def one_key(file):
-    """SET and GET of one key, in turn."""
-    pair = set_of(key(0), VALUE) + get_of(key(0))
-    for _ in range(PAIRS // 1000):
-        file.write(1000 * pair)
+    """SET of one key, to two values in turn, each with a GET."""
+    pairs = b"".join(set_of(key(0), value) + get_of(key(0)) for value in (VALUE, OTHER))
+    repeated(file, pairs, PAIRS // 2)
     return 2 * PAIRS, PAIRS * (len(b"+OK\r\n") + len(b"$3\r\nxxx\r\n"))
 
 
@@ -210,7 +211,14 @@ def appended(count):
 
 
 def ten_set(count):
-    return asked(count, b"+OK\r\n", b"MSET", *(word for n in range(10) for word in (key(n), VALUE)))
+    """MSET of ten keys, to two values in turn."""
+
+    def write(file):
+        both = (request(b"MSET", *(word for n in range(10) for word in (key(n), value))) for value in (OTHER, VALUE))
+        repeated(file, b"".join(both), count // 2)
+        return count, count * len(b"+OK\r\n")
+
+    return write
 
 
 def ten_got(count):
@@ -247,7 +255,7 @@ RUNS = [
     ("INCR", None, counted(200_000)),
     ("APPEND of 3 bytes", None, appended(200_000)),
     ("MSET of 10", None, ten_set(100_000)),
-    ("MGET of 10", ten_set(1_000), ten_got(100_000)),
+    ("MGET of 10", ten_set(2_000), ten_got(100_000)),
 ]
 
 

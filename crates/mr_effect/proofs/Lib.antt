@@ -1,5 +1,5 @@
-mod Appending
+pub mod Appending
 mod NameLemmas
 mod Readings
-mod Texts
+pub mod Texts
 mod Folding

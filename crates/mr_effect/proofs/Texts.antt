@@ -1,18 +1,22 @@
 -- The texts of effects are apart.
-use Rattle.std.proofs.Common.{◌≡◌, ℕ, suc, ℤ, pos, negsuc, ◌<◌, ◌^◌, List, [], ◌∷◌, ◌++◌, length, Bool, true, false, ◌&&◌, IsTrue, refl, sym, ◌∙◌, append_assoc, arith}
+use Rattle.std.proofs.Common.{◌≡◌, ℕ, suc, ℤ, pos, negsuc, ◌<◌, ◌≤◌, ◌^◌, List, [], ◌∷◌, ◌++◌, length, Bool, true, false, ◌&&◌, IsTrue, refl, sym, ◌∙◌, append_assoc, arith}
 use Rattle.std.specs.List.{list_all, flat_map}
 use Rattle.std.specs.Fmt.{signed_decimal}
+use Rattle.std.specs.Prelude.{All}
 use Rattle.std.proofs.lemmas.Bool.{leb-true, ltb-true}
+use Rattle.std.proofs.lemmas.List.Elements.{All-nil, All-cons}
 use Rattle.mr_map.specs.Bytes.{Bytes}
 use Rattle.mr_value.specs.Words.{fits}
 use Rattle.mr_value.specs.Number.{is_i64}
 use Rattle.mr_value.proofs.Numbers.{bounds}
 use Rattle.mr_resp.specs.Spelling.{number_line, bulk, array}
+use Rattle.mr_resp.specs.Command.{IsCommandText}
+use Rattle.mr_resp.specs.Usual.{commands, commands-word, commands-words}
 use Rattle.mr_resp.proofs.Words.{line_unique, bulk_unique}
 use Rattle.mr_zset.proofs.TextLemmas.{score_fits}
 use Rattle.mr_effect.specs.Effects.{pair_fits, member_fits, words_fit, is_some_of, has_score, has_spelling}
 use Rattle.mr_effect.specs.Names.{text_of}
-use Rattle.mr_effect.specs.Spelling.{words, text, name_of, arguments, pair_words, score_words, end_word, side_word}
+use Rattle.mr_effect.specs.Spelling.{words, text, name_of, arguments, pair_words, score_words, end_word, side_word, IsShort}
 use Rattle.mr_effect.specs.declared.name.EffectName.{EffectName}
 use Rattle.mr_effect.specs.declared.name.EffectName.TheVariants as name
 use Rattle.mr_effect.specs.declared.effect.Effect.{Effect}
@@ -23,10 +27,10 @@ use Rattle.mr_value.specs.declared.ends.Side.{Side}
 use Rattle.mr_value.specs.declared.ends.Side.TheVariants.{Before, After}
 use Rattle.mr_effect.proofs.Readings.{one_effect}
 
--- each word is short enough for a number of 64 bits to say its length
+-- each word is within the word limit
 abbrev AreShort : List Bytes → Type 0
 AreShort [] = Unit {0}
-AreShort (w ∷ ws) = (length w < 2 ^ 64) × AreShort ws
+AreShort (w ∷ ws) = (length w ≤ 16777216) × AreShort ws
 
 bulks_unique : (ws vs : List Bytes) (x y : List ℕ) → AreShort ws → AreShort vs → length ws ≡ length vs → flat_map bulk ws ++ x ≡ flat_map bulk vs ++ y → (ws ≡ vs) × (x ≡ y)
 bulks_unique [] [] x y s t n e = (refl, e)
@@ -34,7 +38,7 @@ bulks_unique [] (v ∷ vs) x y s t n e = absurd (omega arith)
 bulks_unique (w ∷ ws) [] x y s t n e = absurd (omega arith)
 bulks_unique (w ∷ ws) (v ∷ vs) x y s t n e =
     let both : bulk w ++ (flat_map bulk ws ++ x) ≡ bulk v ++ (flat_map bulk vs ++ y) = sym (append_assoc (bulk w) (flat_map bulk ws) x) ∙ e ∙ append_assoc (bulk v) (flat_map bulk vs) y in
-    let first = bulk_unique w v (flat_map bulk ws ++ x) (flat_map bulk vs ++ y) s.0 t.0 both in
+    let first = bulk_unique w v (flat_map bulk ws ++ x) (flat_map bulk vs ++ y) (omega (arith, s.0)) (omega (arith, t.0)) both in
     let rest = bulks_unique ws vs x y s.1 t.1 (omega arith) first.1 in
     let head : w ≡ v = first.0 in
     let tail : ws ≡ vs = rest.0 in
@@ -47,7 +51,7 @@ array_unique ws vs x y few_ws few_vs s t e =
     let line = line_unique (length ws) (length vs) (flat_map bulk ws ++ x) (flat_map bulk vs ++ y) few_ws few_vs both in
     bulks_unique ws vs x y s t line.0 line.1
 
-short : (w : Bytes) → IsTrue (fits w) → length w < 2 ^ 64
+short : (w : Bytes) → IsTrue (fits w) → length w ≤ 16777216
 short w h = omega (arith, leb-true _ _ h)
 
 first : (a b : Bool) → IsTrue (a && b) → IsTrue a
@@ -58,7 +62,7 @@ second : (a b : Bool) → IsTrue (a && b) → IsTrue b
 second true b p = p
 second false b p = cc
 
-short_number : (n : ℤ) → IsTrue (is_i64 n) → length (signed_decimal n) < 2 ^ 64
+short_number : (n : ℤ) → IsTrue (is_i64 n) → length (signed_decimal n) ≤ 16777216
 short_number (pos n) h = let small : n < 2 ^ 63 = ltb-true _ _ h in omega (arith, (bounds n (omega arith)).1)
 short_number (negsuc n) h = let small : n < 2 ^ 63 = ltb-true _ _ h in omega (arith, (bounds (suc n) (omega arith)).1)
 
@@ -78,7 +82,7 @@ short_scores (p ∷ ps) s h =
     let score = short_number p.1 (score_fits p.1 (first (has_score p) _ s)) in
     (score, (short p.0 (first (member_fits p) _ h), short_scores ps (second (has_score p) _ s) (second (member_fits p) _ h)))
 
-short_name : (n : EffectName) → length (text_of n) < 2 ^ 64
+short_name : (n : EffectName) → length (text_of n) ≤ 16777216
 short_name name.Set = omega arith
 short_name name.MSet = omega arith
 short_name name.Append = omega arith
@@ -104,11 +108,11 @@ short_name name.SMove = omega arith
 short_name name.ZAdd = omega arith
 short_name name.ZRem = omega arith
 
-short_end : (e : End) → length (end_word e) < 2 ^ 64
+short_end : (e : End) → length (end_word e) ≤ 16777216
 short_end Left = omega arith
 short_end Right = omega arith
 
-short_side : (s : Side) → length (side_word s) < 2 ^ 64
+short_side : (s : Side) → length (side_word s) ≤ 16777216
 short_side Before = omega arith
 short_side After = omega arith
 
@@ -149,3 +153,19 @@ pub one_text : (e f : Effect) (x y : List ℕ) → IsTrue (has_spelling e) → I
 one_text e f x y spelled_e spelled_f fits_e fits_f few_e few_f h =
     let both = array_unique (words e) (words f) x y few_e few_f (words_short e spelled_e fits_e) (words_short f spelled_f fits_f) h in
     (one_effect e f spelled_e spelled_f both.0, both.1)
+
+-- ---- an effect's text is a command text
+all_short : (ws : List Bytes) → AreShort ws → All (λ w. length w ≤ commands.word) ws
+all_short [] h = All-nil (λ w. length w ≤ commands.word)
+all_short (w ∷ ws) h = All-cons (λ w. length w ≤ commands.word) w ws (omega (arith, commands-word, h.0)) (all_short ws h.1)
+
+some_words : (e : Effect) → 0 < length (words e)
+unfolding words
+some_words e = omega arith
+
+pub command_text : (e : Effect) → IsTrue (has_spelling e) → IsTrue (words_fit e) → IsShort e → IsCommandText commands (text e)
+command_text e spelled fit few = (words e, record { spelled = refl; some = some_words e; count = few; each = all_short (words e) (words_short e spelled fit) })
+
+pub short_effect : (e : Effect) → length (arguments e) < 1048576 → IsShort e
+unfolding words
+short_effect e few = omega (arith, commands-words, few)

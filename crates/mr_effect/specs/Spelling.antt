@@ -1,9 +1,10 @@
 -- The one spelling of an effect.
-use Rattle.std.specs.Prelude.{◌≡◌, ℕ, ℤ, List, [], ◌∷◌, length, codes, IsTrue, Option, Some, MatchOption}
+use Rattle.std.specs.Prelude.{◌≡◌, ◌≤◌, ℕ, ℤ, List, [], ◌∷◌, length, codes, IsTrue, Option, Some, MatchOption}
 use Rattle.std.specs.List.{flat_map}
 use Rattle.std.specs.Fmt.{signed_decimal}
 use Rattle.mr_map.specs.Bytes.{Bytes}
 use Rattle.mr_resp.specs.Spelling.{array}
+use Rattle.mr_resp.specs.Usual.{commands}
 use Rattle.mr_effect.specs.Effects.{has_spelling}
 use Rattle.mr_effect.specs.Names.{text_of}
 use Rattle.mr_effect.specs.declared.name.EffectName.{EffectName}
@@ -102,6 +103,10 @@ texts es = flat_map text es
 -- how many bytes of the stream an effect takes
 abbrev pub size : Effect → ℕ
 size e = length (text e)
+
+-- it has no more words than a command text may have
+abbrev pub IsShort : Effect → Type 0
+IsShort e = length (words e) ≤ commands.words
 
 -- an effect that has a spelling has these words
 abbrev pub IsSpelled : List Bytes → Effect → Type 0

@@ -12,7 +12,7 @@ mod words;
 pub use decoding::decode;
 pub use effect::Effect;
 pub use encoding::{encode, encode_all};
-pub use laws::{effects_are_told_apart, texts_come_in_parts};
+pub use laws::{effects_are_command_texts, effects_are_told_apart, texts_come_in_parts};
 pub use name::EffectName;
 pub use words::{Pairs, Scores, Words};
 

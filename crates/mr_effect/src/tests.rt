@@ -31,19 +31,36 @@ fn text(alloc: Global, line: &str) -> Result<Option<Vec<u8>>, Fail> {
 
 #[test]
 fn texts_have_these_lengths(rt: HostRuntime) -> Result<(), Fail> {
-    for (line, length) in [
-        ("SET k v", 27),
-        ("DEL k", 20),
-        ("SADD s a b c", 42),
-        ("SREM s b", 28),
-        ("SADD s a", 28),
-        ("LPUSH l a b c", 43),
-        ("LPOP l 3", 28),
-        ("RPUSH s a b", 36),
-        ("LMOVE s s LEFT RIGHT", 50),
+    for (line, length, want) in [
+        ("SET k v", 27, "*3\r\n$3\r\nSET\r\n$1\r\nk\r\n$1\r\nv\r\n"),
+        ("DEL k", 20, "*2\r\n$3\r\nDEL\r\n$1\r\nk\r\n"),
+        (
+            "SADD s a b c",
+            42,
+            "*5\r\n$4\r\nSADD\r\n$1\r\ns\r\n$1\r\na\r\n$1\r\nb\r\n$1\r\nc\r\n",
+        ),
+        ("SREM s b", 28, "*3\r\n$4\r\nSREM\r\n$1\r\ns\r\n$1\r\nb\r\n"),
+        ("SADD s a", 28, "*3\r\n$4\r\nSADD\r\n$1\r\ns\r\n$1\r\na\r\n"),
+        (
+            "LPUSH l a b c",
+            43,
+            "*5\r\n$5\r\nLPUSH\r\n$1\r\nl\r\n$1\r\na\r\n$1\r\nb\r\n$1\r\nc\r\n",
+        ),
+        ("LPOP l 3", 28, "*3\r\n$4\r\nLPOP\r\n$1\r\nl\r\n$1\r\n3\r\n"),
+        (
+            "RPUSH s a b",
+            36,
+            "*4\r\n$5\r\nRPUSH\r\n$1\r\ns\r\n$1\r\na\r\n$1\r\nb\r\n",
+        ),
+        (
+            "LMOVE s s LEFT RIGHT",
+            50,
+            "*5\r\n$5\r\nLMOVE\r\n$1\r\ns\r\n$1\r\ns\r\n$4\r\nLEFT\r\n$5\r\nRIGHT\r\n",
+        ),
     ] {
         let text = text(rt.alloc(), line)?.ok_or("an effect")?;
         assert_eq!(rt; text.len(), length, "{line}");
+        assert_eq!(rt; text.as_slice(), want.as_bytes(), "{line}");
     }
     Ok(())
 }

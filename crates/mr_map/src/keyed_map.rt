@@ -4,18 +4,18 @@ ghost use Rattle.std.specs.FinMap as map;
 ghost use Rattle.std.specs.Option.{option_copied_mut};
 
 use crate::byte_map::ByteMap;
+use crate::hashing::KeySeed;
 use crate::keys::Keys;
 use std::alloc::{AllocError, Global};
 use std::collections::HashMap;
 use std::hash::RandomState;
 use std::marker::Model;
-use std::mem::replace;
 
 /// A finite map from byte strings: looked up by a seeded hash, and gone over in byte order. Each key is kept twice.
 #[derive(Drop)]
 pub struct KeyedMap<V> {
     alloc: Global,
-    table: HashMap<Vec<u8>, V, RandomState>,
+    table: HashMap<Vec<u8>, V, KeySeed>,
     order: ByteMap<()>,
 }
 
@@ -41,7 +41,7 @@ impl<V> KeyedMap<V> {
     {
         KeyedMap {
             alloc,
-            table: HashMap::with_hasher(alloc, seed),
+            table: HashMap::with_hasher(alloc, KeySeed { seed }),
             order: ByteMap::new(alloc),
         }
     }
@@ -101,15 +101,13 @@ impl<V> KeyedMap<V> {
 
 impl<V: Drop> KeyedMap<V> {
     /// Sets the value of a key, and answers the one before. All memory is taken before the first change: where it runs
-    /// out, the map is as it was.
+    /// out, the map is as it was. It is made for new keys, whose bytes it copies without looking them up first: the value
+    /// of a key that is there is changed through `get_mut`.
     pub fn insert(&mut self, key: Vec<u8>, value: V) -> Result<Option<V>, AllocError>
         ensures before { IfOk result (λ before. before ≡ map.get self.old key.items) }
         ensures ok { OnOk result (self.new ≡ map.insert self.old key.items value) }
         ensures err { OnErr result (self.new ≡ self.old) }
     {
-        if let Some(place) = self.table.get_mut(key.as_slice()) {
-            return Ok(Some(replace(place, value)));
-        }
         let name = Vec::from_slice(self.alloc, key.as_slice())?;
         self.table.reserve(1)?;
         self.order.insert(name, ())?;

@@ -107,6 +107,22 @@ fn a_hashes_value(rt: HostRuntime) -> Result<(), Fail> {
 }
 
 #[test]
+fn keys_of_any_length(rt: HostRuntime) -> Result<(), Fail> {
+    let alloc = rt.alloc();
+    let mut map = KeyedMap::new(alloc, RandomState::new(&rt)?);
+    let text = b"seven bytes at a time";
+    for len in 0..=21 {
+        let _ = map.insert(Vec::from_slice(alloc, &text[..len])?, len)?;
+    }
+    assert_eq!(rt; map.len(), 22);
+    for len in 0..=21 {
+        assert_eq!(rt; map.get(&text[..len]), Some(&len));
+    }
+    assert!(rt; map.get(&[0; 21]).is_none());
+    Ok(())
+}
+
+#[test]
 fn names_in_order(rt: HostRuntime) -> Result<(), Fail> {
     let mut map = SliceMap::new(rt.alloc());
     assert!(rt; map.is_empty());

@@ -82,16 +82,16 @@ impl End {
 
     /// Closes it. What was fed goes, with its memory.
     #[tactic(auto, using(crate::proofs::Progressing::fresh_along))]
-    pub(crate) fn shut(&mut self)
+    pub(crate) fn shut(&mut self, alloc: Global)
         ensures { self.new ≡ shut_end }
     {
-        self.input.clear();
+        self.input = Vec::new(alloc);
         self.used = 0;
         self.progress = Progress::new();
         self.serving = false;
     }
 
-    /// Used bytes go where they are no fewer than what is left, so that each byte is moved at most once.
+    /// Used bytes go where they are more than what is left, so that fewer bytes are moved than were used.
     fn compact(&mut self)
         ensures { self.new ≡ self.old }
     {

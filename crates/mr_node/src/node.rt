@@ -123,7 +123,7 @@ impl Node {
         let Some(end) = self.links.get_mut(link) else {
             unreachable!()
         };
-        end.shut();
+        end.shut(self.alloc);
     }
 
     /// Keeps how far the reader has gone over the unread bytes of a link.

@@ -131,7 +131,8 @@ fn served(rt: &HostRuntime, lines: &[u8]) -> Result<Node, Fail> {
 
 #[test]
 fn offsets_count_the_effects(rt: HostRuntime) -> Result<(), Fail> {
-    let rows: [(&[u8], u64); 4] = [
+    let rows: [(&[u8], u64); 5] = [
+        (b"SET \"a b\" 'x\\'y'\r\n", 31),
         (b"SADD s a b c\nSPOP s\n", 70),
         (b"SADD s a\nSADD s a\n", 28),
         (b"LPUSH l a b c\nLRANGE l -2 100\nLPOP l 3\nEXISTS l\n", 71),

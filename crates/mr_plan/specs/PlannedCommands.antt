@@ -1,6 +1,8 @@
 -- What each command does.
-use Rattle.std.specs.Prelude.{ℕ}
+use Rattle.std.specs.Prelude.{ℕ, ◌<◌, length}
+use Rattle.mr_resp.specs.Usual.{commands}
 use Rattle.mr_turn.specs.Commands.{Command}
+use Rattle.mr_ask.specs.Carried.{text_words}
 use Rattle.mr_ask.specs.declared.ask.Ask.{Ask}
 use Rattle.mr_ask.specs.declared.ask.Ask.TheVariants as ask
 use Rattle.mr_plan_text.specs.Commands as texts
@@ -19,3 +21,8 @@ command_of (ask.Lists command) word = lists.command command
 command_of (ask.Sets command) word = sets.command command word
 command_of (ask.SortedSets command) word = scores.command command
 command_of (ask.Server command) word = keys.server_command command
+
+-- A command text has room for the words that the command carries. (Only MSET and MSETNX have an effect that isn't cut.)
+abbrev pub HasRoom : Ask → Type 0
+HasRoom (ask.Texts command) = length (text_words command) < commands.words
+HasRoom _ = Unit {0}

@@ -1,10 +1,13 @@
 -- What the words of a request are answered, and their effects.
-use Rattle.std.specs.Prelude.{◌≡◌, ℕ, List, [], Bool, true, false, Result, Ok, Err, Some}
+use Rattle.std.specs.Prelude.{◌≡◌, ℕ, All, List, [], Bool, true, false, Result, Ok, Err, Some}
 use Rattle.mr_resp.specs.Replies.{Tree, error}
 use Rattle.mr_resp.specs.ReplyView.{view}
+use Rattle.mr_resp.specs.Command.{IsCommandText}
+use Rattle.mr_resp.specs.Usual.{commands}
 use Rattle.mr_data.specs.Dataset.{Dataset}
 use Rattle.mr_data.specs.Meaning.{apply_all}
 use Rattle.mr_data.specs.declared.given.Given.{Given}
+use Rattle.mr_effect.specs.Spelling.{text}
 use Rattle.mr_effect.specs.declared.effect.Effect.{Effect}
 use Rattle.mr_ask.specs.Asks.{asked}
 use Rattle.mr_words.specs.Faults.{fault_text}
@@ -51,3 +54,8 @@ IsAnswer words given m answer.Quit = quits words ≡ true
 abbrev pub Leads : Answer → Dataset → Type 0
 Leads (answer.Run plan) m = (n : Dataset) × (apply_all plan.effects.items m ≡ Some n)
 Leads answer.Quit m = Unit {0}
+
+-- the text of each of its effects is a command text
+abbrev pub HasTexts : Answer → Type 0
+HasTexts (answer.Run plan) = All (λ e. IsCommandText commands (text e)) plan.effects.items
+HasTexts answer.Quit = Unit {0}

@@ -2,8 +2,8 @@
 ghost use Rattle.std.specs.Prelude.{◌≡◌, IfOk};
 ghost use Rattle.mr_resp.specs.ReplyView.{view};
 ghost use Rattle.mr_ask.specs.Carried.{AskFits};
-ghost use Rattle.mr_turn.specs.Commands.{IsPlan, IsFaithful};
-ghost use Rattle.mr_plan.specs.PlannedCommands.{command_of};
+ghost use Rattle.mr_turn.specs.Commands.{IsPlan, IsFaithful, HasCommandTexts};
+ghost use Rattle.mr_plan.specs.PlannedCommands.{command_of, HasRoom};
 
 use mr_ask::Ask;
 use mr_data::{Dataset, Given, Plan};
@@ -20,6 +20,9 @@ pub fn plan(
 
     // The effects lead to what the command leaves, and its own ones are there exactly where it changes something.
     ensures faithful { AskFits ask.now → IsFaithful (command_of ask.now given.word) given.now held.now }
+
+    // .. and their texts are command texts.
+    ensures texts { AskFits ask.now → HasRoom ask.now → HasCommandTexts (command_of ask.now given.word) given.now held.now }
 {
     match ask {
         Ask::Texts(ask) => mr_plan_text::plan(alloc, held, ask, given),

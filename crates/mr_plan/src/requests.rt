@@ -1,10 +1,12 @@
 // The plan of a request's words.
-ghost use Rattle.std.specs.Prelude.{◌≡◌, ◌<◌, length, map, IsTrue, IfOk};
+ghost use Rattle.std.specs.Prelude.{◌≡◌, ◌<◌, ◌≤◌, length, map, IsTrue, IfOk};
 ghost use Rattle.std.specs.List.{list_all};
 ghost use Rattle.std.specs.Cow.{cow_slice_items};
 ghost use Rattle.mr_value.specs.Words.{fits};
+ghost use Rattle.mr_resp.specs.Usual.{commands};
 ghost use Rattle.mr_ask.specs.Carried.{AskFits};
-ghost use Rattle.mr_plan.specs.Requests.{IsAnswer, IsAnswerTo, Leads, is_quit};
+ghost use Rattle.mr_plan.specs.PlannedCommands.{HasRoom};
+ghost use Rattle.mr_plan.specs.Requests.{IsAnswer, IsAnswerTo, Leads, HasTexts, is_quit};
 
 use crate::planning::plan;
 use mr_ask::{Ask, ServerAsk, read};
@@ -31,6 +33,9 @@ pub fn plan_words(
     requires { 0 < length words.now }
     ensures answer { IfOk result (λ a. IsAnswer (map cow_slice_items words.now) given held.now a) }
     ensures leads { IfOk result (λ a. IsTrue (list_all fits (map cow_slice_items words.now)) → Leads a held.now) }
+
+    // The effects' texts are command texts.
+    ensures texts { IfOk result (λ a. IsTrue (list_all fits (map cow_slice_items words.now)) → length words.now ≤ commands.words → HasTexts a) }
 {
     match read(words) {
         Ok(ask) => answer_to(alloc, held, &ask, given),
@@ -49,6 +54,7 @@ fn answer_to(
 ) -> Result<Answer, AllocError>
     ensures answer { IfOk result (λ a. IsAnswerTo ask.now given held.now a) }
     ensures leads { IfOk result (λ a. AskFits ask.now → Leads a held.now) }
+    ensures texts { IfOk result (λ a. AskFits ask.now → HasRoom ask.now → HasTexts a) }
 {
     if quits(ask) {
         return Ok(Answer::Quit);

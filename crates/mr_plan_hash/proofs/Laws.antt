@@ -27,17 +27,18 @@ use Rattle.mr_ask.specs.declared.hash_ask.HashAsk.{HashAsk}
 use Rattle.mr_ask.specs.declared.hash_ask.HashAsk.TheVariants as ask
 use Rattle.mr_turn.specs.Cuts.{cut}
 use Rattle.mr_turn.specs.Keys.{purged}
-use Rattle.mr_turn.specs.Commands.{IsFaithful}
 use Rattle.mr_turn.proofs.Cutting.{cut_whole, no_cut, IsGroup, cut_groups}
 use Rattle.mr_turn.proofs.Running.{IsStep, steps_of, IsKept, IsFold, groups_run}
 use Rattle.mr_turn.proofs.KindLaws.{hashes_are, hashes_kept}
-use Rattle.mr_turn.proofs.Laws.{faithful, at_key_faithful}
+use Rattle.mr_turn.proofs.Laws.{faithful, at_key_faithful, IsLawful}
 use Rattle.mr_turn.proofs.Changing.{IsFaithfulChange, changing_faithful}
 use Rattle.mr_turn.proofs.PlanLemmas.{purged_at}
 use Rattle.mr_plan_hash.specs.Hashes.{Hash, unchanged, last_values, changed, set_pairs, count_reply, set_new_field, number_at, overflow, no_integer, set_number, increase_from, increase_field, removed, remove_fields, fields_reply, count_new}
 use Rattle.mr_plan_hash.specs.Commands.{key_of, change, turn, command}
 use Rattle.mr_plan_hash.proofs.Fields.{all_map, own_entries, with_changed, none_changed}
 use Rattle.mr_plan_hash.proofs.Gone.{without_removed, none_removed, removed_fit}
+use Rattle.mr_effect.proofs.Texts.{short_effect}
+use Rattle.mr_effect.proofs.Appending.{length-pairs}
 
 both : (a b : Bool) → a ≡ true → b ≡ true → (a && b) ≡ true
 both true b h i = i
@@ -100,6 +101,7 @@ set_step : (k : Bytes) → fits k ≡ true → (g : List (Bytes × Bytes)) → I
 unfolding made
 set_step k fit g i = record {
   possible = both (is_some_of g) _ (some_of g i.some) (both (fits k) _ fit i.all);
+  short = short_effect (effect.SetFields k g) (omega (arith, length-pairs g, i.few));
   is = λ m. refl;
 }
 
@@ -107,6 +109,7 @@ remove_step : (k : Bytes) → fits k ≡ true → (g : List Bytes) → IsGroup f
 unfolding made
 remove_step k fit g i = record {
   possible = both (is_some_of g) _ (some_of g i.some) (both (fits k) _ fit i.all);
+  short = short_effect (effect.RemoveFields k g) (omega (arith, i.few));
   is = λ m. refl;
 }
 
@@ -205,7 +208,7 @@ key_fits (ask.CountFields k) fit = left (fits k) _ fit
 key_fits (ask.FieldLength k f) fit = left (fits k) _ fit
 key_fits (ask.IncreaseField k f by) fit = left (fits k) _ fit
 
-pub hash_faithful : (c : HashAsk) (now : ℤ) (m : Dataset) → IsDataset m → IsTrue (list_all fits (hash_words c)) → IsFaithful (command c) now m
+pub hash_faithful : (c : HashAsk) (now : ℤ) (m : Dataset) → IsDataset m → IsTrue (list_all fits (hash_words c)) → IsLawful (command c) now m
 hash_faithful c now m kept fit =
     let k = key_of c in
     let n = purged now (k ∷ []) m in

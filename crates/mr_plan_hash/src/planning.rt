@@ -7,7 +7,7 @@ ghost use Rattle.mr_value.specs.Words.{fits};
 ghost use Rattle.mr_data.specs.Dataset.{IsDataset};
 ghost use Rattle.mr_data.specs.Steps.{hashes, held};
 ghost use Rattle.mr_ask.specs.Carried.{hash_words};
-ghost use Rattle.mr_turn.specs.Commands.{IsPlan, IsFaithful};
+ghost use Rattle.mr_turn.specs.Commands.{IsPlan, IsFaithful, HasCommandTexts};
 ghost use Rattle.mr_plan_hash.specs.Commands.{key_of, change, command, Makes};
 
 use crate::{reading, removing, setting};
@@ -29,6 +29,9 @@ pub fn plan(
 
     // The effects lead to what the command leaves, and its own ones are there exactly where it changes something.
     ensures faithful { IsTrue (list_all fits (hash_words ask.now)) → IsFaithful (command ask.now) given.now held.now }
+
+    // .. and their texts are command texts.
+    ensures texts { IsTrue (list_all fits (hash_words ask.now)) → HasCommandTexts (command ask.now) given.now held.now }
 {
     planned(alloc, held, ask, given)
 }

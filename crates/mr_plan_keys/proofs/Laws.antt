@@ -1,5 +1,5 @@
 -- The effects of commands on keys are faithful.
-use Rattle.std.proofs.Common.{◌≡◌, List, [], ◌∷◌, Some, None, refl, sym, ◌∙◌, ap}
+use Rattle.std.proofs.Common.{◌≡◌, List, [], ◌∷◌, Some, None, refl, sym, ◌∙◌, ap, arith}
 use Rattle.std.specs.Prelude.{IsTrue, is_some, ℤ, pos}
 use Rattle.std.specs.List.{list_all}
 use Rattle.std.specs.FinMap.{len}
@@ -12,9 +12,9 @@ use Rattle.mr_ask.specs.declared.key_ask.KeyAsk.{KeyAsk}
 use Rattle.mr_ask.specs.declared.key_ask.KeyAsk.TheVariants as ask
 use Rattle.mr_ask.specs.declared.server_ask.ServerAsk.{ServerAsk}
 use Rattle.mr_turn.specs.Keys.{chosen, without, dels}
-use Rattle.mr_turn.specs.Commands.{IsFaithful, on_keys}
+use Rattle.mr_turn.specs.Commands.{on_keys}
 use Rattle.mr_turn.proofs.KeyLists.{dels_lead, chosen_fits, without_chosen, none_chosen}
-use Rattle.mr_turn.proofs.Laws.{faithful, IsFaithfulAt, by_telling, keys_told, none_told}
+use Rattle.mr_turn.proofs.Laws.{faithful, IsFaithfulAt, by_telling, keys_told, none_told, IsLawful, dels_short}
 use Rattle.mr_plan_keys.specs.Turns.{type_reply}
 use Rattle.mr_plan_keys.specs.Outcomes.{deleted, present}
 use Rattle.mr_plan_keys.specs.Listing.{listed, bulks, scan_reply, from_cursor}
@@ -30,12 +30,13 @@ dels_none (k ∷ ks) h = cc
 deleted_faithful : (ks : List Bytes) (m : Dataset) → IsTrue (list_all fits ks) → IsFaithfulAt (deleted ks m) m
 deleted_faithful ks m h = record {
   leads = dels_lead (chosen is_some ks m) m (chosen_fits is_some ks m h) ∙ ap Some (without_chosen ks m);
+  short = dels_short (chosen is_some ks m);
   none = λ e. sym (without_chosen ks m) ∙ ap (λ xs. without xs m) (dels_none _ e);
   some = λ e. ap dels (none_chosen ks m e);
 }
 
 -- ---- each command
-pub keys_faithful : (c : KeyAsk) (now : ℤ) (m : Dataset) → IsTrue (list_all fits (key_words c)) → IsFaithful (command c) now m
+pub keys_faithful : (c : KeyAsk) (now : ℤ) (m : Dataset) → IsTrue (list_all fits (key_words c)) → IsLawful (command c) now m
 keys_faithful (ask.Del ks) now m h = faithful (on_keys ks (deleted ks)) now m h (deleted_faithful ks _ h)
 keys_faithful (ask.Unlink ks) now m h = faithful (on_keys ks (deleted ks)) now m h (deleted_faithful ks _ h)
 keys_faithful (ask.Exists ks) now m h = keys_told ks (λ n. reply.int (pos (present n ks))) now m h
@@ -47,5 +48,5 @@ keys_faithful (ask.Rename from to) now m h = renamed_faithful from to now m h
 keys_faithful (ask.RenameNew from to) now m h = renamed_new_faithful from to now m h
 keys_faithful (ask.Clear databases timing) now m h = cleared_faithful now m
 
-pub server_faithful : (c : ServerAsk) (now : ℤ) (m : Dataset) → IsFaithful (server_command c) now m
+pub server_faithful : (c : ServerAsk) (now : ℤ) (m : Dataset) → IsLawful (server_command c) now m
 server_faithful c now m = none_told (λ n. server_reply c) now m

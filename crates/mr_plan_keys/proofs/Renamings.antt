@@ -1,5 +1,5 @@
 -- Commands on whole entries: two keys, and the law of faithful effects.
-use Rattle.std.proofs.Common.{rules, ◌≡◌, ℕ, List, [], ◌∷◌, ◌++◌, append_assoc, Bool, true, false, ◌&&◌, cond, Option, Some, None, refl, sym, ◌∙◌, ap, subst}
+use Rattle.std.proofs.Common.{rules, ◌≡◌, ℕ, List, [], ◌∷◌, ◌++◌, append_assoc, Bool, true, false, ◌&&◌, cond, Option, Some, None, refl, sym, ◌∙◌, ap, subst, arith}
 use Rattle.std.specs.Prelude.{IsTrue, ℤ, ◌||◌, ◌==◌, is_some, pos, if◌then◌else◌}
 use Rattle.std.specs.List.{list_all}
 use Rattle.std.specs.Option.{option_map, option_and_then}
@@ -23,11 +23,12 @@ use Rattle.mr_turn.specs.Taken.{is_key, has}
 use Rattle.mr_turn.specs.Keys.{past, purged, dels, is_stored}
 use Rattle.mr_turn.specs.Turns.{done}
 use Rattle.mr_turn.specs.Outcomes.{Outcome, answered}
-use Rattle.mr_turn.specs.Commands.{Command, on_keys, on_none, before, IsPlan, IsFaithful}
+use Rattle.mr_turn.specs.Commands.{Command, on_keys, on_none, before, IsPlan}
 use Rattle.mr_turn.proofs.Maps.{is_key_itself, same_key, get_remove, removed}
 use Rattle.mr_turn.proofs.KeyLists.{get_purged}
-use Rattle.mr_turn.proofs.Laws.{faithful, IsFaithfulAt, answered_faithful}
+use Rattle.mr_turn.proofs.Laws.{faithful, IsFaithfulAt, answered_faithful, IsLawful, one_short}
 use Rattle.mr_plan_keys.specs.Renaming.{no_key, carried, carried_if, renamed, renamed_new, cleared, Gives}
+use Rattle.mr_effect.proofs.Texts.{short_effect}
 
 pub same_bytes : (xs ys : List ℕ) → bytes_eq xs ys ≡ true → xs ≡ ys
 same_bytes xs ys h = search (rules, bytes_eq-Decides)
@@ -68,6 +69,7 @@ module _ (from to : Bytes) (m : Dataset) (fit : fits from && fits to ≡ true) w
     | true ↦ λ t. answered_faithful _ m refl refl
     | false ↦ λ t. record {
       leads = carry_does e is;
+      short = one_short (effect.Rename from to) (short_effect (effect.Rename from to) (omega arith));
       none = λ n. absurd (cc);
       some = λ n. absurd (carry_changes e is t n);
     }
@@ -91,12 +93,12 @@ two_fit true true h = refl
 two_fit true false h = cc
 two_fit false b h = cc
 
-pub renamed_faithful : (from to : Bytes) (now : ℤ) (m : Dataset) → IsTrue (list_all fits (from ∷ to ∷ [])) → IsFaithful (on_keys (from ∷ to ∷ []) (renamed from to)) now m
+pub renamed_faithful : (from to : Bytes) (now : ℤ) (m : Dataset) → IsTrue (list_all fits (from ∷ to ∷ [])) → IsLawful (on_keys (from ∷ to ∷ []) (renamed from to)) now m
 renamed_faithful from to now m h =
     let command : Command = on_keys (from ∷ to ∷ []) (renamed from to) in
     faithful command now m h (carried_if_faithful from to (before command now m) (two_fit _ _ h) done _ refl)
 
-pub renamed_new_faithful : (from to : Bytes) (now : ℤ) (m : Dataset) → IsTrue (list_all fits (from ∷ to ∷ [])) → IsFaithful (on_keys (from ∷ to ∷ []) (renamed_new from to)) now m
+pub renamed_new_faithful : (from to : Bytes) (now : ℤ) (m : Dataset) → IsTrue (list_all fits (from ∷ to ∷ [])) → IsLawful (on_keys (from ∷ to ∷ []) (renamed_new from to)) now m
 renamed_new_faithful from to now m h =
     let command : Command = on_keys (from ∷ to ∷ []) (renamed_new from to) in
     faithful command now m h (new_faithful from to (before command now m) (two_fit _ _ h))
@@ -108,12 +110,13 @@ cleared_at m = elim (len m == 0) as (λ b. (len m == 0) ≡ b → IsFaithfulAt (
   | true ↦ λ t. answered_faithful _ m (sym (empty_of_len m (eqb-true (len m) 0 t))) refl
   | false ↦ λ t. record {
     leads = refl;
+    short = one_short effect.Clear (short_effect effect.Clear (omega arith));
     none = λ n. absurd (cc);
     some = λ (n : empty ≡ m). absurd (let none : (len m == 0) ≡ true = ap (λ (x : Dataset). len x == 0) (sym n) ∙ ap (λ k. k == 0) (len-empty bytes_cmp Entry) in let wrong : true ≡ false = sym none ∙ t in cc);
   }
 ] refl
 
-pub cleared_faithful : (now : ℤ) (m : Dataset) → IsFaithful (on_none cleared) now m
+pub cleared_faithful : (now : ℤ) (m : Dataset) → IsLawful (on_none cleared) now m
 cleared_faithful now m = faithful (on_none cleared) now m refl (cleared_at (before (on_none cleared) now m))
 
 -- ---- the plan

@@ -4,7 +4,7 @@ ghost use Rattle.std.specs.List.{list_all};
 ghost use Rattle.mr_value.specs.Words.{fits};
 ghost use Rattle.mr_resp.specs.ReplyView.{view};
 ghost use Rattle.mr_ask.specs.Carried.{key_words};
-ghost use Rattle.mr_turn.specs.Commands.{IsPlan, IsFaithful, on_key, on_keys, on_none};
+ghost use Rattle.mr_turn.specs.Commands.{IsPlan, IsFaithful, HasCommandTexts, on_key, on_keys, on_none};
 ghost use Rattle.mr_plan_keys.specs.Commands.{command};
 ghost use Rattle.mr_plan_keys.specs.Turns.{type_turn};
 ghost use Rattle.mr_plan_keys.specs.Outcomes.{deleted, counted};
@@ -34,6 +34,9 @@ pub fn plan(
 
     // The effects lead to what the command leaves, and its own ones are there exactly where it changes something.
     ensures faithful { IsTrue (list_all fits (key_words ask.now)) → IsFaithful (command ask.now) given.now held.now }
+
+    // .. and their texts are command texts.
+    ensures texts { IsTrue (list_all fits (key_words ask.now)) → HasCommandTexts (command ask.now) given.now held.now }
 {
     planned(alloc, held, ask, given)
 }

@@ -1,7 +1,7 @@
 // Commands to the server itself.
 ghost use Rattle.std.specs.Prelude.{◌≡◌, IfOk};
 ghost use Rattle.mr_resp.specs.ReplyView.{view};
-ghost use Rattle.mr_turn.specs.Commands.{IsPlan, IsFaithful};
+ghost use Rattle.mr_turn.specs.Commands.{IsPlan, IsFaithful, HasCommandTexts};
 ghost use Rattle.mr_plan_keys.specs.Commands.{server_command};
 ghost use Rattle.mr_plan_keys.specs.Server.{server_reply};
 
@@ -21,6 +21,9 @@ pub fn plan_server(
 ) -> Result<Plan, AllocError>
     ensures plan { IfOk result (λ p. IsPlan (server_command ask.now) _given.now _held.now (view p.reply) p.effects.items) }
     ensures faithful { IsFaithful (server_command ask.now) _given.now _held.now }
+
+    // .. and their texts are command texts.
+    ensures texts { HasCommandTexts (server_command ask.now) _given.now _held.now }
 {
     let reply = reply_to(alloc, ask)?;
     Ok(Effects::new(alloc).into_plan(reply))

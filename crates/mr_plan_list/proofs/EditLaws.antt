@@ -24,6 +24,7 @@ use Rattle.mr_turn.proofs.Changing.{IsFaithfulChange}
 use Rattle.mr_plan_list.specs.Edits.{is_item, with_item, with_inserted, without_equal, is_whole, trimmed}
 use Rattle.mr_plan_list.proofs.Sizes.{not_both, both, three, small, positive, none_of, same_bytes, bytes_itself, place_within, window_within}
 use Rattle.mr_plan_list.proofs.OneEffect.{no_effect, by_step, one_effect, unless_same}
+use Rattle.mr_effect.proofs.Texts.{short_effect}
 
 -- ---- an item in another's place
 there_already : (item : Bytes) (xs : List Bytes) (place : ℕ) (g : Option Bytes) → slice_get xs place ≡ g → is_item item g ≡ true → slice_set xs place item ≡ xs
@@ -39,7 +40,7 @@ another_item item xs place below other h =
 
 set_is_step : (k : Bytes) (place : ℕ) (item : Bytes) → IsTrue (fits k) → IsTrue (fits item) → place < 2 ^ 63 → IsStep k (effect.SetItem k (pos place) item) (set_item_step (pos place) item)
 unfolding change
-set_is_step k place item named fit short = record { possible = both _ _ (both _ _ (small place short) (le-leb 0 place (omega arith))) (both (fits k) (fits item) named fit); is = λ m. refl }
+set_is_step k place item named fit short = record { possible = both _ _ (both _ _ (small place short) (le-leb 0 place (omega arith))) (both (fits k) (fits item) named fit); short = short_effect (effect.SetItem k (pos place) item) (omega arith); is = λ m. refl }
 
 is_place : (place len : ℕ) → place < len → is_place_of (pos place) len ≡ true
 is_place place len h = both _ _ (le-leb 0 place (omega arith)) (lt-ltb place len h)
@@ -60,7 +61,7 @@ module _ (k : Bytes) (x : List Bytes) (o : Option Entry) (named : IsTrue (fits k
 -- ---- an item beside a pivot
 insert_is_step : (k : Bytes) (side : Side) (pivot item : Bytes) → IsTrue (fits k) → IsTrue (fits pivot) → IsTrue (fits item) → IsStep k (effect.InsertItem k side pivot item) (insert_item_step side pivot item)
 unfolding change
-insert_is_step k side pivot item named first second = record { possible = three (fits k) (fits pivot) (fits item) named first second; is = λ m. refl }
+insert_is_step k side pivot item named first second = record { possible = three (fits k) (fits pivot) (fits item) named first second; short = short_effect (effect.InsertItem k side pivot item) (omega arith); is = λ m. refl }
 
 longer : (xs : List Bytes) (place : ℕ) (item : Bytes) → insert xs place item ≢ xs
 longer xs place item h = omega (arith, ap length h, length-append (take place xs) (item ∷ drop place xs), length-take place xs, length-drop place xs)
@@ -119,7 +120,7 @@ none_removed (negsuc n) w xs h = last_stay w (suc n) xs (none_counted n (count_o
 
 remove_is_step : (k : Bytes) (count : ℤ) (item : Bytes) → IsTrue (fits k) → IsTrue (fits item) → IsTrue (is_i64 count) → IsStep k (effect.RemoveItems k count item) (remove_items_step count item)
 unfolding change
-remove_is_step k count item named fit number = record { possible = both (is_i64 count) (fits k && fits item) number (both (fits k) (fits item) named fit); is = λ m. refl }
+remove_is_step k count item named fit number = record { possible = both (is_i64 count) (fits k && fits item) number (both (fits k) (fits item) named fit); short = short_effect (effect.RemoveItems k count item) (omega arith); is = λ m. refl }
 
 module _ (k : Bytes) (x : List Bytes) (o : Option Entry) (named : IsTrue (fits k)) (there : held lists o ≡ Some x) where
   pub remove_faithful : (count : ℤ) (item : Bytes) → IsTrue (fits item) → IsTrue (is_i64 count) → IsFaithfulChange lists (without_equal k count item (removed_count count (count_of item x)) x) x k o
@@ -132,11 +133,11 @@ module _ (k : Bytes) (x : List Bytes) (o : Option Entry) (named : IsTrue (fits k
 -- ---- a part
 trim_is_step : (k : Bytes) (first last : ℕ) → IsTrue (fits k) → first < 2 ^ 63 → last < 2 ^ 63 → IsStep k (effect.Trim k (pos first) (pos last)) (trim_step (pos first) (pos last))
 unfolding change
-trim_is_step k first last named low high = record { possible = both _ _ (both (is_i64 (pos first)) (is_i64 (pos last)) (small first low) (small last high)) named; is = λ m. refl }
+trim_is_step k first last named low high = record { possible = both _ _ (both (is_i64 (pos first)) (is_i64 (pos last)) (small first low) (small last high)) named; short = short_effect (effect.Trim k (pos first) (pos last)) (omega arith); is = λ m. refl }
 
 del_is_step : (k : Bytes) → IsTrue (fits k) → IsStep k (effect.Del k) del_step
 unfolding change
-del_is_step k named = record { possible = named; is = λ m. refl }
+del_is_step k named = record { possible = named; short = short_effect (effect.Del k) (omega arith); is = λ m. refl }
 
 is_part : (first last len : ℕ) → first ≤ last → last < len → is_part_of (pos first) (pos last) len ≡ true
 is_part first last len order below = three _ _ _ (le-leb 0 first (omega arith)) (le-leb first last order) (lt-ltb last len below)

@@ -23,10 +23,10 @@ use Rattle.mr_turn.specs.Taken.{has}
 use Rattle.mr_turn.specs.Keys.{purged}
 use Rattle.mr_turn.specs.Turns.{Turn}
 use Rattle.mr_turn.specs.Outcomes.{at_key}
-use Rattle.mr_turn.specs.Commands.{on_key, IsFaithful}
+use Rattle.mr_turn.specs.Commands.{on_key}
 use Rattle.mr_turn.proofs.KeyLists.{get_purged}
 use Rattle.mr_turn.proofs.PlanLemmas.{purged_at}
-use Rattle.mr_turn.proofs.Laws.{faithful, IsFaithfulAt, IsFaithfulTurn, at_key_faithful}
+use Rattle.mr_turn.proofs.Laws.{faithful, IsFaithfulAt, IsFaithfulTurn, at_key_faithful, IsLawful}
 use Rattle.mr_turn.proofs.KindLaws.{lists_kept}
 use Rattle.mr_plan_list.specs.Numbers.{HasFewItems, IsShort, IsShortFor, IsNumberFor, HasNumbersIn}
 use Rattle.mr_plan_list.specs.Pushes.{push_change, push_turn}
@@ -91,7 +91,7 @@ one_fits : (k : Bytes) → IsTrue (fits k) → IsTrue (list_all fits (k ∷ []))
 one_fits k h = both (fits k) true h refl
 
 -- by what is left once past keys are gone
-at_one : (k : Bytes) (t : Option Entry → Turn) (now : ℤ) (m : Dataset) → IsTrue (fits k) → ((n : Dataset) → get n k ≡ live now (get m k) → IsDataset n → IsFaithfulTurn (t (get n k)) k n) → IsDataset m → IsFaithful (on_key k t) now m
+at_one : (k : Bytes) (t : Option Entry → Turn) (now : ℤ) (m : Dataset) → IsTrue (fits k) → ((n : Dataset) → get n k ≡ live now (get m k) → IsDataset n → IsFaithfulTurn (t (get n k)) k n) → IsDataset m → IsLawful (on_key k t) now m
 at_one k t now m named f kept =
     let n = purged now (k ∷ []) m in
     faithful (on_key k t) now m (one_fits k named) (at_key_faithful k t n (f n (purged_at now k m) (kept_purged now (k ∷ []) m kept)))
@@ -101,14 +101,14 @@ moves_in : (s d : Bytes) (taken put : End) (n : Dataset) → IsDataset n → IsT
 moves_in s d taken put n kept named_s named_d true h = at_key_faithful s (rotate_turn s taken put) n (turned_in_place s taken put n kept named_s)
 moves_in s d taken put n kept named_s named_d false h = carry_faithful s d taken put h n named_s named_d
 
-moves : (s d : Bytes) (taken put : End) (now : ℤ) (m : Dataset) → IsDataset m → IsTrue (list_all fits (s ∷ d ∷ [])) → IsFaithful (moving s d taken put) now m
+moves : (s d : Bytes) (taken put : End) (now : ℤ) (m : Dataset) → IsDataset m → IsTrue (list_all fits (s ∷ d ∷ [])) → IsLawful (moving s d taken put) now m
 moves s d taken put now m kept fit =
     let n = purged now (s ∷ d ∷ []) m in
     let words = all_words s (d ∷ []) fit in
     faithful (moving s d taken put) now m fit (moves_in s d taken put n (kept_purged now (s ∷ d ∷ []) m kept) words.0 (all_words d [] words.1).0 (bytes_eq s d) refl)
 
 -- ---- every command
-pub lists_faithful : (a : ListAsk) (now : ℤ) (m : Dataset) → IsDataset m → HasNumbersIn a now m → IsTrue (list_all fits (list_words a)) → IsFaithful (command a) now m
+pub lists_faithful : (a : ListAsk) (now : ℤ) (m : Dataset) → IsDataset m → HasNumbersIn a now m → IsTrue (list_all fits (list_words a)) → IsLawful (command a) now m
 lists_faithful (ask.Push k end to items) now m kept numbers fit =
     let words = all_words k items fit in
     at_one k (turn (ask.Push k end to items)) now m words.0 (λ n is is_kept. pushes k end to items n is_kept words.0 words.1) kept

@@ -20,7 +20,7 @@ use Rattle.mr_effect.specs.declared.effect.Effect.{Effect}
 use Rattle.mr_effect.specs.declared.effect.Effect.TheVariants as effect
 use Rattle.mr_turn.specs.Taken.{is_key}
 use Rattle.mr_turn.proofs.Maps.{is_key_symm, get_put, get_put_other, put_same}
-use Rattle.mr_turn.proofs.Laws.{IsFaithfulAt}
+use Rattle.mr_turn.proofs.Laws.{IsFaithfulAt, none_short, one_short}
 use Rattle.mr_turn.proofs.Running.{IsStep, same_collection}
 use Rattle.mr_turn.proofs.KindLaws.{lists_are}
 use Rattle.mr_turn.proofs.Changing.{IsFaithfulChange}
@@ -28,6 +28,7 @@ use Rattle.mr_plan_list.specs.Moves.{is_same_end, with_rotated, Carry, carry, ca
 use Rattle.mr_plan_list.proofs.Sizes.{not_both, both, bytes_itself, end_some, may_take_some, popped_less}
 use Rattle.mr_plan_list.proofs.MoveLemmas.{apart_key}
 use Rattle.mr_plan_list.proofs.OneEffect.{no_effect, unless_same}
+use Rattle.mr_effect.proofs.Texts.{short_effect}
 
 -- ---- onto itself
 turned_left_right : (xs : List Bytes) → 0 < length xs → turned Left Right xs ≡ Some (drop 1 xs ++ take 1 xs)
@@ -55,7 +56,7 @@ turns Right Left item xs is h same = not_both ((turns_right xs).1 (same_some (sy
 
 turn_is_step : (k : Bytes) (taken put : End) → IsTrue (fits k) → IsStep k (effect.MoveItem k k taken put) (turn_step taken put)
 unfolding change
-turn_is_step k taken put named = record { possible = both (fits k) (fits k) named named; is = λ m. ap (λ b. if b then at_key (turn_step taken put) k m else carry_in k k taken put m) (bytes_itself k) }
+turn_is_step k taken put named = record { possible = both (fits k) (fits k) named named; short = short_effect (effect.MoveItem k k taken put) (omega arith); is = λ m. ap (λ b. if b then at_key (turn_step taken put) k m else carry_in k k taken put m) (bytes_itself k) }
 
 module _ (k : Bytes) (x : List Bytes) (o : Option Entry) (named : IsTrue (fits k)) (there : held lists o ≡ Some x) where
   pub turn_faithful : (taken put : End) → IsFaithfulChange lists (with_rotated k taken put (end_item taken x) x) x k o
@@ -77,6 +78,7 @@ module _ (s d : Bytes) (taken put : End) (apart : bytes_eq s d ≡ false) (m : D
       ap (λ (n : Dataset). put_at n d c.target) (put_same m s c.source (sym source)) ∙ put_same m d c.target (sym target) in
       record {
         leads = ap (λ (es : List Effect). apply_all es m) none ∙ ap Some (sym same);
+        short = none_short c.effects none;
         none = λ _. same;
         some = λ _. none;
       }
@@ -128,6 +130,7 @@ module _ (s d : Bytes) (taken put : End) (apart : bytes_eq s d ≡ false) (m : D
     carried_item : IsFaithfulAt (carried s d (carry_item s d taken put (Some item) xs ys (get m s) (get m d)) m) m
     carried_item = record {
       leads = ap (option_and_then (apply_all [])) applies;
+      short = one_short (effect.MoveItem s d taken put) (short_effect (effect.MoveItem s d taken put) (omega arith));
       none = λ e. cc;
       some = λ h. absurd (changes h);
     }

@@ -15,10 +15,11 @@ use Rattle.mr_turn.proofs.Changing.{IsFaithfulChange}
 use Rattle.mr_plan_list.specs.Pops.{without_item, without_items}
 use Rattle.mr_plan_list.proofs.Sizes.{both, small, positive, none_of, end_some, may_take_some, popped_none, popped_less}
 use Rattle.mr_plan_list.proofs.OneEffect.{no_effect, one_effect, unless_same}
+use Rattle.mr_effect.proofs.Texts.{short_effect}
 
 pop_is_step : (k : Bytes) (end : End) (n : ℕ) → IsTrue (fits k) → n < 2 ^ 63 → IsStep k (effect.Pop k end (pos n)) (pop_step end (pos n))
 unfolding change
-pop_is_step k end n named short = record { possible = both (is_i64 (pos n)) (fits k) (small n short) named; is = λ m. refl }
+pop_is_step k end n named short = record { possible = both (is_i64 (pos n)) (fits k) (small n short) named; short = short_effect (effect.Pop k end (pos n)) (omega arith); is = λ m. refl }
 
 -- what so many items at an end leave
 left_is : (end : End) (n : ℕ) (xs : List Bytes) → 0 < n → n ≤ length xs → (if may_take (pos n) (length xs) then Some (popped end n xs) else None) ≡ Some (popped end n xs)

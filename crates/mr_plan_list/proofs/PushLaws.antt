@@ -20,6 +20,7 @@ use Rattle.mr_turn.proofs.KindLaws.{lists_are}
 use Rattle.mr_turn.proofs.Changing.{IsFaithfulChange}
 use Rattle.mr_plan_list.specs.Pushes.{push_effects, push_change}
 use Rattle.mr_plan_list.proofs.Sizes.{not_both}
+use Rattle.mr_effect.proofs.Texts.{short_effect}
 
 -- ---- one after another
 pushed-append : (end : End) (xs ys zs : List Bytes) → pushed end (xs ++ ys) zs ≡ pushed end ys (pushed end xs zs)
@@ -55,7 +56,7 @@ all_true a b c p q r = rw (p, q, r) refl
 
 push_is_step : (k : Bytes) (end : End) → IsTrue (fits k) → (g : List Bytes) → IsGroup fits g → IsStep k (effect.Push k end g) (push_step end g)
 unfolding change
-push_is_step k end named g h = record { possible = all_true (is_some_of g) (fits k) (list_all fits g) (some_of g h.some) named h.all; is = λ m. refl }
+push_is_step k end named g h = record { possible = all_true (is_some_of g) (fits k) (list_all fits g) (some_of g h.some) named h.all; short = short_effect (effect.Push k end g) (omega (arith, h.few)); is = λ m. refl }
 
 no_groups : (k : Bytes) (end : End) (gs : List (List Bytes)) → push_effects k end gs ≡ [] → gs ≡ []
 no_groups k end [] h = refl

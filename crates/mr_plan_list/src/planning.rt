@@ -7,7 +7,7 @@ ghost use Rattle.mr_resp.specs.ReplyView.{view};
 ghost use Rattle.mr_data.specs.Dataset.{IsDataset, live};
 ghost use Rattle.mr_ask.specs.Carried.{list_words};
 ghost use Rattle.mr_turn.specs.Turns.{Takes};
-ghost use Rattle.mr_turn.specs.Commands.{on_key, IsPlan, IsFaithful};
+ghost use Rattle.mr_turn.specs.Commands.{on_key, IsPlan, IsFaithful, HasCommandTexts};
 ghost use Rattle.mr_plan_list.specs.Numbers.{HasNumbers, HasNumbersIn};
 ghost use Rattle.mr_plan_list.specs.Commands.{turn, command};
 
@@ -30,6 +30,9 @@ pub fn plan(
 
     // The effects lead to what the command leaves, and its own ones are there exactly where it changes something.
     ensures faithful { IsTrue (list_all fits (list_words ask.now)) → IsFaithful (command ask.now) given.now held.now }
+
+    // .. and their texts are command texts.
+    ensures texts { IsTrue (list_all fits (list_words ask.now)) → HasCommandTexts (command ask.now) given.now held.now }
 {
     planned(alloc, held, ask, given)
 }

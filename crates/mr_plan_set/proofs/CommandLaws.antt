@@ -8,8 +8,8 @@ use Rattle.mr_data.specs.Dataset.{Dataset}
 use Rattle.mr_ask.specs.Carried.{set_words}
 use Rattle.mr_ask.specs.declared.set_ask.SetAsk.{SetAsk}
 use Rattle.mr_ask.specs.declared.set_ask.SetAsk.TheVariants as ask
-use Rattle.mr_turn.specs.Commands.{before, IsFaithful}
-use Rattle.mr_turn.proofs.Laws.{faithful, answered_faithful}
+use Rattle.mr_turn.specs.Commands.{before}
+use Rattle.mr_turn.proofs.Laws.{faithful, answered_faithful, IsLawful}
 use Rattle.mr_plan_set.specs.declared.grouping.Write.TheVariants as write
 use Rattle.mr_plan_set.specs.Members.{as_set}
 use Rattle.mr_plan_set.specs.Turns.{added, adding, removed, removing, taken, taking, drawn_reply, flag, flags, bulks, number}
@@ -22,7 +22,7 @@ use Rattle.mr_plan_set.proofs.Moves.{move_faithful}
 one_key : (a b : Bool) → a && b ≡ true → a && true ≡ true
 one_key a b h = both a true (first a b h) refl
 
-pub sets_faithful : (command_asked : SetAsk) (word : ℕ) (now : ℤ) (m : Dataset) → RestsOn command_asked m → IsTrue (list_all fits (set_words command_asked)) → IsFaithful (command command_asked word) now m
+pub sets_faithful : (command_asked : SetAsk) (word : ℕ) (now : ℤ) (m : Dataset) → RestsOn command_asked m → IsTrue (list_all fits (set_words command_asked)) → IsLawful (command command_asked word) now m
 sets_faithful (ask.AddMembers k xs) word now m kept h = changing_set k (adding k xs) now m kept (first _ _ h) (λ n s n_kept is.
     group_change write.Add k s (added xs s) _ _ _ is (first _ _ h) (added_fit xs s (second _ _ h)) (with_added xs s) (added_none xs s))
 sets_faithful (ask.RemoveMembers k xs) word now m kept h = changing_set k (removing k xs) now m kept (first _ _ h) (λ n s n_kept is.

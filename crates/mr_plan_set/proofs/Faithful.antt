@@ -14,10 +14,10 @@ use Rattle.mr_data.specs.declared.value.Entry.{Entry}
 use Rattle.mr_turn.specs.Taken.{is_key, has}
 use Rattle.mr_turn.specs.Keys.{purged}
 use Rattle.mr_turn.specs.Collections.{Change, changing}
-use Rattle.mr_turn.specs.Commands.{on_key, before, IsFaithful}
+use Rattle.mr_turn.specs.Commands.{on_key, before}
 use Rattle.mr_turn.proofs.Maps.{is_key_itself, same_key}
 use Rattle.mr_turn.proofs.KeyLists.{get_purged}
-use Rattle.mr_turn.proofs.Laws.{faithful, at_key_faithful}
+use Rattle.mr_turn.proofs.Laws.{faithful, at_key_faithful, IsLawful}
 use Rattle.mr_turn.proofs.KindLaws.{sets_are, sets_kept}
 use Rattle.mr_turn.proofs.Changing.{IsFaithfulChange, changing_faithful}
 use Rattle.mr_plan_set.specs.Members.{Members, as_set, from_place}
@@ -180,7 +180,7 @@ module _ (xs : List Bytes) (s : Members) where
 
 -- ---- commands that change one set
 module _ (k : Bytes) (change : Members → Change Members) (now : ℤ) (m : Dataset) (kept : IsDataset m) where
-  pub changing_set : IsTrue (fits k) → ((n : Dataset) (s : Members) → IsDataset n → held sets (get n k) ≡ Some s → IsFaithfulChange sets (change s) s k (get n k)) → IsFaithful (on_key k (changing sets change)) now m
+  pub changing_set : IsTrue (fits k) → ((n : Dataset) (s : Members) → IsDataset n → held sets (get n k) ≡ Some s → IsFaithfulChange sets (change s) s k (get n k)) → IsLawful (on_key k (changing sets change)) now m
   changing_set h f =
       let c = on_key k (changing sets change) in
       let n = before c now m in

@@ -1,5 +1,5 @@
 -- Effects on members, in groups, do what all members do.
-use Rattle.std.proofs.Common.{◌≡◌, ◌≢◌, List, [], ◌∷◌, map, Bool, true, false, ◌&&◌, Option, Some, refl, sym, ◌∙◌, ap}
+use Rattle.std.proofs.Common.{◌≡◌, ◌≢◌, List, [], ◌∷◌, map, Bool, true, false, ◌&&◌, Option, Some, refl, sym, ◌∙◌, ap, arith}
 use Rattle.std.specs.Prelude.{IsTrue, ◌==◌}
 use Rattle.std.specs.List.{AllByRecursion, list_all}
 use Rattle.std.specs.FinMap.{empty, keys, len}
@@ -22,6 +22,8 @@ use Rattle.mr_plan_set.specs.declared.grouping.Write.TheVariants as write
 use Rattle.mr_plan_set.specs.Members.{Members}
 use Rattle.mr_plan_set.specs.Grouping.{group_effect, group_effects}
 use Rattle.mr_plan_set.proofs.Sets.{with_append, without_append, no_members}
+use Rattle.mr_effect.proofs.Texts.{short_effect}
+use Rattle.mr_effect.specs.declared.effect.Effect.TheVariants as effect
 
 -- what is made of a set
 abbrev pub written : Write → List Bytes → Members → Members
@@ -45,8 +47,8 @@ both false b p q = cc
 
 is_step : (w : Write) (k : Bytes) (g : List Bytes) → IsTrue (fits k) → IsGroup fits g → IsStep k (group_effect w k g) (group_step sets sets_are (written w) (fold_of w) g)
 unfolding change
-is_step write.Add k g h i = record { possible = both _ _ (some_word g i.some) (both _ _ h i.all); is = λ m. refl }
-is_step write.Remove k g h i = record { possible = both _ _ (some_word g i.some) (both _ _ h i.all); is = λ m. refl }
+is_step write.Add k g h i = record { possible = both _ _ (some_word g i.some) (both _ _ h i.all); short = short_effect (effect.AddMembers k g) (omega (arith, i.few)); is = λ m. refl }
+is_step write.Remove k g h i = record { possible = both _ _ (some_word g i.some) (both _ _ h i.all); short = short_effect (effect.RemoveMembers k g) (omega (arith, i.few)); is = λ m. refl }
 
 are_steps : (w : Write) (k : Bytes) (gs : List (List Bytes)) → IsTrue (fits k) → AllByRecursion (IsGroup fits) gs → AllByRecursion (λ g. IsStep k (group_effect w k g) (group_step sets sets_are (written w) (fold_of w) g)) gs
 are_steps w k [] h i = tt

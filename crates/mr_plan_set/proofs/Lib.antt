@@ -1,5 +1,6 @@
 pub mod Sets
 pub mod Pushing
+pub mod Single
 pub mod Draws
 pub mod Combinations
 pub mod Tells

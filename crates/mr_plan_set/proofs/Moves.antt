@@ -1,5 +1,5 @@
 -- A member that goes from one set into another.
-use Rattle.std.proofs.Common.{rules, ◌≡◌, ℕ, List, [], ◌∷◌, ◌++◌, append_assoc, Bool, true, false, ◌&&◌, cond, Option, Some, None, refl, sym, ◌∙◌, ap}
+use Rattle.std.proofs.Common.{rules, ◌≡◌, ℕ, List, [], ◌∷◌, ◌++◌, append_assoc, Bool, true, false, ◌&&◌, cond, Option, Some, None, refl, sym, ◌∙◌, ap, arith}
 use Rattle.std.specs.Prelude.{IsTrue, ℤ, ◌||◌, not, is_some, if◌then◌else◌}
 use Rattle.std.specs.List.{list_all}
 use Rattle.std.specs.Option.{option_map, option_and_then}
@@ -22,16 +22,17 @@ use Rattle.mr_effect.specs.declared.effect.Effect.TheVariants as effect
 use Rattle.mr_turn.specs.Taken.{is_key, has}
 use Rattle.mr_turn.specs.Keys.{past, purged, dels, is_stored}
 use Rattle.mr_turn.specs.Outcomes.{answered}
-use Rattle.mr_turn.specs.Commands.{Command, before, IsPlan, IsFaithful}
+use Rattle.mr_turn.specs.Commands.{Command, before, IsPlan}
 use Rattle.mr_turn.proofs.Maps.{is_key_itself, same_key, get_put, get_put_other, get_remove}
 use Rattle.mr_turn.proofs.KeyLists.{get_purged}
-use Rattle.mr_turn.proofs.Laws.{faithful, IsFaithfulAt, answered_faithful}
+use Rattle.mr_turn.proofs.Laws.{faithful, IsFaithfulAt, IsLawful, answered_faithful, one_short}
 use Rattle.mr_turn.proofs.Running.{held_entry}
 use Rattle.mr_turn.proofs.KindLaws.{sets_are}
 use Rattle.mr_plan_set.specs.Members.{Members}
 use Rattle.mr_plan_set.specs.Turns.{number}
 use Rattle.mr_plan_set.specs.Moving.{carried, moved, moving, move_member, Gives}
 use Rattle.mr_plan_set.proofs.Sets.{contains_remove}
+use Rattle.mr_effect.proofs.Texts.{short_effect}
 
 pub same_bytes : (xs ys : List ℕ) → bytes_eq xs ys ≡ true → xs ≡ ys
 same_bytes xs ys h = search (rules, bytes_eq-Decides)
@@ -108,6 +109,7 @@ module _ (from to x : Bytes) (m : Dataset) (fit : fits from && fits to && fits x
     | true ↦ λ t. answered_faithful _ m refl refl
     | false ↦ λ t. record {
       leads = carry_leads from to x m s d source target t there member fit;
+      short = one_short (effect.MoveMember from to x) (short_effect (effect.MoveMember from to x) (omega arith));
       none = λ e. cc;
       some = λ e. absurd (carry_changes from to x m s d source target t member e);
     }
@@ -178,7 +180,7 @@ module _ (from to x : Bytes) (now : ℤ) (m : Dataset) where
   pub looked_one : bytes_eq from to ≡ true → (none first : List Effect) → first ≡ none ++ dels (past now (from ∷ []) m) → first ≡ none ++ dels (past now (from ∷ to ∷ []) m)
   looked_one h none one e = e ∙ ap (λ ks. none ++ dels ks) (sym (past_one now from to m h))
 
-  pub move_faithful : IsTrue (list_all fits (from ∷ to ∷ x ∷ [])) → IsFaithful the_move now m
+  pub move_faithful : IsTrue (list_all fits (from ∷ to ∷ x ∷ [])) → IsLawful the_move now m
   move_faithful h = faithful the_move now m (two_fit (fits from) (fits to) (fits x) h) (move_at from to x (before the_move now m) (three_fit (fits from) (fits to) (fits x) h))
     where
       two_fit : (a b c : Bool) → a && (b && (c && true)) ≡ true → a && (b && true) ≡ true

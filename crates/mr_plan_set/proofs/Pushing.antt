@@ -87,7 +87,7 @@ module _ (w : Write) (k : Bytes) (old : List Effect) where
   pub no_group : (xs : List Bytes) → xs ≡ [] → old ≡ old ++ group_effects w k (as_set xs)
   no_group xs h = sym (ap (λ ys. old ++ group_effects w k (as_set ys)) h ∙ ap (λ (es : List (Bytes × Unit {0})). old ++ map (group_effect w k) (cut (names es))) no_entries ∙ append_nothing old)
 
-  one_key : (x : Bytes) → keys (as_set (x ∷ [])) ≡ x ∷ []
+  pub one_key : (x : Bytes) → keys (as_set (x ∷ [])) ≡ x ∷ []
   one_key x = ap names (entries-insert nat_list_cmp_total empty x tt ∙ ap (put bytes_cmp x tt) no_entries)
 
   pub one_group : (xs : List Bytes) (x : Bytes) → xs ≡ x ∷ [] → old ++ group_effect w k (x ∷ []) ∷ [] ≡ old ++ group_effects w k (as_set xs)

@@ -12,9 +12,9 @@ use Rattle.mr_data.specs.declared.value.Entry.{Entry}
 use Rattle.mr_effect.specs.declared.effect.Effect.{Effect}
 use Rattle.mr_turn.specs.Keys.{dels, past}
 use Rattle.mr_turn.specs.Collections.{telling, told}
-use Rattle.mr_turn.specs.Commands.{on_key, before, IsPlan, IsFaithful}
+use Rattle.mr_turn.specs.Commands.{on_key, before, IsPlan}
 use Rattle.mr_turn.proofs.PlanLemmas.{key_plan, told as takes_none}
-use Rattle.mr_turn.proofs.Laws.{faithful, at_key_faithful}
+use Rattle.mr_turn.proofs.Laws.{faithful, at_key_faithful, IsLawful}
 use Rattle.mr_turn.proofs.Changing.{telling_faithful}
 use Rattle.mr_plan_set.specs.Members.{Members}
 
@@ -24,7 +24,7 @@ no_effects answer o = elim (held sets o) as (λ h. (told sets answer h o).effect
 pub told_plan : (k : Bytes) (answer : Members → Tree) (now : ℤ) (m : Dataset) (o : Option Entry) (r : Tree) (none looked list : List Effect) → o ≡ live now (get m k) → none ≡ [] → looked ≡ none ++ dels (past now (k ∷ []) m) → list ≡ looked → r ≡ (telling sets answer o).reply → IsPlan (on_key k (telling sets answer)) now m r list
 told_plan k answer now m o r none looked list is start look all reply = key_plan k (telling sets answer) now m o r none looked looked list is start look all (takes_none (telling sets answer o) looked (no_effects answer o) reply)
 
-pub told_faithful : (k : Bytes) (answer : Members → Tree) (now : ℤ) (m : Dataset) → IsTrue (list_all fits (k ∷ [])) → IsFaithful (on_key k (telling sets answer)) now m
+pub told_faithful : (k : Bytes) (answer : Members → Tree) (now : ℤ) (m : Dataset) → IsTrue (list_all fits (k ∷ [])) → IsLawful (on_key k (telling sets answer)) now m
 told_faithful k answer now m h =
     let command = on_key k (telling sets answer) in
     faithful command now m h (at_key_faithful k (telling sets answer) (before command now m) (telling_faithful sets answer k (before command now m)))

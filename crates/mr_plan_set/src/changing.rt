@@ -4,7 +4,7 @@ ghost use Rattle.mr_resp.specs.ReplyView.{view};
 ghost use Rattle.mr_turn.specs.Turns.{Takes};
 ghost use Rattle.mr_plan_set.specs.Turns.{add_members_turn, remove_members_turn};
 
-use crate::grouping::{Write, changed_by, push_groups};
+use crate::grouping::{Write, push_changes};
 use crate::replies::set_at;
 use mr_ask::{Argument, Words};
 use mr_data::Entry;
@@ -27,9 +27,8 @@ pub fn add_members(
     let Some(set) = set_at(seen, &empty) else {
         return Ok(wrong_kind());
     };
-    let added = changed_by(alloc, Write::Add, members, set)?;
-    push_groups(alloc, Write::Add, key, &added, effects)?;
-    Ok(count(added.len()))
+    let added = push_changes(alloc, Write::Add, key, members, set, effects)?;
+    Ok(count(added))
 }
 
 /// `SREM`
@@ -46,7 +45,6 @@ pub fn remove_members(
     let Some(set) = set_at(seen, &empty) else {
         return Ok(wrong_kind());
     };
-    let removed = changed_by(alloc, Write::Remove, members, set)?;
-    push_groups(alloc, Write::Remove, key, &removed, effects)?;
-    Ok(count(removed.len()))
+    let removed = push_changes(alloc, Write::Remove, key, members, set, effects)?;
+    Ok(count(removed))
 }

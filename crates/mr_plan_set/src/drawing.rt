@@ -8,14 +8,14 @@ ghost use Rattle.mr_plan_set.specs.Grouping.{texts, group_effects};
 ghost use Rattle.mr_plan_set.specs.declared.grouping.Write.TheVariants as write;
 ghost use Rattle.mr_plan_set.specs.Turns.{draw_members_turn, take_members_turn, first_bulk, one_bulk, bulks};
 
-use crate::grouping::{Write, group_effect, push_groups};
+use crate::grouping::{Write, push_groups, push_member};
 use crate::replies::set_at;
 use mr_ask::Argument;
-use mr_data::{Entry, Words};
+use mr_data::Entry;
 use mr_map::{Keys, SliceMap};
 use mr_resp::Reply;
 use mr_turn::{Effects, bulk, wrong_kind};
-use mr_value::{SetValue, Word};
+use mr_value::SetValue;
 use std::alloc::{AllocError, Global};
 
 // The place that a random word names.
@@ -166,9 +166,7 @@ fn take_one(
     let Some(member) = draw_one(set, word) else {
         return Ok(Reply::NullBulk);
     };
-    let mut members = Words::new(alloc);
-    members.push(Word::copied(alloc, member)?)?;
-    effects.push(group_effect(alloc, Write::Remove, key, members)?)?;
+    push_member(alloc, Write::Remove, key, member, effects)?;
     let reply = bulk(alloc, member)?;
     Ok(reply)
 }

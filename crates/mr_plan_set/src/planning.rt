@@ -6,7 +6,7 @@ ghost use Rattle.mr_resp.specs.ReplyView.{view};
 ghost use Rattle.mr_data.specs.Dataset.{IsDataset};
 ghost use Rattle.mr_ask.specs.Carried.{set_words};
 ghost use Rattle.mr_ask.specs.declared.set_ask.SetAsk.TheVariants as asks;
-ghost use Rattle.mr_turn.specs.Commands.{IsPlan, IsFaithful};
+ghost use Rattle.mr_turn.specs.Commands.{IsPlan, IsFaithful, HasCommandTexts};
 ghost use Rattle.mr_plan_set.specs.SetCommands.{command, RestsOn};
 
 use crate::combining::{combined, look_at_all};
@@ -29,6 +29,9 @@ pub fn plan(
 
     // The effects lead to what the command leaves, and its own ones are there exactly where it changes something.
     ensures faithful { IsTrue (list_all fits (set_words ask.now)) → IsFaithful (command ask.now given.word) given.now held.now }
+
+    // .. and their texts are command texts.
+    ensures texts { IsTrue (list_all fits (set_words ask.now)) → HasCommandTexts (command ask.now given.word) given.now held.now }
 {
     planned(alloc, held, ask, given)
 }

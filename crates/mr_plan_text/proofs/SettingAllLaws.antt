@@ -1,12 +1,12 @@
 -- The effects of commands that set texts at several keys are faithful.
-use Rattle.std.proofs.Common.{ℤ, ◌≡◌, List, [], ◌∷◌, Bool, true, false, ◌&&◌, not, cond, Option, Some, None, refl, sym, ◌∙◌, ap, T}
-use Rattle.std.specs.Prelude.{IsTrue, filter, if◌then◌else◌, pos}
+use Rattle.std.proofs.Common.{ℤ, ◌≡◌, List, [], ◌∷◌, Bool, true, false, ◌&&◌, not, cond, Option, Some, None, refl, sym, ◌∙◌, ap, T, ℕ, ◌<◌, ◌≤◌, ◌+◌, ◌*◌, length, arith}
+use Rattle.std.specs.Prelude.{IsTrue, filter, if◌then◌else◌, pos, All}
 use Rattle.std.specs.List.{AllByRecursion, list_all}
 use Rattle.std.specs.Option.{option_and_then}
 use Rattle.std.specs.Ordering.{is_eq, is_lt, ordering_reverse}
 use Rattle.std.specs.declared.cmp.Ordering.{Ordering}
 use Rattle.std.specs.declared.cmp.Ordering.TheVariants.{Less, Equal, Greater}
-use Rattle.std.specs.FinMap.{empty, get, insert, entries, find, is_sorted, entries_sorted, get-entries, get-empty, get-insert, same_map}
+use Rattle.std.specs.FinMap.{empty, get, insert, entries, find, is_sorted, entries_sorted, get-entries, get-empty, get-insert, same_map, len, len-insert, len-entries, len-empty, contains_key}
 use Rattle.std.specs.FinMap.Entries.{below_all}
 use Rattle.std.proofs.lemmas.Cmp.{nat_list_cmp_total}
 use Rattle.std.proofs.lemmas.Map.Lookups.{exact_bytes}
@@ -25,12 +25,17 @@ use Rattle.mr_words.specs.Pairing.{unpaired}
 use Rattle.mr_turn.specs.Taken.{is_key}
 use Rattle.mr_turn.specs.Turns.{done}
 use Rattle.mr_turn.specs.Outcomes.{answered}
-use Rattle.mr_turn.specs.Commands.{Command, on_keys, before, IsFaithful}
+use Rattle.mr_turn.specs.Commands.{Command, on_keys, before, IsFaithful, HasCommandTexts}
 use Rattle.mr_turn.proofs.Maps.{is_key_itself, is_key_symm, same_key}
-use Rattle.mr_turn.proofs.Laws.{faithful, IsFaithfulAt, answered_faithful}
+use Rattle.mr_turn.proofs.Laws.{answered_faithful, IsLeadingAt, leading_at, leading, sent, none_short, one_short}
 use Rattle.mr_plan_text.specs.Setting.{plain, is_plain}
 use Rattle.mr_plan_text.specs.SettingAll.{names, last_texts, changed, set_effects, put_all, set_all, is_any_there, set_all_new}
 use Rattle.mr_plan_text.proofs.SameTexts.{bytes_itself, plain_is, both}
+use Rattle.mr_effect.specs.declared.effect.Effect.TheVariants as effect
+use Rattle.mr_effect.proofs.Texts.{short_effect}
+use Rattle.mr_resp.specs.Usual.{commands, commands-words}
+use Rattle.mr_effect.specs.Spelling.{IsShort}
+use Rattle.mr_effect.proofs.Appending.{length-pairs}
 
 abbrev Pair : Type 0
 Pair = Bytes × Bytes
@@ -189,7 +194,7 @@ no_effect : (xs : List Pair) → set_effects xs ≡ [] → xs ≡ []
 no_effect [] h = refl
 no_effect (x ∷ xs) h = cc
 
-put_all_faithful : (answer : Tree) (ps : List Pair) (m : Dataset) → list_all pair_fits ps ≡ true → IsFaithfulAt (put_all answer ps m) m
+put_all_faithful : (answer : Tree) (ps : List Pair) (m : Dataset) → list_all pair_fits ps ≡ true → IsLeadingAt (put_all answer ps m) m
 put_all_faithful answer ps m fit = record {
   leads = changed_leads (changed ps m) ps m refl (changed_fit ps m fit);
   none = λ e. sym (with_changed ps m) ∙ ap (λ xs. with_texts xs m) (no_effect (changed ps m) e);
@@ -197,13 +202,55 @@ put_all_faithful answer ps m fit = record {
 }
 
 pub set_all_faithful : (ps : List Pair) (now : ℤ) (m : Dataset) → IsTrue (list_all fits (unpaired ps)) → IsFaithful (on_keys (names ps) (set_all ps)) now m
-set_all_faithful ps now m h = let command : Command = on_keys (names ps) (set_all ps) in faithful command now m (names_fit ps h) (put_all_faithful done ps (before command now m) (pairs_fit ps h))
+set_all_faithful ps now m h = let command : Command = on_keys (names ps) (set_all ps) in leading command now m (names_fit ps h) (put_all_faithful done ps (before command now m) (pairs_fit ps h))
 
-new_faithful : (ps : List Pair) (m : Dataset) → list_all pair_fits ps ≡ true → IsFaithfulAt (set_all_new ps m) m
-new_faithful ps m fit = elim (is_any_there ps m) as (λ b. IsFaithfulAt (if b then answered (reply.int (pos 0)) m else put_all (reply.int (pos 1)) ps m) m) [
-  | true ↦ answered_faithful _ m refl refl
+new_faithful : (ps : List Pair) (m : Dataset) → list_all pair_fits ps ≡ true → IsLeadingAt (set_all_new ps m) m
+new_faithful ps m fit = elim (is_any_there ps m) as (λ b. IsLeadingAt (if b then answered (reply.int (pos 0)) m else put_all (reply.int (pos 1)) ps m) m) [
+  | true ↦ leading_at _ m (answered_faithful _ m refl refl)
   | false ↦ put_all_faithful _ ps m fit
 ]
 
 pub set_all_new_faithful : (ps : List Pair) (now : ℤ) (m : Dataset) → IsTrue (list_all fits (unpaired ps)) → IsFaithful (on_keys (names ps) (set_all_new ps)) now m
-set_all_new_faithful ps now m h = let command : Command = on_keys (names ps) (set_all_new ps) in faithful command now m (names_fit ps h) (new_faithful ps (before command now m) (pairs_fit ps h))
+set_all_new_faithful ps now m h = let command : Command = on_keys (names ps) (set_all_new ps) in leading command now m (names_fit ps h) (new_faithful ps (before command now m) (pairs_fit ps h))
+
+-- ---- an effect of no more pairs than the command names is short
+filter_few : {X : Type 0} (p : X → Bool) (xs : List X) → length (filter p xs) ≤ length xs
+filter_few p [] = omega arith
+filter_few p (x ∷ xs) = elim (p x) as (λ b. length (cond b (x ∷ filter p xs) (filter p xs)) ≤ length (x ∷ xs)) [
+  | true ↦ omega (arith, filter_few p xs)
+  | false ↦ omega (arith, filter_few p xs)
+]
+
+one_more : (b : Bool) (n : ℕ) → cond b n (n + 1) ≤ n + 1
+one_more true n = omega arith
+one_more false n = omega arith
+
+texts_few : (ps : List Pair) (t : ByteMap Bytes) → len (with_fields ps t) ≤ len t + length ps
+texts_few [] t = omega arith
+texts_few (p ∷ ps) t = omega (arith, texts_few ps (insert t p.0 p.1), len-insert nat_list_cmp_total t p.0 p.1, one_more (contains_key t p.0) (len t))
+
+changed_few : (ps : List Pair) (m : Dataset) → length (changed ps m) ≤ length ps
+changed_few ps m = omega (arith, filter_few (λ (p : Pair). not (is_plain p.1 (get m p.0))) (entries (last_texts ps)), len-entries (last_texts ps), texts_few ps empty, len-empty bytes_cmp Bytes)
+
+unpaired_twice : (ps : List Pair) → length (unpaired ps) ≡ 2 * length ps
+unpaired_twice [] = refl
+unpaired_twice (p ∷ ps) = omega (arith, unpaired_twice ps)
+
+set_effects_short : (xs : List Pair) → 2 * length xs < 1048576 → All IsShort (set_effects xs)
+set_effects_short [] few = none_short [] refl
+set_effects_short (x ∷ xs) few = one_short (effect.SetAll (x ∷ xs)) (short_effect (effect.SetAll (x ∷ xs)) (omega (arith, length-pairs (x ∷ xs), few)))
+
+put_all_short : (ps : List Pair) (m : Dataset) → length (unpaired ps) < commands.words → All IsShort (set_effects (changed ps m))
+put_all_short ps m few = set_effects_short (changed ps m) (omega (arith, commands-words, unpaired_twice ps, changed_few ps m, few))
+
+pub set_all_texts : (ps : List Pair) (now : ℤ) (m : Dataset) → IsTrue (list_all fits (unpaired ps)) → length (unpaired ps) < commands.words → HasCommandTexts (on_keys (names ps) (set_all ps)) now m
+set_all_texts ps now m h few = let command : Command = on_keys (names ps) (set_all ps) in sent command now m (set_all_faithful ps now m h) (put_all_short ps (before command now m) few)
+
+new_short : (ps : List Pair) (m : Dataset) → length (unpaired ps) < commands.words → All IsShort (set_all_new ps m).effects
+new_short ps m few = elim (is_any_there ps m) as (λ b. All IsShort (if b then answered (reply.int (pos 0)) m else put_all (reply.int (pos 1)) ps m).effects) [
+  | true ↦ none_short [] refl
+  | false ↦ put_all_short ps m few
+]
+
+pub set_all_new_texts : (ps : List Pair) (now : ℤ) (m : Dataset) → IsTrue (list_all fits (unpaired ps)) → length (unpaired ps) < commands.words → HasCommandTexts (on_keys (names ps) (set_all_new ps)) now m
+set_all_new_texts ps now m h few = let command : Command = on_keys (names ps) (set_all_new ps) in sent command now m (set_all_new_faithful ps now m h) (new_short ps (before command now m) few)

@@ -1,11 +1,12 @@
 // The plan of a command on strings.
-ghost use Rattle.std.specs.Prelude.{◌≡◌, IfOk, IsTrue};
+ghost use Rattle.std.specs.Prelude.{◌≡◌, ◌<◌, length, IfOk, IsTrue};
 ghost use Rattle.std.specs.List.{list_all};
 ghost use Rattle.mr_value.specs.Number.{is_i64};
 ghost use Rattle.mr_value.specs.Words.{fits};
 ghost use Rattle.mr_resp.specs.ReplyView.{view};
+ghost use Rattle.mr_resp.specs.Usual.{commands};
 ghost use Rattle.mr_ask.specs.Carried.{text_words};
-ghost use Rattle.mr_turn.specs.Commands.{IsPlan, IsFaithful, on_key, on_keys};
+ghost use Rattle.mr_turn.specs.Commands.{IsPlan, IsFaithful, HasCommandTexts, on_key, on_keys};
 ghost use Rattle.mr_plan_text.specs.Commands.{command, HasNumber};
 ghost use Rattle.mr_plan_text.specs.Texts.{get_turn, length_turn, range_turn, texts};
 ghost use Rattle.mr_plan_text.specs.Setting.{set_turn, set_new_turn, get_and_set_turn, get_and_delete_turn};
@@ -33,6 +34,9 @@ pub fn plan(
 
     // The effects lead to what the command leaves, and its own ones are there exactly where it changes something.
     ensures faithful { IsTrue (list_all fits (text_words ask.now)) → IsFaithful (command ask.now) given.now held.now }
+
+    // .. and their texts are command texts. (MSET's effect has as many words as its request at most.)
+    ensures texts { IsTrue (list_all fits (text_words ask.now)) → length (text_words ask.now) < commands.words → HasCommandTexts (command ask.now) given.now held.now }
 {
     planned(alloc, held, ask, given)
 }

@@ -1,5 +1,5 @@
 -- The effects of commands that change a sorted set are faithful.
-use Rattle.std.proofs.Common.{◌≡◌, ◌≢◌, ℤ, List, [], ◌∷◌, ◌++◌, map, Bool, true, false, ◌&&◌, cond, Option, Some, None, refl, sym, ◌∙◌, ap}
+use Rattle.std.proofs.Common.{◌≡◌, ◌≢◌, ℤ, List, [], ◌∷◌, ◌++◌, map, Bool, true, false, ◌&&◌, cond, Option, Some, None, refl, sym, ◌∙◌, ap, arith}
 use Rattle.std.specs.Prelude.{IsTrue, ◌==◌, is_some}
 use Rattle.std.specs.List.{list_all}
 use Rattle.std.specs.FinMap.{get, empty, insert, len, get-empty, get-insert}
@@ -22,18 +22,20 @@ use Rattle.mr_turn.specs.Cuts.{cut}
 use Rattle.mr_turn.specs.Taken.{is_key, has}
 use Rattle.mr_turn.specs.Keys.{purged}
 use Rattle.mr_turn.specs.Collections.{Change, changing}
-use Rattle.mr_turn.specs.Commands.{on_key, before, IsFaithful}
+use Rattle.mr_turn.specs.Commands.{on_key, before}
 use Rattle.mr_turn.proofs.Cutting.{IsGroup, cut_groups, cut_whole, no_cut}
 use Rattle.mr_turn.proofs.Running.{IsStep, steps_of, IsFold, groups_run}
 use Rattle.mr_turn.proofs.KindLaws.{sorted_sets_are, sorted_sets_kept}
 use Rattle.mr_turn.proofs.Maps.{same_key}
 use Rattle.mr_turn.proofs.KeyLists.{get_purged}
-use Rattle.mr_turn.proofs.Laws.{faithful, at_key_faithful}
+use Rattle.mr_turn.proofs.Laws.{faithful, at_key_faithful, IsLawful}
 use Rattle.mr_turn.proofs.Changing.{IsFaithfulChange, changing_faithful}
 use Rattle.mr_plan_zset.specs.Scores.{Scores, changed, lost, unchanged, set_to, reduced_to}
 use Rattle.mr_plan_zset.proofs.Entries.{all_map}
 use Rattle.mr_plan_zset.proofs.Maps.{get_without}
 use Rattle.mr_plan_zset.proofs.Differences.{with_changed, none_changed, changed_all, without_lost, none_lost, lost_all}
+use Rattle.mr_effect.proofs.Texts.{short_effect}
+use Rattle.mr_effect.proofs.Appending.{length-scores}
 
 pub both : (a b : Bool) → a ≡ true → b ≡ true → (a && b) ≡ true
 both true b h i = i
@@ -107,6 +109,7 @@ set_step : (k : Bytes) → fits k ≡ true → (g : List (Bytes × ℤ)) → IsG
 unfolding change
 set_step k fit g i = record {
   possible = both (is_some_of g && list_all has_score g) _ (both (is_some_of g) _ (some_of g i.some) (parted g i.all).1) (both (fits k) _ fit (parted g i.all).0);
+  short = short_effect (effect.SetScores k g) (omega (arith, length-scores g, i.few));
   is = λ m. refl;
 }
 
@@ -114,6 +117,7 @@ remove_step : (k : Bytes) → fits k ≡ true → (g : List Bytes) → IsGroup f
 unfolding change
 remove_step k fit g i = record {
   possible = both (is_some_of g) _ (some_of g i.some) (both (fits k) _ fit i.all);
+  short = short_effect (effect.RemoveScores k g) (omega (arith, i.few));
   is = λ m. refl;
 }
 
@@ -174,7 +178,7 @@ held_kept m k (Some e) s i is h q z g = value_kept e.value s (i.entries k e is).
 
 -- ---- commands that change one set
 module _ (k : Bytes) (change : Scores → Change Scores) (now : ℤ) (m : Dataset) (kept : IsDataset m) where
-  pub changing_set : IsTrue (fits k) → ((s : Scores) (o : Option Entry) → AreKept s → held sorted_sets o ≡ Some s → IsFaithfulChange sorted_sets (change s) s k o) → IsFaithful (on_key k (changing sorted_sets change)) now m
+  pub changing_set : IsTrue (fits k) → ((s : Scores) (o : Option Entry) → AreKept s → held sorted_sets o ≡ Some s → IsFaithfulChange sorted_sets (change s) s k o) → IsLawful (on_key k (changing sorted_sets change)) now m
   changing_set h f =
       let c = on_key k (changing sorted_sets change) in
       let n = before c now m in

@@ -19,8 +19,8 @@ use Rattle.mr_ask_zset.specs.declared.zset_ask.ZSetAsk.TheVariants as ask
 use Rattle.mr_ask_zset.specs.declared.zset_ask.ScoreCondition.{ScoreCondition}
 use Rattle.mr_ask_zset.specs.declared.zset_ask.Comparison.{Comparison}
 use Rattle.mr_turn.specs.Collections.{telling}
-use Rattle.mr_turn.specs.Commands.{on_key, before, IsFaithful}
-use Rattle.mr_turn.proofs.Laws.{faithful, at_key_faithful}
+use Rattle.mr_turn.specs.Commands.{on_key, before}
+use Rattle.mr_turn.proofs.Laws.{faithful, at_key_faithful, IsLawful}
 use Rattle.mr_turn.proofs.Changing.{IsFaithfulChange, telling_faithful}
 use Rattle.mr_plan_zset.specs.Scores.{Scores, score_reply, unchanged, set_to}
 use Rattle.mr_plan_zset.specs.Adding.{is_set, with_pair, with_pairs, add_scores, increase_score, set_score, out_of_range, score_or_0}
@@ -53,12 +53,12 @@ sum_faithful k x n s o a b kept is = elim (is_score n) as (λ t. is_score n ≡ 
   | false ↦ λ t. unchanged_faithful out_of_range s k o
 ] refl
 
-told_faithful : (k : Bytes) (answer : Scores → Tree) (now : ℤ) (m : Dataset) → fits k ≡ true → IsFaithful (on_key k (telling sorted_sets answer)) now m
+told_faithful : (k : Bytes) (answer : Scores → Tree) (now : ℤ) (m : Dataset) → fits k ≡ true → IsLawful (on_key k (telling sorted_sets answer)) now m
 told_faithful k answer now m h =
     let c = on_key k (telling sorted_sets answer) in
     faithful c now m (both (fits k) true h refl) (at_key_faithful k (telling sorted_sets answer) (before c now m) (telling_faithful sorted_sets answer k (before c now m)))
 
-pub zset_faithful : (c : ZSetAsk) (now : ℤ) (m : Dataset) → IsDataset m → HasScores c → IsTrue (list_all fits (zset_words c)) → IsFaithful (command c) now m
+pub zset_faithful : (c : ZSetAsk) (now : ℤ) (m : Dataset) → IsDataset m → HasScores c → IsTrue (list_all fits (zset_words c)) → IsLawful (command c) now m
 zset_faithful (ask.AddScores k only than reply ps) now m kept scores h = changing_set k (add_scores only than k reply ps) now m kept (left (fits k) _ h) (λ s o fine is.
     set_faithful k _ s (with_pairs only than ps s) o (left (fits k) _ h) (pairs_kept only than ps s fine scores (right (fits k) _ h)) (pairs_grown only than ps s) is)
 zset_faithful (ask.IncreaseScore k by x) now m kept scores h = changing_set k (increase_score k by x) now m kept (left (fits k) _ h) (λ s o fine is.

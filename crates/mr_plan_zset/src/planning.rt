@@ -6,7 +6,7 @@ ghost use Rattle.mr_resp.specs.ReplyView.{view};
 ghost use Rattle.mr_data.specs.Dataset.{IsDataset};
 ghost use Rattle.mr_ask_zset.specs.Carried.{zset_words};
 ghost use Rattle.mr_turn.specs.Turns.{Takes};
-ghost use Rattle.mr_turn.specs.Commands.{IsPlan, IsFaithful};
+ghost use Rattle.mr_turn.specs.Commands.{IsPlan, IsFaithful, HasCommandTexts};
 ghost use Rattle.mr_plan_zset.specs.Commands.{key_of, turn, command, HasScores};
 
 use crate::rules::Rules;
@@ -29,6 +29,9 @@ pub fn plan(
 
     // The effects lead to what the command leaves, and its own ones are there exactly where it changes something.
     ensures faithful { IsTrue (list_all fits (zset_words ask.now)) → IsFaithful (command ask.now) given.now held.now }
+
+    // .. and their texts are command texts.
+    ensures texts { IsTrue (list_all fits (zset_words ask.now)) → HasCommandTexts (command ask.now) given.now held.now }
 {
     scores_are_limited(ask);
     planned(alloc, held, ask, given)

@@ -13,7 +13,7 @@ use Rattle.mr_effect.specs.declared.effect.Effect.{Effect}
 use Rattle.mr_turn.specs.Collections.{Change, told, telling, changed, changing}
 use Rattle.mr_turn.proofs.Maps.{put_same}
 use Rattle.mr_turn.proofs.Laws.{IsFaithfulTurn, kept_faithful}
-use Rattle.mr_turn.proofs.Running.{AreSteps, run, run_leads, IsKind, IsKept, same_entry, same_collection}
+use Rattle.mr_turn.proofs.Running.{AreSteps, steps_short, run, run_leads, IsKind, IsKept, same_entry, same_collection}
 
 -- The effects are steps that lead to the new collection, and are there exactly where it is another.
 pub record IsFaithfulChange {X : Type 0} (kind : Kind X) (change : Change X) (x : X) (k : Bytes) (o : Option Entry) : Type 0 where
@@ -44,6 +44,7 @@ module _ {X : Type 0} (kind : Kind X) (laws : IsKind kind) where
     | None ↦ λ is. kept_faithful _ k m refl refl
     | Some x ↦ λ is. record {
       leads = leads (change x) x k m (change x).effects refl kept is (f x is);
+      short = steps_short k (change x).effects (f x is).steps (f x is).are;
       none = λ e. ap (entry_of kind (deadline_of (get m k))) ((f x is).none e) ∙ same_entry kind laws (get m k) x kept is;
       some = λ e. (f x is).some (same_collection kind laws (get m k) x (change x).value is e);
     }

@@ -1,8 +1,8 @@
 -- Items in groups.
-use Rattle.std.proofs.Common.{ℕ, zero, suc, ◌+◌, ◌-◌, ◌<◌, ◌≤◌, ◌≡◌, List, [], ◌∷◌, ◌++◌, length, take, drop, Bool, true, false, ◌&&◌, refl, sym, ◌∙◌, ap, arith}
+use Rattle.std.proofs.Common.{ℕ, zero, suc, ◌≤◌, ◌≡◌, List, [], ◌∷◌, ◌++◌, length, take, drop, Bool, true, false, ◌&&◌, refl, sym, ◌∙◌, ap, arith}
 use Rattle.std.specs.Prelude.{◌≢◌, IsTrue}
 use Rattle.std.specs.List.{AllByRecursion, flat_map, list_all}
-use Rattle.std.proofs.lemmas.List.{length-drop, take-append-drop}
+use Rattle.std.proofs.lemmas.List.{length-drop, length-take, take-append-drop}
 use Rattle.std.proofs.lemmas.List.Folds.{list_all-append}
 use Rattle.mr_turn.specs.Cuts.{most_items, groups, cut}
 
@@ -48,9 +48,10 @@ module _ {X : Type 0} where
   pub no_cut : (xs : List X) → cut xs ≡ [] → xs ≡ []
   no_cut xs h = sym (cut_whole xs) ∙ ap (flat_map (λ g. g)) h
 
-  -- each group has an item, and each of its items is one of the whole
+  -- each group has an item and not too many, and each of its items is one of the whole
   pub record IsGroup (p : X → Bool) (g : List X) : Type 0 where
     pub some : g ≢ []
+    pub few : length g ≤ most_items
     pub all : IsTrue (list_all p g)
 
   parts_all : (p : X → Bool) (n : ℕ) (xs : List X) → IsTrue (list_all p xs) → list_all p (take n xs) && list_all p (drop n xs) ≡ true
@@ -59,7 +60,7 @@ module _ {X : Type 0} where
   are_groups : (p : X → Bool) (n : ℕ) (xs : List X) → IsTrue (list_all p xs) → AllByRecursion (IsGroup p) (groups n xs)
   are_groups p zero xs h = tt
   are_groups p (suc n) [] h = tt
-  are_groups p (suc n) (x ∷ xs) h = (record { some = λ e. cc; all = left _ _ (parts_all p most_items (x ∷ xs) h) }, are_groups p n (drop most_items (x ∷ xs)) (right _ _ (parts_all p most_items (x ∷ xs) h)))
+  are_groups p (suc n) (x ∷ xs) h = (record { some = λ e. cc; few = omega (arith, length-take most_items (x ∷ xs)); all = left _ _ (parts_all p most_items (x ∷ xs) h) }, are_groups p n (drop most_items (x ∷ xs)) (right _ _ (parts_all p most_items (x ∷ xs) h)))
 
   pub cut_groups : (p : X → Bool) (xs : List X) → IsTrue (list_all p xs) → AllByRecursion (IsGroup p) (cut xs)
   cut_groups p xs h = are_groups p (length xs) xs h

@@ -1,14 +1,13 @@
 -- What each kind of collection keeps.
-use Rattle.std.proofs.Common.{◌≡◌, ◌<◌, ℕ, ℤ, zero, suc, List, [], ◌∷◌, length, Bool, true, false, Option, Some, None, refl, sym, ◌∙◌, ap, arith}
+use Rattle.std.proofs.Common.{◌≡◌, ◌<◌, ℕ, ℤ, suc, List, [], ◌∷◌, length, true, false, Some, None, refl, sym, ◌∙◌, ap, arith}
 use Rattle.std.specs.Prelude.{◌==◌}
-use Rattle.std.specs.FinMap.{get, empty, len, empty_of_len}
+use Rattle.std.specs.FinMap.{get, len, empty_of_len}
 use Rattle.std.proofs.lemmas.Bool.{ne_eqb, eqb-true}
-use Rattle.mr_map.specs.Bytes.{Bytes, ByteMap, bytes_cmp}
-use Rattle.mr_data.specs.Dataset.{Dataset, IsDataset, IsEntry, IsValue}
-use Rattle.mr_data.specs.Steps.{Kind, hashes, lists, sets, sorted_sets, hash_of, list_of, set_of, sorted_set_of}
+use Rattle.mr_map.specs.Bytes.{Bytes, ByteMap}
+use Rattle.mr_data.specs.Dataset.{Dataset, IsDataset, IsValue}
+use Rattle.mr_data.specs.Steps.{hashes, lists, sets, sorted_sets, hash_of, list_of, set_of, sorted_set_of}
 use Rattle.mr_data.specs.declared.value.Value.{Value}
 use Rattle.mr_data.specs.declared.value.Value.TheVariants as value
-use Rattle.mr_data.specs.declared.value.Entry.{Entry}
 use Rattle.mr_data.proofs.Nonempty.{no_elements}
 use Rattle.mr_turn.proofs.Running.{IsKind, IsKept}
 

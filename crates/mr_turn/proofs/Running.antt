@@ -1,10 +1,10 @@
 -- Effects on one key, one after another.
-use Rattle.std.proofs.Common.{ℕ, ℤ, ◌≡◌, List, [], ◌∷◌, ◌++◌, map, Bool, true, false, ◌&&◌, cond, Option, Some, None, refl, sym, ◌∙◌, ap}
-use Rattle.std.specs.Prelude.{IsTrue, if◌then◌else◌, ◌≢◌}
+use Rattle.std.proofs.Common.{ℤ, ◌≡◌, List, [], ◌∷◌, ◌++◌, map, Bool, true, false, ◌&&◌, Option, Some, None, refl, sym, ◌∙◌, ap}
+use Rattle.std.specs.Prelude.{if◌then◌else◌, ◌≢◌, All}
 use Rattle.std.specs.List.{AllByRecursion, flat_map}
 use Rattle.std.specs.Option.{option_map, option_and_then}
 use Rattle.std.specs.FinMap.{get}
-use Rattle.std.specs.Cmp.{eq_by_cmp_equiv}
+use Rattle.std.proofs.lemmas.List.Elements.{All-nil, All-cons}
 use Rattle.mr_map.specs.Bytes.{Bytes}
 use Rattle.mr_data.specs.Dataset.{Dataset, put_at}
 use Rattle.mr_data.specs.Steps.{Step, Kind, held, entry_of, deadline_of, on}
@@ -12,6 +12,7 @@ use Rattle.mr_data.specs.Meaning.{apply, apply_all, change, at_key}
 use Rattle.mr_data.specs.declared.value.Entry.{Entry}
 use Rattle.mr_data.specs.declared.value.Value.{Value}
 use Rattle.mr_effect.specs.Effects.{words_fit, has_spelling}
+use Rattle.mr_effect.specs.Spelling.{IsShort}
 use Rattle.mr_effect.specs.declared.effect.Effect.{Effect}
 use Rattle.mr_turn.proofs.Maps.{get_put, put_same, put_put}
 
@@ -20,9 +21,10 @@ abbrev pub run : List Step → Step
 run [] before = Some before
 run (step ∷ steps) before = option_and_then (run steps) (step before)
 
--- the effect is possible, and this is its step at the key
+-- the effect is possible and short, and this is its step at the key
 pub record IsStep (k : Bytes) (e : Effect) (step : Step) : Type 0 where
   pub possible : has_spelling e && words_fit e ≡ true
+  pub short : IsShort e
   pub is : (m : Dataset) → change e m ≡ at_key step k m
 
 pub one_step : (k : Bytes) (e : Effect) (step : Step) (m : Dataset) → IsStep k e step → apply e m ≡ option_map (put_at m k) (step (get m k))
@@ -34,6 +36,12 @@ abbrev pub AreSteps : Bytes → List Effect → List Step → Type 0
 AreSteps k [] [] = Unit {0}
 AreSteps k (e ∷ es) (s ∷ ss) = IsStep k e s × AreSteps k es ss
 AreSteps k _ _ = ⊥
+
+pub steps_short : (k : Bytes) (es : List Effect) (ss : List Step) → AreSteps k es ss → All IsShort es
+steps_short k [] [] h = All-nil IsShort
+steps_short k (e ∷ es) (s ∷ ss) h = All-cons IsShort e es h.0.short (steps_short k es ss h.1)
+steps_short k [] (s ∷ ss) h = absurd h
+steps_short k (e ∷ es) [] h = absurd h
 
 put_later : (m : Dataset) (k : Bytes) (o : Option Entry) (later : Option (Option Entry)) → option_map (put_at (put_at m k o) k) later ≡ option_map (put_at m k) later
 put_later m k o None = refl

@@ -1,10 +1,13 @@
 -- What a command answers, what it leaves, and its effects.
-use Rattle.std.specs.Prelude.{◌≡◌, ◌↔◌, ℤ, List, [], ◌∷◌, ◌++◌, Option, Some}
+use Rattle.std.specs.Prelude.{◌≡◌, ◌↔◌, ℤ, List, [], ◌∷◌, ◌++◌, All, Option, Some}
 use Rattle.mr_map.specs.Bytes.{Bytes}
 use Rattle.mr_resp.specs.Replies.{Tree}
+use Rattle.mr_resp.specs.Command.{IsCommandText}
+use Rattle.mr_resp.specs.Usual.{commands}
 use Rattle.mr_data.specs.Dataset.{Dataset, seen}
 use Rattle.mr_data.specs.Meaning.{apply_all}
 use Rattle.mr_data.specs.declared.value.Entry.{Entry}
+use Rattle.mr_effect.specs.Spelling.{text}
 use Rattle.mr_effect.specs.declared.effect.Effect.{Effect}
 use Rattle.mr_turn.specs.Keys.{past, purged, dels}
 use Rattle.mr_turn.specs.Turns.{Turn}
@@ -55,3 +58,7 @@ pub record IsPlan (command : Command) (now : ℤ) (m : Dataset) (reply : Tree) (
 pub record IsFaithful (command : Command) (now : ℤ) (m : Dataset) : Type 0 where
   pub leads : apply_all (effects command now m) m ≡ Some (after command now m)
   pub changes : (own_effects command now m ≡ []) ↔ (after command now m ≡ before command now m)
+
+-- .. and their texts are command texts.
+pub record HasCommandTexts (command : Command) (now : ℤ) (m : Dataset) : Type 0 where
+  pub each : All (λ e. IsCommandText commands (text e)) (effects command now m)

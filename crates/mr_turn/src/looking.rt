@@ -6,9 +6,9 @@ ghost use Rattle.mr_turn.specs.Keys.{chosen, dels, is_stored, past};
 
 use crate::effects::Effects;
 use crate::taken::Taken;
-use mr_ask::{Argument, Words};
 use mr_data::{Dataset, Effect, Entry, Given};
 use mr_value::Word;
+use mr_words::{Argument, Words};
 use std::alloc::{AllocError, Global};
 
 /// Whether an entry with this deadline is past.
@@ -68,6 +68,27 @@ fn is_stored(now: i64, past: bool, entry: Option<&Entry>) -> bool
     }
 }
 
+// A DEL for one key, without a list of the keys that were taken.
+fn push_del(
+    alloc: Global,
+    held: &Dataset,
+    key: &[u8],
+    given: Given,
+    past: bool,
+    effects: &mut Effects,
+) -> Result<i64, AllocError>
+    ensures count { IfOk result (λ count. count ≡ pos (length (chosen (is_stored given.now past) (key.now ∷ []) held.now))) }
+    ensures dels { IfOk result (λ _. effects.new ≡ effects.old ++ dels (chosen (is_stored given.now past) (key.now ∷ []) held.now)) }
+{
+    if !is_stored(given.now(), past, held.entry(key)) {
+        return Ok(0);
+    }
+    effects.push(Effect::Del {
+        key: Word::copied(alloc, key)?,
+    })?;
+    Ok(1)
+}
+
 /// A DEL for each of the keys that are stored and past, or stored and not past, and how many these are.
 pub fn push_dels(
     alloc: Global,
@@ -80,6 +101,9 @@ pub fn push_dels(
     ensures count { IfOk result (λ count. count ≡ pos (length (chosen (is_stored given.now past) keys.now held.now))) }
     ensures dels { IfOk result (λ _. effects.new ≡ effects.old ++ dels (chosen (is_stored given.now past) keys.now held.now)) }
 {
+    if let [only] = keys.as_slice() {
+        return push_del(alloc, held, only.as_slice(), given, past, effects);
+    }
     let now = given.now();
     let mut taken = Taken::new(alloc);
     for word in keys.as_slice() {

@@ -1,8 +1,8 @@
 use crate::{Effects, bulk, count, done, integer, look, push_dels, see, wrong_kind};
-use mr_ask::{Argument, Words as Named};
 use mr_data::{Dataset, Effect, Given, Value, encode_all};
 use mr_resp::{Reply, write_reply};
 use mr_value::Word;
+use mr_words::{Argument, Words as Named};
 use std::alloc::Global;
 use std::borrow::CowSlice;
 use std::hash::RandomState;
@@ -63,6 +63,31 @@ fn each_key_is_deleted_once_in_order_of_naming(rt: HostRuntime) -> Result<(), Fa
     )?;
     let want = b"*2\r\n$3\r\nDEL\r\n$1\r\nb\r\n*2\r\n$3\r\nDEL\r\n$1\r\na\r\n";
     assert_eq!(rt; out.as_slice(), want.as_slice());
+    Ok(())
+}
+
+#[test]
+fn one_key_is_deleted(rt: HostRuntime) -> Result<(), Fail> {
+    let alloc = rt.alloc();
+    let held = holding(alloc, RandomState::new(&rt)?, &[b"a", b"b"])?;
+    let given = Given::new(5, 0).ok_or("a moment")?;
+    let mut words = Vec::new(alloc);
+    words.push(CowSlice::Borrowed(b"b".as_slice()))?;
+    let named = Named::new(words.as_slice());
+    let mut effects = Effects::new(alloc);
+    let past = push_dels(alloc, &held, &named, given, true, &mut effects)?;
+    assert_eq!(rt; past, 0);
+    let live = push_dels(alloc, &held, &named, given, false, &mut effects)?;
+    assert_eq!(rt; live, 1);
+    let mut out = Vec::new(alloc);
+    encode_all(
+        effects.into_plan(Reply::Int(live)).effects.as_slice(),
+        &mut out,
+    )?;
+    assert_eq!(rt;
+        out.as_slice(),
+        b"*2\r\n$3\r\nDEL\r\n$1\r\nb\r\n".as_slice()
+    );
     Ok(())
 }
 

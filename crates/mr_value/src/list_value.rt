@@ -106,11 +106,10 @@ impl ListValue {
     pub fn count_removed(&self, count: i64, item: &[u8]) -> usize
         ensures { result ≡ removed_count count (count_of item.now self.now) }
     {
-        let matching = self.count(item);
         if count == 0 {
-            matching
+            self.count(item)
         } else {
-            matching.min(count.unsigned_abs() as usize)
+            matching::count_up_to(&self.items, count.unsigned_abs() as usize, item)
         }
     }
 

@@ -30,6 +30,17 @@ pub(crate) fn count_of(items: &VecDeque<Bytes>, item: &[u8]) -> usize
     items.iter().filter(|other| matches(other, item)).count()
 }
 
+/// How often an item stands there, at most so often. It goes on no longer than that.
+pub(crate) fn count_up_to(items: &VecDeque<Bytes>, most: usize, item: &[u8]) -> usize
+    ensures { result ≡ min most (count_of item.now items.now.items) }
+{
+    items
+        .iter()
+        .filter(|other| matches(other, item))
+        .take(most)
+        .count()
+}
+
 /// Whether the items equal one another.
 #[tactic(auto, unfolding(crate::specs::Lists::are_equal))]
 pub(crate) fn are_equal(items: &VecDeque<Bytes>) -> bool

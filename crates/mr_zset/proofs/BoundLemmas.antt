@@ -158,3 +158,96 @@ included_texts text n = (read_included text n, spelled_included text n)
 
 pub excluded_texts : (text : List ℕ) (n : ℤ) → (bound_of text ≡ Some (Excluded n)) ↔ ((rest : List ℕ) × (text ≡ 40 ∷ rest) × IsScoreText rest n)
 excluded_texts text n = (read_excluded text n, spelled_excluded text n)
+
+-- which texts are infinite bounds
+
+one_name : (text : List ℕ) → (bytes_eq text (codes "inf") || bytes_eq text (codes "+inf")) ≡ true → (text ≡ codes "inf") ⊎ (text ≡ codes "+inf")
+one_name text h = elim (bytes_eq text (codes "inf")) as (λ t. bytes_eq text (codes "inf") ≡ t → (t || bytes_eq text (codes "+inf")) ≡ true → (text ≡ codes "inf") ⊎ (text ≡ codes "+inf")) [
+  | true ↦ λ t p. inl (same_bytes text (codes "inf") t)
+  | false ↦ λ t p. inr (same_bytes text (codes "+inf") p)
+] refl h
+
+never_infinite : (o : Option ℤ) (b : Bound) → excluding b ≡ b → option_map Included o ≡ Some b → ⊥
+never_infinite None b e p = cc
+never_infinite (Some n) b e p =
+    let same : Included n ≡ b = cc in
+    let out : Excluded n ≡ Included n = ap excluding same ∙ e ∙ sym same in
+    cc
+
+limit_positive : (text : List ℕ) → limit_of text ≡ Some PositiveInfinity → (text ≡ codes "inf") ⊎ (text ≡ codes "+inf")
+unfolding limit_of
+limit_positive text h = elim (bytes_eq text (codes "inf") || bytes_eq text (codes "+inf")) as (λ t. (bytes_eq text (codes "inf") || bytes_eq text (codes "+inf")) ≡ t → cond t (Some PositiveInfinity) (cond (bytes_eq text (codes "-inf")) (Some NegativeInfinity) (option_map Included (score_of text))) ≡ Some PositiveInfinity → (text ≡ codes "inf") ⊎ (text ≡ codes "+inf")) [
+  | true ↦ λ t p. one_name text t
+  | false ↦ λ t q. elim (bytes_eq text (codes "-inf")) as (λ m. cond m (Some NegativeInfinity) (option_map Included (score_of text)) ≡ Some PositiveInfinity → (text ≡ codes "inf") ⊎ (text ≡ codes "+inf")) [
+    | true ↦ λ p. cc
+    | false ↦ λ p. absurd (never_infinite (score_of text) PositiveInfinity refl p)
+  ] q
+] refl h
+
+limit_negative : (text : List ℕ) → limit_of text ≡ Some NegativeInfinity → text ≡ codes "-inf"
+unfolding limit_of
+limit_negative text h = elim (bytes_eq text (codes "inf") || bytes_eq text (codes "+inf")) as (λ t. cond t (Some PositiveInfinity) (cond (bytes_eq text (codes "-inf")) (Some NegativeInfinity) (option_map Included (score_of text))) ≡ Some NegativeInfinity → text ≡ codes "-inf") [
+  | true ↦ λ p. cc
+  | false ↦ λ q. elim (bytes_eq text (codes "-inf")) as (λ m. bytes_eq text (codes "-inf") ≡ m → cond m (Some NegativeInfinity) (option_map Included (score_of text)) ≡ Some NegativeInfinity → text ≡ codes "-inf") [
+    | true ↦ λ m p. same_bytes text (codes "-inf") m
+    | false ↦ λ m p. absurd (never_infinite (score_of text) NegativeInfinity refl p)
+  ] refl q
+] h
+
+excluded_positive : (o : Option Bound) → option_map excluding o ≡ Some PositiveInfinity → o ≡ Some PositiveInfinity
+excluded_positive None p = cc
+excluded_positive (Some NegativeInfinity) p = cc
+excluded_positive (Some (Included n)) p = cc
+excluded_positive (Some (Excluded n)) p = cc
+excluded_positive (Some PositiveInfinity) p = refl
+
+excluded_negative : (o : Option Bound) → option_map excluding o ≡ Some NegativeInfinity → o ≡ Some NegativeInfinity
+excluded_negative None p = cc
+excluded_negative (Some NegativeInfinity) p = refl
+excluded_negative (Some (Included n)) p = cc
+excluded_negative (Some (Excluded n)) p = cc
+excluded_negative (Some PositiveInfinity) p = cc
+
+abbrev IsPositive : List ℕ → Type 0
+IsPositive text = (text ≡ codes "inf") ⊎ (text ≡ codes "+inf") ⊎ (text ≡ codes "(inf") ⊎ (text ≡ codes "(+inf")
+
+abbrev IsNegative : List ℕ → Type 0
+IsNegative text = (text ≡ codes "-inf") ⊎ (text ≡ codes "(-inf")
+
+read_positive : (text : List ℕ) → bound_of text ≡ Some PositiveInfinity → IsPositive text
+unfolding bound_of
+read_positive text h = elim (get_or text 0 0 == 40) as (λ t. (get_or text 0 0 == 40) ≡ t → cond t (option_map excluding (limit_of (drop 1 text))) (limit_of text) ≡ Some PositiveInfinity → IsPositive text) [
+  | true ↦ λ t p. (let front = parenthesis text (eqb-true _ _ t) in elim (limit_positive (drop 1 text) (excluded_positive (limit_of (drop 1 text)) p)) [
+    | inl e ↦ inr (inr (inl (front ∙ ap (λ rest. 40 ∷ rest) e)))
+    | inr e ↦ inr (inr (inr (front ∙ ap (λ rest. 40 ∷ rest) e)))
+  ])
+  | false ↦ λ t p. elim (limit_positive text p) [
+    | inl e ↦ inl e
+    | inr e ↦ inr (inl e)
+  ]
+] refl h
+
+read_negative : (text : List ℕ) → bound_of text ≡ Some NegativeInfinity → IsNegative text
+unfolding bound_of
+read_negative text h = elim (get_or text 0 0 == 40) as (λ t. (get_or text 0 0 == 40) ≡ t → cond t (option_map excluding (limit_of (drop 1 text))) (limit_of text) ≡ Some NegativeInfinity → IsNegative text) [
+  | true ↦ λ t p. inr (parenthesis text (eqb-true _ _ t) ∙ ap (λ rest. 40 ∷ rest) (limit_negative (drop 1 text) (excluded_negative (limit_of (drop 1 text)) p)))
+  | false ↦ λ t p. inl (limit_negative text p)
+] refl h
+
+spelled_positive : (text : List ℕ) → IsPositive text → bound_of text ≡ Some PositiveInfinity
+unfolding bound_of limit_of
+spelled_positive text (inl e) = ap bound_of e
+spelled_positive text (inr (inl e)) = ap bound_of e
+spelled_positive text (inr (inr (inl e))) = ap bound_of e
+spelled_positive text (inr (inr (inr e))) = ap bound_of e
+
+spelled_negative : (text : List ℕ) → IsNegative text → bound_of text ≡ Some NegativeInfinity
+unfolding bound_of limit_of
+spelled_negative text (inl e) = ap bound_of e
+spelled_negative text (inr e) = ap bound_of e
+
+pub positive_texts : (text : List ℕ) → (bound_of text ≡ Some PositiveInfinity) ↔ IsPositive text
+positive_texts text = (read_positive text, spelled_positive text)
+
+pub negative_texts : (text : List ℕ) → (bound_of text ≡ Some NegativeInfinity) ↔ IsNegative text
+negative_texts text = (read_negative text, spelled_negative text)

@@ -1,10 +1,10 @@
 // Laws of the definitions that the contracts cite.
-ghost use Rattle.std.specs.Prelude.{◌≡◌, ◌↔◌, ◌∷◌, ℕ, ℤ, List, Some};
+ghost use Rattle.std.specs.Prelude.{◌≡◌, ◌↔◌, ◌⊎◌, ◌∷◌, ℕ, ℤ, List, Some, codes};
 ghost use Rattle.std.specs.FinMap.{entries};
 ghost use Rattle.std.specs.List.Sorted.{IsPermutation, IsSorted};
 ghost use Rattle.mr_zset.specs.Pairs.{pair_cmp, pairs_of};
 ghost use Rattle.mr_zset.specs.Texts.{IsScoreText, bound_of, score_of};
-ghost use Rattle.mr_zset.specs.declared.bound.Bound.TheVariants.{Excluded, Included};
+ghost use Rattle.mr_zset.specs.declared.bound.Bound.TheVariants.{Excluded, Included, NegativeInfinity, PositiveInfinity};
 
 use crate::sorted_set::ZSet;
 
@@ -19,8 +19,11 @@ pub fn score_texts()
     ensures { (text : List ℕ) (n : ℤ) → (score_of text ≡ Some n) ↔ IsScoreText text n }
 {}
 
-/// A text is read as a bound on a score exactly where it spells that score, behind a `(` where what lies on the bound is left out.
+/// A text is read as a bound on a score exactly where it spells that score, behind a `(` where what lies on the bound is left out. It is read as an
+/// infinite bound exactly where it is that infinity's name in lower case; a `(` before it says nothing.
 pub fn bound_texts()
     ensures included { (text : List ℕ) (n : ℤ) → (bound_of text ≡ Some (Included n)) ↔ IsScoreText text n }
     ensures excluded { (text : List ℕ) (n : ℤ) → (bound_of text ≡ Some (Excluded n)) ↔ ((rest : List ℕ) × (text ≡ 40 ∷ rest) × IsScoreText rest n) }
+    ensures positive { (text : List ℕ) → (bound_of text ≡ Some PositiveInfinity) ↔ ((text ≡ codes "inf") ⊎ (text ≡ codes "+inf") ⊎ (text ≡ codes "(inf") ⊎ (text ≡ codes "(+inf")) }
+    ensures negative { (text : List ℕ) → (bound_of text ≡ Some NegativeInfinity) ↔ ((text ≡ codes "-inf") ⊎ (text ≡ codes "(-inf")) }
 {}

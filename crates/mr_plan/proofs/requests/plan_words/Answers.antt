@@ -1,7 +1,20 @@
-use Rattle.std.proofs.Common.{ap, List}
+use Rattle.std.proofs.Common.{ap, List, map}
+use Rattle.std.specs.Cow.{cow_slice_items}
 use Rattle.mr_data.specs.Meaning.{apply_all}
 use Rattle.mr_effect.specs.declared.effect.Effect.{Effect}
+use Rattle.mr_ask.specs.Carried.{AskFits}
+use Rattle.mr_ask.specs.Spelled.{Spells}
+use Rattle.mr_plan.proofs.Rooms.{room_of, ok_at, with_room}
 use Rattle.mr_plan.proofs.requests.plan_words.Goals as goal
 
 pub returns-in-Err-clause-leads : goal.returns-in-Err-clause-leads
 returns-in-Err-clause-leads c = λ h. (_, ap (λ (es : List Effect). apply_all es c.args.held.now) c.new.ensures.items)
+
+pub returns-in-Ok-clause-texts : goal.returns-in-Ok-clause-texts
+returns-in-Ok-clause-texts c =
+    let words = map cow_slice_items c.args.words.now in
+    let ask = c.in-Ok.ask in
+    with_room _ ask _ _
+    (λ fit. ok_at AskFits c.read.result ask c.in-Ok.is (c.read.ensures.fits fit))
+    (room_of cow_slice_items c.args.words.now ask (ok_at (Spells words) c.read.result ask c.in-Ok.is c.read.ensures.spelled))
+    c.answer_to.ensures.texts
