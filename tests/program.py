@@ -2,6 +2,7 @@
 
 import array
 import fcntl
+import glob
 import os
 import subprocess
 import sys
@@ -26,6 +27,18 @@ def request(*words):
 def run(data, *words, **how):
     """Runs the program on these bytes, and returns how it ended and what it wrote."""
     return subprocess.run([LAUNCHER, *words], input=data, capture_output=True, timeout=LATE, **how)
+
+
+def built(name):
+    """The program of a crate, built first where it isn't or a source is newer."""
+    program = os.path.join(ROOT, "crates", name, "out", name)
+    sources = glob.glob(os.path.join(ROOT, "crates", "*", "src", "**", "*.rt"), recursive=True)
+    if not os.path.exists(program) or os.path.getmtime(program) < max(map(os.path.getmtime, sources)):
+        how = {"cwd": os.path.join(ROOT, "crates", name), "stdin": subprocess.DEVNULL, "capture_output": True}
+        if subprocess.run(["rt", "run"], **how).returncode:
+            sys.exit(f"minired's tests: the program {name} cannot be built")
+        os.utime(program)
+    return program
 
 
 def waiting(pipe):

@@ -12,6 +12,10 @@ SYNTAX = b"-ERR syntax error\r\n"
 INTEGER = b"-ERR value is not an integer or out of range\r\n"
 POSITIVE = b"-ERR value is out of range, must be positive\r\n"
 WRONG_KIND = b"-WRONGTYPE Operation against a key holding the wrong kind of value\r\n"
+UNKNOWN = b"-ERR unknown command\r\n"
+CURSOR = b"-ERR invalid cursor\r\n"
+NO_BOUND = b"-ERR min or max is not a score\r\n"
+NO_KEY = b"-ERR no such key\r\n"
 OVERFLOW = b"-ERR increment or decrement would overflow\r\n"
 
 
@@ -28,6 +32,10 @@ def array(*items):
     """Texts, `None` for nil, and numbers."""
     shown = [NIL if item is None else number(item) if isinstance(item, int) else bulk(item) for item in items]
     return b"*%d\r\n" % len(items) + b"".join(shown)
+
+
+def array_of(*replies):
+    return b"*%d\r\n" % len(replies) + b"".join(replies)
 
 
 def arity(name):

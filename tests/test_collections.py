@@ -3,7 +3,7 @@
 import unittest
 
 from program import request, run, run_in_pieces
-from replies import INTEGER, NIL, NO_LIST, NONE, OK, OVERFLOW, POSITIVE, SYNTAX, WRONG_KIND, Answering, arity, array, bulk, number
+from replies import INTEGER, NIL, NO_KEY, NO_LIST, NONE, OK, OVERFLOW, POSITIVE, SYNTAX, WRONG_KIND, Answering, arity, array, bulk, number
 
 # commands and their replies, one after another on one dataset
 HASHES = [
@@ -60,7 +60,7 @@ LISTS = [
     ("LRANGE l -100 0", array("e")),
     ("LSET l -1 z", OK),
     ("LSET l 5 z", b"-ERR index out of range\r\n"),
-    ("LSET x 0 z", b"-ERR no such key\r\n"),
+    ("LSET x 0 z", NO_KEY),
     ("LSET x a z", INTEGER),
     ("LINSERT l BEFORE c n", number(6)),
     ("LINSERT l after z m", number(7)),

@@ -3,9 +3,8 @@
 import unittest
 
 from program import request, run
-from replies import INTEGER, NIL, NONE, OK, POSITIVE, SYNTAX, WRONG_KIND, Answering, arity, array, bulk, number
+from replies import Answering, INTEGER, NIL, NONE, NO_BOUND, OK, POSITIVE, SYNTAX, WRONG_KIND, arity, array, bulk, number
 
-NO_BOUND = b"-ERR min or max is not a score\r\n"
 NO_SCORE = b"-ERR resulting score is out of range\r\n"
 MOST = 2 ** 53
 

@@ -3,10 +3,8 @@
 import unittest
 
 from program import request, run
-from replies import INTEGER, NIL, NONE, OK, OVERFLOW, SYNTAX, WRONG_KIND, Answering, arity, array, bulk, number
+from replies import Answering, CURSOR, INTEGER, NIL, NONE, NO_KEY, OK, OVERFLOW, SYNTAX, WRONG_KIND, arity, array, bulk, number
 
-NO_KEY = b"-ERR no such key\r\n"
-CURSOR = b"-ERR invalid cursor\r\n"
 BAD_OFFSET = b"-ERR offset is out of range\r\n"
 TOO_LONG = b"-ERR string too long\r\n"
 NO_DECREMENT = b"-ERR decrement would overflow\r\n"

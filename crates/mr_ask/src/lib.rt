@@ -29,6 +29,3 @@ pub use reading::read;
 pub use server_ask::ServerAsk;
 pub use set_ask::{SetAsk, SetOperation};
 pub use text_ask::{Amount, SetCondition, SetReply, TextAsk};
-
-#[cfg(test)]
-mod tests;

@@ -16,6 +16,3 @@ pub use reading::{
 };
 pub use scored::{ScoredMembers, ScoredMembersIter};
 pub use zset_ask::{Comparison, Limit, Order, RangeReply, ScoreCondition, ScoresReply, ZSetAsk};
-
-#[cfg(test)]
-mod tests;

@@ -20,6 +20,3 @@ pub use mr_effect::{Effect, Pairs, Scores, Words, decode, encode, encode_all};
 pub use mr_value::{End, Side};
 pub use plan::Plan;
 pub use value::{Entry, Value};
-
-#[cfg(test)]
-mod tests;

@@ -15,6 +15,3 @@ pub use encoding::{encode, encode_all};
 pub use laws::{effects_are_command_texts, effects_are_told_apart, texts_come_in_parts};
 pub use name::EffectName;
 pub use words::{Pairs, Scores, Words};
-
-#[cfg(test)]
-mod tests;

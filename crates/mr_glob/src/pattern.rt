@@ -115,6 +115,3 @@ fn past<'a>(sign: Sign, behind: &'a [u8], byte: u8) -> Option<&'a [u8]>
         None
     }
 }
-
-#[cfg(test)]
-mod tests;

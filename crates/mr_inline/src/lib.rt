@@ -14,6 +14,3 @@ pub use fault::LineFault;
 pub use laws::{lines_are_apart, one_fault, quoted_words_are_read};
 pub use progress::LineProgress;
 pub use scan::{LineScan, next_line, next_line_from};
-
-#[cfg(test)]
-mod tests;

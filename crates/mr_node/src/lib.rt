@@ -16,6 +16,3 @@ pub use node::Node;
 pub use out::{Out, OutsIter};
 pub use outs::Outs;
 pub use step::Step;
-
-#[cfg(test)]
-mod tests;

@@ -13,8 +13,6 @@ mod command;
 mod explain;
 mod fault;
 mod line;
-#[cfg(test)]
-mod tests;
 mod values;
 
 pub use fault::UsageFault;

@@ -9,6 +9,3 @@ mod serve;
 pub use config::PipeConfig;
 pub use fault::PipeFault;
 pub use relay::pipe;
-
-#[cfg(test)]
-mod tests;

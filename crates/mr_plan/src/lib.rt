@@ -6,6 +6,3 @@ mod requests;
 
 pub use planning::plan;
 pub use requests::{Answer, plan_words};
-
-#[cfg(test)]
-mod tests;

@@ -9,6 +9,3 @@ mod replies;
 mod setting;
 
 pub use planning::plan;
-
-#[cfg(test)]
-mod tests;

@@ -10,6 +10,3 @@ mod server;
 
 pub use planning::plan;
 pub use server::plan_server;
-
-#[cfg(test)]
-mod tests;

@@ -11,6 +11,3 @@ mod replies;
 mod telling;
 
 pub use planning::plan;
-
-#[cfg(test)]
-mod tests;

@@ -13,6 +13,3 @@ mod telling;
 
 pub use laws::{sets_are_combined, so_many_are_drawn};
 pub use planning::plan;
-
-#[cfg(test)]
-mod tests;

@@ -9,6 +9,3 @@ mod setting_all;
 mod texts;
 
 pub use planning::plan;
-
-#[cfg(test)]
-mod tests;

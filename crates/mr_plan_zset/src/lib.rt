@@ -14,8 +14,3 @@ mod telling;
 
 pub use place_law::members_stand_at_their_places;
 pub use planning::plan;
-
-#[cfg(test)]
-mod reading_tests;
-#[cfg(test)]
-mod tests;

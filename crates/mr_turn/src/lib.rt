@@ -9,6 +9,3 @@ mod taken;
 pub use effects::Effects;
 pub use looking::{look, push_dels, see};
 pub use replies::{bulk, count, done, integer, wrong_kind};
-
-#[cfg(test)]
-mod tests;

@@ -25,6 +25,3 @@ pub use list_value::ListValue;
 pub use number::{read_i64, write_i64};
 pub use set_value::SetValue;
 pub use word::{Word, fits};
-
-#[cfg(test)]
-mod tests;

@@ -12,6 +12,3 @@ pub use laws::names_are_found;
 pub use name::Name;
 pub use numbers::{count, integer, offset};
 pub use words::{Argument, Arguments, Pairs, PairsIter, Words};
-
-#[cfg(test)]
-mod tests;

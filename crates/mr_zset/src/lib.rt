@@ -14,6 +14,3 @@ pub use laws::{all_pairs_in_order, bound_texts, score_texts};
 pub use pair::Pair;
 pub use score::{is_score, read_score};
 pub use sorted_set::ZSet;
-
-#[cfg(test)]
-mod tests;

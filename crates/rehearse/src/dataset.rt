@@ -1,0 +1,71 @@
+//! Effects and requests on a dataset alone.
+use crate::call::Way;
+use crate::fault::RehearsalFault;
+use crate::telling::{tell, tell_bytes, tell_refusal};
+use mr_data::{Dataset, Given, decode, encode};
+use mr_plan::{Answer, plan_words};
+use mr_resp::{Scan, next_command, next_request, write_reply};
+use std::alloc::Global;
+
+/// Writes the text of the effect that a command text spells.
+pub fn spell(alloc: Global, text: &[u8], out: &mut Vec<u8>) -> Result<(), RehearsalFault> {
+    let Scan::Whole { words, used: _ } = next_command(alloc, text)? else {
+        return Err(RehearsalFault::Line);
+    };
+    let Some(effect) = decode(alloc, words.as_slice())? else {
+        return tell(out, "no effect");
+    };
+    let mut spelled = Vec::new(alloc);
+    encode(&effect, &mut spelled)?;
+    tell(out, "spelled")?;
+    tell_bytes(alloc, spelled.as_slice(), out)
+}
+
+/// Applies the effect that a command text spells.
+pub fn apply(
+    alloc: Global,
+    held: &mut Dataset,
+    text: &[u8],
+    way: Way,
+    out: &mut Vec<u8>,
+) -> Result<(), RehearsalFault> {
+    let Scan::Whole { words, used: _ } = next_command(alloc, text)? else {
+        return Err(RehearsalFault::Line);
+    };
+    let Some(effect) = decode(alloc, words.as_slice())? else {
+        return tell(out, "no effect");
+    };
+    let applied = match way {
+        Way::Lent => held.apply(&effect),
+        Way::Given => held.apply_owned(effect),
+    };
+    match applied {
+        Ok(()) => tell(out, "applied"),
+        Err(fault) => tell_refusal(alloc, fault, out),
+    }
+}
+
+/// Writes the reply to a request.
+pub fn ask(
+    alloc: Global,
+    held: &Dataset,
+    text: &[u8],
+    given: Given,
+    out: &mut Vec<u8>,
+) -> Result<(), RehearsalFault> {
+    let Scan::Whole { words, used: _ } = next_request(alloc, text)? else {
+        return Err(RehearsalFault::Line);
+    };
+    if words.is_empty() {
+        return Err(RehearsalFault::Line);
+    }
+    match plan_words(alloc, held, words.as_slice(), given)? {
+        Answer::Quit => tell(out, "quit"),
+        Answer::Run(plan) => {
+            let mut reply = Vec::new(alloc);
+            write_reply(&plan.reply, &mut reply)?;
+            tell(out, "replied")?;
+            tell_bytes(alloc, reply.as_slice(), out)
+        }
+    }
+}

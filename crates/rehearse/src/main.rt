@@ -1,0 +1,83 @@
+//! Rehearses a node for tests: makes the calls that the lines of standard input name, and writes a line on each. So a test sees
+//! what no client is told: effects, offsets, and what stands on other links.
+//!
+//! Bytes are written in hexadecimal digits, or as `-` where there are none. A link is named by its place among those opened, from 0.
+//!
+//! | Line | Answer |
+//! |---|---|
+//! | `start BACKLOG`, the first one | `started`, or `refused` outside the backlog's limits |
+//! | `given NOW WORD` | `given`: the moment and the random word of the steps from here on |
+//! | `open` | `opened` |
+//! | `feed LINK BYTES` | `fed` |
+//! | `step LINK` | `idle`, `closed`, or `done REPLY EFFECTS stays`, with `closes` for `stays` where the link is closed behind the reply |
+//! | `room LINK` | `room COUNT`, or `gone` |
+//! | `close LINK` | `closed` |
+//! | `shows` | `shows ID OFFSET`, or `nothing` |
+//! | `spell BYTES` | `spelled TEXT`, of the effect that the command text spells, or `no effect` |
+//! | `lend BYTES`, `give BYTES` | `applied`, or `no effect`: applied by reference, or moved in, to a dataset beside the node |
+//! | `ask BYTES` | `replied REPLY`, to the request on that dataset; or `quit` |
+//!
+//! A call that the node or the dataset refuses is answered `refused: ` and why.
+#![tactic(auto)]
+
+mod call;
+mod dataset;
+mod fault;
+mod stage;
+mod telling;
+
+use call::Call;
+use fault::RehearsalFault;
+use stage::Stage;
+use std::alloc::Global;
+use std::hash::RandomState;
+use std::io::{Read, Write};
+use std::process::ExitCode;
+
+/// Makes the call of each line behind the first.
+fn play(
+    alloc: Global,
+    stage: &mut Stage,
+    lines: &str,
+    out: &mut Vec<u8>,
+) -> Result<(), RehearsalFault> {
+    for line in lines.lines() {
+        let call = Call::read(alloc, line)?;
+        stage.make(alloc, &call, out)?;
+        out.push(b'\n')?;
+    }
+    Ok(())
+}
+
+/// A node started as the first line says, and the lines behind it.
+fn rehearse(rt: &HostRuntime, script: &str, out: &mut Vec<u8>) -> Result<(), RehearsalFault> {
+    let Some((first, rest)) = script.split_once('\n') else {
+        return Err(RehearsalFault::Line);
+    };
+    let seeds = (RandomState::new(rt)?, RandomState::new(rt)?);
+    let Some(mut stage) = Stage::start(rt.alloc(), seeds, call::backlog_of(first)?)? else {
+        out.extend_from_slice(b"refused\n")?;
+        return Ok(());
+    };
+    out.extend_from_slice(b"started\n")?;
+    play(rt.alloc(), &mut stage, rest, out)
+}
+
+fn run(rt: &HostRuntime) -> Result<(), RehearsalFault> {
+    let mut script = String::new(rt.alloc());
+    rt.stdin().read_to_string(&mut script)?;
+    let mut out = Vec::new(rt.alloc());
+    rehearse(rt, script.as_str(), &mut out)?;
+    rt.stdout().write_all(out.as_slice())?;
+    Ok(())
+}
+
+fn main(rt: HostRuntime) -> ExitCode {
+    match run(&rt) {
+        Ok(()) => ExitCode::SUCCESS,
+        Err(fault) => {
+            let _ = eprintln!(rt; "rehearse: {fault}");
+            ExitCode::FAILURE
+        }
+    }
+}

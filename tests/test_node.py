@@ -1,0 +1,100 @@
+"""A node's calls: links side by side, their closing, their room, and the limits of its backlog."""
+
+import subprocess
+import unittest
+
+from program import LATE, built, request
+from rehearsal import ID, Rehearsing, done
+from replies import NIL, OK, bulk
+
+SET = request("SET", "k", "v")
+GET = request("GET", "k")
+PIECE = 33_554_432
+
+
+def fed(link, data, answer="fed"):
+    return "feed %d %s" % (link, data.hex() or "-"), answer
+
+
+class Links(Rehearsing):
+    def test_a_client_is_answered(self):
+        self.rehearses([
+            ("shows", "shows %s 0" % ID),
+            ("open", "opened"),
+            fed(0, SET[:20]),
+            ("step 0", "idle"),
+            fed(0, SET[20:]),
+            fed(0, GET),
+            ("step 0", done(OK, SET)),
+            ("shows", "shows %s 27" % ID),
+            ("step 0", done(bulk("v"))),
+            ("step 0", "idle"),
+        ])
+
+    def test_each_cut_gives_the_same_answers(self):
+        for cut in range(len(SET + GET)):
+            self.rehearses([
+                ("open", "opened"),
+                fed(0, (SET + GET)[:cut]),
+                ("step 0", None),
+                ("step 0", None),
+                fed(0, (SET + GET)[cut:]),
+                ("step 0", None),
+                ("step 0", None),
+                ("step 0", "idle"),
+                ("shows", "shows %s 27" % ID),
+            ])
+
+    def test_a_fault_closes_one_link(self):
+        fault = b"-ERR Protocol error: expected '$', got ':'\r\n"
+        self.rehearses([
+            ("open", "opened"),
+            ("open", "opened"),
+            fed(0, b"*1\r\n:3\r\n"),
+            fed(1, GET),
+            ("step 0", done(fault, closes=True)),
+            fed(0, GET),
+            ("step 0", "closed"),
+            ("step 1", done(NIL)),
+        ])
+
+    def test_quit_closes_its_link(self):
+        self.rehearses([
+            ("open", "opened"),
+            fed(0, b"QUIT\r\nPING\r\n"),
+            ("step 0", done(OK, closes=True)),
+            ("step 0", "closed"),
+        ])
+
+    def test_a_closed_link_is_gone(self):
+        self.rehearses([
+            ("open", "opened"),
+            ("open", "opened"),
+            ("close 0", "closed"),
+            ("room 0", "gone"),
+            fed(0, GET, "refused: no such link"),
+            ("step 0", "refused: no such link"),
+            ("open", "opened"),
+            ("room 0", "gone"),
+            ("room 2", "room %d" % PIECE),
+            fed(1, GET),
+            ("step 1", done(NIL)),
+        ])
+
+    def test_a_link_takes_no_more_than_its_room(self):
+        self.rehearses([
+            ("open", "opened"),
+            fed(0, b"*" * (PIECE + 1), "refused: input full"),
+            ("room 0", "room %d" % PIECE),
+            fed(0, b"*2"),
+            ("room 0", "room %d" % (PIECE - 2)),
+        ])
+
+    def test_a_backlog_has_its_limits(self):
+        for backlog, answer in [(1, "started"), (1_073_741_824, "started"), (0, "refused"), (1_073_741_825, "refused")]:
+            ran = subprocess.run([built("rehearse")], input="start %d\n" % backlog, capture_output=True, text=True, timeout=LATE)
+            self.assertEqual((ran.returncode, ran.stdout), (0, answer + "\n"))
+
+
+if __name__ == "__main__":
+    unittest.main()
