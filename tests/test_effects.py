@@ -193,7 +193,6 @@ class Keys(Rehearsing):
             ("ping hello", bulk("hello")),
             ("ECHO hi", bulk("hi")),
             ("SELECT 0", OK),
-            ("QUIT", OK),
             ("COMMAND", NONE),
             ("COMMAND DOCS get", NONE),
             ("CLIENT SETNAME x", OK),
