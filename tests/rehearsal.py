@@ -15,7 +15,9 @@ def hexadecimal(data):
 
 
 def done(reply, effects=b"", closes=False):
-    return "done %s %s %s" % (hexadecimal(reply), hexadecimal(effects), "closes" if closes else "stays")
+    """Growth comes before the reply, and the link's closing behind it."""
+    outs = ("g" if effects else "") + ("s" if reply else "") + ("c" if closes else "")
+    return "done %s %s %s" % (outs, hexadecimal(reply), hexadecimal(effects))
 
 
 def words_of(words):

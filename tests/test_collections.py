@@ -225,6 +225,7 @@ class Collections(Answering):
         self.answers([("SADD s a b c", number(3)), ("SPOP s", bulk("b"))], "--word", "4")
         self.answers([("SADD s a b c", number(3)), ("SPOP s 2", array("c", "a")), ("SMEMBERS s", array("b"))], "--word", "5")
         self.answers([("SADD s a b c", number(3)), ("SRANDMEMBER s 3", array("b", "c", "a"))], "--word", "1")
+        self.answers([("SADD s a b c d", number(4)), ("SPOP s", bulk("d"))], "--word", "18446744073709551615")
 
     def test_pushed_ranged_and_popped(self):
         self.answers([

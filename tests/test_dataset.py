@@ -59,6 +59,9 @@ class Effects(Rehearsing):
             self.assertEqual(len(effect(line)), length, line)
         self.rehearses([("spell " + effect(line).hex(), "spelled " + effect(line).hex()) for line in [*LENGTHS, *OTHERS]])
 
+    def test_what_follows_a_text_is_left(self):
+        self.rehearses([("spell " + (effect("DEL k") + b"*").hex(), "spelled " + effect("DEL k").hex())])
+
     def test_near_misses_are_no_effects(self):
         self.rehearses([("spell " + effect(line).hex(), "no effect") for line in NO_EFFECTS])
 

@@ -57,6 +57,17 @@ class Strings(Rehearsing):
         ]
         self.plays(rows)
 
+    def test_options_stand_in_any_order_and_case(self):
+        rows = [
+            ("set GET set", OK, "SET GET set"),
+            ("SET k v", OK, "SET k v"),
+            ("SET k w get Xx", bulk("v"), "SET k w"),
+            ("SET h hello", OK, "SET h hello"),
+            ("getrange h 2 -3", bulk("l")),
+            ("FlushDB Sync", OK, "FLUSHALL"),
+        ]
+        self.plays(rows)
+
     def test_texts_are_set_where_they_may_be(self):
         rows = [
             ("SET k v XX", NIL),
@@ -126,6 +137,8 @@ class Strings(Rehearsing):
             ("INCRBY k 0", number(-2)),
             ("INCRBY x 0", number(0), "INCRBY x 0"),
             ("MGET k x", array("-2", "0")),
+            ("INCRBY n -9223372036854775808", number(-9223372036854775808), "INCRBY n -9223372036854775808"),
+            ("decrby m 9223372036854775807", number(-9223372036854775807), "INCRBY m -9223372036854775807"),
         ]
         self.plays(rows)
 
@@ -172,6 +185,30 @@ class Keys(Rehearsing):
             ("EXISTS a", number(0)),
             ("DBSIZE", number(2)),
             ("UNLINK l l", number(1), "DEL l"),
+        ]
+        self.plays(rows)
+
+    def test_one_key_is_deleted(self):
+        rows = [
+            ("SET a v",),
+            ("SET b v",),
+            ("DEL b", number(1), "DEL b"),
+            ("EXISTS a b", number(1)),
+        ]
+        self.plays(rows)
+
+    def test_options_of_a_scan(self):
+        rows = [
+            ("SET a v",),
+            ("SET ab v",),
+            ("SET b v",),
+            ("scan 0 count 5 match a*", array_of(bulk("0"), array("a", "ab"))),
+            ("SCAN 0 MATCH a* COUNT 10 TYPE hash", array_of(bulk("0"), NONE)),
+            ("SCAN 0 type NOPE count 1 match *", array_of(bulk("0"), NONE)),
+            ("SCAN 0 TYPE strings", array_of(bulk("0"), NONE)),
+            ("SCAN 0 TYPE string MATCH *", array_of(bulk("0"), array("a", "ab", "b"))),
+            ("SCAN 7 TYPE ZSet", array_of(bulk("0"), NONE)),
+            ("SCAN 9223372036854775807", array_of(bulk("0"), NONE)),
         ]
         self.plays(rows)
 

@@ -144,6 +144,25 @@ class Lists(Rehearsing):
         ]
         self.plays(rows)
 
+    def test_indexes_and_counts_of_any_size(self):
+        rows = [
+            ("RPUSH l h h f h", number(4), "RPUSH l h h f h"),
+            ("LRANGE l -9223372036854775808 9223372036854775807", array("h", "h", "f", "h")),
+            ("LINDEX l -4", bulk("h")),
+            ("LINDEX l -9223372036854775808", NIL),
+            ("LINDEX l 9223372036854775807", NIL),
+            ("LREM l 2 h", number(2), "LREM l 2 h"),
+            ("LRANGE l 0 -1", array("f", "h")),
+            ("RPUSH m h h f h", number(4), "RPUSH m h h f h"),
+            ("LREM m 9 h", number(3), "LREM m 9 h"),
+            ("LRANGE m 0 -1", array("f")),
+            ("RPUSH n h h f h", number(4), "RPUSH n h h f h"),
+            ("LREM n -9223372036854775808 h", number(3), "LREM n -9223372036854775808 h"),
+            ("LRANGE n 0 -1", array("f")),
+            ("linsert n After f v", number(2), "LINSERT n AFTER f v"),
+        ]
+        self.plays(rows)
+
     def test_many_items_come_in_groups(self):
         self.plays([
             ("RPUSH l" + 65 * " a", number(65), "RPUSH l" + 64 * " a", "RPUSH l a"),
@@ -267,12 +286,6 @@ class Sets(Rehearsing):
         ]
         self.plays(rows)
 
-    def test_effects_are_cut_into_groups(self):
-        rows = [
-            ("SMEMBERS s", array("99")),
-        ]
-        self.plays(rows)
-
     def test_an_effect_has_64_members_at_most(self):
         numbers = sorted(str(it) for it in range(129))
         self.plays([
@@ -390,6 +403,64 @@ class SortedSets(Rehearsing):
             ("ZCARD z", WRONG_KIND),
         ]
         self.plays(rows)
+
+    def test_an_option_may_be_a_member(self):
+        rows = [
+            ("ZADD z 1 nx", number(1), "ZADD z 1 nx"),
+            ("ZREM z nx", number(1), "ZREM z nx"),
+            ("ZADD z NX CH 1 a 2 b", number(2), "ZADD z 1 a 2 b"),
+            ("ZADD z ch XX gt 3 a 1.0 b", number(1), "ZADD z 3 a"),
+            ("ZRANGE z 0 -1 withscores REV", array("a", "3", "b", "2")),
+        ]
+        self.plays(rows)
+
+    def test_ranges_in_both_orders(self):
+        rows = [
+            ("ZADD z 1 a 2 b 3 c", number(3), "ZADD z 1 a 2 b 3 c"),
+            ("ZRANGE z 0 -1 withscores REV", array("c", "3", "b", "2", "a", "1")),
+            ("ZREVRANGE z 0 -2", array("c", "b")),
+            ("ZREVRANGE z -2 9", array("b", "a")),
+            ("ZREVRANGE z 3 9", NONE),
+            ("ZREVRANGEBYSCORE z +inf 1 LIMIT 0 1", array("c")),
+            ("ZRANGEBYSCORE z 1 +inf LIMIT 1 1", array("b")),
+            ("ZRANGEBYSCORE z 1 +inf LIMIT 2 5", array("c")),
+            ("ZRANGEBYSCORE z 1 +inf LIMIT 0 0", NONE),
+            ("ZRANGEBYSCORE z 1 +inf LIMIT -1 -1", NONE),
+            ("ZRANGEBYSCORE z 1 +inf LIMIT 3 -1", NONE),
+            ("ZRANGE z (3 1 rev LIMIT 2 -1 byscore", NONE),
+            ("ZRANGEBYSCORE z -inf (3 limit 0 1 withscores", array("a", "1")),
+            ("ZRANGEBYSCORE z +inf +inf", NONE),
+            ("ZRANGEBYSCORE z -inf -inf", NONE),
+            ("ZRevRangeByScore z (inf 3", array("c")),
+            ("ZCOUNT z (1 (3", number(1)),
+            ("ZCOUNT z (-inf (inf", number(3)),
+            ("ZREMRANGEBYSCORE z 1 (2", number(1), "ZREM z a"),
+        ]
+        self.plays(rows)
+
+    def test_scores_are_whole_numbers(self):
+        rows = [
+            ("ZADD z 2 b", number(1), "ZADD z 2 b"),
+            ("ZADD z -3.000 b", number(0), "ZADD z -3 b"),
+            ("ZADD z 0.0 b", number(0), "ZADD z 0 b"),
+            ("ZADD z -9007199254740992.0 b", number(0), "ZADD z -9007199254740992 b"),
+            ("ZADD z -12 b", number(0), "ZADD z -12 b"),
+            ("ZSCORE z b", bulk("-12")),
+            ("ZMSCORE z b d", array("-12", None)),
+        ]
+        self.plays(rows)
+
+    def test_an_absent_key_has_no_member(self):
+        rows = [
+            ("ZCOUNT x -inf +inf", number(0)),
+            ("ZREVRANGE x 0 -1", NONE),
+            ("ZRANGEBYSCORE x 1 +inf LIMIT 0 -1", NONE),
+        ]
+        self.plays(rows)
+
+    def test_a_set_is_no_sorted_set(self):
+        lines = ["ZCARD s", "ZCOUNT s -inf +inf", "ZSCORE s a", "ZMSCORE s a d", "ZRANK s a", "ZREVRANGE s 0 -1", "ZRANGEBYSCORE s 1 +inf LIMIT 0 -1"]
+        self.plays([("SADD s a",), *((line, WRONG_KIND) for line in lines)])
 
     def test_an_effect_has_64_members_at_most(self):
         members = ["f%02d" % it for it in range(65)]

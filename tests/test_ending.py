@@ -2,13 +2,40 @@
 
 import contextlib
 import os
+import resource
 import signal
 import subprocess
+import tempfile
 import unittest
 
 from program import LATE, LAUNCHER, PROGRAM, request, run
+from test_requests import OK_THEN_VALUE, SET_THEN_GET
 
 PING = request("PING")
+
+# lines that are refused, and what the refusal names
+BAD_LINES = [
+    (["nothing"], b"nothing"),
+    (["Pipe"], b"Pipe"),
+    (["help"], b"help"),
+    (["--help"], b"--help"),
+    (["--now", "1"], b"--now"),
+    (["pipe", "more"], b"more"),
+    (["pipe", "two\n\nlines"], b"two"),
+    (["pipe", "-n", "1"], b"-n"),
+    (["pipe", "--", "1"], b"1"),
+    (["pipe", "--nothing", "1"], b"--nothing"),
+    (["pipe", "--now"], b"--now <now>"),
+    (["pipe", "--now", "x"], b"x"),
+    (["pipe", "--now", "-1"], b"-1"),
+    (["pipe", "--now=-1"], b"-1"),
+    (["pipe", "--now", "2305843009213693953"], b"2305843009213693953"),
+    (["pipe", "--now", "1", "--now", "2"], b"multiple times"),
+    (["pipe", "--word", "18446744073709551616"], b"18446744073709551616"),
+    (["pipe", "--word", "0x4"], b"0x4"),
+    (["pipe", "--id"], b"--id <id>"),
+    ([""], b""),
+]
 
 
 class Options(unittest.TestCase):
@@ -25,23 +52,12 @@ class Options(unittest.TestCase):
                 self.assertEqual((ran.returncode, ran.stdout, ran.stderr), (0, b"+PONG\r\n", b""))
 
     def test_a_bad_line_is_refused_in_one_line(self):
-        for words in (
-            ["nothing"],
-            ["pipe", "more"],
-            ["pipe", "--now"],
-            ["pipe", "--now", "-1"],
-            ["pipe", "--now", "2305843009213693953"],
-            ["pipe", "--now", "1", "--now", "1"],
-            ["pipe", "--word", "18446744073709551616"],
-            ["pipe", "--nothing", "1"],
-            ["--now", "1"],
-            ["pipe", "two\n\nlines"],
-            [""],
-        ):
+        for words, said in BAD_LINES:
             with self.subTest(words=words):
                 ran = run(PING, *words)
                 self.assertEqual((ran.returncode, ran.stdout), (1, b""))
                 self.assertRegex(ran.stderr, rb"\Aminired: [^\x00-\x1f]*[^\x00-\x20]\n\Z")
+                self.assertIn(said, ran.stderr)
 
     def test_an_id_that_is_none_is_a_bad_value(self):
         for name in ("", 39 * "a", 41 * "a", 39 * "a" + "A", 39 * "a" + "g"):
@@ -61,6 +77,18 @@ class Streams(unittest.TestCase):
     def test_an_output_that_cannot_be_written(self):
         with open("/dev/full", "wb") as full:
             self.fails(subprocess.run([LAUNCHER, "pipe"], input=PING, stdout=full, stderr=subprocess.PIPE, timeout=LATE))
+
+    def test_an_output_that_is_full_has_a_beginning_of_the_replies(self):
+        def narrow(room):
+            signal.signal(signal.SIGXFSZ, signal.SIG_IGN)
+            resource.setrlimit(resource.RLIMIT_FSIZE, (room, room))
+
+        for room in range(len(OK_THEN_VALUE)):
+            with self.subTest(room=room), tempfile.TemporaryFile() as out:
+                how = {"stdout": out, "stderr": subprocess.PIPE, "preexec_fn": lambda: narrow(room), "timeout": LATE}
+                self.fails(subprocess.run([PROGRAM, "pipe"], input=SET_THEN_GET, **how))
+                out.seek(0)
+                self.assertEqual(out.read(), OK_THEN_VALUE[:room])
 
     def test_an_output_that_is_closed(self):
         for count in (1, 100_000):

@@ -201,6 +201,12 @@ class Faults(Rehearsing):
             ("ZREMRANGEBYSCORE k 0 x", NO_BOUND),
         ])
 
+    def test_texts_that_are_no_score_or_bound(self):
+        scores = ("", "1.", ".0", "-0.0", "+1", "01", "1.0.0", "1.01", "1e3", "inf", "-9007199254740993")
+        self.are_told([("ZADD k %s m" % text, INTEGER) for text in scores])
+        self.are_told([("ZCOUNT k %s 1" % text, NO_BOUND) for text in ("", "(", "((1", "INF", "(1.5")])
+        self.are_told([("ZRANK k", arity("zrank"))])
+
 
 if __name__ == "__main__":
     unittest.main()

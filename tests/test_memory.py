@@ -6,8 +6,8 @@ import tempfile
 import unittest
 
 from program import LATE, PROGRAM, compiler, request, run
-from replies import asked
-from test_collections import HASHES, LISTS, SETS
+from replies import OK, asked
+from test_collections import HASHES, LISTS, SERVER, SETS
 from test_sorted_sets import SORTED_SETS
 from test_strings import KEYS, STRINGS
 
@@ -76,7 +76,7 @@ class Memory(unittest.TestCase):
         self.beginnings(ASKED, ANSWERED)
 
     def test_replies_of_collections_are_too(self):
-        for rows in (HASHES, LISTS, SETS, SORTED_SETS, STRINGS, KEYS):
+        for rows in (HASHES, LISTS, SETS, SORTED_SETS, STRINGS, KEYS, [*SERVER, ("QUIT", OK)]):
             self.beginnings(asked(line for line, _ in rows), b"".join(reply for _, reply in rows))
 
     def test_a_bad_line_is_refused_or_memory_is_out(self):

@@ -3,11 +3,13 @@
 import unittest
 
 from program import request, run, run_in_pieces
+from replies import OK, array, bulk, number
 
 SET_THEN_GET = b"*3\r\n$3\r\nSET\r\n$1\r\nk\r\n$1\r\nv\r\n*2\r\n$3\r\nGET\r\n$1\r\nk\r\n"
 OK_THEN_VALUE = b"+OK\r\n$1\r\nv\r\n"
 PING = b"*1\r\n$4\r\nPING\r\n"
 BULK_LENGTH = b"-ERR Protocol error: invalid bulk length\r\n"
+COUNT = b"-ERR Protocol error: invalid multibulk length\r\n"
 
 
 class Requests(unittest.TestCase):
@@ -43,6 +45,17 @@ class Requests(unittest.TestCase):
         value = bytes(range(256)) + b"\r\n"
         asked = request("SET", "k", value) + request("GET", "k") + request("SET", "", "") + request("GET", "")
         self.answers(run(asked, "pipe"), b"+OK\r\n$258\r\n" + value + b"\r\n+OK\r\n$0\r\n\r\n")
+
+    def test_keys_of_any_length(self):
+        names = ["seven bytes at a time"[:end] for end in range(22)]
+        asked = b"".join(request("SET", it, it) for it in names) + request("MGET", *names, 21 * "\0")
+        self.answers(run(asked, "pipe"), 22 * OK + array(*names, None))
+
+    def test_bytes_are_ordered_without_a_sign(self):
+        added, in_order = [b"b", b"ab", b"\xff", b"", b"a"], [b"", b"a", b"ab", b"b", b"\xff"]
+        asked = request("SADD", "s", *added) + request("SMEMBERS", "s") + request("DEL", "s")
+        asked += request("MSET", *(it for key in added for it in (key, "v"))) + request("KEYS", "*")
+        self.answers(run(asked, "pipe"), number(5) + array(*in_order) + number(1) + OK + array(*in_order))
 
     def test_command_names_in_any_case(self):
         asked = request("set", "k", "v") + request("gEt", "k") + request("Ping")
@@ -84,6 +97,25 @@ class Lines(unittest.TestCase):
         asked = b"SET \"a b\" 'x\\'y'\r\n" + request("GET", "a b") + b'GET "a\\x20b"\n'
         self.answers(asked, b"+OK\r\n" + 2 * b"$3\r\nx'y\r\n")
 
+    def test_what_quotes_and_escapes_mean(self):
+        for line, word in (
+            (b'"\\x41\\n\\\\\\q"\n', b"A\n\\q"),
+            (b'"\\x4\\xg1\\r\\t\\"\\xfF"\n', b'x4xg1\r\t"\xff'),
+            (b'""\n', b""),
+            (b"''\n", b""),
+            (b'ab"c d"\r\n', b"abc d"),
+            (b"e'f'\r\n", b"ef"),
+            (b"'a\\nb\\\\c'\n", b"a\\nb\\\\c"),
+            (b"d\\n\n", b"d\\n"),
+            (b"\\x41\n", b"\\x41"),
+            (b"\0\n", b"\0"),
+            (b"*\n", b"*"),
+        ):
+            with self.subTest(line=line):
+                self.answers(b"ECHO " + line, bulk(word))
+        self.answers(b" \tECHO \x0b\x0ckey \n", bulk("key"))
+        self.answers(b"MGET \"a \\x41\" 'b\\'c' d\r\n", array(None, None, None))
+
     def test_blank_lines_have_no_reply(self):
         self.answers(b"*0\r\n\r\n*-1\r\n \t\nPING\r\n", b"+PONG\r\n")
 
@@ -93,6 +125,15 @@ class Lines(unittest.TestCase):
     def test_the_longest_line(self):
         ran = run(65_536 * b"x" + b"\n" + PING, "pipe")
         self.assertEqual((ran.returncode, ran.stdout), (0, b"-ERR unknown command\r\n+PONG\r\n"))
+        ran = run(b'"' + 65_534 * b"x" + b'"\n' + PING, "pipe")
+        self.assertEqual((ran.returncode, ran.stdout), (0, b"-ERR unknown command\r\n+PONG\r\n"))
+
+    def test_a_line_that_may_still_end_waits(self):
+        most = b'"' + 65_534 * b"x"
+        for line in (b'"a', b'"a"', 65_536 * b"x", most, most + b'"', most[:-2] + b"\\"):
+            with self.subTest(line=line[:8]):
+                ran = run(line, "pipe")
+                self.assertEqual((ran.returncode, ran.stdout), (0, b""))
 
 
 class Faults(unittest.TestCase):
@@ -114,21 +155,41 @@ class Faults(unittest.TestCase):
         self.refuses(b"*1\r\n\x07", b"-ERR Protocol error: expected '$', got '?'\r\n")
 
     def test_a_count_of_words_that_is_none(self):
-        wanted = b"-ERR Protocol error: invalid multibulk length\r\n"
         for count in (b"*-2\r\n", b"*x\r\n", b"*01\r\n", b"*\r\n", b"*1048577\r\n"):
             with self.subTest(count=count):
-                self.refuses(count, wanted)
+                self.refuses(count, COUNT)
 
     def test_a_word_past_the_limit(self):
         self.refuses(b"*2\r\n$3\r\nGET\r\n$16777217\r\n", BULK_LENGTH)
 
     def test_quotes_that_are_not_balanced(self):
-        for line in (b'"a"b', b'GET "a\n', b"GET 'a\n", b'"' + 65_535 * b"x"):
+        long = b'"' + 65_535 * b"x"
+        for line in (b'"a"b', b'GET "a\n', b"GET 'a\n", b'"a\\\n', b"'a\\'\n", long, long[1:] + b'"', long[:-2] + b"\\"):
             with self.subTest(line=line[:8]):
                 self.refuses(line, b"-ERR Protocol error: unbalanced quotes in request\r\n")
 
     def test_a_line_past_the_limit(self):
-        self.refuses(65_537 * b"x", b"-ERR Protocol error: too big inline request\r\n")
+        for line in (65_537 * b"x", 65_536 * b"x" + b'"', b'"' + 65_534 * b"x" + b'"b'):
+            self.refuses(line, b"-ERR Protocol error: too big inline request\r\n")
+
+    def test_a_text_is_doomed_at_its_last_byte(self):
+        for text, wanted in (
+            (b"*-2", COUNT),
+            (b"*01", COUNT),
+            (b"*1\rx", COUNT),
+            (b"*1048577", COUNT),
+            (b"*1\r\n$-", BULK_LENGTH),
+            (b"*1\r\n$01", BULK_LENGTH),
+            (b"*1\r\n$x", BULK_LENGTH),
+            (b"*1\r\n$16777217", BULK_LENGTH),
+            (b"*2\r\n$3\r\nGET\r\n$1\r\nkX", BULK_LENGTH),
+            (b"*1\r\n:", b"-ERR Protocol error: expected '$', got ':'\r\n"),
+            (b"*1\r\n\x01", b"-ERR Protocol error: expected '$', got '?'\r\n"),
+        ):
+            with self.subTest(text=text):
+                self.refuses(text, wanted)
+                for end in range(len(text)):
+                    self.assertEqual(run(text[:end], "pipe").stdout, b"")
 
 
 if __name__ == "__main__":

@@ -5,6 +5,7 @@ import unittest
 from program import request, run
 from replies import Answering, CURSOR, INTEGER, NIL, NONE, NO_KEY, OK, OVERFLOW, SYNTAX, WRONG_KIND, arity, array, bulk, number
 
+PAST_64_BITS = ("9223372036854775808", "-9223372036854775809", "18446744073709551617", "100000000000000000000")
 BAD_OFFSET = b"-ERR offset is out of range\r\n"
 TOO_LONG = b"-ERR string too long\r\n"
 NO_DECREMENT = b"-ERR decrement would overflow\r\n"
@@ -166,7 +167,7 @@ class Strings(Answering):
             self.answers([("RPUSH k a", number(1)), (line, reply), ("GET k", bulk("v"))])
 
     def test_a_number_has_one_text(self):
-        for text in ("01", "+1", "-0", "1.0", "1e3", "x", "9223372036854775808", "-9223372036854775809"):
+        for text in ("01", "+1", "-0", "-01", "00", "-", "1.0", "1e3", "0x1", "x", *PAST_64_BITS):
             self.answers([("SET k " + text, OK), ("INCR k", INTEGER), ("DECRBY k 2", INTEGER), ("GET k", bulk(text))])
         for text in ("", " 1", "1 ", "1\0"):
             asked = request("SET", "k", text) + request("INCR", "k") + request("GET", "k")

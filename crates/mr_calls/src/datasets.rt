@@ -62,3 +62,22 @@ fn a_dataset_is_looked_at(rt: HostRuntime) -> Result<(), Fail> {
     assert_eq!(rt; keys.next(), None);
     Ok(())
 }
+
+#[test]
+fn a_word_over_the_limit_is_refused(rt: HostRuntime) -> Result<(), Fail> {
+    let long = vec![in rt.alloc(); 0u8; 16_777_217]?;
+    let mut held = Dataset::new(rt.alloc(), RandomState::new(&rt)?);
+    let refused = Err(ApplyFault::Refused);
+    let set = Effect::Set {
+        key: Word::borrowed(b"k"),
+        value: Word::borrowed(&long),
+    };
+    assert_eq!(rt; held.apply(&set), refused);
+    let del = Effect::Del {
+        key: Word::borrowed(&long),
+    };
+    assert_eq!(rt; held.apply_owned(del), refused);
+    assert_eq!(rt; held.apply_all(Vec::new(rt.alloc())), Ok(()));
+    assert!(rt; held.is_empty());
+    Ok(())
+}

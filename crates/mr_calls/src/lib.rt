@@ -10,3 +10,5 @@ mod datasets;
 mod effects;
 #[cfg(test)]
 mod requests;
+#[cfg(test)]
+mod values;

@@ -1,7 +1,7 @@
 // Requests within other limits, what of them is borrowed, and requests written in parts.
 use mr_resp::{
-    Fault, Limits, Scan, next_request, next_request_within, push_request, push_word,
-    push_word_count,
+    Fault, Limits, Scan, next_command, next_request, next_request_within, push_request, push_word,
+    push_word_count, write_request,
 };
 use std::alloc::{AllocError, Global};
 use std::borrow::CowSlice;
@@ -24,10 +24,12 @@ fn kept_words(alloc: Global, input: &[u8]) -> Result<Vec<u8>, AllocError> {
 #[test]
 fn words_without_quotes_are_borrowed(rt: HostRuntime) -> Result<(), Fail> {
     let alloc = rt.alloc();
-    let rows: [(&[u8], &[u8]); 3] = [
+    let rows: [(&[u8], &[u8]); 5] = [
         (b"*2\r\n$3\r\nGET\r\n$2\r\n\"'\r\n", b"bb"),
         (b"GET key\n", b"bb"),
         (b"SET \"a b\" key 'x' v\r\n", b"bobob"),
+        (b"\"SET\" key\n", b"ob"),
+        (b"k\"v\" k\n", b"ob"),
     ];
     for (input, expected) in rows {
         assert_eq!(rt; kept_words(alloc, input)?.as_slice(), expected);
@@ -82,10 +84,39 @@ fn a_request_is_written_in_parts(rt: HostRuntime) -> Result<(), Fail> {
     push_word_count(&mut out, 2)?;
     push_word(&mut out, b"DEL")?;
     push_word(&mut out, b"k")?;
+    let whole = b"*2\r\n$3\r\nDEL\r\n$1\r\nk\r\n".as_slice();
+    assert_eq!(rt; out.as_slice(), whole);
+    out.clear();
     push_request(&[b"DEL", b"k"], &mut out)?;
-    assert_eq!(rt;
-        out.as_slice(),
-        b"*2\r\n$3\r\nDEL\r\n$1\r\nk\r\n*2\r\n$3\r\nDEL\r\n$1\r\nk\r\n".as_slice()
-    );
+    assert_eq!(rt; out.as_slice(), whole);
+    out.clear();
+    write_request(&[b"DEL", b"k"], &mut out)?;
+    assert_eq!(rt; out.as_slice(), whole);
+    Ok(())
+}
+
+// The length of the command text at the front, the fault's text, or nothing where more is wanted.
+fn command(alloc: Global, input: &[u8]) -> Result<Option<Result<usize, Fault>>, AllocError> {
+    match next_command(alloc, input)? {
+        Scan::Whole { words: _, used } => Ok(Some(Ok(used))),
+        Scan::Bad(fault) => Ok(Some(Err(fault))),
+        _ => Ok(None),
+    }
+}
+
+#[test]
+fn command_texts_are_in_array_form(rt: HostRuntime) -> Result<(), Fail> {
+    let no_count = Some(Err(Fault::MultibulkLength));
+    let rows: [(&[u8], Option<Result<usize, Fault>>); 6] = [
+        (b"*2\r\n$3\r\nDEL\r\n$1\r\nk\r\n*", Some(Ok(20))),
+        (b"*", None),
+        (b"*0", no_count),
+        (b"*-", no_count),
+        (b"PING\r\n", no_count),
+        (b"*1\r\n$16777217", Some(Err(Fault::WordTooBig))),
+    ];
+    for (input, expected) in rows {
+        assert!(rt; command(rt.alloc(), input)? == expected);
+    }
     Ok(())
 }

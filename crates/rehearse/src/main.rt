@@ -9,7 +9,7 @@
 //! | `given NOW WORD` | `given`: the moment and the random word of the steps from here on |
 //! | `open` | `opened` |
 //! | `feed LINK BYTES` | `fed` |
-//! | `step LINK` | `idle`, `closed`, or `done REPLY EFFECTS stays`, with `closes` for `stays` where the link is closed behind the reply |
+//! | `step LINK` | `idle`, `closed`, or `done OUTS REPLY EFFECTS`: of the outs `g` for growth, `s` for what is sent and `c` for the link's closing |
 //! | `room LINK` | `room COUNT`, or `gone` |
 //! | `close LINK` | `closed` |
 //! | `shows` | `shows ID OFFSET`, or `nothing` |

@@ -1,6 +1,6 @@
 //! What a call answered, written.
 use crate::fault::RehearsalFault;
-use mr_node::Outs;
+use mr_node::{Out, Outs};
 use std::alloc::Global;
 use std::fmt::Display;
 
@@ -25,9 +25,20 @@ pub fn tell_bytes(alloc: Global, bytes: &[u8], out: &mut Vec<u8>) -> Result<(), 
     tell(out, hex::encode(alloc, bytes)?.as_str())
 }
 
+/// The outs of a step, a letter each in their order, and then the bytes of the reply and of the effects.
 pub fn tell_outs(alloc: Global, outs: &Outs, out: &mut Vec<u8>) -> Result<(), RehearsalFault> {
-    tell(out, "done")?;
+    tell(out, "done ")?;
+    for part in outs.iter() {
+        out.push(letter_of(part))?;
+    }
     tell_bytes(alloc, outs.reply(), out)?;
-    tell_bytes(alloc, outs.grown(), out)?;
-    tell(out, if outs.closes() { " closes" } else { " stays" })
+    tell_bytes(alloc, outs.grown(), out)
+}
+
+fn letter_of(part: Out<'_>) -> u8 {
+    match part {
+        Out::Grow(_) => b'g',
+        Out::Send(_, _) => b's',
+        Out::Close(_) => b'c',
+    }
 }
