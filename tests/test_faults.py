@@ -182,7 +182,7 @@ class Faults(Rehearsing):
             ("ZADD k 1 m nx 2", INTEGER),
             ("ZINCRBY k x m", INTEGER),
             ("ZREM k", arity("zrem")),
-            ("ZCARD k", arity("zcard")),
+            ("ZRANK k", arity("zrank")),
             ("ZRANGE k 0", arity("zrange")),
             ("ZRANGE k 0 1 LIMIT 0 1", SYNTAX),
             ("ZRANGE k 0 1 BYSCORE LIMIT 0", SYNTAX),
@@ -205,7 +205,6 @@ class Faults(Rehearsing):
         scores = ("", "1.", ".0", "-0.0", "+1", "01", "1.0.0", "1.01", "1e3", "inf", "-9007199254740993")
         self.are_told([("ZADD k %s m" % text, INTEGER) for text in scores])
         self.are_told([("ZCOUNT k %s 1" % text, NO_BOUND) for text in ("", "(", "((1", "INF", "(1.5")])
-        self.are_told([("ZRANK k", arity("zrank"))])
 
 
 if __name__ == "__main__":

@@ -23,8 +23,8 @@ pub enum Call {
 /// How an effect comes to the dataset.
 #[derive(Clone, Copy, Drop)]
 pub enum Way {
-    Lent,
-    Given,
+    ByReference,
+    Moved,
 }
 
 impl Call {
@@ -46,8 +46,11 @@ impl Call {
             ("close", Some(link), None) => Ok(Call::Close(place(link)?)),
             ("shows", None, None) => Ok(Call::Shows),
             ("spell", Some(bytes), None) => Ok(Call::Spell(bytes_of(alloc, bytes)?)),
-            ("lend", Some(bytes), None) => Ok(Call::Apply(bytes_of(alloc, bytes)?, Way::Lent)),
-            ("give", Some(bytes), None) => Ok(Call::Apply(bytes_of(alloc, bytes)?, Way::Given)),
+            ("lend", Some(bytes), None) => Ok(Call::Apply(
+                bytes_of(alloc, bytes)?,
+                Way::ByReference,
+            )),
+            ("give", Some(bytes), None) => Ok(Call::Apply(bytes_of(alloc, bytes)?, Way::Moved)),
             ("ask", Some(bytes), None) => Ok(Call::Ask(bytes_of(alloc, bytes)?)),
             _ => Err(RehearsalFault::Line),
         }
@@ -63,19 +66,21 @@ pub fn backlog_of(line: &str) -> Result<usize, RehearsalFault> {
 }
 
 fn given(now: &str, word: &str) -> Result<Call, RehearsalFault> {
-    let (Some(now), Some(word)) = (read_i64(now.as_bytes()), read_i64(word.as_bytes())) else {
-        return Err(RehearsalFault::Line);
-    };
-    match Given::new(now, word.unsigned_abs()) {
+    match Given::new(number(now)?, number(word)?.unsigned_abs()) {
         Some(given) => Ok(Call::Given(given)),
         None => Err(RehearsalFault::Line),
     }
 }
 
 fn place(word: &str) -> Result<usize, RehearsalFault> {
+    Ok(number(word)?.unsigned_abs() as usize)
+}
+
+/// A number that isn't below 0.
+fn number(word: &str) -> Result<i64, RehearsalFault> {
     match read_i64(word.as_bytes()) {
-        Some(place) => Ok(place.unsigned_abs() as usize),
-        None => Err(RehearsalFault::Line),
+        Some(number) if number >= 0 => Ok(number),
+        _ => Err(RehearsalFault::Line),
     }
 }
 

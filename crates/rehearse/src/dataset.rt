@@ -2,7 +2,7 @@
 use crate::call::Way;
 use crate::fault::RehearsalFault;
 use crate::telling::{tell, tell_bytes, tell_refusal};
-use mr_data::{Dataset, Given, decode, encode};
+use mr_data::{ApplyFault, Dataset, Given, decode, encode};
 use mr_plan::{Answer, plan_words};
 use mr_resp::{Scan, next_command, next_request, write_reply};
 use std::alloc::Global;
@@ -35,10 +35,17 @@ pub fn apply(
     let Some(effect) = decode(alloc, words.as_slice())? else {
         return tell(out, "no effect");
     };
-    let applied = match way {
-        Way::Lent => held.apply(&effect),
-        Way::Given => held.apply_owned(effect),
-    };
+    if let Way::Moved = way {
+        return tell_applied(alloc, held.apply_owned(effect), out);
+    }
+    tell_applied(alloc, held.apply(&effect), out)
+}
+
+fn tell_applied(
+    alloc: Global,
+    applied: Result<(), ApplyFault>,
+    out: &mut Vec<u8>,
+) -> Result<(), RehearsalFault> {
     match applied {
         Ok(()) => tell(out, "applied"),
         Err(fault) => tell_refusal(alloc, fault, out),
