@@ -2,7 +2,6 @@
 ghost use Rattle.std.specs.Prelude.{◌≡◌};
 ghost use Rattle.mr_ask.specs.Parts.{amount_number};
 
-use crate::expiry::{Expiry, Milliseconds, Seconds};
 use mr_words::{Argument, Pairs, Words};
 
 /// A command on strings, with its arguments.
@@ -12,25 +11,12 @@ pub enum TextAsk<'a, 't> {
     Get {
         key: Argument<'a>,
     },
-    /// `SET key value [NX|XX] [GET] [EX seconds|PX milliseconds|EXAT second|PXAT millisecond|KEEPTTL]`
+    /// `SET key value [NX|XX] [GET]`
     Set {
         key: Argument<'a>,
         value: Argument<'a>,
         condition: Option<SetCondition>,
         reply: SetReply,
-        lifetime: Lifetime,
-    },
-    /// `SETEX key seconds value`
-    SetEx {
-        key: Argument<'a>,
-        seconds: Seconds,
-        value: Argument<'a>,
-    },
-    /// `PSETEX key milliseconds value`
-    PSetEx {
-        key: Argument<'a>,
-        milliseconds: Milliseconds,
-        value: Argument<'a>,
     },
     /// `STRLEN key`
     TextLength {
@@ -102,17 +88,6 @@ pub enum SetReply {
     Done,
     /// The text that was there before (`GET`).
     Before,
-}
-
-/// How long a value that is set stays.
-#[derive(Clone, Copy)]
-pub enum Lifetime {
-    /// Its key gets no deadline.
-    Endless,
-    /// Its key keeps the deadline that it has (`KEEPTTL`).
-    Kept,
-    /// Its key gets this deadline (`EX`, `PX`, `EXAT`, `PXAT`).
-    Until(Expiry),
 }
 
 /// What is added to a number, by the command that asks for it.

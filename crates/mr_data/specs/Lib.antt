@@ -1,5 +1,7 @@
 pub mod Dataset
 pub mod Given
+pub mod Collections
+pub mod Texts
+pub mod Steps
 pub mod Meaning
-pub mod Rebuilding
-pub mod Due
+pub mod Outcome

@@ -1,5 +1,4 @@
 pub mod Appending
-pub mod Deadlines
 mod NameLemmas
 mod Readings
 pub mod Texts

@@ -11,11 +11,8 @@ pub enum EffectName {
     SetRange,
     IncrBy,
     Del,
-    PExpireAt,
-    Persist,
     Rename,
     FlushAll,
-    Ping,
     HSet,
     HDel,
     LPush,
@@ -36,18 +33,15 @@ pub enum EffectName {
 
 impl EffectName {
     /// All of them.
-    pub const ALL: [EffectName; 27] = [
+    pub const ALL: [EffectName; 24] = [
         EffectName::Set,
         EffectName::MSet,
         EffectName::Append,
         EffectName::SetRange,
         EffectName::IncrBy,
         EffectName::Del,
-        EffectName::PExpireAt,
-        EffectName::Persist,
         EffectName::Rename,
         EffectName::FlushAll,
-        EffectName::Ping,
         EffectName::HSet,
         EffectName::HDel,
         EffectName::LPush,
@@ -92,11 +86,8 @@ impl EffectName {
             EffectName::SetRange => b"SETRANGE",
             EffectName::IncrBy => b"INCRBY",
             EffectName::Del => b"DEL",
-            EffectName::PExpireAt => b"PEXPIREAT",
-            EffectName::Persist => b"PERSIST",
             EffectName::Rename => b"RENAME",
             EffectName::FlushAll => b"FLUSHALL",
-            EffectName::Ping => b"PING",
             EffectName::HSet => b"HSET",
             EffectName::HDel => b"HDEL",
             EffectName::LPush => b"LPUSH",

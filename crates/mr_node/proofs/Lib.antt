@@ -3,4 +3,3 @@ pub mod Ends
 pub mod Nodes
 pub mod Progressing
 pub mod Steps
-pub mod Deletions

@@ -5,4 +5,3 @@ pub mod Listing
 pub mod Requests
 pub mod Rows
 pub mod Parts
-pub mod Ticks

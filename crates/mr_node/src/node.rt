@@ -30,24 +30,18 @@ use std::marker::Model;
 use std::mem;
 
 /// No offset is greater, and no more links are opened.
-pub(crate) const LIMIT: u64 = 0x4000_0000_0000_0000;
-
-/// No link has this name.
-pub(crate) const NOWHERE: LinkId = LinkId {
-    index: 0,
-    generation: 0,
-};
+const LIMIT: u64 = 0x4000_0000_0000_0000;
 
 /// A node: its replication id, its dataset, the last bytes of its stream, and its ends of the links of its clients.
 #[derive(Drop)]
 pub struct Node {
-    pub(crate) alloc: Global,
-    pub(crate) up: bool,
-    pub(crate) replica: bool,
+    alloc: Global,
+    up: bool,
+    replica: bool,
     port: u16,
     id: ReplId,
-    pub(crate) held: Dataset,
-    pub(crate) stream: Backlog,
+    held: Dataset,
+    stream: Backlog,
     links: Links<End>,
     spare: Outs,
 }
@@ -79,6 +73,10 @@ impl Node {
         let Ok(stream) = Backlog::new(alloc, config.backlog, 0) else {
             return Err(AllocError);
         };
+        let nowhere = LinkId {
+            index: 0,
+            generation: 0,
+        };
         Ok(Node {
             alloc,
             up: true,
@@ -88,7 +86,7 @@ impl Node {
             held,
             stream,
             links: Links::new(alloc),
-            spare: Outs::new(alloc, NOWHERE),
+            spare: Outs::new(alloc, nowhere),
         })
     }
 
@@ -140,7 +138,7 @@ impl Node {
     }
 
     /// The outs kept for the next step, emptied.
-    pub(crate) fn fresh_outs(&mut self, link: LinkId) -> Outs
+    fn fresh_outs(&mut self, link: LinkId) -> Outs
         ensures outs { result ≡ no_outs link }
         ensures same { self.new ≡ self.old }
     {

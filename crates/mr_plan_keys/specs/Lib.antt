@@ -2,6 +2,5 @@ pub mod Turns
 pub mod Outcomes
 pub mod Renaming
 pub mod Listing
-pub mod Expiring
 pub mod Server
 pub mod Commands

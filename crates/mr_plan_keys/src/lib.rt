@@ -2,7 +2,6 @@
 #![tactic(auto)]
 
 mod counting;
-mod expiring;
 mod kinds;
 mod listing;
 mod planning;

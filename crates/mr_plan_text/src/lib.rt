@@ -2,7 +2,6 @@
 #![tactic(auto)]
 
 mod changing;
-mod deadlines;
 mod planning;
 mod replies;
 mod setting;

@@ -3,4 +3,5 @@ pub mod Keys
 pub mod Turns
 pub mod Outcomes
 pub mod Commands
+pub mod Cuts
 pub mod Collections
