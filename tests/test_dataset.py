@@ -9,14 +9,15 @@ from replies import array, bulk, number
 LENGTHS = {
     "SET k v": 27, "DEL k": 20, "SADD s a b c": 42, "SREM s b": 28, "SADD s a": 28, "LPUSH l a b c": 43, "LPOP l 3": 28, "RPUSH s a b": 36,
     "LMOVE s s LEFT RIGHT": 50, "MSET a 2": 28, "MSET a 2 b 3": 42, "APPEND k v": 30, "SETRANGE k 5 v": 39, "INCRBY n 3": 30,
-    "INCRBY n -3": 31, "RENAME a b": 30, "FLUSHALL": 18, "ZADD z 1 a 1 b 2 c": 63, "ZADD z -3 a": 36, "ZREM z a": 28,
+    "INCRBY n -3": 31, "RENAME a b": 30, "FLUSHALL": 18, "PING": 14, "PEXPIREAT k 11000": 37, "SET a 1 PXAT 5": 44, "ZADD z 1 a 1 b 2 c": 63, "ZADD z -3 a": 36, "ZREM z a": 28,
 }
 
 # further effects, so that each kind is there
 OTHERS = [
     "HSET h f v g w", "HDEL h f", "RPOP l 12", "LSET l 0 x", "LINSERT l AFTER p x", "LINSERT l BEFORE p x", "LREM l -2 x", "LTRIM l 1 3",
     "SMOVE s d m", "SETRANGE k 0 v", "INCRBY n -9223372036854775808", "ZADD z 1 a -3 b", "ZADD z 9007199254740992 a",
-    "ZADD z -9007199254740992 a", "ZREM z a b",
+    "ZADD z -9007199254740992 a", "ZREM z a b", "SET k v PXAT 1", "SET k v PXAT 4611686018427387904", "SET k v KEEPTTL",
+    "PEXPIREAT k 1", "PERSIST k",
 ]
 
 # words that spell no effect; SPOP, whose member would be left to chance, among them
@@ -28,7 +29,9 @@ NO_EFFECTS = [
     "INCRBY n", "INCRBY n +3", "INCRBY n 3.0", "INCRBY n 9223372036854775808", "RENAME a", "RENAME a b c",
     "FLUSHALL ASYNC", "flushall", "ZADD z", "ZADD z 1", "ZADD z a 1", "ZADD z 1 a 2", "ZADD z 1.0 a", "ZADD z +1 a",
     "ZADD z inf a", "ZADD z 9007199254740993 a", "ZADD z -9007199254740993 a", "ZADD z 1 a 9007199254740993 b",
-    "ZADD NX z 1 a", "ZREM z",
+    "ZADD NX z 1 a", "ZREM z", "SET k v PXAT 0", "SET k v PXAT 4611686018427387905", "SET k v PXAT 01", "SET k v PXAT", "SET k v pxat 1",
+    "SET k v PX 1", "SET k v keepttl", "SET k v KEEPTTL x", "SET k v PXAT 1 KEEPTTL", "PEXPIREAT k", "PEXPIREAT k 0", "PEXPIREAT k -1",
+    "PEXPIREAT k 4611686018427387905", "PEXPIREAT k 1 NX", "EXPIRE k 1", "PERSIST", "PERSIST k x", "PING x",
 ]
 
 # what a key of each kind is asked
@@ -99,6 +102,24 @@ class Effects(Rehearsing):
             ("INCRBY n 0", "GET n", bulk("0")),
             ("INCRBY m -9223372036854775808", "GET m", bulk("-9223372036854775808")),
         ])
+
+    def test_deadlines_come_and_go(self):
+        self.leaves([
+            ("SET k v PXAT 7", "PEXPIRETIME k", number(7)),
+            ("SET k w KEEPTTL", "PEXPIRETIME k", number(7)),
+            ("APPEND k x", "PEXPIRETIME k", number(7)),
+            ("PEXPIREAT k 9", "PEXPIRETIME k", number(9)),
+            ("RENAME k n", "PEXPIRETIME n", number(9)),
+            ("PERSIST n", "PEXPIRETIME n", number(-1)),
+            ("PERSIST n", "GET n", bulk("wx")),
+            ("PEXPIREAT n 9", "PEXPIRETIME n", number(9)),
+            ("PING", "PEXPIRETIME n", number(9)),
+            ("SET n v", "PEXPIRETIME n", number(-1)),
+            ("SET m v KEEPTTL", "PEXPIRETIME m", number(-1)),
+        ])
+
+    def test_an_absent_key_gets_no_deadline(self):
+        self.refuses(["SET k v"], ["PEXPIREAT n 9", "PERSIST n"])
 
     def test_keys_are_renamed_and_cleared(self):
         self.leaves([

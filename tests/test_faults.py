@@ -45,8 +45,8 @@ class Faults(Rehearsing):
             ("SET k v NX XX", SYNTAX),
             ("SET k v XX XX", SYNTAX),
             ("SET k v GET NX GET", SYNTAX),
-            ("SET k v EX 10", SYNTAX),
-            ("SET k v KEEPTTL", SYNTAX),
+            ("SET k v EX", SYNTAX),
+            ("SET k v EX 10 KEEPTTL", SYNTAX),
         ])
 
     def test_keys_listed(self):

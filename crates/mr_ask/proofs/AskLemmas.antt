@@ -5,25 +5,27 @@ use Rattle.std.specs.List.{list_all, AllByRecursion}
 use Rattle.mr_value.specs.Words.{fits}
 use Rattle.mr_value.specs.declared.ends.End.TheVariants.{Left, Right}
 use Rattle.mr_words.specs.Names.{lowered, named}
-use Rattle.mr_ask.specs.Texts.{get, set, strlen, getrange, mget, setnx, getset, getdel, mset, msetnx, append, setrange, step, incrby, decrby}
-use Rattle.mr_ask.specs.Keys.{del, unlink, exists, key_type, matching_keys, scan, dbsize, rename, renamenx, clear}
-use Rattle.mr_ask.specs.Hashes.{set_fields, hsetnx, hget, hmget, list_hash, hdel, hexists, hlen, hstrlen, hincrby}
-use Rattle.mr_ask.specs.Lists.{push, pop, llen, lrange, lindex, lset, linsert, lrem, ltrim, lmove, rpoplpush}
-use Rattle.mr_ask.specs.Sets.{sadd, srem, sismember, smismember, smembers, scard, spop, srandmember, smove, combine}
+use Rattle.mr_ask.specs.Texts.{get, set, setex, psetex, strlen, getrange, mget, setnx, getset, getdel, mset, msetnx, append, setrange, step, incrby, decrby}
+use Rattle.mr_ask.specs.Keys.{del, unlink, exists, key_type, matching_keys, scan, dbsize, rename, renamenx, clear, expire, ttl, pttl, expiretime, pexpiretime, persist}
+use Rattle.mr_ask_coll.specs.Hashes.{set_fields, hsetnx, hget, hmget, list_hash, hdel, hexists, hlen, hstrlen, hincrby}
+use Rattle.mr_ask_coll.specs.Lists.{push, pop, llen, lrange, lindex, lset, linsert, lrem, ltrim, lmove, rpoplpush}
+use Rattle.mr_ask_coll.specs.Sets.{sadd, srem, sismember, smismember, smembers, scard, spop, srandmember, smove, combine}
 use Rattle.mr_ask_zset.specs.Reading.{zadd, zincrby, zrem, zcard, zcount, zscore, zmscore, zrank, zrange, zrevrange, range_by_score, zpop, zremrangebyrank, zremrangebyscore}
 use Rattle.mr_ask.specs.Server.{ping, echo, select, quit, command, client}
 use Rattle.mr_ask.specs.Asks.{asked, asked_by, reading}
-use Rattle.mr_ask.specs.Carried.{text_words, key_words, hash_words, list_words, set_words, server_words, AskFits}
+use Rattle.mr_ask.specs.Carried.{text_words, key_words, server_words, AskFits}
 use Rattle.mr_words.specs.Spelling.{Part, Word, Number, in_a_row}
-use Rattle.mr_ask.specs.Spelled.{cursor_part, scan_option, hash_parts, list_parts, set_parts, server_parts, AreOfTexts, AreOfKeys, SpellsNamed, Spells}
+use Rattle.mr_ask.specs.Expiry.{number_said}
+use Rattle.mr_ask.specs.Spelled.{cursor_part, expire_part, scan_option, server_parts, AreOfTexts, AreOfKeys, SpellsNamed, Spells}
 use Rattle.mr_words.proofs.FitLemmas.{carried, carried-words, first, second, both, parts_fit, OptionFits, others_fit, of_parts_fit}
 use Rattle.mr_words.proofs.NameLemmas.{named_is}
 use Rattle.mr_ask.proofs.Carries.{of_kind_carries}
-use Rattle.mr_ask.proofs.TextLemmas.{get_carries, set_carries, strlen_carries, getrange_carries, mget_carries, setnx_carries, getset_carries, getdel_carries, mset_carries, msetnx_carries, append_carries, setrange_carries, incr_carries, decr_carries, incrby_carries, decrby_carries}
-use Rattle.mr_ask.proofs.KeyLemmas.{del_carries, unlink_carries, exists_carries, key_type_carries, matching_keys_carries, scan_carries, dbsize_carries, rename_carries, renamenx_carries, clear_carries}
-use Rattle.mr_ask.proofs.HashLemmas.{set_fields_carries, hsetnx_carries, hget_carries, hmget_carries, list_hash_carries, hdel_carries, hexists_carries, hlen_carries, hstrlen_carries, hincrby_carries}
-use Rattle.mr_ask.proofs.ListLemmas.{push_carries, pop_carries, llen_carries, lrange_carries, lindex_carries, lset_carries, linsert_carries, lrem_carries, ltrim_carries, lmove_carries, rpoplpush_carries}
-use Rattle.mr_ask.proofs.SetLemmas.{sadd_carries, srem_carries, sismember_carries, smismember_carries, smembers_carries, scard_carries, spop_carries, srandmember_carries, smove_carries, combine_carries}
+use Rattle.mr_ask.proofs.TimeLemmas.{IsTimedAsk, reading_timed}
+use Rattle.mr_ask.proofs.TextLemmas.{get_carries, set_carries, setex_carries, psetex_carries, strlen_carries, getrange_carries, mget_carries, setnx_carries, getset_carries, getdel_carries, mset_carries, msetnx_carries, append_carries, setrange_carries, incr_carries, decr_carries, incrby_carries, decrby_carries}
+use Rattle.mr_ask.proofs.KeyLemmas.{del_carries, unlink_carries, exists_carries, key_type_carries, matching_keys_carries, scan_carries, dbsize_carries, rename_carries, renamenx_carries, clear_carries, expire_carries, ttl_carries, pttl_carries, expiretime_carries, pexpiretime_carries, persist_carries}
+use Rattle.mr_ask_coll.proofs.HashLemmas.{set_fields_spells, hsetnx_spells, hget_spells, hmget_spells, list_hash_spells, hdel_spells, hexists_spells, hlen_spells, hstrlen_spells, hincrby_spells, hash_fits}
+use Rattle.mr_ask_coll.proofs.ListLemmas.{push_spells, pop_spells, llen_spells, lrange_spells, lindex_spells, lset_spells, linsert_spells, lrem_spells, ltrim_spells, lmove_spells, rpoplpush_spells, list_fits}
+use Rattle.mr_ask_coll.proofs.SetLemmas.{sadd_spells, srem_spells, sismember_spells, smismember_spells, smembers_spells, scard_spells, spop_spells, srandmember_spells, smove_spells, combine_spells, set_fits}
 use Rattle.mr_ask_zset.proofs.AddLemmas.{zadd_spells}
 use Rattle.mr_ask_zset.proofs.RangeLemmas.{zrange_spells, zrevrange_spells, range_by_score_spells}
 use Rattle.mr_ask_zset.proofs.ZSetLemmas.{zincrby_spells, zrem_spells, zcard_spells, zcount_spells, zscore_spells, zmscore_spells, zrank_spells, zpop_spells, zremrangebyrank_spells, zremrangebyscore_spells, zset_fits}
@@ -31,6 +33,7 @@ use Rattle.mr_ask_zset.specs.declared.zset_ask.Order.TheVariants.{Ascending, Des
 use Rattle.mr_ask.proofs.ServerLemmas.{ping_carries, echo_carries, select_carries, quit_carries, command_carries, client_carries}
 use Rattle.mr_words.specs.declared.name.Name.{Name}
 use Rattle.mr_words.specs.declared.name.Name.TheVariants as name
+use Rattle.mr_ask.specs.declared.expiry.ExpiryUnit.TheVariants as unit
 use Rattle.mr_ask.specs.declared.options.ScanOption.TheVariants as scans
 use Rattle.mr_ask.specs.declared.key_ask.Cursor.{Cursor}
 use Rattle.mr_ask.specs.declared.key_ask.Cursor.TheVariants.{Start, Behind}
@@ -41,16 +44,10 @@ use Rattle.mr_ask.specs.declared.text_ask.Amount.TheVariants as amount
 use Rattle.mr_ask.specs.declared.key_ask.KeyAsk.{KeyAsk}
 use Rattle.mr_ask.specs.declared.key_ask.KeyAsk.TheVariants as key
 use Rattle.mr_ask.specs.declared.key_ask.Databases.TheVariants as databases
-use Rattle.mr_ask.specs.declared.hash_ask.HashAsk.{HashAsk}
-use Rattle.mr_ask.specs.declared.hash_ask.HashAsk.TheVariants as hash
-use Rattle.mr_ask.specs.declared.hash_ask.FieldsReply.TheVariants.{Added, Done}
-use Rattle.mr_ask.specs.declared.hash_ask.HashPart.TheVariants.{Pairs, Fields, Values}
-use Rattle.mr_ask.specs.declared.list_ask.ListAsk.{ListAsk}
-use Rattle.mr_ask.specs.declared.list_ask.ListAsk.TheVariants as list
-use Rattle.mr_ask.specs.declared.list_ask.PushTo.TheVariants.{AnyKey, ExistingKey}
-use Rattle.mr_ask.specs.declared.set_ask.SetAsk.{SetAsk}
-use Rattle.mr_ask.specs.declared.set_ask.SetAsk.TheVariants as sets
-use Rattle.mr_ask.specs.declared.set_ask.SetOperation.TheVariants.{Intersection, Union, Difference}
+use Rattle.mr_ask_coll.specs.declared.hash_ask.FieldsReply.TheVariants.{Added, Done}
+use Rattle.mr_ask_coll.specs.declared.hash_ask.HashPart.TheVariants.{Pairs, Fields, Values}
+use Rattle.mr_ask_coll.specs.declared.list_ask.PushTo.TheVariants.{AnyKey, ExistingKey}
+use Rattle.mr_ask_coll.specs.declared.set_ask.SetOperation.TheVariants.{Intersection, Union, Difference}
 use Rattle.mr_ask.specs.declared.server_ask.ServerAsk.{ServerAsk}
 use Rattle.mr_ask.specs.declared.server_ask.ServerAsk.TheVariants as server
 use Rattle.mr_ask.specs.declared.ask.Ask.{Ask}
@@ -85,46 +82,57 @@ reading_carries name.Rename ws = of_kind_carries (rename ws) ask.Keys _ (rename_
 reading_carries name.RenameNx ws = of_kind_carries (renamenx ws) ask.Keys _ (renamenx_carries ws)
 reading_carries name.FlushAll ws = of_kind_carries (clear databases.All ws) ask.Keys _ (clear_carries name.FlushAll databases.All (λ t. refl) ws)
 reading_carries name.FlushDb ws = of_kind_carries (clear databases.Selected ws) ask.Keys _ (clear_carries name.FlushDb databases.Selected (λ t. refl) ws)
-reading_carries name.HSet ws = of_kind_carries (set_fields name.HSet Added ws) ask.Hashes _ (set_fields_carries name.HSet Added (λ k ps. refl) ws)
-reading_carries name.HMSet ws = of_kind_carries (set_fields name.HMSet Done ws) ask.Hashes _ (set_fields_carries name.HMSet Done (λ k ps. refl) ws)
-reading_carries name.HSetNx ws = of_kind_carries (hsetnx ws) ask.Hashes _ (hsetnx_carries ws)
-reading_carries name.HGet ws = of_kind_carries (hget ws) ask.Hashes _ (hget_carries ws)
-reading_carries name.HMGet ws = of_kind_carries (hmget ws) ask.Hashes _ (hmget_carries ws)
-reading_carries name.HGetAll ws = of_kind_carries (list_hash name.HGetAll Pairs ws) ask.Hashes _ (list_hash_carries name.HGetAll Pairs (λ k. refl) ws)
-reading_carries name.HKeys ws = of_kind_carries (list_hash name.HKeys Fields ws) ask.Hashes _ (list_hash_carries name.HKeys Fields (λ k. refl) ws)
-reading_carries name.HVals ws = of_kind_carries (list_hash name.HVals Values ws) ask.Hashes _ (list_hash_carries name.HVals Values (λ k. refl) ws)
-reading_carries name.HDel ws = of_kind_carries (hdel ws) ask.Hashes _ (hdel_carries ws)
-reading_carries name.HExists ws = of_kind_carries (hexists ws) ask.Hashes _ (hexists_carries ws)
-reading_carries name.HLen ws = of_kind_carries (hlen ws) ask.Hashes _ (hlen_carries ws)
-reading_carries name.HStrLen ws = of_kind_carries (hstrlen ws) ask.Hashes _ (hstrlen_carries ws)
-reading_carries name.HIncrBy ws = of_kind_carries (hincrby ws) ask.Hashes _ (hincrby_carries ws)
-reading_carries name.LPush ws = of_kind_carries (push name.LPush Left AnyKey ws) ask.Lists _ (push_carries name.LPush Left AnyKey (λ k items. refl) ws)
-reading_carries name.RPush ws = of_kind_carries (push name.RPush Right AnyKey ws) ask.Lists _ (push_carries name.RPush Right AnyKey (λ k items. refl) ws)
-reading_carries name.LPushX ws = of_kind_carries (push name.LPushX Left ExistingKey ws) ask.Lists _ (push_carries name.LPushX Left ExistingKey (λ k items. refl) ws)
-reading_carries name.RPushX ws = of_kind_carries (push name.RPushX Right ExistingKey ws) ask.Lists _ (push_carries name.RPushX Right ExistingKey (λ k items. refl) ws)
-reading_carries name.LPop ws = of_kind_carries (pop name.LPop Left ws) ask.Lists _ (pop_carries name.LPop Left (λ k c. refl) ws)
-reading_carries name.RPop ws = of_kind_carries (pop name.RPop Right ws) ask.Lists _ (pop_carries name.RPop Right (λ k c. refl) ws)
-reading_carries name.LLen ws = of_kind_carries (llen ws) ask.Lists _ (llen_carries ws)
-reading_carries name.LRange ws = of_kind_carries (lrange ws) ask.Lists _ (lrange_carries ws)
-reading_carries name.LIndex ws = of_kind_carries (lindex ws) ask.Lists _ (lindex_carries ws)
-reading_carries name.LSet ws = of_kind_carries (lset ws) ask.Lists _ (lset_carries ws)
-reading_carries name.LInsert ws = of_kind_carries (linsert ws) ask.Lists _ (linsert_carries ws)
-reading_carries name.LRem ws = of_kind_carries (lrem ws) ask.Lists _ (lrem_carries ws)
-reading_carries name.LTrim ws = of_kind_carries (ltrim ws) ask.Lists _ (ltrim_carries ws)
-reading_carries name.LMove ws = of_kind_carries (lmove ws) ask.Lists _ (lmove_carries ws)
-reading_carries name.RPopLPush ws = of_kind_carries (rpoplpush ws) ask.Lists _ (rpoplpush_carries ws)
-reading_carries name.SAdd ws = of_kind_carries (sadd ws) ask.Sets _ (sadd_carries ws)
-reading_carries name.SRem ws = of_kind_carries (srem ws) ask.Sets _ (srem_carries ws)
-reading_carries name.SIsMember ws = of_kind_carries (sismember ws) ask.Sets _ (sismember_carries ws)
-reading_carries name.SMIsMember ws = of_kind_carries (smismember ws) ask.Sets _ (smismember_carries ws)
-reading_carries name.SMembers ws = of_kind_carries (smembers ws) ask.Sets _ (smembers_carries ws)
-reading_carries name.SCard ws = of_kind_carries (scard ws) ask.Sets _ (scard_carries ws)
-reading_carries name.SPop ws = of_kind_carries (spop ws) ask.Sets _ (spop_carries ws)
-reading_carries name.SRandMember ws = of_kind_carries (srandmember ws) ask.Sets _ (srandmember_carries ws)
-reading_carries name.SMove ws = of_kind_carries (smove ws) ask.Sets _ (smove_carries ws)
-reading_carries name.SInter ws = of_kind_carries (combine name.SInter Intersection ws) ask.Sets _ (combine_carries name.SInter Intersection (λ ks. refl) ws)
-reading_carries name.SUnion ws = of_kind_carries (combine name.SUnion Union ws) ask.Sets _ (combine_carries name.SUnion Union (λ ks. refl) ws)
-reading_carries name.SDiff ws = of_kind_carries (combine name.SDiff Difference ws) ask.Sets _ (combine_carries name.SDiff Difference (λ ks. refl) ws)
+reading_carries name.SetEx ws = of_kind_carries (setex ws) ask.Texts _ (setex_carries ws)
+reading_carries name.PSetEx ws = of_kind_carries (psetex ws) ask.Texts _ (psetex_carries ws)
+reading_carries name.Expire ws = of_kind_carries (expire name.Expire unit.Seconds ws) ask.Keys _ (expire_carries name.Expire unit.Seconds (λ k m c. refl) ws)
+reading_carries name.PExpire ws = of_kind_carries (expire name.PExpire unit.Milliseconds ws) ask.Keys _ (expire_carries name.PExpire unit.Milliseconds (λ k m c. refl) ws)
+reading_carries name.ExpireAt ws = of_kind_carries (expire name.ExpireAt unit.AtSecond ws) ask.Keys _ (expire_carries name.ExpireAt unit.AtSecond (λ k m c. refl) ws)
+reading_carries name.PExpireAt ws = of_kind_carries (expire name.PExpireAt unit.AtMillisecond ws) ask.Keys _ (expire_carries name.PExpireAt unit.AtMillisecond (λ k m c. refl) ws)
+reading_carries name.Ttl ws = of_kind_carries (ttl ws) ask.Keys _ (ttl_carries ws)
+reading_carries name.PTtl ws = of_kind_carries (pttl ws) ask.Keys _ (pttl_carries ws)
+reading_carries name.ExpireTime ws = of_kind_carries (expiretime ws) ask.Keys _ (expiretime_carries ws)
+reading_carries name.PExpireTime ws = of_kind_carries (pexpiretime ws) ask.Keys _ (pexpiretime_carries ws)
+reading_carries name.Persist ws = of_kind_carries (persist ws) ask.Keys _ (persist_carries ws)
+reading_carries name.HSet ws = of_kind_carries (set_fields name.HSet Added ws) ask.Hashes (SpellsNamed name.HSet ws) (set_fields_spells name.HSet Added (λ k ps. refl) ws)
+reading_carries name.HMSet ws = of_kind_carries (set_fields name.HMSet Done ws) ask.Hashes (SpellsNamed name.HMSet ws) (set_fields_spells name.HMSet Done (λ k ps. refl) ws)
+reading_carries name.HSetNx ws = of_kind_carries (hsetnx ws) ask.Hashes (SpellsNamed name.HSetNx ws) (hsetnx_spells ws)
+reading_carries name.HGet ws = of_kind_carries (hget ws) ask.Hashes (SpellsNamed name.HGet ws) (hget_spells ws)
+reading_carries name.HMGet ws = of_kind_carries (hmget ws) ask.Hashes (SpellsNamed name.HMGet ws) (hmget_spells ws)
+reading_carries name.HGetAll ws = of_kind_carries (list_hash name.HGetAll Pairs ws) ask.Hashes (SpellsNamed name.HGetAll ws) (list_hash_spells name.HGetAll Pairs (λ k. refl) ws)
+reading_carries name.HKeys ws = of_kind_carries (list_hash name.HKeys Fields ws) ask.Hashes (SpellsNamed name.HKeys ws) (list_hash_spells name.HKeys Fields (λ k. refl) ws)
+reading_carries name.HVals ws = of_kind_carries (list_hash name.HVals Values ws) ask.Hashes (SpellsNamed name.HVals ws) (list_hash_spells name.HVals Values (λ k. refl) ws)
+reading_carries name.HDel ws = of_kind_carries (hdel ws) ask.Hashes (SpellsNamed name.HDel ws) (hdel_spells ws)
+reading_carries name.HExists ws = of_kind_carries (hexists ws) ask.Hashes (SpellsNamed name.HExists ws) (hexists_spells ws)
+reading_carries name.HLen ws = of_kind_carries (hlen ws) ask.Hashes (SpellsNamed name.HLen ws) (hlen_spells ws)
+reading_carries name.HStrLen ws = of_kind_carries (hstrlen ws) ask.Hashes (SpellsNamed name.HStrLen ws) (hstrlen_spells ws)
+reading_carries name.HIncrBy ws = of_kind_carries (hincrby ws) ask.Hashes (SpellsNamed name.HIncrBy ws) (hincrby_spells ws)
+reading_carries name.LPush ws = of_kind_carries (push name.LPush Left AnyKey ws) ask.Lists (SpellsNamed name.LPush ws) (push_spells name.LPush Left AnyKey (λ k items. refl) ws)
+reading_carries name.RPush ws = of_kind_carries (push name.RPush Right AnyKey ws) ask.Lists (SpellsNamed name.RPush ws) (push_spells name.RPush Right AnyKey (λ k items. refl) ws)
+reading_carries name.LPushX ws = of_kind_carries (push name.LPushX Left ExistingKey ws) ask.Lists (SpellsNamed name.LPushX ws) (push_spells name.LPushX Left ExistingKey (λ k items. refl) ws)
+reading_carries name.RPushX ws = of_kind_carries (push name.RPushX Right ExistingKey ws) ask.Lists (SpellsNamed name.RPushX ws) (push_spells name.RPushX Right ExistingKey (λ k items. refl) ws)
+reading_carries name.LPop ws = of_kind_carries (pop name.LPop Left ws) ask.Lists (SpellsNamed name.LPop ws) (pop_spells name.LPop Left (λ k c. refl) ws)
+reading_carries name.RPop ws = of_kind_carries (pop name.RPop Right ws) ask.Lists (SpellsNamed name.RPop ws) (pop_spells name.RPop Right (λ k c. refl) ws)
+reading_carries name.LLen ws = of_kind_carries (llen ws) ask.Lists (SpellsNamed name.LLen ws) (llen_spells ws)
+reading_carries name.LRange ws = of_kind_carries (lrange ws) ask.Lists (SpellsNamed name.LRange ws) (lrange_spells ws)
+reading_carries name.LIndex ws = of_kind_carries (lindex ws) ask.Lists (SpellsNamed name.LIndex ws) (lindex_spells ws)
+reading_carries name.LSet ws = of_kind_carries (lset ws) ask.Lists (SpellsNamed name.LSet ws) (lset_spells ws)
+reading_carries name.LInsert ws = of_kind_carries (linsert ws) ask.Lists (SpellsNamed name.LInsert ws) (linsert_spells ws)
+reading_carries name.LRem ws = of_kind_carries (lrem ws) ask.Lists (SpellsNamed name.LRem ws) (lrem_spells ws)
+reading_carries name.LTrim ws = of_kind_carries (ltrim ws) ask.Lists (SpellsNamed name.LTrim ws) (ltrim_spells ws)
+reading_carries name.LMove ws = of_kind_carries (lmove ws) ask.Lists (SpellsNamed name.LMove ws) (lmove_spells ws)
+reading_carries name.RPopLPush ws = of_kind_carries (rpoplpush ws) ask.Lists (SpellsNamed name.RPopLPush ws) (rpoplpush_spells ws)
+reading_carries name.SAdd ws = of_kind_carries (sadd ws) ask.Sets (SpellsNamed name.SAdd ws) (sadd_spells ws)
+reading_carries name.SRem ws = of_kind_carries (srem ws) ask.Sets (SpellsNamed name.SRem ws) (srem_spells ws)
+reading_carries name.SIsMember ws = of_kind_carries (sismember ws) ask.Sets (SpellsNamed name.SIsMember ws) (sismember_spells ws)
+reading_carries name.SMIsMember ws = of_kind_carries (smismember ws) ask.Sets (SpellsNamed name.SMIsMember ws) (smismember_spells ws)
+reading_carries name.SMembers ws = of_kind_carries (smembers ws) ask.Sets (SpellsNamed name.SMembers ws) (smembers_spells ws)
+reading_carries name.SCard ws = of_kind_carries (scard ws) ask.Sets (SpellsNamed name.SCard ws) (scard_spells ws)
+reading_carries name.SPop ws = of_kind_carries (spop ws) ask.Sets (SpellsNamed name.SPop ws) (spop_spells ws)
+reading_carries name.SRandMember ws = of_kind_carries (srandmember ws) ask.Sets (SpellsNamed name.SRandMember ws) (srandmember_spells ws)
+reading_carries name.SMove ws = of_kind_carries (smove ws) ask.Sets (SpellsNamed name.SMove ws) (smove_spells ws)
+reading_carries name.SInter ws = of_kind_carries (combine name.SInter Intersection ws) ask.Sets (SpellsNamed name.SInter ws) (combine_spells name.SInter Intersection (λ ks. refl) ws)
+reading_carries name.SUnion ws = of_kind_carries (combine name.SUnion Union ws) ask.Sets (SpellsNamed name.SUnion ws) (combine_spells name.SUnion Union (λ ks. refl) ws)
+reading_carries name.SDiff ws = of_kind_carries (combine name.SDiff Difference ws) ask.Sets (SpellsNamed name.SDiff ws) (combine_spells name.SDiff Difference (λ ks. refl) ws)
 reading_carries name.ZAdd ws = of_kind_carries (zadd ws) ask.SortedSets (SpellsNamed name.ZAdd ws) (zadd_spells ws)
 reading_carries name.ZIncrBy ws = of_kind_carries (zincrby ws) ask.SortedSets (SpellsNamed name.ZIncrBy ws) (zincrby_spells ws)
 reading_carries name.ZRem ws = of_kind_carries (zrem ws) ask.SortedSets (SpellsNamed name.ZRem ws) (zrem_spells ws)
@@ -161,32 +169,6 @@ pub asked_spelled : (ws : List (List ℕ)) → IfOk (asked ws) (Spells ws)
 asked_spelled [] = tt
 asked_spelled (w ∷ ws) = carried_by w (named (lowered w)) ws refl
 
-carried_hashes : (a : HashAsk) → carried (hash_parts a) ≡ hash_words a
-unfolding carried
-carried_hashes (hash.IncreaseField key field by) = refl
-carried_hashes a = carried-words (hash_words a)
-
-carried_lists : (a : ListAsk) → carried (list_parts a) ≡ list_words a
-unfolding carried
-carried_lists (list.Pop key end None) = refl
-carried_lists (list.Pop key end (Some n)) = refl
-carried_lists (list.Range key first last) = refl
-carried_lists (list.GetItem key index) = refl
-carried_lists (list.SetItem key index item) = refl
-carried_lists (list.InsertItem key side pivot item) = refl
-carried_lists (list.RemoveItems key count item) = refl
-carried_lists (list.Trim key first last) = refl
-carried_lists (list.MoveItem from to taken put) = refl
-carried_lists a = carried-words (list_words a)
-
-carried_sets : (a : SetAsk) → carried (set_parts a) ≡ set_words a
-unfolding carried
-carried_sets (sets.TakeMembers key None) = refl
-carried_sets (sets.TakeMembers key (Some n)) = refl
-carried_sets (sets.DrawMembers key None) = refl
-carried_sets (sets.DrawMembers key (Some n)) = refl
-carried_sets a = carried-words (set_words a)
-
 carried_server : (a : ServerAsk) → carried (server_parts a) ≡ server_words a
 unfolding carried
 carried_server server.Select = refl
@@ -206,9 +188,11 @@ pattern_fits cursor (Some p) kind counts kinds h = h.0
 
 texts_fit : (ws : List (List ℕ)) (a : TextAsk) → AreOfTexts ws a → IsTrue (list_all fits ws) → IsTrue (list_all fits (text_words a))
 unfolding carried
-texts_fit ws (text.Set k v condition reply) s h =
+texts_fit ws (text.Set k v condition reply lifetime) s h =
     let all = parts_fit ws (Word k ∷ Word v ∷ in_a_row s.0) s.1.1 h in
     both _ _ (first _ _ all) (both _ _ (first _ _ (second _ _ all)) refl)
+texts_fit ws (text.SetEx k n v) s h = parts_fit ws (Word k ∷ Number n ∷ Word v ∷ []) s h
+texts_fit ws (text.PSetEx k n v) s h = parts_fit ws (Word k ∷ Number n ∷ Word v ∷ []) s h
 texts_fit ws (text.GetRange k a b) s h = parts_fit ws (Word k ∷ Number a ∷ Number b ∷ []) s h
 texts_fit ws (text.SetRange k o v) s h = parts_fit ws (Word k ∷ Number (pos o) ∷ Word v ∷ []) s h
 texts_fit ws (text.Increase k amount.One) s h = parts_fit ws (Word k ∷ []) s h
@@ -224,21 +208,26 @@ keys_fit ws (key.Scan cursor pattern kind) s h =
     let options = subst (λ (xs : List (List ℕ)). IsTrue (list_all fits xs)) (without_cursor cursor (in_a_row s.are.0)) all in
     pattern_fits cursor pattern kind _ _ (others_fit _ s.are.0 s.are.1.0 options)
 keys_fit ws (key.Clear d t) s h = refl
+keys_fit ws (key.Expire k e c) s h = both _ _ (first _ _ (parts_fit ws (Word k ∷ Number (number_said e) ∷ expire_part c) s h)) refl
 keys_fit ws a s h = subst (λ (xs : List (List ℕ)). IsTrue (list_all fits xs)) (carried-words (key_words a)) (parts_fit ws (map Word (key_words a)) s h)
 
-arguments_fit : (n : Name) (ws : List (List ℕ)) (a : Ask) → SpellsNamed n ws a → IsTrue (list_all fits ws) → AskFits a
-arguments_fit n ws (ask.Texts a) s h = texts_fit ws a s.parts h
-arguments_fit n ws (ask.Keys a) s h = keys_fit ws a s.parts h
-arguments_fit n ws (ask.Hashes a) s h = of_parts_fit ws _ _ (carried_hashes a) s.parts h
-arguments_fit n ws (ask.Lists a) s h = of_parts_fit ws _ _ (carried_lists a) s.parts h
-arguments_fit n ws (ask.Sets a) s h = of_parts_fit ws _ _ (carried_sets a) s.parts h
-arguments_fit n ws (ask.SortedSets a) s h = zset_fits n ws a s h
-arguments_fit n ws (ask.Server a) s h = of_parts_fit ws _ _ (carried_server a) s.parts h
+arguments_fit : (n : Name) (ws : List (List ℕ)) (a : Ask) → SpellsNamed n ws a → IsTimedAsk a → IsTrue (list_all fits ws) → AskFits a
+arguments_fit n ws (ask.Texts a) s t h = (texts_fit ws a s.parts h, t)
+arguments_fit n ws (ask.Keys a) s t h = keys_fit ws a s.parts h
+arguments_fit n ws (ask.Hashes a) s t h = hash_fits n ws a s h
+arguments_fit n ws (ask.Lists a) s t h = list_fits n ws a s h
+arguments_fit n ws (ask.Sets a) s t h = set_fits n ws a s h
+arguments_fit n ws (ask.SortedSets a) s t h = zset_fits n ws a s h
+arguments_fit n ws (ask.Server a) s t h = of_parts_fit ws _ _ (carried_server a) s.parts h
 
-spelled_fits : (ws : List (List ℕ)) (r : Result Ask AskFault) → IfOk r (Spells ws) → IsTrue (list_all fits ws) → IfOk r AskFits
-spelled_fits ws (Err f) s h = tt
-spelled_fits [] (Ok a) s h = absurd s
-spelled_fits (w ∷ ws) (Ok a) s h = arguments_fit s.0 ws a s.1.1 (second (fits w) _ h)
+fitting_words : (n : Name) (ws : List (List ℕ)) (r : Result Ask AskFault) → reading n ws ≡ r → IfOk r (SpellsNamed n ws) → IsTrue (list_all fits ws) → IfOk r AskFits
+fitting_words n ws (Err f) is s h = tt
+fitting_words n ws (Ok a) is s h = arguments_fit n ws a s (reading_timed n ws a is s) h
+
+fit_by : (o : Option Name) (ws : List (List ℕ)) → IsTrue (list_all fits ws) → IfOk (asked_by o ws) AskFits
+fit_by None ws h = tt
+fit_by (Some n) ws h = fitting_words n ws (reading n ws) refl (reading_carries n ws) h
 
 pub asked_fits : (ws : List (List ℕ)) → IsTrue (list_all fits ws) → IfOk (asked ws) AskFits
-asked_fits ws h = spelled_fits ws (asked ws) (asked_spelled ws) h
+asked_fits [] h = tt
+asked_fits (w ∷ ws) h = fit_by (named (lowered w)) ws (second (fits w) _ h)

@@ -7,9 +7,6 @@ use Rattle.mr_words.specs.declared.name.Name.{Name}
 use Rattle.mr_words.specs.declared.fault.AskFault.{AskFault}
 use Rattle.mr_ask.specs.declared.text_ask.TextAsk.{TextAsk}
 use Rattle.mr_ask.specs.declared.key_ask.KeyAsk.{KeyAsk}
-use Rattle.mr_ask.specs.declared.hash_ask.HashAsk.{HashAsk}
-use Rattle.mr_ask.specs.declared.list_ask.ListAsk.{ListAsk}
-use Rattle.mr_ask.specs.declared.set_ask.SetAsk.{SetAsk}
 use Rattle.mr_ask.specs.declared.server_ask.ServerAsk.{ServerAsk}
 use Rattle.mr_ask.specs.declared.ask.Ask.{Ask}
 use Rattle.mr_ask.specs.declared.ask.Ask.TheVariants as ask
@@ -19,15 +16,6 @@ TextCarries n arguments command = SpellsNamed n arguments (ask.Texts command)
 
 abbrev pub KeyCarries : Name → List (List ℕ) → KeyAsk → Type 0
 KeyCarries n arguments command = SpellsNamed n arguments (ask.Keys command)
-
-abbrev pub HashCarries : Name → List (List ℕ) → HashAsk → Type 0
-HashCarries n arguments command = SpellsNamed n arguments (ask.Hashes command)
-
-abbrev pub ListCarries : Name → List (List ℕ) → ListAsk → Type 0
-ListCarries n arguments command = SpellsNamed n arguments (ask.Lists command)
-
-abbrev pub SetCarries : Name → List (List ℕ) → SetAsk → Type 0
-SetCarries n arguments command = SpellsNamed n arguments (ask.Sets command)
 
 abbrev pub ServerCarries : Name → List (List ℕ) → ServerAsk → Type 0
 ServerCarries n arguments command = SpellsNamed n arguments (ask.Server command)

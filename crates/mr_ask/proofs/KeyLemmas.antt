@@ -1,26 +1,31 @@
 -- What is read of a command on keys is spelled by the words.
-use Rattle.std.proofs.Common.{ℕ, ◌≡◌, List, [], ◌∷◌, ◌++◌, Option, Some, None, refl, sym, ◌∙◌, subst}
+use Rattle.std.proofs.Common.{ℕ, ℤ, ◌≡◌, List, [], ◌∷◌, ◌++◌, Option, Some, None, refl, sym, ◌∙◌, ap, subst}
 use Rattle.std.specs.Prelude.{IfOk, IsPermutation, Ok}
 use Rattle.std.proofs.lemmas.List.Sorted.{IsPermutation-refl, IsPermutation-middle, IsPermutation-append_left}
 use Rattle.mr_words.specs.Pairing.{unpaired}
-use Rattle.mr_ask.specs.Parts.{positive_if_any}
+use Rattle.std.specs.Fmt.{signed_decimal}
+use Rattle.mr_ask.specs.Parts.{positive_if_any, key_expiry}
+use Rattle.mr_ask.specs.Expiry.{said, number_said}
 use Rattle.mr_words.specs.Options.{added}
-use Rattle.mr_ask.specs.Options.{set_text, scan_text, set_option, no_set_options, set_also, set_word, set_options, no_scan_options, scan_also, scan_pair, scan_options}
+use Rattle.mr_ask.specs.Options.{scan_text, no_scan_options, scan_also, scan_pair, scan_options, condition_if_any}
 use Rattle.mr_ask.specs.Options as options
-use Rattle.mr_ask.specs.Keys.{del, unlink, exists, key_type, matching_keys, scan, dbsize, rename, renamenx, clear}
+use Rattle.mr_ask.specs.Keys.{del, unlink, exists, key_type, matching_keys, scan, dbsize, rename, renamenx, clear, expire, ttl, pttl, expiretime, pexpiretime, persist}
 use Rattle.mr_words.specs.Spelling.{Part, Word, Keyword, AreParts, in_a_row}
 use Rattle.mr_ask.specs.Called.{key_name}
 use Rattle.mr_ask.specs.Spelled.{scan_option}
 use Rattle.mr_words.proofs.FitLemmas.{all_words}
 use Rattle.mr_ask.proofs.Carries.{KeyCarries}
 use Rattle.mr_words.proofs.PartLemmas.{with_ok, if_with, if_ok, with_pairs}
-use Rattle.mr_ask.proofs.PartLemmas.{with_cursor, with_timing, positive_count, scan_option_text}
+use Rattle.mr_ask.proofs.PartLemmas.{with_cursor, with_timing, positive_count, scan_option_text, condition_read, key_expiry_read, number_is}
 use Rattle.mr_words.proofs.OptionLemmas.{all_added, from_none, each_pair}
 use Rattle.mr_words.specs.declared.name.Name.{Name}
 use Rattle.mr_words.specs.declared.name.Name.TheVariants as name
 use Rattle.mr_ask.specs.declared.key_ask.Databases.{Databases}
 use Rattle.mr_ask.specs.declared.key_ask.Timing.{Timing}
 use Rattle.mr_ask.specs.declared.key_ask.KeyAsk.TheVariants as key
+use Rattle.mr_ask.specs.declared.key_ask.ExpireCondition.{ExpireCondition}
+use Rattle.mr_ask.specs.declared.expiry.Expiry.{Expiry}
+use Rattle.mr_ask.specs.declared.expiry.ExpiryUnit.{ExpiryUnit}
 use Rattle.mr_words.specs.declared.fault.AskFault.TheVariants.{Syntax}
 use Rattle.mr_ask.specs.declared.options.ScanOption.{ScanOption}
 use Rattle.mr_ask.specs.declared.options.ScanOption.TheVariants as scans
@@ -136,3 +141,33 @@ pub clear_carries : (n : Name) (d : Databases) → ((t : Option Timing) → key_
 clear_carries n d is [] = record { name_is = is None; parts = tt }
 clear_carries n d is (w ∷ []) = with_timing w _ _ (λ t e. record { name_is = is (Some t); parts = (e, tt) })
 clear_carries n d is _ = tt
+
+pub expire_carries : (n : Name) (u : ExpiryUnit) → ((k : List ℕ) (m : ℤ) (c : Option ExpireCondition) → key_name (key.Expire k (said u m) c) ≡ n) → (ws : List (List ℕ)) → IfOk (expire n u ws) (KeyCarries n ws)
+expire_carries n u is [] = tt
+expire_carries n u is (k ∷ []) = tt
+expire_carries n u is (k ∷ w ∷ ws) = if_with (condition_if_any ws) _ _ (λ c h. if_with (key_expiry u w) _ _ (λ x l.
+    let read = key_expiry_read u w x l in
+    record {
+      name_is = ap (λ (y : Expiry). key_name (key.Expire k y c)) (sym read.1.0) ∙ is k read.0 c;
+      parts = (refl, (read.1.1 ∙ ap signed_decimal (sym (number_is u read.0) ∙ ap number_said read.1.0), condition_read ws c h));
+    }))
+
+pub ttl_carries : (ws : List (List ℕ)) → IfOk (ttl ws) (KeyCarries name.Ttl ws)
+ttl_carries (k ∷ []) = record { name_is = refl; parts = (refl, tt) }
+ttl_carries _ = tt
+
+pub pttl_carries : (ws : List (List ℕ)) → IfOk (pttl ws) (KeyCarries name.PTtl ws)
+pttl_carries (k ∷ []) = record { name_is = refl; parts = (refl, tt) }
+pttl_carries _ = tt
+
+pub expiretime_carries : (ws : List (List ℕ)) → IfOk (expiretime ws) (KeyCarries name.ExpireTime ws)
+expiretime_carries (k ∷ []) = record { name_is = refl; parts = (refl, tt) }
+expiretime_carries _ = tt
+
+pub pexpiretime_carries : (ws : List (List ℕ)) → IfOk (pexpiretime ws) (KeyCarries name.PExpireTime ws)
+pexpiretime_carries (k ∷ []) = record { name_is = refl; parts = (refl, tt) }
+pexpiretime_carries _ = tt
+
+pub persist_carries : (ws : List (List ℕ)) → IfOk (persist ws) (KeyCarries name.Persist ws)
+persist_carries (k ∷ []) = record { name_is = refl; parts = (refl, tt) }
+persist_carries _ = tt

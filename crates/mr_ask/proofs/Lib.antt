@@ -1,10 +1,10 @@
 pub mod PartLemmas
 pub mod Carries
 pub mod OrderLemmas
+pub mod SetOrderLemmas
+pub mod FewLemmas
 pub mod TextLemmas
 pub mod KeyLemmas
-pub mod HashLemmas
-pub mod ListLemmas
-pub mod SetLemmas
 pub mod ServerLemmas
+pub mod TimeLemmas
 pub mod AskLemmas

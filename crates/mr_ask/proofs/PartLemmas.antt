@@ -1,7 +1,7 @@
 -- What was read of an argument is what its word spells.
-use Rattle.mr_words.proofs.PartLemmas.{with_ok, integer_read}
-use Rattle.std.proofs.Common.{arith, ℕ, zero, suc, ℤ, pos, negsuc, ◌≡◌, List, Bool, true, false, Option, Some, None, refl, sym, ◌∙◌, ap}
-use Rattle.std.specs.Prelude.{neg_ℤ, IsTrue, IfOk, IfSome, if◌then◌else◌, Result, Ok, Err}
+use Rattle.mr_words.proofs.PartLemmas.{with_ok, integer_read, number_part, number_part_read, found_passes, ok_found}
+use Rattle.std.proofs.Common.{arith, ℕ, zero, suc, ℤ, pos, negsuc, ◌≡◌, List, [], ◌∷◌, Bool, true, false, Option, Some, None, refl, sym, ◌∙◌, ap, subst}
+use Rattle.std.specs.Prelude.{neg_ℤ, int_lt, IsTrue, IfOk, IfSome, if◌then◌else◌, Result, Ok, Err}
 use Rattle.std.specs.Option.{ok_or}
 use Rattle.std.proofs.Math.IntN.{neg_ℤ-neg_ℤ}
 use Rattle.std.specs.Fmt.{signed_decimal}
@@ -9,50 +9,38 @@ use Rattle.std.specs.Str.{bytes_eq}
 use Rattle.mr_value.specs.Number.{number_of, is_i64}
 use Rattle.std.proofs.lemmas.Bool.{ltb-true}
 use Rattle.mr_value.proofs.Numbers.{same_bytes, number_text}
-use Rattle.mr_value.specs.declared.ends.End.{End}
-use Rattle.mr_value.specs.declared.ends.End.TheVariants.{Left, Right}
-use Rattle.mr_value.specs.declared.ends.Side.{Side}
-use Rattle.mr_value.specs.declared.ends.Side.TheVariants.{Before, After}
 use Rattle.mr_words.specs.Names.{lowered}
 use Rattle.mr_words.specs.Parts.{with, integer}
-use Rattle.mr_ask.specs.Parts.{end_text, side_text, end_of, side_of, not_below_1, positive, positive_if_any, cursor_at, cursor_of, opposite, timing_text, timing_of}
-use Rattle.mr_ask.specs.Options.{set_text, scan_text, set_option, scan_option}
-use Rattle.mr_words.specs.Spelling.{IsPart, IsPositive}
-use Rattle.mr_ask.specs.Spelled.{cursor_part}
+use Rattle.mr_ask.specs.Parts.{not_below_1, positive, positive_if_any, cursor_at, cursor_of, opposite, timing_text, timing_of, expiring, within_limit, key_expiry, seconds, milliseconds, set_expiry, lifetime_if_any}
+use Rattle.mr_ask.specs.Amounts.{is_amount, of_seconds, seconds_of, milliseconds_of}
+use Rattle.mr_ask.specs.Expiry.{said, unit_said, number_said}
+use Rattle.mr_ask.specs.Expiry as expiries
+use Rattle.mr_ask.specs.Options.{set_text, unit_text, expire_text, scan_text, is_set_option, all_set_options, set_option, is_unit, all_units, unit_of, is_expire_condition, all_expire_conditions, expire_condition, condition_if_any, scan_option}
+use Rattle.mr_words.specs.Spelling.{Part, Number, Keyword, IsPart, IsPositive, AreParts}
+use Rattle.mr_ask.specs.Spelled.{cursor_part, expire_part, lifetime_option}
 use Rattle.mr_words.specs.declared.fault.AskFault.{AskFault}
-use Rattle.mr_words.specs.declared.fault.AskFault.TheVariants.{Syntax, Other}
+use Rattle.mr_words.specs.declared.fault.AskFault.TheVariants.{Syntax, ExpireTime, Other}
 use Rattle.mr_words.specs.declared.fault.BadValue.TheVariants as bad
+use Rattle.mr_words.specs.declared.fault.ExpiringCommand.{ExpiringCommand}
+use Rattle.mr_words.specs.declared.fault.ExpiringCommand.TheVariants.{Set, SetEx, PSetEx}
+use Rattle.mr_ask.specs.declared.expiry.Expiry.{Expiry}
+use Rattle.mr_ask.specs.declared.expiry.ExpiryUnit.{ExpiryUnit}
+use Rattle.mr_ask.specs.declared.expiry.ExpiryUnit.TheVariants as unit
+use Rattle.mr_ask.specs.declared.text_ask.Lifetime.{Lifetime}
+use Rattle.mr_ask.specs.declared.text_ask.Lifetime.TheVariants.{Endless, Kept, Until}
+use Rattle.mr_ask.specs.declared.key_ask.ExpireCondition.{ExpireCondition}
+use Rattle.mr_ask.specs.declared.options.LifetimeOption.{LifetimeOption}
+use Rattle.mr_ask.specs.declared.options.LifetimeOption.TheVariants as lifetime
 use Rattle.mr_ask.specs.declared.key_ask.Cursor.{Cursor}
 use Rattle.mr_ask.specs.declared.key_ask.Cursor.TheVariants.{Start, Behind}
 use Rattle.mr_ask.specs.declared.key_ask.Timing.{Timing}
 use Rattle.mr_ask.specs.declared.key_ask.Timing.TheVariants.{Later, Now}
-use Rattle.mr_ask.specs.declared.text_ask.SetCondition.TheVariants.{Absent, Present}
 use Rattle.mr_ask.specs.declared.options.SetOption.{SetOption}
 use Rattle.mr_ask.specs.declared.options.SetOption.TheVariants as set
 use Rattle.mr_ask.specs.declared.options.ScanOption.{ScanOption}
 use Rattle.mr_ask.specs.declared.options.ScanOption.TheVariants as scan
 
-pub with_end : {A : Type 0} (w : List ℕ) (next : End → Result A AskFault) (P : A → Type 0)
-    → ((e : End) → lowered w ≡ end_text e → IfOk (next e) P) → IfOk (with (end_of w) next) P
-with_end w next P h = by_test (bytes_eq (lowered w) (end_text Left)) (bytes_eq (lowered w) (end_text Right)) refl refl
-  where
-    by_test : (a b : Bool) → bytes_eq (lowered w) (end_text Left) ≡ a → bytes_eq (lowered w) (end_text Right) ≡ b
-        → IfOk (with (if a then Ok Left else (if b then Ok Right else Err Syntax)) next) P
-    by_test true b s t = h Left (same_bytes _ _ s)
-    by_test false true s t = h Right (same_bytes _ _ t)
-    by_test false false s t = tt
-
-pub with_side : {A : Type 0} (w : List ℕ) (next : Side → Result A AskFault) (P : A → Type 0)
-    → ((e : Side) → lowered w ≡ side_text e → IfOk (next e) P) → IfOk (with (side_of w) next) P
-with_side w next P h = by_test (bytes_eq (lowered w) (side_text Before)) (bytes_eq (lowered w) (side_text After)) refl refl
-  where
-    by_test : (a b : Bool) → bytes_eq (lowered w) (side_text Before) ≡ a → bytes_eq (lowered w) (side_text After) ≡ b
-        → IfOk (with (if a then Ok Before else (if b then Ok After else Err Syntax)) next) P
-    by_test true b s t = h Before (same_bytes _ _ s)
-    by_test false true s t = h After (same_bytes _ _ t)
-    by_test false false s t = tt
-
-from_1 : (w : List ℕ) (n m : ℤ) → not_below_1 n ≡ Ok m → (w ≡ signed_decimal n) × IsTrue (is_i64 n) → IsPositive w
+from_1 : (w : List ℕ) (n m : ℤ) → not_below_1 Syntax n ≡ Ok m → (w ≡ signed_decimal n) × IsTrue (is_i64 n) → IsPositive w
 from_1 w (pos zero) m h e = cc
 from_1 w (pos (suc n)) m h e = (suc n, (omega arith, ltb-true _ _ e.1, e.0))
 from_1 w (negsuc n) m h e = cc
@@ -61,7 +49,7 @@ pub positive_count : (c : Option (List ℕ)) (n : Option ℤ) → positive_if_an
 positive_count None n h = tt
 positive_count (Some w) n h =
     let some = with_ok (positive w) _ n h in
-    let number = with_ok (integer w) not_below_1 some.0 some.1.0 in
+    let number = with_ok (integer w) (not_below_1 Syntax) some.0 some.1.0 in
     from_1 w number.0 some.0 number.1.1 (number_text w number.0 (integer_read w number.0 number.1.0))
 
 pub with_cursor : {A : Type 0} (w : List ℕ) (next : Cursor → Result A AskFault) (P : A → Type 0)
@@ -94,15 +82,87 @@ with_timing w next P h = by_test (bytes_eq (lowered w) (timing_text Later)) (byt
     by_test false false s t = tt
 
 -- an option is spelled by its word
-pub option_text : (w : List ℕ) (o : SetOption) → set_option w ≡ Ok o → lowered w ≡ set_text o
-option_text w o h = by_test (bytes_eq (lowered w) (set_text (set.Condition Absent))) (bytes_eq (lowered w) (set_text (set.Condition Present))) (bytes_eq (lowered w) (set_text set.Before)) refl refl refl h
-  where
-    by_test : (a b c : Bool) → bytes_eq (lowered w) (set_text (set.Condition Absent)) ≡ a → bytes_eq (lowered w) (set_text (set.Condition Present)) ≡ b → bytes_eq (lowered w) (set_text set.Before) ≡ c
-        → (if a then Ok (set.Condition Absent) else (if b then Ok (set.Condition Present) else (if c then Ok set.Before else Err Syntax))) ≡ Ok o → lowered w ≡ set_text o
-    by_test true b c s t u e = let same : set.Condition Absent ≡ o = cc in same_bytes _ _ s ∙ ap set_text same
-    by_test false true c s t u e = let same : set.Condition Present ≡ o = cc in same_bytes _ _ t ∙ ap set_text same
-    by_test false false true s t u e = let same : set.Before ≡ o = cc in same_bytes _ _ u ∙ ap set_text same
-    by_test false false false s t u e = cc
+pub option_text : (w : List ℕ) (o : SetOption) → ok_or (set_option w) Syntax ≡ Ok o → lowered w ≡ set_text o
+option_text w o h = same_bytes _ _ (found_passes (is_set_option (lowered w)) all_set_options o (ok_found (set_option w) o h))
+
+pub unit_named : (w : List ℕ) (u : ExpiryUnit) → unit_of w ≡ Some u → lowered w ≡ unit_text u
+unit_named w u h = same_bytes _ _ (found_passes (is_unit (lowered w)) all_units u h)
+
+condition_named : (w : List ℕ) (c : ExpireCondition) → ok_or (expire_condition w) Syntax ≡ Ok c → lowered w ≡ expire_text c
+condition_named w c h = same_bytes _ _ (found_passes (is_expire_condition (lowered w)) all_expire_conditions c (ok_found (expire_condition w) c h))
+
+pub condition_read : (ws : List (List ℕ)) (c : Option ExpireCondition) → condition_if_any ws ≡ Ok c → AreParts ws (expire_part c)
+condition_read [] c h = let same : None ≡ c = cc in subst (λ x. AreParts [] (expire_part x)) same tt
+condition_read (w ∷ []) c h =
+    let found = with_ok (ok_or (expire_condition w) Syntax) (λ x. Ok (Some x)) c h in
+    let same : Some found.0 ≡ c = cc in
+    subst (λ x. AreParts (w ∷ []) (expire_part x)) same (condition_named w found.0 found.1.0, tt)
+condition_read (w ∷ v ∷ ws) c h = cc
+
+-- what is said in a unit has that unit and that number
+pub unit_is : (u : ExpiryUnit) (n : ℤ) → unit_said (said u n) ≡ u
+unit_is unit.Seconds n = refl
+unit_is unit.Milliseconds n = refl
+unit_is unit.AtSecond n = refl
+unit_is unit.AtMillisecond n = refl
+
+pub number_is : (u : ExpiryUnit) (n : ℤ) → number_said (said u n) ≡ n
+number_is unit.Seconds n = refl
+number_is unit.Milliseconds n = refl
+number_is unit.AtSecond n = refl
+number_is unit.AtMillisecond n = refl
+
+-- what is within the limit is what was said
+pub limit_passed : {A : Type 0} (b : Bool) (f : AskFault) (x y : A) → ok_or (if b then Some x else None) f ≡ Ok y → x ≡ y
+limit_passed true f x y h = cc
+limit_passed false f x y h = cc
+
+pub within_read : (c : ExpiringCommand) (u : ExpiryUnit) (n : ℤ) (e : Expiry) → within_limit c u n ≡ Ok e → said u n ≡ e
+within_read c u n e h = limit_passed (is_amount (expiries.milliseconds (said u n))) (ExpireTime c) (said u n) e h
+
+pub key_expiry_read : (u : ExpiryUnit) (w : List ℕ) (e : Expiry) → key_expiry u w ≡ Ok e → (n : ℤ) × ((said u n ≡ e) × (w ≡ signed_decimal n))
+key_expiry_read u w e h =
+    let x = with_ok (integer w) (within_limit (expiring u) u) e h in
+    (x.0, (within_read (expiring u) u x.0 e x.1.1, (number_text w x.0 (integer_read w x.0 x.1.0)).0))
+
+pub not_below_1_is : (f : AskFault) (n m : ℤ) → not_below_1 f n ≡ Ok m → n ≡ m
+not_below_1_is f n m h = elim (int_lt n (pos 1)) as (λ b. (if b then Err f else Ok n) ≡ Ok m → n ≡ m) [
+  | true ↦ λ e. cc
+  | false ↦ λ e. cc
+] h
+
+pub seconds_read : (n m : ℤ) → seconds n ≡ Ok m → n ≡ m
+seconds_read n m h =
+    let x = with_ok (not_below_1 (ExpireTime SetEx) n) (λ k. ok_or (seconds_of k) (ExpireTime SetEx)) m h in
+    not_below_1_is (ExpireTime SetEx) n x.0 x.1.0 ∙ limit_passed (is_amount (of_seconds x.0)) (ExpireTime SetEx) x.0 m x.1.1
+
+pub milliseconds_read : (n m : ℤ) → milliseconds n ≡ Ok m → n ≡ m
+milliseconds_read n m h =
+    let x = with_ok (not_below_1 (ExpireTime PSetEx) n) (λ k. ok_or (milliseconds_of k) (ExpireTime PSetEx)) m h in
+    not_below_1_is (ExpireTime PSetEx) n x.0 x.1.0 ∙ limit_passed (is_amount x.0) (ExpireTime PSetEx) x.0 m x.1.1
+
+-- what says how long a value stays, before its number is read
+abbrev pub lifetime_words : Option LifetimeOption → List (List Part)
+lifetime_words None = []
+lifetime_words (Some lifetime.Kept) = (Keyword (set_text set.Kept) ∷ []) ∷ []
+lifetime_words (Some (lifetime.Until u w)) = (Keyword (unit_text u) ∷ number_part w ∷ []) ∷ []
+
+until_read : (u : ExpiryUnit) (w : List ℕ) (e : Expiry) → set_expiry u w ≡ Ok e → lifetime_words (Some (lifetime.Until u w)) ≡ lifetime_option (Until e)
+until_read u w e h =
+    let x = with_ok (integer w) (λ n. with (not_below_1 (ExpireTime Set) n) (within_limit Set u)) e h in
+    let y = with_ok (not_below_1 (ExpireTime Set) x.0) (within_limit Set u) e x.1.1 in
+    let same : x.0 ≡ y.0 = not_below_1_is (ExpireTime Set) x.0 y.0 y.1.0 in
+    ap (λ (p : Part). (Keyword (unit_text u) ∷ p ∷ []) ∷ []) (number_part_read w x.0 x.1.0 ∙ ap (λ (n : ℤ). Number n) (same ∙ sym (number_is u y.0)))
+    ∙ ap (λ (v : ExpiryUnit). (Keyword (unit_text v) ∷ Number (number_said (said u y.0)) ∷ []) ∷ []) (sym (unit_is u y.0))
+    ∙ ap (λ (x : Expiry). lifetime_option (Until x)) (within_read Set u y.0 e y.1.1)
+
+pub lifetime_read : (o : Option LifetimeOption) (l : Lifetime) → lifetime_if_any o ≡ Ok l → lifetime_words o ≡ lifetime_option l
+lifetime_read None l h = let same : Endless ≡ l = cc in ap lifetime_option same
+lifetime_read (Some lifetime.Kept) l h = let same : Kept ≡ l = cc in ap lifetime_option same
+lifetime_read (Some (lifetime.Until u w)) l h =
+    let x = with_ok (set_expiry u w) (λ e. Ok (Until e)) l h in
+    let same : Until x.0 ≡ l = cc in
+    until_read u w x.0 x.1.0 ∙ ap lifetime_option same
 
 pub scan_option_text : (w : List ℕ) (o : ScanOption) → scan_option w ≡ Ok o → lowered w ≡ scan_text o
 scan_option_text w o h = by_test (bytes_eq (lowered w) (scan_text scan.Pattern)) (bytes_eq (lowered w) (scan_text scan.Count)) (bytes_eq (lowered w) (scan_text scan.Kind)) refl refl refl h

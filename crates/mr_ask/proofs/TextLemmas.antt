@@ -1,20 +1,22 @@
 -- What is read of a command on strings is spelled by the words.
-use Rattle.std.proofs.Common.{ℕ, ◌≡◌, List, [], ◌∷◌, ◌++◌, map, Option, Some, None, refl, ◌∙◌, ap, subst}
-use Rattle.std.specs.Prelude.{IfOk, IsPermutation, Ok}
+use Rattle.std.proofs.Common.{ℕ, ◌≡◌, List, [], ◌∷◌, ◌++◌, map, Option, Some, None, refl, sym, ◌∙◌, ap, subst}
+use Rattle.std.specs.Prelude.{IfOk, IsPermutation, Ok, if◌then◌else◌}
 use Rattle.std.specs.Fmt.{signed_decimal}
-use Rattle.std.proofs.lemmas.List.Sorted.{IsPermutation-refl, IsPermutation-middle}
-use Rattle.mr_ask.specs.Options.{set_text, scan_text, set_option, no_set_options, set_also, set_word, set_options, no_scan_options, scan_also, scan_pair, scan_options}
-use Rattle.mr_ask.specs.Options as options
-use Rattle.mr_ask.specs.Texts.{get, set, strlen, getrange, mget, setnx, getset, getdel, mset, msetnx, append, setrange, step, incrby, decrby}
+use Rattle.std.proofs.lemmas.List.Sorted.{IsPermutation-refl, IsPermutation-middle, IsPermutation-append_left}
+use Rattle.std.specs.Option.{is_some, ok_or}
+use Rattle.mr_words.specs.Parts.{with}
+use Rattle.mr_ask.specs.Options.{set_text, unit_text, set_option, unit_of, no_set_options, before_also, lifetime_also, set_also, set_word, until, set_options, number_then}
+use Rattle.mr_ask.specs.Parts.{lifetime_if_any, seconds, milliseconds}
+use Rattle.mr_ask.specs.Texts.{get, set, setex, psetex, strlen, getrange, mget, setnx, getset, getdel, mset, msetnx, append, setrange, step, incrby, decrby}
 use Rattle.mr_words.specs.Spelling.{Part, Word, Keyword, AreParts, in_a_row}
 use Rattle.mr_ask.specs.Spelled.{condition_option, reply_option}
 use Rattle.mr_words.proofs.FitLemmas.{all_words}
 use Rattle.mr_ask.proofs.Carries.{TextCarries}
-use Rattle.mr_words.proofs.PartLemmas.{with_ok, if_with, with_integer, with_offset, with_pairs}
-use Rattle.mr_ask.proofs.PartLemmas.{option_text, with_opposite}
-use Rattle.mr_words.proofs.OptionLemmas.{all_added, from_none, each_alone}
+use Rattle.mr_words.proofs.PartLemmas.{with_ok, if_with, with_integer, with_offset, with_pairs, number_part, is_number_part}
+use Rattle.mr_ask.proofs.PartLemmas.{option_text, unit_named, with_opposite, lifetime_words, lifetime_read, seconds_read, milliseconds_read}
+use Rattle.mr_words.proofs.OptionLemmas.{Adds, one_first, from_none}
 use Rattle.mr_words.specs.declared.name.Name.TheVariants as name
-use Rattle.mr_words.specs.declared.fault.AskFault.TheVariants.{Arity}
+use Rattle.mr_words.specs.declared.fault.AskFault.TheVariants.{Arity, Syntax}
 use Rattle.mr_ask.specs.declared.text_ask.Amount.TheVariants as amount
 use Rattle.mr_ask.specs.declared.text_ask.SetCondition.{SetCondition}
 use Rattle.mr_ask.specs.declared.text_ask.SetReply.{SetReply}
@@ -22,53 +24,123 @@ use Rattle.mr_ask.specs.declared.text_ask.SetReply.TheVariants.{Done, Before}
 use Rattle.mr_ask.specs.declared.options.SetOption.{SetOption}
 use Rattle.mr_ask.specs.declared.options.SetOption.TheVariants as option
 use Rattle.mr_ask.specs.declared.options.SetOptions.{SetOptions}
+use Rattle.mr_ask.specs.declared.options.LifetimeOption.{LifetimeOption}
+use Rattle.mr_ask.specs.declared.options.LifetimeOption.TheVariants as lifetime
+use Rattle.mr_ask.specs.declared.expiry.ExpiryUnit.{ExpiryUnit}
 
 pub get_carries : (ws : List (List ℕ)) → IfOk (get ws) (TextCarries name.Get ws)
 get_carries (k ∷ []) = record { name_is = refl; parts = (refl, tt) }
 get_carries _ = tt
 
 -- the options that are set
-set_parts : SetOptions → List (List Part)
-set_parts s = condition_option s.condition ++ reply_option s.reply
+abbrev parts : Option SetCondition → SetReply → Option LifetimeOption → List (List Part)
+parts c r l = condition_option c ++ reply_option r ++ lifetime_words l
 
-before_more : (c : Option SetCondition) (r : SetReply) (t : SetOptions) → options.before_also c r ≡ Ok t
-    → IsPermutation (condition_option t.condition ++ reply_option t.reply) ((Keyword (set_text option.Before) ∷ []) ∷ (condition_option c ++ reply_option r))
-before_more c Done t h =
-    let b = Keyword (set_text option.Before) ∷ [] in
-    let same : record { condition = c; reply = Before } ≡ t = cc in
-    subst (λ (x : SetOptions). IsPermutation (condition_option x.condition ++ reply_option x.reply) (b ∷ (condition_option c ++ reply_option Done))) same (IsPermutation-middle (condition_option c) b [])
-before_more c Before t h = cc
+abbrev set_parts : SetOptions → List (List Part)
+set_parts s = parts s.condition s.reply s.lifetime
 
-condition_more : (o : SetCondition) (c : Option SetCondition) (r : SetReply) (t : SetOptions) → set_also (record { condition = c; reply = r }) (option.Condition o) ≡ Ok t
-    → IsPermutation (condition_option t.condition ++ reply_option t.reply) ((Keyword (set_text (option.Condition o)) ∷ []) ∷ (condition_option c ++ reply_option r))
-condition_more o None r t h =
-    let same : record { condition = Some o; reply = r } ≡ t = cc in
-    subst (λ (x : SetOptions). IsPermutation (condition_option x.condition ++ reply_option x.reply) ((Keyword (set_text (option.Condition o)) ∷ []) ∷ reply_option r)) same (IsPermutation-refl _)
-condition_more o (Some d) r t h = cc
+abbrev option_part : SetOption → List Part
+option_part o = Keyword (set_text o) ∷ []
 
-set_more : (s : SetOptions) (o : SetOption) (t : SetOptions) → set_also s o ≡ Ok t → IsPermutation (set_parts t) ((Keyword (set_text o) ∷ []) ∷ set_parts s)
-unfolding set_parts
-set_more s (option.Condition o) t h = condition_more o s.condition s.reply t h
-set_more s option.Before t h = before_more s.condition s.reply t h
+condition_more : (o : SetCondition) (c : Option SetCondition) (r : SetReply) (l : Option LifetimeOption) (t : SetOptions) → set_also (record { condition = c; reply = r; lifetime = l }) (option.Condition o) ≡ Ok t
+    → IsPermutation (set_parts t) (option_part (option.Condition o) ∷ parts c r l)
+condition_more o None r l t h =
+    let same : record { condition = Some o; reply = r; lifetime = l } ≡ t = cc in
+    subst (λ (x : SetOptions). IsPermutation (set_parts x) (option_part (option.Condition o) ∷ parts None r l)) same (IsPermutation-refl _)
+condition_more o (Some d) r l t h = cc
 
-set_one : (s : SetOptions) (w : List ℕ) (t : SetOptions) → set_word s w ≡ Ok t
-    → (o : List Part) × ((AreParts (w ∷ []) o) × IsPermutation (set_parts t) (o ∷ set_parts s))
-set_one s w t h =
-    let read = with_ok (set_option w) (set_also s) t h in
-    (Keyword (set_text read.0) ∷ [], ((option_text w read.0 read.1.0, tt), set_more s read.0 t read.1.1))
+before_more : (c : Option SetCondition) (r : SetReply) (l : Option LifetimeOption) (t : SetOptions) → before_also c r l ≡ Ok t
+    → IsPermutation (set_parts t) (option_part option.Before ∷ parts c r l)
+before_more c Done l t h =
+    let same : record { condition = c; reply = Before; lifetime = l } ≡ t = cc in
+    subst (λ (x : SetOptions). IsPermutation (set_parts x) (option_part option.Before ∷ parts c Done l)) same
+    (IsPermutation-append_left (lifetime_words l) _ _ (IsPermutation-middle (condition_option c) (option_part option.Before) []))
+before_more c Before l t h = cc
 
-set_read : (ws : List (List ℕ)) (t : SetOptions) → set_options ws ≡ Ok t
-    → (order : List (List Part)) × (IsPermutation (condition_option t.condition ++ reply_option t.reply) order × AreParts ws (in_a_row order))
-unfolding set_parts
-set_read ws t h =
-    let added = all_added set_word set_parts (λ w. w ∷ []) set_one ws no_set_options t h in
-    let of = from_none _ _ added in
-    (of.0, (of.1.0, subst (λ (xs : List (List ℕ)). AreParts xs (in_a_row of.0)) (each_alone ws) of.1.1))
+lifetime_part : LifetimeOption → List Part
+lifetime_part lifetime.Kept = option_part option.Kept
+lifetime_part (lifetime.Until u w) = Keyword (unit_text u) ∷ number_part w ∷ []
+
+one_lifetime : (o : LifetimeOption) → lifetime_words (Some o) ≡ lifetime_part o ∷ []
+unfolding lifetime_part
+one_lifetime lifetime.Kept = refl
+one_lifetime (lifetime.Until u w) = refl
+
+lifetime_more : (o : LifetimeOption) (c : Option SetCondition) (r : SetReply) (l : Option LifetimeOption) (t : SetOptions) → lifetime_also (record { condition = c; reply = r; lifetime = l }) o ≡ Ok t
+    → IsPermutation (set_parts t) (lifetime_part o ∷ parts c r l)
+lifetime_more o c r None t h =
+    let same : record { condition = c; reply = r; lifetime = Some o } ≡ t = cc in
+    subst (λ (x : SetOptions). IsPermutation (set_parts x) (lifetime_part o ∷ parts c r None)) same
+    (subst (λ (x : List (List Part)). IsPermutation (condition_option c ++ reply_option r ++ x) (lifetime_part o ∷ parts c r None)) (sym (one_lifetime o))
+    (IsPermutation-middle (condition_option c ++ reply_option r) (lifetime_part o) []))
+lifetime_more o c r (Some d) t h = cc
+
+set_more : (s : SetOptions) (o : SetOption) (t : SetOptions) → set_also s o ≡ Ok t → IsPermutation (set_parts t) (option_part o ∷ set_parts s)
+unfolding lifetime_part
+set_more s (option.Condition o) t h = condition_more o s.condition s.reply s.lifetime t h
+set_more s option.Before t h = before_more s.condition s.reply s.lifetime t h
+set_more s option.Kept t h = lifetime_more lifetime.Kept s.condition s.reply s.lifetime t h
+
+until_more : (s : SetOptions) (u : ExpiryUnit) (w : List ℕ) (t : SetOptions) → until s (Some u) w ≡ Ok t → IsPermutation (set_parts t) ((Keyword (unit_text u) ∷ number_part w ∷ []) ∷ set_parts s)
+unfolding lifetime_part
+until_more s u w t h = lifetime_more (lifetime.Until u w) s.condition s.reply s.lifetime t h
+
+abbrev Reads : List (List ℕ) → Type 0
+Reads ws = (s t : SetOptions) → set_options s ws ≡ Ok t → Adds ws (set_parts s) (set_parts t)
+
+abbrev ReadsNumber : List ℕ → List (List ℕ) → Type 0
+ReadsNumber w ws = (s t : SetOptions) (u : ExpiryUnit) → unit_of w ≡ Some u → number_then s (Some u) ws ≡ Ok t → Adds (w ∷ ws) (set_parts s) (set_parts t)
+
+first_read : (w : List ℕ) (ws : List (List ℕ)) → Reads ws → ReadsNumber w ws → Reads (w ∷ ws)
+first_read w ws rest number s t h = elim (unit_of w) as (λ o. unit_of w ≡ o → (if is_some o then number_then s o ws else with (set_word s w) (λ n. set_options n ws)) ≡ Ok t → Adds (w ∷ ws) (set_parts s) (set_parts t)) [
+  | Some u ↦ λ e k. number s t u e k
+  | None ↦ λ e k.
+      let m = with_ok (set_word s w) (λ n. set_options n ws) t k in
+      let o = with_ok (ok_or (set_option w) Syntax) (set_also s) m.0 m.1.0 in
+      one_first (option_part o.0) (w ∷ []) ws (set_parts s) (set_parts m.0) (set_parts t) (option_text w o.0 o.1.0, tt) (set_more s o.0 m.0 o.1.1) (rest m.0 t m.1.1)
+] refl h
+
+number_first : (w v : List ℕ) (ws : List (List ℕ)) → Reads ws → ReadsNumber w (v ∷ ws)
+number_first w v ws rest s t u e h =
+    let m = with_ok (until s (Some u) v) (λ n. set_options n ws) t h in
+    one_first (Keyword (unit_text u) ∷ number_part v ∷ []) (w ∷ v ∷ []) ws (set_parts s) (set_parts m.0) (set_parts t) (unit_named w u e, (is_number_part v, tt))
+    (until_more s u v m.0 m.1.0) (rest m.0 t m.1.1)
+
+none_added : Reads []
+none_added s t h = let same : s ≡ t = cc in record { order = []; same = subst (λ (x : SetOptions). IsPermutation (set_parts x) (set_parts s)) same (IsPermutation-refl (set_parts s)); parts = tt }
+
+all_read : (ws : List (List ℕ)) → Reads ws
+all_read [] = none_added
+all_read (w ∷ []) = first_read w [] none_added (λ s t u e h. cc)
+all_read (w ∷ v ∷ ws) = first_read w (v ∷ ws) (all_read (v ∷ ws)) (number_first w v ws (all_read ws))
+
+set_read : (ws : List (List ℕ)) (t : SetOptions) → set_options no_set_options ws ≡ Ok t
+    → (order : List (List Part)) × (IsPermutation (set_parts t) order × AreParts ws (in_a_row order))
+set_read ws t h = from_none ws (set_parts t) (all_read ws no_set_options t h)
 
 pub set_carries : (ws : List (List ℕ)) → IfOk (set ws) (TextCarries name.Set ws)
 set_carries [] = tt
 set_carries (k ∷ []) = tt
-set_carries (k ∷ v ∷ ws) = if_with (set_options ws) _ _ (λ s h. let read = set_read ws s h in record { name_is = refl; parts = (read.0, (read.1.0, (refl, (refl, read.1.1)))) })
+set_carries (k ∷ v ∷ ws) = if_with (set_options no_set_options ws) _ _ (λ s h. if_with (lifetime_if_any s.lifetime) _ _ (λ l e.
+    let read = set_read ws s h in
+    record {
+      name_is = refl;
+      parts = (
+        read.0,
+        (
+          subst (λ (x : List (List Part)). IsPermutation (condition_option s.condition ++ reply_option s.reply ++ x) read.0) (lifetime_read s.lifetime l e) read.1.0,
+          (refl, (refl, read.1.1)),
+        ),
+      );
+    }))
+
+pub setex_carries : (ws : List (List ℕ)) → IfOk (setex ws) (TextCarries name.SetEx ws)
+setex_carries (k ∷ a ∷ v ∷ []) = with_integer a _ _ (λ n e. if_with (seconds n) _ _ (λ m h. record { name_is = refl; parts = (refl, (e ∙ ap signed_decimal (seconds_read n m h), (refl, tt))) }))
+setex_carries _ = tt
+
+pub psetex_carries : (ws : List (List ℕ)) → IfOk (psetex ws) (TextCarries name.PSetEx ws)
+psetex_carries (k ∷ a ∷ v ∷ []) = with_integer a _ _ (λ n e. if_with (milliseconds n) _ _ (λ m h. record { name_is = refl; parts = (refl, (e ∙ ap signed_decimal (milliseconds_read n m h), (refl, tt))) }))
+psetex_carries _ = tt
 
 pub strlen_carries : (ws : List (List ℕ)) → IfOk (strlen ws) (TextCarries name.StrLen ws)
 strlen_carries (k ∷ []) = record { name_is = refl; parts = (refl, tt) }

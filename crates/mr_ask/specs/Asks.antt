@@ -3,23 +3,24 @@ use Rattle.std.specs.Prelude.{ℕ, List, [], ◌∷◌, Option, Some, None, Resu
 use Rattle.mr_value.specs.declared.ends.End.TheVariants.{Left, Right}
 use Rattle.mr_words.specs.Names.{lowered, named}
 use Rattle.mr_words.specs.Parts.{with}
-use Rattle.mr_ask.specs.Texts.{get, set, strlen, getrange, mget, setnx, getset, getdel, mset, msetnx, append, setrange, step, incrby, decrby}
-use Rattle.mr_ask.specs.Keys.{del, unlink, exists, key_type, matching_keys, scan, dbsize, rename, renamenx, clear}
-use Rattle.mr_ask.specs.Hashes.{set_fields, hsetnx, hget, hmget, list_hash, hdel, hexists, hlen, hstrlen, hincrby}
-use Rattle.mr_ask.specs.Lists.{push, pop, llen, lrange, lindex, lset, linsert, lrem, ltrim, lmove, rpoplpush}
-use Rattle.mr_ask.specs.Sets.{sadd, srem, sismember, smismember, smembers, scard, spop, srandmember, smove, combine}
+use Rattle.mr_ask.specs.Texts.{get, set, setex, psetex, strlen, getrange, mget, setnx, getset, getdel, mset, msetnx, append, setrange, step, incrby, decrby}
+use Rattle.mr_ask.specs.Keys.{del, unlink, exists, key_type, matching_keys, scan, dbsize, rename, renamenx, clear, expire, ttl, pttl, expiretime, pexpiretime, persist}
+use Rattle.mr_ask_coll.specs.Hashes.{set_fields, hsetnx, hget, hmget, list_hash, hdel, hexists, hlen, hstrlen, hincrby}
+use Rattle.mr_ask_coll.specs.Lists.{push, pop, llen, lrange, lindex, lset, linsert, lrem, ltrim, lmove, rpoplpush}
+use Rattle.mr_ask_coll.specs.Sets.{sadd, srem, sismember, smismember, smembers, scard, spop, srandmember, smove, combine}
 use Rattle.mr_ask_zset.specs.Reading.{zadd, zincrby, zrem, zcard, zcount, zscore, zmscore, zrank, zrange, zrevrange, range_by_score, zpop, zremrangebyrank, zremrangebyscore}
 use Rattle.mr_ask.specs.Server.{ping, echo, select, quit, command, client}
 use Rattle.mr_words.specs.declared.name.Name.{Name}
 use Rattle.mr_words.specs.declared.name.Name.TheVariants as name
 use Rattle.mr_words.specs.declared.fault.AskFault.{AskFault}
 use Rattle.mr_words.specs.declared.fault.AskFault.TheVariants.{Unknown}
+use Rattle.mr_ask.specs.declared.expiry.ExpiryUnit.TheVariants as unit
 use Rattle.mr_ask.specs.declared.text_ask.Amount.TheVariants as amount
 use Rattle.mr_ask.specs.declared.key_ask.Databases.TheVariants as databases
-use Rattle.mr_ask.specs.declared.hash_ask.FieldsReply.TheVariants.{Added, Done}
-use Rattle.mr_ask.specs.declared.hash_ask.HashPart.TheVariants.{Pairs, Fields, Values}
-use Rattle.mr_ask.specs.declared.list_ask.PushTo.TheVariants.{AnyKey, ExistingKey}
-use Rattle.mr_ask.specs.declared.set_ask.SetOperation.TheVariants.{Intersection, Union, Difference}
+use Rattle.mr_ask_coll.specs.declared.hash_ask.FieldsReply.TheVariants.{Added, Done}
+use Rattle.mr_ask_coll.specs.declared.hash_ask.HashPart.TheVariants.{Pairs, Fields, Values}
+use Rattle.mr_ask_coll.specs.declared.list_ask.PushTo.TheVariants.{AnyKey, ExistingKey}
+use Rattle.mr_ask_coll.specs.declared.set_ask.SetOperation.TheVariants.{Intersection, Union, Difference}
 use Rattle.mr_ask_zset.specs.declared.zset_ask.Order.TheVariants.{Ascending, Descending}
 use Rattle.mr_ask.specs.declared.group.Group.{Group}
 use Rattle.mr_ask.specs.declared.group.Group.TheVariants as group
@@ -59,6 +60,17 @@ reading name.Rename arguments = of_kind ask.Keys (rename arguments)
 reading name.RenameNx arguments = of_kind ask.Keys (renamenx arguments)
 reading name.FlushAll arguments = of_kind ask.Keys (clear databases.All arguments)
 reading name.FlushDb arguments = of_kind ask.Keys (clear databases.Selected arguments)
+reading name.SetEx arguments = of_kind ask.Texts (setex arguments)
+reading name.PSetEx arguments = of_kind ask.Texts (psetex arguments)
+reading name.Expire arguments = of_kind ask.Keys (expire name.Expire unit.Seconds arguments)
+reading name.PExpire arguments = of_kind ask.Keys (expire name.PExpire unit.Milliseconds arguments)
+reading name.ExpireAt arguments = of_kind ask.Keys (expire name.ExpireAt unit.AtSecond arguments)
+reading name.PExpireAt arguments = of_kind ask.Keys (expire name.PExpireAt unit.AtMillisecond arguments)
+reading name.Ttl arguments = of_kind ask.Keys (ttl arguments)
+reading name.PTtl arguments = of_kind ask.Keys (pttl arguments)
+reading name.ExpireTime arguments = of_kind ask.Keys (expiretime arguments)
+reading name.PExpireTime arguments = of_kind ask.Keys (pexpiretime arguments)
+reading name.Persist arguments = of_kind ask.Keys (persist arguments)
 reading name.HSet arguments = of_kind ask.Hashes (set_fields name.HSet Added arguments)
 reading name.HMSet arguments = of_kind ask.Hashes (set_fields name.HMSet Done arguments)
 reading name.HSetNx arguments = of_kind ask.Hashes (hsetnx arguments)

@@ -2,11 +2,13 @@
 use Rattle.std.specs.Prelude.{ℕ, List, [], ◌∷◌, Some, None, Result, Ok, Err}
 use Rattle.std.specs.Option.{option_map}
 use Rattle.mr_words.specs.Parts.{with}
-use Rattle.mr_ask.specs.Parts.{positive_if_any, cursor_of, kind_of, timing_of}
-use Rattle.mr_ask.specs.Options.{scan_options}
+use Rattle.mr_ask.specs.Parts.{positive_if_any, cursor_of, kind_of, timing_of, key_expiry}
+use Rattle.mr_ask.specs.Options.{scan_options, condition_if_any}
+use Rattle.mr_words.specs.declared.name.Name.{Name}
 use Rattle.mr_words.specs.declared.name.Name.TheVariants as name
 use Rattle.mr_words.specs.declared.fault.AskFault.{AskFault}
 use Rattle.mr_words.specs.declared.fault.AskFault.TheVariants.{Arity, Syntax}
+use Rattle.mr_ask.specs.declared.expiry.ExpiryUnit.{ExpiryUnit}
 use Rattle.mr_ask.specs.declared.key_ask.KeyAsk.{KeyAsk}
 use Rattle.mr_ask.specs.declared.key_ask.KeyAsk.TheVariants as ask
 use Rattle.mr_ask.specs.declared.key_ask.Databases.{Databases}
@@ -63,3 +65,34 @@ abbrev pub clear : Databases → List (List ℕ) → Result KeyAsk AskFault
 clear databases [] = Ok (ask.Clear databases None)
 clear databases (timing ∷ []) = with (timing_of timing) (λ t. Ok (ask.Clear databases (Some t)))
 clear databases _ = Err Syntax
+
+-- EXPIRE key seconds [NX|XX|GT|LT], PEXPIRE key milliseconds .., EXPIREAT key second .., PEXPIREAT key millisecond ..
+abbrev pub expire : Name → ExpiryUnit → List (List ℕ) → Result KeyAsk AskFault
+expire name unit [] = Err (Arity name)
+expire name unit (key ∷ []) = Err (Arity name)
+expire name unit (key ∷ number ∷ words) = with (condition_if_any words) (λ condition. with (key_expiry unit number) (λ expiry. Ok (ask.Expire key expiry condition)))
+
+-- TTL key
+abbrev pub ttl : List (List ℕ) → Result KeyAsk AskFault
+ttl (key ∷ []) = Ok (ask.Ttl key)
+ttl _ = Err (Arity name.Ttl)
+
+-- PTTL key
+abbrev pub pttl : List (List ℕ) → Result KeyAsk AskFault
+pttl (key ∷ []) = Ok (ask.PTtl key)
+pttl _ = Err (Arity name.PTtl)
+
+-- EXPIRETIME key
+abbrev pub expiretime : List (List ℕ) → Result KeyAsk AskFault
+expiretime (key ∷ []) = Ok (ask.ExpireTime key)
+expiretime _ = Err (Arity name.ExpireTime)
+
+-- PEXPIRETIME key
+abbrev pub pexpiretime : List (List ℕ) → Result KeyAsk AskFault
+pexpiretime (key ∷ []) = Ok (ask.PExpireTime key)
+pexpiretime _ = Err (Arity name.PExpireTime)
+
+-- PERSIST key
+abbrev pub persist : List (List ℕ) → Result KeyAsk AskFault
+persist (key ∷ []) = Ok (ask.Persist key)
+persist _ = Err (Arity name.Persist)

@@ -1,10 +1,9 @@
+pub mod Amounts
+pub mod Expiry
 pub mod Parts
 pub mod Options
 pub mod Texts
 pub mod Keys
-pub mod Hashes
-pub mod Lists
-pub mod Sets
 pub mod Server
 pub mod Asks
 pub mod Carried

@@ -1,6 +1,6 @@
 -- Options, which stand in any order, each at most once.
 use Rattle.mr_words.specs.Options.{added}
-use Rattle.std.specs.Prelude.{ℕ, List, if◌then◌else◌, Option, Some, None, Result, Ok, Err, codes}
+use Rattle.std.specs.Prelude.{◌≡◌, ℕ, List, [], ◌∷◌, Bool, true, false, if◌then◌else◌, Option, Some, None, Result, Ok, Err, codes, find}
 use Rattle.std.specs.Option.{is_some, ok_or}
 use Rattle.std.specs.Str.{bytes_eq}
 use Rattle.mr_words.specs.Names.{lowered}
@@ -8,12 +8,18 @@ use Rattle.mr_words.specs.Pairing.{pairs_of}
 use Rattle.mr_words.specs.Parts.{with}
 use Rattle.mr_words.specs.declared.fault.AskFault.{AskFault}
 use Rattle.mr_words.specs.declared.fault.AskFault.TheVariants.{Syntax}
+use Rattle.mr_ask.specs.declared.expiry.ExpiryUnit.{ExpiryUnit}
+use Rattle.mr_ask.specs.declared.expiry.ExpiryUnit.TheVariants as unit
+use Rattle.mr_ask.specs.declared.key_ask.ExpireCondition.{ExpireCondition}
+use Rattle.mr_ask.specs.declared.key_ask.ExpireCondition.TheVariants as expire
 use Rattle.mr_ask.specs.declared.text_ask.SetCondition.{SetCondition}
 use Rattle.mr_ask.specs.declared.text_ask.SetCondition.TheVariants.{Absent, Present}
 use Rattle.mr_ask.specs.declared.text_ask.SetReply.{SetReply}
 use Rattle.mr_ask.specs.declared.text_ask.SetReply.TheVariants.{Done, Before}
 use Rattle.mr_ask.specs.declared.options.SetOption.{SetOption}
 use Rattle.mr_ask.specs.declared.options.SetOption.TheVariants as set
+use Rattle.mr_ask.specs.declared.options.LifetimeOption.{LifetimeOption}
+use Rattle.mr_ask.specs.declared.options.LifetimeOption.TheVariants as lifetime
 use Rattle.mr_ask.specs.declared.options.SetOptions.{SetOptions}
 use Rattle.mr_ask.specs.declared.options.ScanOption.{ScanOption}
 use Rattle.mr_ask.specs.declared.options.ScanOption.TheVariants as scan
@@ -24,37 +30,105 @@ abbrev pub set_text : SetOption → List ℕ
 set_text (set.Condition Absent) = codes "nx"
 set_text (set.Condition Present) = codes "xx"
 set_text set.Before = codes "get"
+set_text set.Kept = codes "keepttl"
+
+-- .. behind which a number stands
+abbrev pub unit_text : ExpiryUnit → List ℕ
+unit_text unit.Seconds = codes "ex"
+unit_text unit.Milliseconds = codes "px"
+unit_text unit.AtSecond = codes "exat"
+unit_text unit.AtMillisecond = codes "pxat"
+
+abbrev pub expire_text : ExpireCondition → List ℕ
+expire_text expire.Endless = codes "nx"
+expire_text expire.Expiring = codes "xx"
+expire_text expire.Later = codes "gt"
+expire_text expire.Earlier = codes "lt"
 
 abbrev pub scan_text : ScanOption → List ℕ
 scan_text scan.Pattern = codes "match"
 scan_text scan.Count = codes "count"
 scan_text scan.Kind = codes "type"
 
--- the option of SET that a word is, in any case
-abbrev pub set_option : List ℕ → Result SetOption AskFault
-set_option word = if bytes_eq (lowered word) (set_text (set.Condition Absent)) then Ok (set.Condition Absent)
-    else (if bytes_eq (lowered word) (set_text (set.Condition Present)) then Ok (set.Condition Present)
-    else (if bytes_eq (lowered word) (set_text set.Before) then Ok set.Before else Err Syntax))
+abbrev pub is_set_option : List ℕ → SetOption → Bool
+is_set_option text option = bytes_eq text (set_text option)
+
+-- all of SET that are one word
+abbrev pub all_set_options : List SetOption
+all_set_options = set.Condition Absent ∷ set.Condition Present ∷ set.Before ∷ set.Kept ∷ []
+
+-- the one that a word is, in any case
+abbrev pub set_option : List ℕ → Option SetOption
+set_option word = find (is_set_option (lowered word)) all_set_options
+
+abbrev pub is_unit : List ℕ → ExpiryUnit → Bool
+is_unit text unit = bytes_eq text (unit_text unit)
+
+abbrev pub all_units : List ExpiryUnit
+all_units = unit.Seconds ∷ unit.Milliseconds ∷ unit.AtSecond ∷ unit.AtMillisecond ∷ []
+
+-- the unit of the number behind a word of SET, in any case
+abbrev pub unit_of : List ℕ → Option ExpiryUnit
+unit_of word = find (is_unit (lowered word)) all_units
 
 abbrev pub no_set_options : SetOptions
-no_set_options = record { condition = None; reply = Done }
+no_set_options = record { condition = None; reply = Done; lifetime = None }
 
 -- with GET, where it isn't set yet
-abbrev pub before_also : Option SetCondition → SetReply → Result SetOptions AskFault
-before_also condition Done = Ok (record { condition = condition; reply = Before })
-before_also condition Before = Err Syntax
+abbrev pub before_also : Option SetCondition → SetReply → Option LifetimeOption → Result SetOptions AskFault
+before_also condition Done lifetime = Ok (record { condition = condition; reply = Before; lifetime = lifetime })
+before_also condition Before lifetime = Err Syntax
 
--- with one option more, where none of its kind is set yet: NX and XX are of one kind
+-- with what says how long the value stays, where nothing says it yet
+abbrev pub lifetime_also : SetOptions → LifetimeOption → Result SetOptions AskFault
+lifetime_also options lifetime = if is_some options.lifetime then Err Syntax else Ok (record { condition = options.condition; reply = options.reply; lifetime = Some lifetime })
+
+-- with one option more, where none of its kind is set yet: NX and XX are of one kind, and so are KEEPTTL and those with a number
 abbrev pub set_also : SetOptions → SetOption → Result SetOptions AskFault
-set_also options (set.Condition condition) = if is_some options.condition then Err Syntax else Ok (record { condition = Some condition; reply = options.reply })
-set_also options set.Before = before_also options.condition options.reply
+set_also options (set.Condition condition) = if is_some options.condition then Err Syntax else Ok (record { condition = Some condition; reply = options.reply; lifetime = options.lifetime })
+set_also options set.Before = before_also options.condition options.reply options.lifetime
+set_also options set.Kept = lifetime_also options lifetime.Kept
 
 abbrev pub set_word : SetOptions → List ℕ → Result SetOptions AskFault
-set_word options word = with (set_option word) (set_also options)
+set_word options word = with (ok_or (set_option word) Syntax) (set_also options)
 
--- what SET's option words set
-abbrev pub set_options : List (List ℕ) → Result SetOptions AskFault
-set_options words = added set_word no_set_options words
+-- with a number in a unit, if it is one, where nothing says yet how long the value stays
+abbrev pub until : SetOptions → Option ExpiryUnit → List ℕ → Result SetOptions AskFault
+until options None number = Err Syntax
+until options (Some unit) number = lifetime_also options (lifetime.Until unit number)
+
+-- what words set further, each an option of SET or behind one
+abbrev mutual
+  pub set_options : SetOptions → List (List ℕ) → Result SetOptions AskFault
+  set_options options [] = Ok options
+  set_options options (word ∷ words) = if is_some (unit_of word) then number_then options (unit_of word) words else with (set_word options word) (λ next. set_options next words)
+
+  -- where the word of a unit comes before the words
+  pub number_then : SetOptions → Option ExpiryUnit → List (List ℕ) → Result SetOptions AskFault
+  number_then options unit [] = Err Syntax
+  number_then options unit (number ∷ words) = with (until options unit number) (λ next. set_options next words)
+
+-- the words of one option of SET: a word, or one with its number behind it
+abbrev pub AreOneOption : List (List ℕ) → Type 0
+AreOneOption (word ∷ []) = is_some (unit_of word) ≡ false
+AreOneOption (word ∷ number ∷ []) = is_some (unit_of word) ≡ true
+AreOneOption _ = ⊥
+
+abbrev pub is_expire_condition : List ℕ → ExpireCondition → Bool
+is_expire_condition text condition = bytes_eq text (expire_text condition)
+
+abbrev pub all_expire_conditions : List ExpireCondition
+all_expire_conditions = expire.Endless ∷ expire.Expiring ∷ expire.Later ∷ expire.Earlier ∷ []
+
+-- the condition of EXPIRE that a word is, in any case
+abbrev pub expire_condition : List ℕ → Option ExpireCondition
+expire_condition word = find (is_expire_condition (lowered word)) all_expire_conditions
+
+-- .. where there is one; a second word is too many
+abbrev pub condition_if_any : List (List ℕ) → Result (Option ExpireCondition) AskFault
+condition_if_any [] = Ok None
+condition_if_any (word ∷ []) = with (ok_or (expire_condition word) Syntax) (λ condition. Ok (Some condition))
+condition_if_any _ = Err Syntax
 
 -- the option of SCAN that a word is, in any case
 abbrev pub scan_option : List ℕ → Result ScanOption AskFault

@@ -4,14 +4,21 @@ use Rattle.std.specs.Prelude.{ℕ, zero, suc, ℤ, pos, negsuc, neg_ℤ, int_lt,
 use Rattle.std.specs.Option.{ok_or}
 use Rattle.std.specs.Str.{bytes_eq}
 use Rattle.mr_value.specs.Number.{number_of, is_i64}
-use Rattle.mr_value.specs.declared.ends.End.{End}
-use Rattle.mr_value.specs.declared.ends.End.TheVariants.{Left, Right}
-use Rattle.mr_value.specs.declared.ends.Side.{Side}
-use Rattle.mr_value.specs.declared.ends.Side.TheVariants.{Before, After}
 use Rattle.mr_words.specs.Names.{lowered}
 use Rattle.mr_words.specs.declared.fault.AskFault.{AskFault}
-use Rattle.mr_words.specs.declared.fault.AskFault.TheVariants.{Syntax, Other}
+use Rattle.mr_words.specs.declared.fault.AskFault.TheVariants.{Syntax, ExpireTime, Other}
 use Rattle.mr_words.specs.declared.fault.BadValue.TheVariants as bad
+use Rattle.mr_words.specs.declared.fault.ExpiringCommand.{ExpiringCommand}
+use Rattle.mr_words.specs.declared.fault.ExpiringCommand.TheVariants.{Set, SetEx, PSetEx, Expire, PExpire, ExpireAt, PExpireAt}
+use Rattle.mr_ask.specs.Amounts.{seconds_of, milliseconds_of}
+use Rattle.mr_ask.specs.Expiry.{expiry_of}
+use Rattle.mr_ask.specs.declared.expiry.Expiry.{Expiry}
+use Rattle.mr_ask.specs.declared.expiry.ExpiryUnit.{ExpiryUnit}
+use Rattle.mr_ask.specs.declared.expiry.ExpiryUnit.TheVariants as unit
+use Rattle.mr_ask.specs.declared.options.LifetimeOption.{LifetimeOption}
+use Rattle.mr_ask.specs.declared.options.LifetimeOption.TheVariants as option
+use Rattle.mr_ask.specs.declared.text_ask.Lifetime.{Lifetime}
+use Rattle.mr_ask.specs.declared.text_ask.Lifetime.TheVariants.{Endless, Kept, Until}
 use Rattle.mr_ask.specs.declared.key_ask.Cursor.{Cursor}
 use Rattle.mr_ask.specs.declared.key_ask.Cursor.TheVariants.{Start, Behind}
 use Rattle.mr_ask.specs.declared.key_ask.KindName.{KindName}
@@ -21,29 +28,12 @@ use Rattle.mr_ask.specs.declared.key_ask.Timing.TheVariants.{Later, Now}
 use Rattle.mr_ask.specs.declared.text_ask.Amount.{Amount}
 use Rattle.mr_ask.specs.declared.text_ask.Amount.TheVariants as amount
 
--- an option word, in lower case
-abbrev pub end_text : End → List ℕ
-end_text Left = codes "left"
-end_text Right = codes "right"
-
-abbrev pub side_text : Side → List ℕ
-side_text Before = codes "before"
-side_text After = codes "after"
-
--- LEFT or RIGHT, in any case
-abbrev pub end_of : List ℕ → Result End AskFault
-end_of word = if bytes_eq (lowered word) (end_text Left) then Ok Left else (if bytes_eq (lowered word) (end_text Right) then Ok Right else Err Syntax)
-
--- BEFORE or AFTER, in any case
-abbrev pub side_of : List ℕ → Result Side AskFault
-side_of word = if bytes_eq (lowered word) (side_text Before) then Ok Before else (if bytes_eq (lowered word) (side_text After) then Ok After else Err Syntax)
-
--- a number from 1 on
-abbrev pub not_below_1 : ℤ → Result ℤ AskFault
-not_below_1 n = if int_lt n (pos 1) then Err Syntax else Ok n
+-- a number from 1 on, or else that fault
+abbrev pub not_below_1 : AskFault → ℤ → Result ℤ AskFault
+not_below_1 otherwise n = if int_lt n (pos 1) then Err otherwise else Ok n
 
 abbrev pub positive : List ℕ → Result ℤ AskFault
-positive word = with (integer word) not_below_1
+positive word = with (integer word) (not_below_1 Syntax)
 
 -- .. where there is one
 abbrev pub positive_if_any : Option (List ℕ) → Result (Option ℤ) AskFault
@@ -99,3 +89,35 @@ kind_of word = if is_kind word kind.Text then kind.Text
     else (if is_kind word kind.List then kind.List
     else (if is_kind word kind.Set then kind.Set
     else (if is_kind word kind.SortedSet then kind.SortedSet else kind.Unknown))))
+
+-- the command that sets a deadline in this unit
+abbrev pub expiring : ExpiryUnit → ExpiringCommand
+expiring unit.Seconds = Expire
+expiring unit.Milliseconds = PExpire
+expiring unit.AtSecond = ExpireAt
+expiring unit.AtMillisecond = PExpireAt
+
+-- so many of a unit, which are within the limit
+abbrev pub within_limit : ExpiringCommand → ExpiryUnit → ℤ → Result Expiry AskFault
+within_limit command unit n = ok_or (expiry_of unit n) (ExpireTime command)
+
+-- what the number of EXPIRE says, and of its kin
+abbrev pub key_expiry : ExpiryUnit → List ℕ → Result Expiry AskFault
+key_expiry unit word = with (integer word) (within_limit (expiring unit) unit)
+
+-- the amounts of SETEX and of PSETEX, from 1 on
+abbrev pub seconds : ℤ → Result ℤ AskFault
+seconds n = with (not_below_1 (ExpireTime SetEx) n) (λ m. ok_or (seconds_of m) (ExpireTime SetEx))
+
+abbrev pub milliseconds : ℤ → Result ℤ AskFault
+milliseconds n = with (not_below_1 (ExpireTime PSetEx) n) (λ m. ok_or (milliseconds_of m) (ExpireTime PSetEx))
+
+-- what the word behind EX, PX, EXAT or PXAT says: a number from 1 on
+abbrev pub set_expiry : ExpiryUnit → List ℕ → Result Expiry AskFault
+set_expiry unit word = with (integer word) (λ n. with (not_below_1 (ExpireTime Set) n) (within_limit Set unit))
+
+-- how long a value stays, by the option of SET that says it
+abbrev pub lifetime_if_any : Option LifetimeOption → Result Lifetime AskFault
+lifetime_if_any None = Ok Endless
+lifetime_if_any (Some option.Kept) = Ok Kept
+lifetime_if_any (Some (option.Until unit number)) = with (set_expiry unit number) (λ e. Ok (Until e))

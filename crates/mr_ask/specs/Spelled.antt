@@ -1,13 +1,15 @@
 -- The words that a command is spelled by.
 use Rattle.std.specs.Prelude.{◌≡◌, ℕ, pos, neg_ℤ, List, [], ◌∷◌, ◌++◌, map, Option, Some, None, option_map, IfSome}
 use Rattle.mr_words.specs.Names.{lowered, text_of}
-use Rattle.mr_words.specs.Spelling.{Part, Word, Number, Keyword, Positive, count_part, IsPositive, AreParts, AreWithOptions}
+use Rattle.mr_words.specs.Spelling.{Part, Word, Number, Keyword, Positive, IsPositive, AreParts, AreWithOptions, NameAndArguments}
 use Rattle.mr_words.specs.declared.name.Name.{Name}
+use Rattle.mr_ask_coll.specs.Spelled.{HashSpells, ListSpells, SetSpells}
 use Rattle.mr_ask_zset.specs.Spelled.{ZSetSpells}
-use Rattle.mr_ask.specs.Called.{text_name, key_name, hash_name, list_name, set_name, server_name}
-use Rattle.mr_ask.specs.Carried.{text_words, key_words, hash_words, list_words, set_words, server_words}
-use Rattle.mr_ask.specs.Parts.{end_text, side_text, timing_text, kind_of}
-use Rattle.mr_ask.specs.Options.{set_text, scan_text}
+use Rattle.mr_ask.specs.Called.{text_name, key_name, server_name}
+use Rattle.mr_ask.specs.Carried.{text_words, key_words, server_words}
+use Rattle.mr_ask.specs.Parts.{timing_text, kind_of}
+use Rattle.mr_ask.specs.Expiry.{unit_said, number_said}
+use Rattle.mr_ask.specs.Options.{set_text, unit_text, expire_text, scan_text}
 use Rattle.mr_ask.specs.Server.{setname, setinfo}
 use Rattle.mr_ask.specs.declared.options.SetOption.TheVariants as option
 use Rattle.mr_ask.specs.declared.options.ScanOption.{ScanOption}
@@ -15,6 +17,9 @@ use Rattle.mr_ask.specs.declared.options.ScanOption.TheVariants as scan
 use Rattle.mr_ask.specs.declared.text_ask.SetCondition.{SetCondition}
 use Rattle.mr_ask.specs.declared.text_ask.SetReply.{SetReply}
 use Rattle.mr_ask.specs.declared.text_ask.SetReply.TheVariants.{Done, Before}
+use Rattle.mr_ask.specs.declared.text_ask.Lifetime.{Lifetime}
+use Rattle.mr_ask.specs.declared.text_ask.Lifetime.TheVariants as lifetime
+use Rattle.mr_ask.specs.declared.key_ask.ExpireCondition.{ExpireCondition}
 use Rattle.mr_ask.specs.declared.key_ask.Cursor.{Cursor}
 use Rattle.mr_ask.specs.declared.key_ask.Cursor.TheVariants.{Start, Behind}
 use Rattle.mr_ask.specs.declared.key_ask.KindName.{KindName}
@@ -25,12 +30,6 @@ use Rattle.mr_ask.specs.declared.text_ask.TextAsk.{TextAsk}
 use Rattle.mr_ask.specs.declared.text_ask.TextAsk.TheVariants as text
 use Rattle.mr_ask.specs.declared.key_ask.KeyAsk.{KeyAsk}
 use Rattle.mr_ask.specs.declared.key_ask.KeyAsk.TheVariants as key
-use Rattle.mr_ask.specs.declared.hash_ask.HashAsk.{HashAsk}
-use Rattle.mr_ask.specs.declared.hash_ask.HashAsk.TheVariants as hash
-use Rattle.mr_ask.specs.declared.list_ask.ListAsk.{ListAsk}
-use Rattle.mr_ask.specs.declared.list_ask.ListAsk.TheVariants as list
-use Rattle.mr_ask.specs.declared.set_ask.SetAsk.{SetAsk}
-use Rattle.mr_ask.specs.declared.set_ask.SetAsk.TheVariants as set
 use Rattle.mr_ask.specs.declared.server_ask.ServerAsk.{ServerAsk}
 use Rattle.mr_ask.specs.declared.server_ask.ServerAsk.TheVariants as server
 use Rattle.mr_ask.specs.declared.ask.Ask.{Ask}
@@ -52,9 +51,16 @@ abbrev pub timing_part : Option Timing → List Part
 timing_part None = []
 timing_part (Some timing) = Keyword (timing_text timing) ∷ []
 
+-- which keys get a deadline, which may be left out
+abbrev pub expire_part : Option ExpireCondition → List Part
+expire_part None = []
+expire_part (Some condition) = Keyword (expire_text condition) ∷ []
+
 -- what stands behind the name of a command on strings, before its options
 abbrev pub text_parts : TextAsk → List Part
 text_parts (text.GetRange key first last) = Word key ∷ Number first ∷ Number last ∷ []
+text_parts (text.SetEx key seconds value) = Word key ∷ Number seconds ∷ Word value ∷ []
+text_parts (text.PSetEx key milliseconds value) = Word key ∷ Number milliseconds ∷ Word value ∷ []
 text_parts (text.SetRange key offset value) = Word key ∷ Number (pos offset) ∷ Word value ∷ []
 text_parts (text.Increase key by) = Word key ∷ amount_part by
 text_parts command = map Word (text_words command)
@@ -63,6 +69,7 @@ text_parts command = map Word (text_words command)
 abbrev pub key_parts : KeyAsk → List Part
 key_parts (key.Scan cursor pattern kind) = cursor_part cursor ∷ []
 key_parts (key.Clear databases timing) = timing_part timing
+key_parts (key.Expire key expiry condition) = Word key ∷ Number (number_said expiry) ∷ expire_part condition
 key_parts command = map Word (key_words command)
 
 -- an option: its words
@@ -74,32 +81,14 @@ abbrev pub reply_option : SetReply → List (List Part)
 reply_option Done = []
 reply_option Before = (Keyword (set_text option.Before) ∷ []) ∷ []
 
+abbrev pub lifetime_option : Lifetime → List (List Part)
+lifetime_option lifetime.Endless = []
+lifetime_option lifetime.Kept = (Keyword (set_text option.Kept) ∷ []) ∷ []
+lifetime_option (lifetime.Until expiry) = (Keyword (unit_text (unit_said expiry)) ∷ Number (number_said expiry) ∷ []) ∷ []
+
 abbrev pub scan_option : ScanOption → Option (List ℕ) → List (List Part)
 scan_option option None = []
 scan_option option (Some argument) = (Keyword (scan_text option) ∷ Word argument ∷ []) ∷ []
-
--- what stands behind the name of a command on hashes
-abbrev pub hash_parts : HashAsk → List Part
-hash_parts (hash.IncreaseField key field by) = Word key ∷ Word field ∷ Number by ∷ []
-hash_parts command = map Word (hash_words command)
-
--- what stands behind the name of a command on lists
-abbrev pub list_parts : ListAsk → List Part
-list_parts (list.Pop key end count) = Word key ∷ count_part count
-list_parts (list.Range key first last) = Word key ∷ Number first ∷ Number last ∷ []
-list_parts (list.GetItem key index) = Word key ∷ Number index ∷ []
-list_parts (list.SetItem key index item) = Word key ∷ Number index ∷ Word item ∷ []
-list_parts (list.InsertItem key side pivot item) = Word key ∷ Keyword (side_text side) ∷ Word pivot ∷ Word item ∷ []
-list_parts (list.RemoveItems key count item) = Word key ∷ Number count ∷ Word item ∷ []
-list_parts (list.Trim key first last) = Word key ∷ Number first ∷ Number last ∷ []
-list_parts (list.MoveItem from to taken put) = Word from ∷ Word to ∷ Keyword (end_text taken) ∷ Keyword (end_text put) ∷ []
-list_parts command = map Word (list_words command)
-
--- what stands behind the name of a command on sets
-abbrev pub set_parts : SetAsk → List Part
-set_parts (set.TakeMembers key count) = Word key ∷ count_part count
-set_parts (set.DrawMembers key count) = Word key ∷ count_part count
-set_parts command = map Word (set_words command)
 
 -- what stands behind the name of a command to the server itself
 abbrev pub server_parts : ServerAsk → List Part
@@ -118,7 +107,7 @@ pub record AreOfScan (words : List (List ℕ)) (cursor : Cursor) (pattern : Opti
 
 -- the words that stand behind the name of a command on strings
 abbrev pub AreOfTexts : List (List ℕ) → TextAsk → Type 0
-AreOfTexts words (text.Set k value condition reply) = AreWithOptions words (text_parts (text.Set k value condition reply)) (condition_option condition ++ reply_option reply)
+AreOfTexts words (text.Set k value condition reply lifetime) = AreWithOptions words (text_parts (text.Set k value condition reply lifetime)) (condition_option condition ++ reply_option reply ++ lifetime_option lifetime)
 AreOfTexts words command = AreParts words (text_parts command)
 
 -- the words that stand behind the name of a command on keys
@@ -126,18 +115,13 @@ abbrev pub AreOfKeys : List (List ℕ) → KeyAsk → Type 0
 AreOfKeys words (key.Scan cursor pattern kind) = AreOfScan words cursor pattern kind
 AreOfKeys words command = AreParts words (key_parts command)
 
--- the command's name is this one, and these are its arguments
-pub record NameAndArguments (its called : Name) (Arguments : Type 0) : Type 0 where
-  pub name_is : its ≡ called
-  pub parts : Arguments
-
 -- this name and the words behind it spell the command
 abbrev pub SpellsNamed : Name → List (List ℕ) → Ask → Type 0
 SpellsNamed called words (ask.Texts command) = NameAndArguments (text_name command) called (AreOfTexts words command)
 SpellsNamed called words (ask.Keys command) = NameAndArguments (key_name command) called (AreOfKeys words command)
-SpellsNamed called words (ask.Hashes command) = NameAndArguments (hash_name command) called (AreParts words (hash_parts command))
-SpellsNamed called words (ask.Lists command) = NameAndArguments (list_name command) called (AreParts words (list_parts command))
-SpellsNamed called words (ask.Sets command) = NameAndArguments (set_name command) called (AreParts words (set_parts command))
+SpellsNamed called words (ask.Hashes command) = HashSpells called words command
+SpellsNamed called words (ask.Lists command) = ListSpells called words command
+SpellsNamed called words (ask.Sets command) = SetSpells called words command
 SpellsNamed called words (ask.SortedSets command) = ZSetSpells called words command
 SpellsNamed called words (ask.Server command) = NameAndArguments (server_name command) called (AreParts words (server_parts command))
 

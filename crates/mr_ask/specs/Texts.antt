@@ -3,8 +3,8 @@ use Rattle.std.specs.Prelude.{ℕ, List, [], ◌∷◌, Result, Ok, Err}
 use Rattle.std.specs.Option.{ok_or}
 use Rattle.mr_words.specs.Pairing.{pairs_of}
 use Rattle.mr_words.specs.Parts.{with, integer, offset}
-use Rattle.mr_ask.specs.Parts.{opposite}
-use Rattle.mr_ask.specs.Options.{set_options}
+use Rattle.mr_ask.specs.Parts.{opposite, lifetime_if_any, seconds, milliseconds}
+use Rattle.mr_ask.specs.Options.{no_set_options, set_options}
 use Rattle.mr_words.specs.declared.name.Name.{Name}
 use Rattle.mr_words.specs.declared.name.Name.TheVariants as name
 use Rattle.mr_words.specs.declared.fault.AskFault.{AskFault}
@@ -19,11 +19,22 @@ abbrev pub get : List (List ℕ) → Result TextAsk AskFault
 get (key ∷ []) = Ok (ask.Get key)
 get _ = Err (Arity name.Get)
 
--- SET key value [NX|XX] [GET]
+-- SET key value [NX|XX] [GET] [EX seconds|PX milliseconds|EXAT second|PXAT millisecond|KEEPTTL]
 abbrev pub set : List (List ℕ) → Result TextAsk AskFault
 set [] = Err (Arity name.Set)
 set (key ∷ []) = Err (Arity name.Set)
-set (key ∷ value ∷ words) = with (set_options words) (λ options. Ok (ask.Set key value options.condition options.reply))
+set (key ∷ value ∷ words) = with (set_options no_set_options words) (λ options.
+    with (lifetime_if_any options.lifetime) (λ lifetime. Ok (ask.Set key value options.condition options.reply lifetime)))
+
+-- SETEX key seconds value
+abbrev pub setex : List (List ℕ) → Result TextAsk AskFault
+setex (key ∷ amount ∷ value ∷ []) = with (integer amount) (λ n. with (seconds n) (λ s. Ok (ask.SetEx key s value)))
+setex _ = Err (Arity name.SetEx)
+
+-- PSETEX key milliseconds value
+abbrev pub psetex : List (List ℕ) → Result TextAsk AskFault
+psetex (key ∷ amount ∷ value ∷ []) = with (integer amount) (λ n. with (milliseconds n) (λ m. Ok (ask.PSetEx key m value)))
+psetex _ = Err (Arity name.PSetEx)
 
 -- STRLEN key
 abbrev pub strlen : List (List ℕ) → Result TextAsk AskFault

@@ -1,10 +1,8 @@
 // Commands with their arguments.
-use crate::hash_ask::HashAsk;
 use crate::key_ask::KeyAsk;
-use crate::list_ask::ListAsk;
 use crate::server_ask::ServerAsk;
-use crate::set_ask::SetAsk;
 use crate::text_ask::TextAsk;
+use mr_ask_coll::{HashAsk, ListAsk, SetAsk};
 use mr_ask_zset::ZSetAsk;
 
 /// A command with its arguments, which are borrowed from the request; by its kind, so that what serves the commands of one kind

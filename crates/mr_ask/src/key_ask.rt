@@ -1,4 +1,5 @@
 // Commands on keys of any kind, with their arguments.
+use crate::expiry::Expiry;
 use mr_words::{Argument, Words};
 
 /// A command on keys of any kind, with its arguments.
@@ -47,6 +48,45 @@ pub enum KeyAsk<'a, 't> {
         databases: Databases,
         timing: Option<Timing>,
     },
+    /// `EXPIRE key seconds [NX|XX|GT|LT]`, `PEXPIRE key milliseconds ..`, `EXPIREAT key second ..`, `PEXPIREAT key millisecond ..`
+    Expire {
+        key: Argument<'a>,
+        expiry: Expiry,
+        condition: Option<ExpireCondition>,
+    },
+    /// `TTL key`
+    Ttl {
+        key: Argument<'a>,
+    },
+    /// `PTTL key`
+    PTtl {
+        key: Argument<'a>,
+    },
+    /// `EXPIRETIME key`
+    ExpireTime {
+        key: Argument<'a>,
+    },
+    /// `PEXPIRETIME key`
+    PExpireTime {
+        key: Argument<'a>,
+    },
+    /// `PERSIST key`
+    Persist {
+        key: Argument<'a>,
+    },
+}
+
+/// Which keys get a deadline.
+#[derive(Clone, Copy, Debug, PartialEq, Eq)]
+pub enum ExpireCondition {
+    /// One without a deadline (`NX`).
+    Endless,
+    /// One with a deadline (`XX`).
+    Expiring,
+    /// One whose deadline becomes later (`GT`).
+    Later,
+    /// One whose deadline becomes earlier, where none is later than any (`LT`).
+    Earlier,
 }
 
 /// Where a scan goes on.

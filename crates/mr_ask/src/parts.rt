@@ -4,56 +4,15 @@ ghost use Rattle.std.specs.Cow.{cow_slice_items};
 ghost use Rattle.std.specs.Option.{option_map};
 ghost use Rattle.std.specs.Str.{bytes_eq};
 ghost use Rattle.mr_words.specs.Names.{lowered};
-ghost use Rattle.mr_ask.specs.Parts.{end_of, end_text, side_of, side_text, not_below_1, positive, positive_if_any, cursor_at, cursor_of, opposite, timing_of, timing_text, is_kind, kind_of};
+ghost use Rattle.mr_ask.specs.Parts.{not_below_1, positive, positive_if_any, cursor_at, cursor_of, opposite, timing_of, timing_text, is_kind, kind_of, expiring, key_expiry, lifetime_if_any, milliseconds, seconds, set_expiry, within_limit};
 
+use crate::expiry::{Expiry, ExpiryUnit, Milliseconds, Seconds};
 use crate::key_ask::{Cursor, KindName, Timing};
-use mr_value::{End, Side, read_i64};
-use mr_words::{Argument, AskFault, BadValue};
+use crate::options::LifetimeOption;
+use crate::text_ask::Lifetime;
+use mr_value::read_i64;
+use mr_words::{Argument, AskFault, BadValue, ExpiringCommand, integer};
 use std::borrow::CowSlice;
-
-/// `LEFT` or `RIGHT`, in any case.
-pub(crate) fn end_of(word: &CowSlice<'_, u8>) -> Result<End, AskFault>
-    ensures { result ≡ end_of (cow_slice_items word.now) }
-{
-    if is_end(word, End::Left) {
-        Ok(End::Left)
-    } else if is_end(word, End::Right) {
-        Ok(End::Right)
-    } else {
-        Err(AskFault::Syntax)
-    }
-}
-
-fn is_end(word: &CowSlice<'_, u8>, end: End) -> bool
-    ensures { result ≡ bytes_eq (lowered (cow_slice_items word.now)) (end_text end) }
-{
-    match end {
-        End::Left => word.as_slice().eq_ignore_ascii_case(b"left"),
-        End::Right => word.as_slice().eq_ignore_ascii_case(b"right"),
-    }
-}
-
-/// `BEFORE` or `AFTER`, in any case.
-pub(crate) fn side_of(word: &CowSlice<'_, u8>) -> Result<Side, AskFault>
-    ensures { result ≡ side_of (cow_slice_items word.now) }
-{
-    if is_side(word, Side::Before) {
-        Ok(Side::Before)
-    } else if is_side(word, Side::After) {
-        Ok(Side::After)
-    } else {
-        Err(AskFault::Syntax)
-    }
-}
-
-fn is_side(word: &CowSlice<'_, u8>, side: Side) -> bool
-    ensures { result ≡ bytes_eq (lowered (cow_slice_items word.now)) (side_text side) }
-{
-    match side {
-        Side::Before => word.as_slice().eq_ignore_ascii_case(b"before"),
-        Side::After => word.as_slice().eq_ignore_ascii_case(b"after"),
-    }
-}
 
 /// A number from 1 on, where there is one.
 pub(crate) fn positive_if_any(word: &Option<Argument<'_>>) -> Result<Option<i64>, AskFault>
@@ -68,14 +27,14 @@ pub(crate) fn positive_if_any(word: &Option<Argument<'_>>) -> Result<Option<i64>
 fn positive(text: &[u8]) -> Result<i64, AskFault>
     ensures { result ≡ positive text.now }
 {
-    not_below_1(read_i64(text).ok_or(AskFault::Integer)?)
+    not_below_1(AskFault::Syntax, read_i64(text).ok_or(AskFault::Integer)?)
 }
 
-fn not_below_1(number: i64) -> Result<i64, AskFault>
-    ensures { result ≡ not_below_1 number }
+fn not_below_1(otherwise: AskFault, number: i64) -> Result<i64, AskFault>
+    ensures { result ≡ not_below_1 otherwise number }
 {
     if number < 1 {
-        Err(AskFault::Syntax)
+        Err(otherwise)
     } else {
         Ok(number)
     }
@@ -170,4 +129,67 @@ fn is_kind(word: &[u8], kind: KindName) -> bool
         KindName::SortedSet => word.eq_ignore_ascii_case(b"zset"),
         KindName::Unknown => word.eq_ignore_ascii_case(b""),
     }
+}
+
+// The command that sets a deadline in this unit.
+fn expiring(unit: ExpiryUnit) -> ExpiringCommand
+    ensures { result ≡ expiring unit }
+{
+    match unit {
+        ExpiryUnit::Seconds => ExpiringCommand::Expire,
+        ExpiryUnit::Milliseconds => ExpiringCommand::PExpire,
+        ExpiryUnit::AtSecond => ExpiringCommand::ExpireAt,
+        ExpiryUnit::AtMillisecond => ExpiringCommand::PExpireAt,
+    }
+}
+
+// So many of a unit, which are within the limit.
+fn within_limit(command: ExpiringCommand, unit: ExpiryUnit, number: i64) -> Result<Expiry, AskFault>
+    ensures { result ≡ within_limit command unit number }
+{
+    unit.expiry(number).ok_or(AskFault::ExpireTime(command))
+}
+
+/// What the number of `EXPIRE` says, and of its kin.
+pub(crate) fn key_expiry(unit: ExpiryUnit, word: &CowSlice<'_, u8>) -> Result<Expiry, AskFault>
+    ensures { result ≡ key_expiry unit (cow_slice_items word.now) }
+{
+    within_limit(expiring(unit), unit, integer(word)?)
+}
+
+/// The seconds of `SETEX`, from 1 on.
+pub(crate) fn seconds(number: i64) -> Result<Seconds, AskFault>
+    ensures { result ≡ seconds number }
+{
+    let otherwise = AskFault::ExpireTime(ExpiringCommand::SetEx);
+    Seconds::new(not_below_1(otherwise, number)?).ok_or(otherwise)
+}
+
+/// The milliseconds of `PSETEX`, from 1 on.
+pub(crate) fn milliseconds(number: i64) -> Result<Milliseconds, AskFault>
+    ensures { result ≡ milliseconds number }
+{
+    let otherwise = AskFault::ExpireTime(ExpiringCommand::PSetEx);
+    Milliseconds::new(not_below_1(otherwise, number)?).ok_or(otherwise)
+}
+
+/// How long a value stays, by the option of `SET` that says it.
+pub(crate) fn lifetime_if_any(option: &Option<LifetimeOption<'_>>) -> Result<Lifetime, AskFault>
+    ensures { result ≡ lifetime_if_any option.now }
+{
+    match option {
+        None => Ok(Lifetime::Endless),
+        Some(LifetimeOption::Kept) => Ok(Lifetime::Kept),
+        Some(LifetimeOption::Until(unit, number)) => {
+            Ok(Lifetime::Until(set_expiry(*unit, number.as_slice())?))
+        }
+    }
+}
+
+fn set_expiry(unit: ExpiryUnit, text: &[u8]) -> Result<Expiry, AskFault>
+    ensures { result ≡ set_expiry unit text.now }
+{
+    let number = read_i64(text).ok_or(AskFault::Integer)?;
+    let number = not_below_1(AskFault::ExpireTime(ExpiringCommand::Set), number)?;
+    within_limit(ExpiringCommand::Set, unit, number)
 }

@@ -8,20 +8,18 @@ ghost use Rattle.mr_ask.specs.Carried.{AskFits};
 ghost use Rattle.mr_ask.specs.Spelled.{Spells};
 ghost use Rattle.mr_ask.specs.declared.ask.Ask.TheVariants as kind;
 
-mod hashes;
 mod keys;
-mod lists;
 mod server;
-mod sets;
 mod texts;
 
 use crate::ask::Ask;
-use crate::hash_ask::{FieldsReply, HashAsk, HashPart};
+use crate::expiry::ExpiryUnit;
 use crate::key_ask::{Databases, KeyAsk};
-use crate::list_ask::{ListAsk, PushTo};
 use crate::server_ask::ServerAsk;
-use crate::set_ask::{SetAsk, SetOperation};
 use crate::text_ask::{Amount, TextAsk};
+use mr_ask_coll::{
+    FieldsReply, HashAsk, HashPart, ListAsk, PushTo, SetAsk, SetOperation, hashes, lists, sets,
+};
 use mr_ask_zset as zset;
 use mr_ask_zset::{Order, ZSetAsk};
 use mr_value::End;
@@ -84,6 +82,17 @@ fn read_arguments<'a, 't>(name: Name, arguments: Arguments<'a, 't>) -> Reading<'
         Name::RenameNx => of_keys(keys::renamenx(arguments)),
         Name::FlushAll => of_keys(keys::clear(Databases::All, arguments)),
         Name::FlushDb => of_keys(keys::clear(Databases::Selected, arguments)),
+        Name::SetEx => of_texts(texts::setex(arguments)),
+        Name::PSetEx => of_texts(texts::psetex(arguments)),
+        Name::Expire => of_keys(keys::expire(name, ExpiryUnit::Seconds, arguments)),
+        Name::PExpire => of_keys(keys::expire(name, ExpiryUnit::Milliseconds, arguments)),
+        Name::ExpireAt => of_keys(keys::expire(name, ExpiryUnit::AtSecond, arguments)),
+        Name::PExpireAt => of_keys(keys::expire(name, ExpiryUnit::AtMillisecond, arguments)),
+        Name::Ttl => of_keys(keys::ttl(arguments)),
+        Name::PTtl => of_keys(keys::pttl(arguments)),
+        Name::ExpireTime => of_keys(keys::expiretime(arguments)),
+        Name::PExpireTime => of_keys(keys::pexpiretime(arguments)),
+        Name::Persist => of_keys(keys::persist(arguments)),
         Name::HSet => of_hashes(hashes::set_fields(name, FieldsReply::Added, arguments)),
         Name::HMSet => of_hashes(hashes::set_fields(name, FieldsReply::Done, arguments)),
         Name::HSetNx => of_hashes(hashes::hsetnx(arguments)),

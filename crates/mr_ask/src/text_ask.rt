@@ -2,6 +2,7 @@
 ghost use Rattle.std.specs.Prelude.{◌≡◌};
 ghost use Rattle.mr_ask.specs.Parts.{amount_number};
 
+use crate::expiry::{Expiry, Milliseconds, Seconds};
 use mr_words::{Argument, Pairs, Words};
 
 /// A command on strings, with its arguments.
@@ -11,12 +12,25 @@ pub enum TextAsk<'a, 't> {
     Get {
         key: Argument<'a>,
     },
-    /// `SET key value [NX|XX] [GET]`
+    /// `SET key value [NX|XX] [GET] [EX seconds|PX milliseconds|EXAT second|PXAT millisecond|KEEPTTL]`
     Set {
         key: Argument<'a>,
         value: Argument<'a>,
         condition: Option<SetCondition>,
         reply: SetReply,
+        lifetime: Lifetime,
+    },
+    /// `SETEX key seconds value`
+    SetEx {
+        key: Argument<'a>,
+        seconds: Seconds,
+        value: Argument<'a>,
+    },
+    /// `PSETEX key milliseconds value`
+    PSetEx {
+        key: Argument<'a>,
+        milliseconds: Milliseconds,
+        value: Argument<'a>,
     },
     /// `STRLEN key`
     TextLength {
@@ -88,6 +102,17 @@ pub enum SetReply {
     Done,
     /// The text that was there before (`GET`).
     Before,
+}
+
+/// How long a value that is set stays.
+#[derive(Clone, Copy)]
+pub enum Lifetime {
+    /// Its key gets no deadline.
+    Endless,
+    /// Its key keeps the deadline that it has (`KEEPTTL`).
+    Kept,
+    /// Its key gets this deadline (`EX`, `PX`, `EXAT`, `PXAT`).
+    Until(Expiry),
 }
 
 /// What is added to a number, by the command that asks for it.

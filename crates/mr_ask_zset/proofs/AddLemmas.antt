@@ -11,7 +11,7 @@ use Rattle.mr_words.specs.Pairing.{unpaired}
 use Rattle.mr_words.specs.Spelling.{Part, Keyword, AreParts, in_a_row}
 use Rattle.mr_words.proofs.FitLemmas.{first, second}
 use Rattle.mr_words.proofs.OptionLemmas.{all_added, each_alone, from_none, parts_joined}
-use Rattle.mr_words.proofs.PartLemmas.{with_ok, if_with, if_ok, with_pairs}
+use Rattle.mr_words.proofs.PartLemmas.{with_ok, if_with, if_ok, with_pairs, found_passes, ok_found}
 use Rattle.mr_words.specs.declared.name.Name.TheVariants as name
 use Rattle.mr_words.specs.declared.fault.AskFault.TheVariants.{Integer, Syntax}
 use Rattle.mr_zset.specs.Texts.{IsScoreText, score_of}
@@ -20,7 +20,6 @@ use Rattle.mr_ask_zset.specs.AddOptions.{add_also, add_option, add_options, add_
 use Rattle.mr_ask_zset.specs.Reading.{add_scores, score_pairs, zadd}
 use Rattle.mr_ask_zset.specs.Scored.{have_scores, or_0, scored, scored_of}
 use Rattle.mr_ask_zset.specs.Spelled.{changed_option, comparison_option, condition_option, pair_parts, ZSetSpells}
-use Rattle.mr_ask_zset.proofs.PartLemmas.{found_passes, ok_found}
 use Rattle.mr_ask_zset.specs.declared.add_options.AddOption.{AddOption}
 use Rattle.mr_ask_zset.specs.declared.add_options.AddOption.TheVariants as add
 use Rattle.mr_ask_zset.specs.declared.add_options.AddOptions.{AddOptions}

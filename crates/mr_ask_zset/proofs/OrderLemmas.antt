@@ -2,7 +2,7 @@
 use Rattle.std.proofs.Common.{ℕ, ◌≡◌, List, ◌∷◌, ◌++◌, Option, Some, None, refl, sym, ap}
 use Rattle.std.specs.Option.{is_some, ok_or}
 use Rattle.mr_words.specs.Parts.{with}
-use Rattle.mr_words.proofs.OrderLemmas.{exchanged, OnlySyntax, words_alike, two_alike, twice_refused, unless}
+use Rattle.mr_words.proofs.OrderLemmas.{exchanged, OnlySyntax, words_alike, two_alike, twice_refused, unless, only_found}
 use Rattle.mr_words.specs.declared.fault.AskFault.TheVariants.{Syntax}
 use Rattle.mr_ask_zset.specs.AddOptions.{add_also, add_option, add_options, add_word, agreeing, changed_also, no_add_options}
 use Rattle.mr_ask_zset.specs.declared.add_options.AddOption.{AddOption}
@@ -12,11 +12,6 @@ use Rattle.mr_ask_zset.specs.declared.zset_ask.ScoreCondition.{ScoreCondition}
 use Rattle.mr_ask_zset.specs.declared.zset_ask.Comparison.{Comparison}
 use Rattle.mr_ask_zset.specs.declared.zset_ask.ScoresReply.{ScoresReply}
 use Rattle.mr_ask_zset.specs.declared.zset_ask.ScoresReply.TheVariants.{Added, Changed}
-
-pub only_found : {A : Type 0} (o : Option A) → OnlySyntax (ok_or o Syntax)
-unfolding OnlySyntax
-only_found None = refl
-only_found (Some a) = tt
 
 changed_only : (c : Option ScoreCondition) (d : Option Comparison) (r : ScoresReply) → OnlySyntax (changed_also c d r)
 unfolding OnlySyntax

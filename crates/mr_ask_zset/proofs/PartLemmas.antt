@@ -1,14 +1,12 @@
 -- What was read of an argument is what its word spells.
-use Rattle.std.proofs.Common.{ℕ, ℤ, ◌≡◌, List, [], ◌∷◌, Bool, true, false, Option, Some, None, refl, sym, ◌∙◌, ap, subst}
-use Rattle.std.specs.Prelude.{IfOk, Result, Ok, find, cond}
+use Rattle.std.proofs.Common.{ℕ, ℤ, ◌≡◌, List, [], ◌∷◌, Option, Some, None, refl, ◌∙◌, ap, subst}
+use Rattle.std.specs.Prelude.{IfOk, Result, Ok}
 use Rattle.std.specs.Option.{ok_or}
-use Rattle.mr_value.specs.Number.{number_of}
-use Rattle.mr_value.proofs.Numbers.{number_text}
 use Rattle.mr_words.specs.Parts.{with, integer}
-use Rattle.mr_words.specs.Spelling.{Part, Word, Number, Keyword, IsPart, AreParts}
-use Rattle.mr_words.proofs.PartLemmas.{with_ok, if_with, integer_read}
+use Rattle.mr_words.specs.Spelling.{Part, Number, Keyword, AreParts}
+use Rattle.mr_words.proofs.PartLemmas.{with_ok, if_with, number_part, number_part_read}
 use Rattle.mr_words.specs.declared.fault.AskFault.{AskFault}
-use Rattle.mr_words.specs.declared.fault.AskFault.TheVariants.{Integer, Syntax, Other}
+use Rattle.mr_words.specs.declared.fault.AskFault.TheVariants.{Integer, Other}
 use Rattle.mr_words.specs.declared.fault.BadValue.TheVariants as bad
 use Rattle.mr_zset.specs.declared.bound.Bound.{Bound}
 use Rattle.mr_zset.specs.Texts.{IsScoreText, bound_of, score_of}
@@ -50,23 +48,6 @@ pub with_bounds : {A : Type 0} (o : Order) (v w : List ℕ) (next : Bound × Bou
     → ((p : Bound × Bound) → AreParts (v ∷ w ∷ []) (bound_parts o p.0 p.1) → IfOk (next p) P) → IfOk (with (bounds o v w) next) P
 with_bounds o v w next P h = if_with (bounds o v w) next P (λ p e. h p (bounds_read o v w p e))
 
--- what a word is: the number that is read, or the word itself
-abbrev pub part_of : Option ℤ → List ℕ → Part
-part_of None w = Word w
-part_of (Some n) w = Number n
-
-abbrev pub number_part : List ℕ → Part
-number_part w = part_of (number_of w) w
-
-pub is_number_part : (w : List ℕ) → IsPart w (number_part w)
-is_number_part w = elim (number_of w) as (λ o. number_of w ≡ o → IsPart w (part_of o w)) [
-  | None ↦ λ s. refl
-  | Some n ↦ λ s. (number_text w n s).0
-] refl
-
-number_part_read : (w : List ℕ) (n : ℤ) → integer w ≡ Ok n → number_part w ≡ Number n
-number_part_read w n h = ap (λ (o : Option ℤ). part_of o w) (integer_read w n h)
-
 -- LIMIT with its words, before they are read
 abbrev pub words_option : Option LimitWords → List (List Part)
 words_option None = []
@@ -87,15 +68,3 @@ limit_if_any_read (Some ws) p h =
     let x = with_ok (limit ws) (λ l. Ok (Some l)) p h in
     let same : Some x.0 ≡ p = cc in
     limit_read ws x.0 x.1.0 ∙ ap limit_option same
-
--- what is found passes the test
-pub found_passes : {A : Type 0} (p : A → Bool) (xs : List A) (x : A) → find p xs ≡ Some x → p x ≡ true
-found_passes p [] x h = cc
-found_passes p (y ∷ ys) x h = elim (p y) as (λ b. p y ≡ b → cond b (Some y) (find p ys) ≡ Some x → p x ≡ true) [
-  | true ↦ λ t s. let same : y ≡ x = cc in ap p (sym same) ∙ t
-  | false ↦ λ t s. found_passes p ys x s
-] refl h
-
-pub ok_found : {A : Type 0} (o : Option A) (x : A) → ok_or o Syntax ≡ Ok x → o ≡ Some x
-ok_found None x h = cc
-ok_found (Some y) x h = let same : y ≡ x = cc in ap (λ z. Some z) same

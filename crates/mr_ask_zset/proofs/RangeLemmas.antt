@@ -2,13 +2,13 @@
 use Rattle.std.proofs.Common.{ℕ, ℤ, ◌≡◌, List, [], ◌∷◌, ◌++◌, true, false, Option, Some, None, inl, inr, refl, subst}
 use Rattle.std.specs.Prelude.{IfOk, IsPermutation, Ok, if◌then◌else◌}
 use Rattle.std.specs.Option.{ok_or}
-use Rattle.std.proofs.lemmas.List.Sorted.{IsPermutation-refl, IsPermutation-trans, IsPermutation-middle, IsPermutation-append_left, IsPermutation-append_right}
+use Rattle.std.proofs.lemmas.List.Sorted.{IsPermutation-refl, IsPermutation-middle, IsPermutation-append_left}
 use Rattle.mr_value.proofs.Numbers.{same_bytes}
 use Rattle.mr_words.specs.Names.{lowered}
 use Rattle.mr_words.specs.Parts.{with}
 use Rattle.mr_words.specs.Spelling.{Part, Number, Keyword, AreParts, in_a_row}
-use Rattle.mr_words.proofs.OptionLemmas.{Adds, from_none, parts_joined}
-use Rattle.mr_words.proofs.PartLemmas.{with_ok, if_with, with_integer}
+use Rattle.mr_words.proofs.OptionLemmas.{Adds, one_first, from_none, parts_joined}
+use Rattle.mr_words.proofs.PartLemmas.{with_ok, if_with, with_integer, number_part, is_number_part, found_passes, ok_found}
 use Rattle.mr_words.specs.declared.name.Name.{Name}
 use Rattle.mr_words.specs.declared.name.Name.TheVariants as name
 use Rattle.mr_words.specs.declared.fault.AskFault.TheVariants.{Syntax}
@@ -16,7 +16,7 @@ use Rattle.mr_ask_zset.specs.RangeOptions.{all_range_options, by_score_also, is_
 use Rattle.mr_ask_zset.specs.Parts.{limit_if_any}
 use Rattle.mr_ask_zset.specs.Reading.{range_by_score, range_with, ranks, reversed_with, scores_with, zrange, zrevrange}
 use Rattle.mr_ask_zset.specs.Spelled.{bound_parts, order_option, range_word_option, score_range_name, scores_option, ZSetSpells}
-use Rattle.mr_ask_zset.proofs.PartLemmas.{found_passes, is_number_part, limit_if_any_read, number_part, ok_found, with_bounds, words_option}
+use Rattle.mr_ask_zset.proofs.PartLemmas.{limit_if_any_read, with_bounds, words_option}
 use Rattle.mr_ask_zset.specs.declared.range_options.LimitWords.{LimitWords}
 use Rattle.mr_ask_zset.specs.declared.range_options.RangeBy.{RangeBy}
 use Rattle.mr_ask_zset.specs.declared.range_options.RangeBy.TheVariants.{Rank, Score}
@@ -87,14 +87,6 @@ limit_more b o None r v w t h =
     subst (λ (x : RangeOptions). IsPermutation (range_parts x) (limit_part v w ∷ parts b o None r)) same
     (IsPermutation-append_left (scores_option r) _ _ (IsPermutation-middle (by_option b ++ order_option o) (limit_part v w) []))
 limit_more b o (Some l) r v w t h = cc
-
--- one option, and then those behind it
-one_first : (o : List Part) (xs ys : List (List ℕ)) (before middle after : List (List Part)) → AreParts xs o → IsPermutation middle (o ∷ before) → Adds ys middle after → Adds (xs ++ ys) before after
-one_first o xs ys before middle after is more rest = record {
-  order = o ∷ rest.order;
-  same = IsPermutation-trans _ _ _ rest.same (IsPermutation-trans _ _ _ (IsPermutation-append_right rest.order middle (o ∷ before) more) (IsPermutation-middle rest.order o before));
-  parts = parts_joined xs ys o (in_a_row rest.order) is rest.parts;
-}
 
 abbrev Reads : List (List ℕ) → Type 0
 Reads ws = (s t : RangeOptions) → range_options s ws ≡ Ok t → Adds ws (range_parts s) (range_parts t)

@@ -43,14 +43,18 @@ fn moments_go_from_0_to_2_to_the_61(rt: HostRuntime) -> Result<(), Fail> {
     Ok(())
 }
 
+fn set(held: &mut Dataset, key: &[u8]) -> Result<(), ApplyFault> {
+    held.apply(&Effect::Set {
+        key: Word::borrowed(key),
+        value: Word::borrowed(b"v"),
+    })
+}
+
 #[test]
 fn a_dataset_is_looked_at(rt: HostRuntime) -> Result<(), Fail> {
     let mut held = Dataset::new(rt.alloc(), RandomState::new(&rt)?);
     for key in [b"ab".as_slice(), b"", b"a"] {
-        held.apply(&Effect::Set {
-            key: Word::borrowed(key),
-            value: Word::borrowed(b"v"),
-        })?;
+        set(&mut held, key)?;
     }
     assert_eq!(rt; held.len(), 3);
     assert!(rt; held.entry(b"ab").is_some() && held.value(b"b").is_none());

@@ -8,22 +8,24 @@ use Rattle.std.specs.FinMap.{get, empty}
 use Rattle.mr_map.specs.Bytes.{Bytes}
 use Rattle.mr_value.specs.Words.{fits}
 use Rattle.mr_value.specs.Lists.{without}
-use Rattle.mr_effect.specs.Effects.{words_fit, has_spelling, pair_fits, member_fits, has_score, is_some_of}
+use Rattle.mr_effect.specs.Effects.{words_fit, has_spelling, pair_fits, member_fits, has_score, is_some_of, is_deadline}
 use Rattle.mr_effect.specs.declared.effect.Effect.{Effect}
 use Rattle.mr_effect.specs.declared.effect.Effect.TheVariants as effect
 use Rattle.mr_value.specs.declared.ends.End.{End}
 use Rattle.mr_value.specs.declared.ends.Side.{Side}
-use Rattle.mr_data.specs.declared.value.Value.TheVariants as value
-use Rattle.mr_data.specs.declared.value.Entry.{Entry}
-use Rattle.mr_data.specs.Dataset.{Dataset, IsWord, IsDataset, IsValue}
-use Rattle.mr_data.specs.Collections.{with_fields, without_fields, with_members, without_members, with_scores, without_scores, put_item, pushed, popped, end_item, turned, may_take, is_place_of, is_part_of, place_beside}
-use Rattle.mr_data.specs.Steps.{without_deadline, hashes, lists, sets, sorted_sets, held, set_step, del_step, append_step, set_range_step, increase_step, set_fields_step, remove_fields_step, push_step, pop_step, set_item_step, insert_item_step, remove_items_step, trim_step, turn_step, add_members_step, remove_members_step, set_scores_step, remove_scores_step}
-use Rattle.mr_data.specs.Meaning.{at_key, change, with_texts, item_at, carry_item, move_item, has_member, carry_member, move_member}
-use Rattle.mr_data.specs.Outcome.{Applies}
-use Rattle.mr_data.specs.declared.fault.ApplyFault.{ApplyFault}
-use Rattle.mr_data.specs.declared.fault.ApplyFault.TheVariants.{Refused, Memory}
-use Rattle.mr_data.proofs.Fitting.{first, second, FieldsFit, MembersFit, ScoresFit, ItemsFit, with_fields_fit, without_fields_fit, with_members_fit, without_members_fit, with_scores_fit, without_scores_fit, put_item_fits, pushed_fit, popped_fit, end_item_fits, inserted_fit, set_fit, range_fit, without_fit}
-use Rattle.mr_data.proofs.Datasets.{IsDataset-empty, Keeps, at_key_keeps, on_keeps, held_suits, value_at, hashes_suit, lists_suit, sets_suit, sorted_sets_suit}
+use Rattle.mr_entries.specs.declared.value.Value.TheVariants as value
+use Rattle.mr_entries.specs.declared.value.Entry.{Entry}
+use Rattle.mr_entries.specs.Dataset.{Dataset}
+use Rattle.mr_data.specs.Dataset.{IsWord, IsDataset, IsValue, IsLifetime}
+use Rattle.mr_entries.specs.Collections.{with_fields, without_fields, with_members, without_members, with_scores, without_scores, put_item, pushed, popped, end_item, turned, may_take, is_place_of, is_part_of, place_beside}
+use Rattle.mr_entries.specs.Steps.{without_deadline, deadline_of, hashes, lists, sets, sorted_sets, held, set_step, set_until_step, set_keeping_step, del_step, deadline_step, expire_step, persist_step, append_step, set_range_step, increase_step, set_fields_step, remove_fields_step, push_step, pop_step, set_item_step, insert_item_step, remove_items_step, trim_step, turn_step, add_members_step, remove_members_step, set_scores_step, remove_scores_step}
+use Rattle.mr_entries.specs.Changes.{at_key, change, with_texts, item_at, carry_item, move_item, has_member, carry_member, move_member}
+use Rattle.mr_entries.specs.Outcome.{Applies}
+use Rattle.mr_entries.specs.declared.fault.ApplyFault.{ApplyFault}
+use Rattle.mr_entries.specs.declared.fault.ApplyFault.TheVariants.{Refused, Memory}
+use Rattle.mr_data.proofs.Fitting.{FieldsFit, MembersFit, ScoresFit, ItemsFit, with_fields_fit, without_fields_fit, with_members_fit, without_members_fit, with_scores_fit, without_scores_fit, put_item_fits, pushed_fit, popped_fit, end_item_fits, inserted_fit, set_fit, range_fit, without_fit}
+use Rattle.mr_entries.proofs.Both.{first, second}
+use Rattle.mr_data.proofs.Datasets.{IsDataset-empty, Keeps, lifetime, at_key_keeps, on_keeps, held_suits, entry_at, hashes_suit, lists_suit, sets_suit, sorted_sets_suit}
 use Rattle.mr_data.proofs.TextChanges.{append_keeps, set_range_keeps, increase_keeps, with_texts_keeps, rename_keeps}
 
 -- f is done everywhere
@@ -42,7 +44,20 @@ where_found P (Some a) g y fit h = let same : g a ≡ y = cc in subst P same (fi
 
 set_keeps : (text : Bytes) → IsWord text → Keeps (set_step text)
 set_keeps text fit before None has h = tt
-set_keeps text fit before (Some e) has h = let same : without_deadline (value.Text text) ≡ e = cc in subst (λ (x : Entry). IsValue x.value) same fit
+set_keeps text fit before (Some e) has h = let same : without_deadline (value.Text text) ≡ e = cc in subst (λ (x : Entry). IsValue x.value × IsLifetime x.deadline) same (fit, tt)
+
+set_until_keeps : (text : Bytes) (d : ℤ) → IsWord text → IsTrue (is_deadline d) → Keeps (set_until_step text d)
+set_until_keeps text d fit is before None has h = tt
+set_until_keeps text d fit is before (Some e) has h = let same : record { value = value.Text text; deadline = Some d } ≡ e = cc in subst (λ (x : Entry). IsValue x.value × IsLifetime x.deadline) same (fit, is)
+
+set_keeping_keeps : (text : Bytes) → IsWord text → Keeps (set_keeping_step text)
+set_keeping_keeps text fit before None has h = tt
+set_keeping_keeps text fit before (Some e) has h = let same : record { value = value.Text text; deadline = deadline_of before } ≡ e = cc in subst (λ (x : Entry). IsValue x.value × IsLifetime x.deadline) same (fit, lifetime before has)
+
+deadline_keeps : (d : Option ℤ) → IsLifetime d → Keeps (deadline_step d)
+deadline_keeps d is None after has h = cc
+deadline_keeps d is (Some x) None has h = cc
+deadline_keeps d is (Some x) (Some e) has h = let same : record { value = x.value; deadline = d } ≡ e = cc in subst (λ (y : Entry). IsValue y.value × IsLifetime y.deadline) same (has.0, is)
 
 del_keeps : Keeps del_step
 del_keeps before None has h = tt
@@ -92,7 +107,7 @@ item_fits : (m : Dataset) (k x : Bytes) (end : End) → IsDataset m → item_at 
 item_fits m k x end old h =
     elim (held lists (get m k)) as (λ o. held lists (get m k) ≡ o → option_and_then (end_item end) o ≡ Some x → IsWord x) [
       | None ↦ λ s i. cc
-      | Some xs ↦ λ s i. end_item_fits end xs x (held_suits lists ItemsFit lists_suit (get m k) xs (value_at m k (get m k) refl old) s) i
+      | Some xs ↦ λ s i. end_item_fits end xs x (held_suits lists ItemsFit lists_suit (get m k) xs (entry_at m k (get m k) refl old) s) i
     ] refl h
 
 one_fits : (x : Bytes) → IsWord x → IsTrue (list_all fits (x ∷ []))
@@ -139,6 +154,11 @@ move_member_keeps from to x m n old fit_from fit_to fit_x h =
 pub change_keeps : (e : Effect) (m n : Dataset) → IsDataset m → IsTrue (has_spelling e) → IsTrue (words_fit e) → change e m ≡ Some n → IsDataset n
 unfolding change
 change_keeps (effect.Set k text) m n old spelled fit h = at_key_keeps (set_step text) (set_keeps text (second (fits k) (fits text) fit)) k m n old (first (fits k) (fits text) fit) h
+change_keeps (effect.SetUntil k text d) m n old spelled fit h = at_key_keeps (set_until_step text d) (set_until_keeps text d (second (fits k) (fits text) fit) spelled) k m n old (first (fits k) (fits text) fit) h
+change_keeps (effect.SetKeeping k text) m n old spelled fit h = at_key_keeps (set_keeping_step text) (set_keeping_keeps text (second (fits k) (fits text) fit)) k m n old (first (fits k) (fits text) fit) h
+change_keeps (effect.Expire k d) m n old spelled fit h = at_key_keeps (expire_step d) (deadline_keeps (Some d) spelled) k m n old fit h
+change_keeps (effect.Persist k) m n old spelled fit h = at_key_keeps persist_step (deadline_keeps None tt) k m n old fit h
+change_keeps effect.Ping m n old spelled fit h = let same : m ≡ n = cc in subst IsDataset same old
 change_keeps (effect.Del k) m n old spelled fit h = at_key_keeps del_step del_keeps k m n old fit h
 change_keeps (effect.SetFields k pairs) m n old spelled fit h = at_key_keeps (set_fields_step pairs) (set_fields_keeps pairs (second (fits k) (list_all pair_fits pairs) fit)) k m n old (first (fits k) (list_all pair_fits pairs) fit) h
 change_keeps (effect.RemoveFields k fields) m n old spelled fit h = at_key_keeps (remove_fields_step fields) (remove_fields_keeps fields) k m n old (first (fits k) (list_all fits fields) fit) h

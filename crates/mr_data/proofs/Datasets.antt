@@ -8,13 +8,14 @@ use Rattle.std.proofs.lemmas.Cmp.{nat_list_cmp_total}
 use Rattle.std.proofs.lemmas.List.Elements.{All-nil}
 use Rattle.std.proofs.lemmas.Bool.{eqb-false}
 use Rattle.mr_map.specs.Bytes.{Bytes, ByteMap, bytes_cmp}
-use Rattle.mr_data.specs.Dataset.{Dataset, IsWord, IsDataset, IsEntry, IsValue, put_at}
-use Rattle.mr_data.specs.Steps.{Step, Kind, hashes, lists, sets, sorted_sets, on, held, entry_of, deadline_of}
-use Rattle.mr_data.specs.Meaning.{at_key}
-use Rattle.mr_data.specs.declared.value.Value.{Value}
-use Rattle.mr_data.specs.declared.value.Value.TheVariants as value
-use Rattle.mr_data.specs.declared.value.Entry.{Entry}
-use Rattle.mr_data.proofs.Maps.{same_key}
+use Rattle.mr_entries.specs.Dataset.{Dataset, put_at}
+use Rattle.mr_data.specs.Dataset.{IsWord, IsDataset, IsEntry, IsValue, IsLifetime}
+use Rattle.mr_entries.specs.Steps.{Step, Kind, hashes, lists, sets, sorted_sets, on, held, entry_of, deadline_of}
+use Rattle.mr_entries.specs.Changes.{at_key}
+use Rattle.mr_entries.specs.declared.value.Value.{Value}
+use Rattle.mr_entries.specs.declared.value.Value.TheVariants as value
+use Rattle.mr_entries.specs.declared.value.Entry.{Entry}
+use Rattle.mr_entries.proofs.Maps.{same_key}
 use Rattle.mr_data.proofs.Fitting.{FieldsFit, no_fields, ItemsFit, MembersFit, no_members, ScoresFit, no_scores}
 
 -- what one key has was set to o
@@ -33,28 +34,28 @@ nothing e h = cc
 pub IsDataset-empty : IsDataset empty
 IsDataset-empty = record { entries = λ k e h. absurd (nothing e (sym (get-empty bytes_cmp k) ∙ h)) }
 
--- the value of an entry, if there is one, is one that may stand in a dataset
-abbrev pub HasValue : Option Entry → Type 0
-HasValue None = Unit {0}
-HasValue (Some e) = IsValue e.value
+-- an entry, if there is one, is one that may stand in a dataset
+abbrev pub Stands : Option Entry → Type 0
+Stands None = Unit {0}
+Stands (Some e) = IsValue e.value × IsLifetime e.deadline
 
-pub put_keeps : (m : Dataset) (k : Bytes) (o : Option Entry) → IsDataset m → IsWord k → HasValue o → IsDataset (put_at m k o)
+pub put_keeps : (m : Dataset) (k : Bytes) (o : Option Entry) → IsDataset m → IsWord k → Stands o → IsDataset (put_at m k o)
 put_keeps m k None old fit new = updated m _ k None (get-remove nat_list_cmp_total m k) (λ e h. absurd (nothing e h)) old
-put_keeps m k (Some e) old fit new = updated m _ k (Some e) (get-insert nat_list_cmp_total m k e) (λ f h. let same : e ≡ f = cc in subst (IsEntry k) same (record { key = fit; value = new })) old
+put_keeps m k (Some e) old fit new = updated m _ k (Some e) (get-insert nat_list_cmp_total m k e) (λ f h. let same : e ≡ f = cc in subst (IsEntry k) same (record { key = fit; value = new.0; deadline = new.1 })) old
 
 -- a step makes of such an entry such an entry
 abbrev pub Keeps : Step → Type 0
-Keeps step = (before after : Option Entry) → HasValue before → step before ≡ Some after → HasValue after
+Keeps step = (before after : Option Entry) → Stands before → step before ≡ Some after → Stands after
 
-pub value_at : (m : Dataset) (k : Bytes) (o : Option Entry) → get m k ≡ o → IsDataset m → HasValue o
-value_at m k None h old = tt
-value_at m k (Some e) h old = (old.entries k e h).value
+pub entry_at : (m : Dataset) (k : Bytes) (o : Option Entry) → get m k ≡ o → IsDataset m → Stands o
+entry_at m k None h old = tt
+entry_at m k (Some e) h old = ((old.entries k e h).value, (old.entries k e h).deadline)
 
 pub at_key_keeps : (step : Step) → Keeps step → (k : Bytes) (m n : Dataset) → IsDataset m → IsWord k → at_key step k m ≡ Some n → IsDataset n
 at_key_keeps step keeps k m n old fit h =
     elim (step (get m k)) as (λ o. step (get m k) ≡ o → option_map (put_at m k) o ≡ Some n → IsDataset n) [
       | None ↦ λ s i. cc
-      | Some after ↦ λ s i. let same : put_at m k after ≡ n = cc in subst IsDataset same (put_keeps m k after old fit (keeps (get m k) after (value_at m k (get m k) refl old) s))
+      | Some after ↦ λ s i. let same : put_at m k after ≡ n = cc in subst IsDataset same (put_keeps m k after old fit (keeps (get m k) after (entry_at m k (get m k) refl old) s))
     ] refl h
 
 -- ---- collections
@@ -65,24 +66,28 @@ pub record Suits {X : Type 0} (kind : Kind X) (P : X → Type 0) : Type 0 where
   pub taken : (v : Value) (x : X) → kind.of v ≡ Some x → IsValue v → P x
   pub put : (x : X) → kind.is_none x ≡ false → P x → IsValue (kind.value x)
 
-pub held_suits : {X : Type 0} (kind : Kind X) (P : X → Type 0) → Suits kind P → (before : Option Entry) (x : X) → HasValue before → held kind before ≡ Some x → P x
+pub held_suits : {X : Type 0} (kind : Kind X) (P : X → Type 0) → Suits kind P → (before : Option Entry) (x : X) → Stands before → held kind before ≡ Some x → P x
 held_suits kind P suits None x has h = let same : kind.none ≡ x = cc in subst P same suits.none
-held_suits kind P suits (Some e) x has h = suits.taken e.value x h has
+held_suits kind P suits (Some e) x has h = suits.taken e.value x h has.0
 
-entry_suits : {X : Type 0} (kind : Kind X) (P : X → Type 0) → Suits kind P → (e : Option Entry) (y : X) → P y → HasValue (entry_of kind (deadline_of e) y)
-entry_suits kind P suits e y fit =
-    elim (kind.is_none y) as (λ b. kind.is_none y ≡ b → HasValue (if b then None else Some (record { value = kind.value y; deadline = deadline_of e }))) [
+pub lifetime : (e : Option Entry) → Stands e → IsLifetime (deadline_of e)
+lifetime None has = tt
+lifetime (Some e) has = has.1
+
+entry_suits : {X : Type 0} (kind : Kind X) (P : X → Type 0) → Suits kind P → (d : Option ℤ) (y : X) → IsLifetime d → P y → Stands (entry_of kind d y)
+entry_suits kind P suits d y is fit =
+    elim (kind.is_none y) as (λ b. kind.is_none y ≡ b → Stands (if b then None else Some (record { value = kind.value y; deadline = d }))) [
       | true ↦ λ t. tt
-      | false ↦ λ t. suits.put y t fit
+      | false ↦ λ t. (suits.put y t fit, is)
     ] refl
 
 pub on_keeps : {X : Type 0} (kind : Kind X) (P : X → Type 0) → Suits kind P → (f : X → Option X) → ((x y : X) → P x → f x ≡ Some y → P y) → Keeps (on kind f)
 on_keeps kind P suits f keeps before after has h =
-    elim (held kind before) as (λ o. held kind before ≡ o → option_and_then (λ x. option_map (entry_of kind (deadline_of before)) (f x)) o ≡ Some after → HasValue after) [
+    elim (held kind before) as (λ o. held kind before ≡ o → option_and_then (λ x. option_map (entry_of kind (deadline_of before)) (f x)) o ≡ Some after → Stands after) [
       | None ↦ λ s i. cc
-      | Some x ↦ λ s i. elim (f x) as (λ o. f x ≡ o → option_map (entry_of kind (deadline_of before)) o ≡ Some after → HasValue after) [
+      | Some x ↦ λ s i. elim (f x) as (λ o. f x ≡ o → option_map (entry_of kind (deadline_of before)) o ≡ Some after → Stands after) [
         | None ↦ λ t j. cc
-        | Some y ↦ λ t j. let same : entry_of kind (deadline_of before) y ≡ after = cc in subst HasValue same (entry_suits kind P suits before y (keeps x y (held_suits kind P suits before x has s) t))
+        | Some y ↦ λ t j. let same : entry_of kind (deadline_of before) y ≡ after = cc in subst Stands same (entry_suits kind P suits (deadline_of before) y (lifetime before has) (keeps x y (held_suits kind P suits before x has s) t))
       ] refl i
     ] refl h
 

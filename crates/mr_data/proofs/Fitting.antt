@@ -15,16 +15,9 @@ use Rattle.mr_zset.specs.Score.{is_score}
 use Rattle.mr_value.specs.declared.ends.End.{End}
 use Rattle.mr_value.specs.declared.ends.End.TheVariants.{Left, Right}
 use Rattle.mr_data.specs.Dataset.{IsWord}
-use Rattle.mr_data.specs.Collections.{with_fields, without_fields, with_members, without_members, with_scores, without_scores, put_item, pushed, popped, end_item}
-use Rattle.mr_data.proofs.Maps.{same_key}
-
-pub first : (a b : Bool) → IsTrue (a && b) → IsTrue a
-first true b p = refl
-first false b p = cc
-
-pub second : (a b : Bool) → IsTrue (a && b) → IsTrue b
-second true b p = p
-second false b p = cc
+use Rattle.mr_entries.specs.Collections.{with_fields, without_fields, with_members, without_members, with_scores, without_scores, put_item, pushed, popped, end_item}
+use Rattle.mr_entries.proofs.Both.{first, second}
+use Rattle.mr_entries.proofs.Maps.{same_key}
 
 -- ---- hashes
 

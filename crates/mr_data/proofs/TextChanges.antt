@@ -12,14 +12,15 @@ use Rattle.mr_value.specs.Number.{is_i64, number_of}
 use Rattle.mr_value.specs.Texts.{overwritten}
 use Rattle.mr_value.specs.Words.{fits}
 use Rattle.mr_effect.specs.Effects.{pair_fits}
-use Rattle.mr_data.specs.Dataset.{Dataset, IsWord, IsDataset, IsValue}
-use Rattle.mr_data.specs.Steps.{texts, held, same, on, without_deadline, append_step, set_range_step, increase_step}
-use Rattle.mr_data.specs.Texts.{fitting, sum_of, increased}
-use Rattle.mr_data.specs.Meaning.{with_texts, rename}
-use Rattle.mr_data.specs.declared.value.Value.{Value}
-use Rattle.mr_data.specs.declared.value.Value.TheVariants as value
-use Rattle.mr_data.proofs.Fitting.{first, second}
-use Rattle.mr_data.proofs.Datasets.{Keeps, HasValue, Suits, on_keeps, put_keeps}
+use Rattle.mr_entries.specs.Dataset.{Dataset}
+use Rattle.mr_data.specs.Dataset.{IsWord, IsDataset, IsValue}
+use Rattle.mr_entries.specs.Steps.{texts, held, same, on, without_deadline, append_step, set_range_step, increase_step}
+use Rattle.mr_entries.specs.Texts.{fitting, sum_of, increased}
+use Rattle.mr_entries.specs.Changes.{with_texts, rename}
+use Rattle.mr_entries.specs.declared.value.Value.{Value}
+use Rattle.mr_entries.specs.declared.value.Value.TheVariants as value
+use Rattle.mr_entries.proofs.Both.{first, second}
+use Rattle.mr_data.proofs.Datasets.{Keeps, Stands, Suits, on_keeps, put_keeps}
 
 texts_suit : (absent : Bytes) → IsWord absent → Suits (texts absent) IsWord
 texts_suit absent fit = record { none = fit; taken = taken_text; put = λ x some is. is }
@@ -43,9 +44,9 @@ append_keeps more = on_keeps (texts []) IsWord (texts_suit [] refl) (λ text. fi
 
 same_keeps : (absent : Bytes) → Keeps (same (texts absent))
 same_keeps absent before after has h =
-    elim (held (texts absent) before) as (λ o. option_map (λ x. before) o ≡ Some after → HasValue after) [
+    elim (held (texts absent) before) as (λ o. option_map (λ x. before) o ≡ Some after → Stands after) [
       | None ↦ λ i. cc
-      | Some x ↦ λ i. let one : before ≡ after = cc in subst HasValue one has
+      | Some x ↦ λ i. let one : before ≡ after = cc in subst Stands one has
     ] h
 
 pub set_range_keeps : (offset : ℤ) (part : Bytes) → Keeps (set_range_step offset part)
@@ -83,7 +84,7 @@ with_texts_keeps [] m fit old = old
 with_texts_keeps (p ∷ ps) m fit old =
     let here = first (pair_fits p) (list_all pair_fits ps) fit in
     with_texts_keeps ps (insert m p.0 (without_deadline (value.Text p.1))) (second (pair_fits p) (list_all pair_fits ps) fit)
-    (put_keeps m p.0 (Some (without_deadline (value.Text p.1))) old (first (fits p.0) (fits p.1) here) (second (fits p.0) (fits p.1) here))
+    (put_keeps m p.0 (Some (without_deadline (value.Text p.1))) old (first (fits p.0) (fits p.1) here) (second (fits p.0) (fits p.1) here, tt))
 
 pub rename_keeps : (from to : Bytes) (m n : Dataset) → IsDataset m → IsWord from → IsWord to → rename from to m ≡ Some n → IsDataset n
 rename_keeps from to m n old fit_from fit_to h =
@@ -91,5 +92,5 @@ rename_keeps from to m n old fit_from fit_to h =
       | None ↦ λ t i. cc
       | Some e ↦ λ t i.
           let one : insert (remove m from) to e ≡ n = cc in
-          subst IsDataset one (put_keeps (remove m from) to (Some e) (put_keeps m from None old fit_from tt) fit_to (old.entries from e t).value)
+          subst IsDataset one (put_keeps (remove m from) to (Some e) (put_keeps m from None old fit_from tt) fit_to ((old.entries from e t).value, (old.entries from e t).deadline))
     ] refl h

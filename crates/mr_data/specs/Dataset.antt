@@ -1,16 +1,15 @@
--- The dataset: a finite map from keys to entries, and what is seen of it at a moment.
+-- What each dataset keeps, and what is seen of it at a moment.
 use Rattle.std.specs.Prelude.{◌≡◌, ◌<◌, ℤ, int_le, List, length, Bool, false, if◌then◌else◌, IsTrue, Option, Some, None, is_some}
 use Rattle.std.specs.List.{All}
-use Rattle.std.specs.FinMap.{FinMap, get, insert, remove, len, contains_key, retain_keys}
-use Rattle.mr_map.specs.Bytes.{bytes_cmp, Bytes, ByteMap}
+use Rattle.std.specs.FinMap.{get, len, contains_key, retain_keys}
+use Rattle.mr_map.specs.Bytes.{Bytes, ByteMap}
 use Rattle.mr_value.specs.Words.{fits}
 use Rattle.mr_zset.specs.Score.{is_score}
-use Rattle.mr_data.specs.declared.value.Value.{Value}
-use Rattle.mr_data.specs.declared.value.Value.TheVariants as value
-use Rattle.mr_data.specs.declared.value.Entry.{Entry}
-
-abbrev pub Dataset : Type 0
-Dataset = FinMap bytes_cmp Entry
+use Rattle.mr_effect.specs.Effects.{is_deadline}
+use Rattle.mr_entries.specs.Dataset.{Dataset}
+use Rattle.mr_entries.specs.declared.value.Value.{Value}
+use Rattle.mr_entries.specs.declared.value.Value.TheVariants as value
+use Rattle.mr_entries.specs.declared.value.Entry.{Entry}
 
 -- within the word limit
 abbrev pub IsWord : Bytes → Type 0
@@ -43,19 +42,20 @@ IsValue (value.List items) = IsList items
 IsValue (value.Set members) = IsSet members
 IsValue (value.SortedSet scores) = IsScores scores
 
+-- no deadline, or one that an effect can name
+abbrev pub IsLifetime : Option ℤ → Type 0
+IsLifetime None = Unit {0}
+IsLifetime (Some d) = IsTrue (is_deadline d)
+
 -- what each entry keeps, under its key
 pub record IsEntry (k : Bytes) (e : Entry) : Type 0 where
   pub key : IsWord k
   pub value : IsValue e.value
+  pub deadline : IsLifetime e.deadline
 
 -- what each dataset keeps
 pub record IsDataset (m : Dataset) : Type 0 where
   pub entries : (k : Bytes) (e : Entry) → get m k ≡ Some e → IsEntry k e
-
--- the key with this entry, or without one
-abbrev pub put_at : Dataset → Bytes → Option Entry → Dataset
-put_at m k None = remove m k
-put_at m k (Some e) = insert m k e
 
 -- a key with this deadline is past at this moment
 abbrev pub is_past : ℤ → Option ℤ → Bool

@@ -5,8 +5,7 @@ ghost use Rattle.std.specs.FinMap as map;
 
 mod applying;
 
-use crate::entries::Entries;
-use crate::value::{Entry, Value};
+use mr_entries::{Entries, Entry, Value};
 use mr_map::Keys;
 use std::alloc::Global;
 use std::hash::RandomState;
@@ -22,8 +21,8 @@ impl Model for Dataset {
     ghost use Rattle.std.specs.FinMap as map;
     ghost use Rattle.std.specs.Coded.{coded_ℕ, coded_list};
     ghost use Rattle.mr_map.specs.Bytes.{bytes_cmp};
-    ghost use Rattle.mr_data.specs.declared.value.Entry.{Entry as Item};
-    ghost use Rattle.mr_data.specs.contracts.value.Entry as item;
+    ghost use Rattle.mr_entries.specs.declared.value.Entry.{Entry as Item};
+    ghost use Rattle.mr_entries.specs.contracts.value.Entry as item;
     ghost use Rattle.mr_data.specs.Dataset.{IsDataset};
 
     ghost Value = { map.FinMap bytes_cmp Item };

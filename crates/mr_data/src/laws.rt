@@ -1,11 +1,15 @@
 // Laws of the definitions that the contracts cite.
-ghost use Rattle.std.specs.Prelude.{ℤ, ◌≡◌, ◌++◌, List, map, IsTrue, Some};
+ghost use Rattle.std.specs.Prelude.{ℤ, ◌≡◌, ◌++◌, All, List, map, IsTrue, Some};
 ghost use Rattle.std.specs.Option.{option_and_then};
-ghost use Rattle.std.specs.FinMap.{contains_key, get};
+ghost use Rattle.std.specs.FinMap.{contains_key, empty, get};
 ghost use Rattle.mr_map.specs.Bytes.{Bytes};
-ghost use Rattle.mr_data.specs.Dataset.{Dataset, live, seen};
-ghost use Rattle.mr_data.specs.Meaning.{apply, apply_all, rename};
+ghost use Rattle.mr_entries.specs.Dataset.{Dataset};
+ghost use Rattle.mr_data.specs.Dataset.{IsDataset, live, seen};
+ghost use Rattle.mr_entries.specs.Changes.{rename};
+ghost use Rattle.mr_data.specs.Meaning.{apply, apply_all};
+ghost use Rattle.mr_data.specs.Rebuilding.{rebuilding};
 ghost use Rattle.mr_effect.specs.Effects.{has_spelling, words_fit};
+ghost use Rattle.mr_effect.specs.Spelling.{IsShort};
 ghost use Rattle.mr_effect.specs.declared.effect.Effect.{Effect};
 ghost use Rattle.mr_effect.specs.declared.effect.Effect.TheVariants as effect;
 
@@ -27,4 +31,17 @@ pub fn texts_are_set_in_order()
 /// A key that is renamed to itself stays as it is.
 pub fn renaming_to_itself_changes_nothing()
     ensures { (m : Dataset) (k : Bytes) → IsTrue (contains_key m k) → rename k k m ≡ Some m }
+{}
+
+/// Out of nothing, the effects that make a dataset again make it.
+pub fn rebuilding_makes_the_dataset()
+    ensures { (m : Dataset) → IsDataset m → apply_all (rebuilding m) empty ≡ Some m }
+{}
+
+/// Each effect that makes a dataset again has a spelling, with words within the limit, and no more of them than a command
+/// text may have.
+pub fn rebuilding_has_command_texts()
+    ensures spelled { (m : Dataset) → IsDataset m → All (λ e. IsTrue (has_spelling e)) (rebuilding m) }
+    ensures fit { (m : Dataset) → IsDataset m → All (λ e. IsTrue (words_fit e)) (rebuilding m) }
+    ensures short { (m : Dataset) → IsDataset m → All IsShort (rebuilding m) }
 {}

@@ -2,21 +2,20 @@
 #![tactic(auto)]
 
 mod dataset;
-mod entries;
-mod fault;
+mod due;
 mod given;
 mod laws;
 mod plan;
-mod value;
+mod rebuilding;
 
 pub use dataset::Dataset;
-pub use fault::ApplyFault;
+pub use due::DueKey;
 pub use given::Given;
 pub use laws::{
-    effects_come_in_parts, renaming_to_itself_changes_nothing, seen_is_what_is_not_past,
-    texts_are_set_in_order,
+    effects_come_in_parts, rebuilding_has_command_texts, rebuilding_makes_the_dataset,
+    renaming_to_itself_changes_nothing, seen_is_what_is_not_past, texts_are_set_in_order,
 };
 pub use mr_effect::{Effect, Pairs, Scores, Words, decode, encode, encode_all};
+pub use mr_entries::{ApplyFault, Entry, Value};
 pub use mr_value::{End, Side};
 pub use plan::Plan;
-pub use value::{Entry, Value};

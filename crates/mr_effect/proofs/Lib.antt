@@ -1,4 +1,5 @@
 pub mod Appending
+pub mod Deadlines
 mod NameLemmas
 mod Readings
 pub mod Texts

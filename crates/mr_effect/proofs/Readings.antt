@@ -14,10 +14,10 @@ use Rattle.mr_value.specs.Number.{is_i64, number_of}
 use Rattle.mr_zset.specs.Score.{is_score}
 use Rattle.mr_zset.specs.Texts.{within_limit}
 use Rattle.mr_zset.proofs.TextLemmas.{score_fits}
-use Rattle.mr_effect.specs.Effects.{has_spelling, is_place, is_some_of, has_score}
+use Rattle.mr_effect.specs.Effects.{has_spelling, is_place, is_deadline, is_some_of, has_score}
 use Rattle.mr_effect.specs.Names.{text_of, named}
 use Rattle.mr_effect.specs.Spelling.{words, name_of, arguments, pair_words, score_words, end_word, side_word, IsSpelled, Spells, FindsEach}
-use Rattle.mr_effect.specs.Reading.{effect_of, read_as, reading, end_of, side_of, within, place_of, score_of, pairs_of, scores_of, trim_of, move_item_of}
+use Rattle.mr_effect.specs.Reading.{effect_of, read_as, reading, end_of, side_of, within, place_of, within_deadlines, deadline_of, score_of, pairs_of, scores_of, trim_of, move_item_of}
 use Rattle.mr_effect.specs.declared.name.EffectName.{EffectName}
 use Rattle.mr_effect.specs.declared.name.EffectName.TheVariants as name
 use Rattle.mr_effect.specs.declared.effect.Effect.{Effect}
@@ -27,6 +27,7 @@ use Rattle.mr_value.specs.declared.ends.End.TheVariants.{Left, Right}
 use Rattle.mr_value.specs.declared.ends.Side.{Side}
 use Rattle.mr_value.specs.declared.ends.Side.TheVariants.{Before, After}
 use Rattle.mr_value.proofs.Numbers.{number_of-signed_decimal, number_text}
+use Rattle.mr_effect.proofs.Deadlines.{deadline_fits}
 use Rattle.mr_effect.proofs.NameLemmas.{same_bytes, named_itself, named_is}
 
 -- ---- what is spelled is read
@@ -41,6 +42,9 @@ second false b p = cc
 
 place_read : (i : ℤ) → IsTrue (is_place i) → place_of (signed_decimal i) ≡ Some i
 place_read i h = ap (option_and_then within) (number_of-signed_decimal i (first (is_i64 i) _ h)) ∙ ap (λ b. if b then Some i else None) h
+
+deadline_read : (d : ℤ) → IsTrue (is_deadline d) → deadline_of (signed_decimal d) ≡ Some d
+deadline_read d h = ap (option_and_then within_deadlines) (number_of-signed_decimal d (deadline_fits d h)) ∙ ap (λ b. if b then Some d else None) h
 
 end_read : (e : End) → end_of (end_word e) ≡ Some e
 end_read Left = refl
@@ -77,14 +81,19 @@ trim_read k a b h =
 reading-arguments : (e : Effect) → IsTrue (has_spelling e) → reading (name_of e) (arguments e) ≡ Some e
 unfolding reading
 reading-arguments (effect.Set k text) h = refl
+reading-arguments (effect.SetUntil k text d) h = ap (option_map (effect.SetUntil k text)) (deadline_read d h)
+reading-arguments (effect.SetKeeping k text) h = refl
 reading-arguments (effect.SetAll []) h = cc
 reading-arguments (effect.SetAll (p ∷ ps)) h = ap (option_map effect.SetAll) (pairs_read (p ∷ ps))
 reading-arguments (effect.Append k text) h = refl
 reading-arguments (effect.SetRange k i text) h = ap (option_map (λ j. effect.SetRange k j text)) (place_read i h)
 reading-arguments (effect.Increase k n) h = ap (option_map (effect.Increase k)) (number_of-signed_decimal n h)
 reading-arguments (effect.Del k) h = refl
+reading-arguments (effect.Expire k d) h = ap (option_map (effect.Expire k)) (deadline_read d h)
+reading-arguments (effect.Persist k) h = refl
 reading-arguments (effect.Rename from to) h = refl
 reading-arguments effect.Clear h = refl
+reading-arguments effect.Ping h = refl
 reading-arguments (effect.SetFields k []) h = cc
 reading-arguments (effect.SetFields k (p ∷ ps)) h = ap (option_map (effect.SetFields k)) (pairs_read (p ∷ ps))
 reading-arguments (effect.RemoveFields k []) h = cc
@@ -170,6 +179,13 @@ place_sound w i h = chosen within (number_of w) i h (λ j read kept.
       | false ↦ λ t s. cc
     ] refl kept)
 
+deadline_sound : (w : Bytes) (d : ℤ) → deadline_of w ≡ Some d → (w ≡ signed_decimal d) × IsTrue (is_deadline d)
+deadline_sound w d h = chosen within_deadlines (number_of w) d h (λ m read kept.
+    elim (is_deadline m) as (λ b. is_deadline m ≡ b → (if b then Some m else None) ≡ Some d → (w ≡ signed_decimal d) × IsTrue (is_deadline d)) [
+      | true ↦ λ t s. subst (λ (z : ℤ). (w ≡ signed_decimal z) × IsTrue (is_deadline z)) (given _ _ s) ((number_text w m read).0, t)
+      | false ↦ λ t s. cc
+    ] refl kept)
+
 both : (a b : Bool) → IsTrue a → IsTrue b → IsTrue (a && b)
 both true b p q = q
 both false b p q = cc
@@ -221,12 +237,24 @@ side_sound w e h = elim (bytes_eq w (codes "BEFORE")) as (λ b. bytes_eq w (code
 abbrev Sound : EffectName → List Bytes → Type 0
 Sound n ws = (e : Effect) → reading n ws ≡ Some e → IsSpelled (text_of n ∷ ws) e
 
+-- where a text is a word that was looked for, what is read then
+when : {P : Type 0} (a b : Bytes) (o : Option Effect) (e : Effect) → (if bytes_eq a b then o else None) ≡ Some e → (a ≡ b → o ≡ Some e → P) → P
+when {P} a b o e h go = elim (bytes_eq a b) as (λ t. bytes_eq a b ≡ t → (if t then o else None) ≡ Some e → P) [
+  | true ↦ λ t s. go (same_bytes a b t) s
+  | false ↦ λ t s. cc
+] refl h
+
 set_sound : (ws : List Bytes) → Sound name.Set ws
 unfolding reading words
 set_sound [] e h = cc
 set_sound (k ∷ []) e h = cc
 set_sound (k ∷ text ∷ []) e h = is _ (effect.Set k text) e refl refl (given _ _ h)
-set_sound (k ∷ text ∷ w ∷ ws) e h = cc
+set_sound (k ∷ text ∷ w ∷ []) e h = when w (codes "KEEPTTL") (Some (effect.SetKeeping k text)) e h (λ same read.
+    is _ (effect.SetKeeping k text) e refl (ap (λ (x : Bytes). codes "SET" ∷ k ∷ text ∷ x ∷ []) (sym same)) (given _ _ read))
+set_sound (k ∷ text ∷ v ∷ w ∷ []) e h = when v (codes "PXAT") (option_map (effect.SetUntil k text) (deadline_of w)) e h (λ same_option read. mapped (effect.SetUntil k text) (deadline_of w) e read (λ d found same.
+    let spelled = deadline_sound w d found in
+    is _ (effect.SetUntil k text d) e spelled.1 (ap (λ (x : Bytes). codes "SET" ∷ k ∷ text ∷ x ∷ signed_decimal d ∷ []) (sym same_option) ∙ ap (λ (x : Bytes). codes "SET" ∷ k ∷ text ∷ v ∷ x ∷ []) (sym spelled.0)) same))
+set_sound (k ∷ text ∷ v ∷ w ∷ x ∷ ws) e h = cc
 
 set_all_sound : (ws : List Bytes) → Sound name.MSet ws
 unfolding reading words
@@ -278,6 +306,26 @@ unfolding reading words
 del_sound [] e h = cc
 del_sound (k ∷ []) e h = is _ (effect.Del k) e refl refl (given _ _ h)
 del_sound (k ∷ w ∷ ws) e h = cc
+
+expire_sound : (ws : List Bytes) → Sound name.PExpireAt ws
+unfolding reading words
+expire_sound [] e h = cc
+expire_sound (k ∷ []) e h = cc
+expire_sound (k ∷ w ∷ []) e h = mapped (effect.Expire k) (deadline_of w) e h (λ d found same.
+    let spelled = deadline_sound w d found in
+    is _ (effect.Expire k d) e spelled.1 (ap (λ (x : Bytes). codes "PEXPIREAT" ∷ k ∷ x ∷ []) (sym spelled.0)) same)
+expire_sound (k ∷ w ∷ x ∷ ws) e h = cc
+
+persist_sound : (ws : List Bytes) → Sound name.Persist ws
+unfolding reading words
+persist_sound [] e h = cc
+persist_sound (k ∷ []) e h = is _ (effect.Persist k) e refl refl (given _ _ h)
+persist_sound (k ∷ w ∷ ws) e h = cc
+
+ping_sound : (ws : List Bytes) → Sound name.Ping ws
+unfolding reading words
+ping_sound [] e h = is _ effect.Ping e refl refl (given _ _ h)
+ping_sound (w ∷ ws) e h = cc
 
 set_fields_sound : (ws : List Bytes) → Sound name.HSet ws
 unfolding reading words
@@ -415,8 +463,11 @@ reading_sound name.Append = append_sound
 reading_sound name.SetRange = set_range_sound
 reading_sound name.IncrBy = increase_sound
 reading_sound name.Del = del_sound
+reading_sound name.PExpireAt = expire_sound
+reading_sound name.Persist = persist_sound
 reading_sound name.Rename = rename_sound
 reading_sound name.FlushAll = clear_sound
+reading_sound name.Ping = ping_sound
 reading_sound name.HSet = set_fields_sound
 reading_sound name.HDel = remove_fields_sound
 reading_sound name.LPush = push_left_sound

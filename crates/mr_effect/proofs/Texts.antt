@@ -25,6 +25,7 @@ use Rattle.mr_value.specs.declared.ends.End.{End}
 use Rattle.mr_value.specs.declared.ends.End.TheVariants.{Left, Right}
 use Rattle.mr_value.specs.declared.ends.Side.{Side}
 use Rattle.mr_value.specs.declared.ends.Side.TheVariants.{Before, After}
+use Rattle.mr_effect.proofs.Deadlines.{deadline_fits}
 use Rattle.mr_effect.proofs.Readings.{one_effect}
 
 -- each word is within the word limit
@@ -89,8 +90,11 @@ short_name name.Append = omega arith
 short_name name.SetRange = omega arith
 short_name name.IncrBy = omega arith
 short_name name.Del = omega arith
+short_name name.PExpireAt = omega arith
+short_name name.Persist = omega arith
 short_name name.Rename = omega arith
 short_name name.FlushAll = omega arith
+short_name name.Ping = omega arith
 short_name name.HSet = omega arith
 short_name name.HDel = omega arith
 short_name name.LPush = omega arith
@@ -118,13 +122,18 @@ short_side After = omega arith
 
 arguments_short : (e : Effect) → IsTrue (has_spelling e) → IsTrue (words_fit e) → AreShort (arguments e)
 arguments_short (effect.Set k v) s h = (short k (first (fits k) _ h), (short v (second (fits k) _ h), tt))
+arguments_short (effect.SetUntil k v d) s h = (short k (first (fits k) _ h), (short v (second (fits k) _ h), (omega arith, (short_number d (deadline_fits d s), tt))))
+arguments_short (effect.SetKeeping k v) s h = (short k (first (fits k) _ h), (short v (second (fits k) _ h), (omega arith, tt)))
 arguments_short (effect.SetAll pairs) s h = short_pairs pairs h
 arguments_short (effect.Append k v) s h = (short k (first (fits k) _ h), (short v (second (fits k) _ h), tt))
 arguments_short (effect.SetRange k i v) s h = (short k (first (fits k) _ h), (short_number i (first (is_i64 i) _ s), (short v (second (fits k) _ h), tt)))
 arguments_short (effect.Increase k n) s h = (short k h, (short_number n s, tt))
 arguments_short (effect.Del k) s h = (short k h, tt)
+arguments_short (effect.Expire k d) s h = (short k h, (short_number d (deadline_fits d s), tt))
+arguments_short (effect.Persist k) s h = (short k h, tt)
 arguments_short (effect.Rename from to) s h = (short from (first (fits from) _ h), (short to (second (fits from) _ h), tt))
 arguments_short effect.Clear s h = tt
+arguments_short effect.Ping s h = tt
 arguments_short (effect.SetFields k pairs) s h = (short k (first (fits k) _ h), short_pairs pairs (second (fits k) _ h))
 arguments_short (effect.RemoveFields k fields) s h = (short k (first (fits k) _ h), short_words fields (second (fits k) _ h))
 arguments_short (effect.Push k end items) s h = (short k (first (fits k) _ h), short_words items (second (fits k) _ h))

@@ -1,5 +1,5 @@
 -- What an effect carries.
-use Rattle.std.specs.Prelude.{ℤ, pos, int_le, List, [], ◌∷◌, Bool, true, false, ◌&&◌}
+use Rattle.std.specs.Prelude.{ℤ, pos, int_le, ◌^◌, List, [], ◌∷◌, Bool, true, false, ◌&&◌}
 use Rattle.std.specs.List.{list_all}
 use Rattle.mr_map.specs.Bytes.{Bytes}
 use Rattle.mr_value.specs.Number.{is_i64}
@@ -17,13 +17,18 @@ member_fits p = fits p.0
 -- the words of an effect are within the word limit
 abbrev pub words_fit : Effect → Bool
 words_fit (effect.Set k text) = fits k && fits text
+words_fit (effect.SetUntil k text deadline) = fits k && fits text
+words_fit (effect.SetKeeping k text) = fits k && fits text
 words_fit (effect.SetAll pairs) = list_all pair_fits pairs
 words_fit (effect.Append k text) = fits k && fits text
 words_fit (effect.SetRange k offset text) = fits k && fits text
 words_fit (effect.Increase k by) = fits k
 words_fit (effect.Del k) = fits k
+words_fit (effect.Expire k deadline) = fits k
+words_fit (effect.Persist k) = fits k
 words_fit (effect.Rename from to) = fits from && fits to
 words_fit effect.Clear = true
+words_fit effect.Ping = true
 words_fit (effect.SetFields k pairs) = fits k && list_all pair_fits pairs
 words_fit (effect.RemoveFields k fields) = fits k && list_all fits fields
 words_fit (effect.Push k end items) = fits k && list_all fits items
@@ -47,19 +52,28 @@ is_some_of (x ∷ xs) = true
 abbrev pub is_place : ℤ → Bool
 is_place i = is_i64 i && int_le (pos 0) i
 
+-- a moment at which a key may become past, in milliseconds
+abbrev pub is_deadline : ℤ → Bool
+is_deadline d = int_le (pos 1) d && int_le d (pos (2 ^ 62))
+
 abbrev pub has_score : Bytes × ℤ → Bool
 has_score p = is_score p.1
 
--- the effect has a spelling: numbers have 64 bits, a place isn't below 0, scores are within their limits, and lists aren't empty
+-- the effect has a spelling: numbers have 64 bits, a place isn't below 0, deadlines and scores are within their limits, and lists aren't empty
 abbrev pub has_spelling : Effect → Bool
 has_spelling (effect.Set k text) = true
+has_spelling (effect.SetUntil k text deadline) = is_deadline deadline
+has_spelling (effect.SetKeeping k text) = true
 has_spelling (effect.SetAll pairs) = is_some_of pairs
 has_spelling (effect.Append k text) = true
 has_spelling (effect.SetRange k offset text) = is_place offset
 has_spelling (effect.Increase k by) = is_i64 by
 has_spelling (effect.Del k) = true
+has_spelling (effect.Expire k deadline) = is_deadline deadline
+has_spelling (effect.Persist k) = true
 has_spelling (effect.Rename from to) = true
 has_spelling effect.Clear = true
+has_spelling effect.Ping = true
 has_spelling (effect.SetFields k pairs) = is_some_of pairs
 has_spelling (effect.RemoveFields k fields) = is_some_of fields
 has_spelling (effect.Push k end items) = is_some_of items

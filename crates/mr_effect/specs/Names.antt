@@ -12,8 +12,11 @@ text_of name.Append = codes "APPEND"
 text_of name.SetRange = codes "SETRANGE"
 text_of name.IncrBy = codes "INCRBY"
 text_of name.Del = codes "DEL"
+text_of name.PExpireAt = codes "PEXPIREAT"
+text_of name.Persist = codes "PERSIST"
 text_of name.Rename = codes "RENAME"
 text_of name.FlushAll = codes "FLUSHALL"
+text_of name.Ping = codes "PING"
 text_of name.HSet = codes "HSET"
 text_of name.HDel = codes "HDEL"
 text_of name.LPush = codes "LPUSH"
@@ -33,7 +36,7 @@ text_of name.ZRem = codes "ZREM"
 
 -- all of them
 abbrev pub names : List EffectName
-names = name.Set ∷ name.MSet ∷ name.Append ∷ name.SetRange ∷ name.IncrBy ∷ name.Del ∷ name.Rename ∷ name.FlushAll ∷ name.HSet ∷ name.HDel ∷ name.LPush ∷ name.RPush ∷ name.LPop ∷ name.RPop ∷ name.LSet ∷ name.LInsert ∷ name.LRem ∷ name.LTrim ∷ name.LMove ∷ name.SAdd ∷ name.SRem ∷ name.SMove ∷ name.ZAdd ∷ name.ZRem ∷ []
+names = name.Set ∷ name.MSet ∷ name.Append ∷ name.SetRange ∷ name.IncrBy ∷ name.Del ∷ name.PExpireAt ∷ name.Persist ∷ name.Rename ∷ name.FlushAll ∷ name.Ping ∷ name.HSet ∷ name.HDel ∷ name.LPush ∷ name.RPush ∷ name.LPop ∷ name.RPop ∷ name.LSet ∷ name.LInsert ∷ name.LRem ∷ name.LTrim ∷ name.LMove ∷ name.SAdd ∷ name.SRem ∷ name.SMove ∷ name.ZAdd ∷ name.ZRem ∷ []
 
 abbrev pub is_named : Bytes → EffectName → Bool
 is_named word n = bytes_eq (text_of n) word

@@ -5,7 +5,7 @@ use Rattle.std.specs.Str.{bytes_eq}
 use Rattle.mr_map.specs.Bytes.{Bytes}
 use Rattle.mr_value.specs.Number.{number_of}
 use Rattle.mr_zset.specs.Texts.{within_limit}
-use Rattle.mr_effect.specs.Effects.{is_place}
+use Rattle.mr_effect.specs.Effects.{is_place, is_deadline}
 use Rattle.mr_effect.specs.Names.{named}
 use Rattle.mr_effect.specs.declared.name.EffectName.{EffectName}
 use Rattle.mr_effect.specs.declared.name.EffectName.TheVariants as name
@@ -29,6 +29,13 @@ within i = if is_place i then Some i else None
 abbrev pub place_of : Bytes → Option ℤ
 place_of word = option_and_then within (number_of word)
 
+-- the number, if it is a deadline
+abbrev pub within_deadlines : ℤ → Option ℤ
+within_deadlines d = if is_deadline d then Some d else None
+
+abbrev pub deadline_of : Bytes → Option ℤ
+deadline_of word = option_and_then within_deadlines (number_of word)
+
 -- a score without point and zeros
 abbrev pub score_of : Bytes → Option ℤ
 score_of word = option_and_then within_limit (number_of word)
@@ -45,8 +52,18 @@ scores_of [] = Some []
 scores_of (s ∷ []) = None
 scores_of (s ∷ m ∷ ws) = option_and_then (λ n. option_map (λ ps. (m, n) ∷ ps) (scores_of ws)) (score_of s)
 
+-- SET with one word behind the text
+abbrev pub set_keeping_of : Bytes → Bytes → Bytes → Option Effect
+set_keeping_of k text option = if bytes_eq option (codes "KEEPTTL") then Some (effect.SetKeeping k text) else None
+
+-- SET with two words behind the text
+abbrev pub set_until_of : Bytes → Bytes → Bytes → Bytes → Option Effect
+set_until_of k text option deadline = if bytes_eq option (codes "PXAT") then option_map (effect.SetUntil k text) (deadline_of deadline) else None
+
 abbrev pub set_of : List Bytes → Option Effect
 set_of (k ∷ text ∷ []) = Some (effect.Set k text)
+set_of (k ∷ text ∷ option ∷ []) = set_keeping_of k text option
+set_of (k ∷ text ∷ option ∷ deadline ∷ []) = set_until_of k text option deadline
 set_of _ = None
 
 abbrev pub set_all_of : List Bytes → Option Effect
@@ -69,6 +86,14 @@ abbrev pub del_of : List Bytes → Option Effect
 del_of (k ∷ []) = Some (effect.Del k)
 del_of _ = None
 
+abbrev pub expire_of : List Bytes → Option Effect
+expire_of (k ∷ deadline ∷ []) = option_map (effect.Expire k) (deadline_of deadline)
+expire_of _ = None
+
+abbrev pub persist_of : List Bytes → Option Effect
+persist_of (k ∷ []) = Some (effect.Persist k)
+persist_of _ = None
+
 abbrev pub rename_of : List Bytes → Option Effect
 rename_of (from ∷ to ∷ []) = Some (effect.Rename from to)
 rename_of _ = None
@@ -76,6 +101,10 @@ rename_of _ = None
 abbrev pub clear_of : List Bytes → Option Effect
 clear_of [] = Some effect.Clear
 clear_of _ = None
+
+abbrev pub ping_of : List Bytes → Option Effect
+ping_of [] = Some effect.Ping
+ping_of _ = None
 
 abbrev pub set_fields_of : List Bytes → Option Effect
 set_fields_of (k ∷ f ∷ ws) = option_map (effect.SetFields k) (pairs_of (f ∷ ws))
@@ -141,8 +170,11 @@ reading name.Append = append_of
 reading name.SetRange = set_range_of
 reading name.IncrBy = increase_of
 reading name.Del = del_of
+reading name.PExpireAt = expire_of
+reading name.Persist = persist_of
 reading name.Rename = rename_of
 reading name.FlushAll = clear_of
+reading name.Ping = ping_of
 reading name.HSet = set_fields_of
 reading name.HDel = remove_fields_of
 reading name.LPush = push_of Left

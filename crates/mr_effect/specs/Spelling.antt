@@ -35,13 +35,18 @@ side_word After = codes "AFTER"
 -- the first word
 abbrev pub name_of : Effect → EffectName
 name_of (effect.Set k text) = name.Set
+name_of (effect.SetUntil k text deadline) = name.Set
+name_of (effect.SetKeeping k text) = name.Set
 name_of (effect.SetAll pairs) = name.MSet
 name_of (effect.Append k text) = name.Append
 name_of (effect.SetRange k offset text) = name.SetRange
 name_of (effect.Increase k by) = name.IncrBy
 name_of (effect.Del k) = name.Del
+name_of (effect.Expire k deadline) = name.PExpireAt
+name_of (effect.Persist k) = name.Persist
 name_of (effect.Rename from to) = name.Rename
 name_of effect.Clear = name.FlushAll
+name_of effect.Ping = name.Ping
 name_of (effect.SetFields k pairs) = name.HSet
 name_of (effect.RemoveFields k fields) = name.HDel
 name_of (effect.Push k end items) = push_name end
@@ -68,13 +73,18 @@ score_words p = signed_decimal p.1 ∷ p.0 ∷ []
 -- the other words
 abbrev pub arguments : Effect → List Bytes
 arguments (effect.Set k text) = k ∷ text ∷ []
+arguments (effect.SetUntil k text deadline) = k ∷ text ∷ codes "PXAT" ∷ signed_decimal deadline ∷ []
+arguments (effect.SetKeeping k text) = k ∷ text ∷ codes "KEEPTTL" ∷ []
 arguments (effect.SetAll pairs) = flat_map pair_words pairs
 arguments (effect.Append k text) = k ∷ text ∷ []
 arguments (effect.SetRange k offset text) = k ∷ signed_decimal offset ∷ text ∷ []
 arguments (effect.Increase k by) = k ∷ signed_decimal by ∷ []
 arguments (effect.Del k) = k ∷ []
+arguments (effect.Expire k deadline) = k ∷ signed_decimal deadline ∷ []
+arguments (effect.Persist k) = k ∷ []
 arguments (effect.Rename from to) = from ∷ to ∷ []
 arguments effect.Clear = []
+arguments effect.Ping = []
 arguments (effect.SetFields k pairs) = k ∷ flat_map pair_words pairs
 arguments (effect.RemoveFields k fields) = k ∷ fields
 arguments (effect.Push k end items) = k ∷ items

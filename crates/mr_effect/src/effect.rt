@@ -3,6 +3,7 @@ ghost use Rattle.std.specs.Prelude.{◌≡◌};
 ghost use Rattle.mr_value.specs.Number.{is_i64};
 ghost use Rattle.mr_effect.specs.Effects.{words_fit, has_spelling};
 
+use crate::deadline::is_deadline;
 use crate::words::{Pairs, Scores, Words};
 use mr_value::{End, Side, Word, fits};
 
@@ -11,6 +12,17 @@ use mr_value::{End, Side, Word, fits};
 pub enum Effect<'a> {
     /// The key holds this text, whatever it held, and has no deadline.
     Set {
+        key: Word<'a>,
+        value: Word<'a>,
+    },
+    /// The key holds this text, whatever it held, and is past from this moment on, in milliseconds.
+    SetUntil {
+        key: Word<'a>,
+        value: Word<'a>,
+        deadline: i64,
+    },
+    /// The key holds this text, whatever it held, and its deadline stays.
+    SetKeeping {
         key: Word<'a>,
         value: Word<'a>,
     },
@@ -39,6 +51,15 @@ pub enum Effect<'a> {
     Del {
         key: Word<'a>,
     },
+    /// The key is past from this moment on, in milliseconds.
+    Expire {
+        key: Word<'a>,
+        deadline: i64,
+    },
+    /// The key's deadline is taken off.
+    Persist {
+        key: Word<'a>,
+    },
     /// What the one key holds goes to the other, with its deadline, whatever that held.
     Rename {
         from: Word<'a>,
@@ -46,6 +67,8 @@ pub enum Effect<'a> {
     },
     /// Every key goes.
     Clear,
+    /// Nothing changes. It keeps a link to a replica alive.
+    Ping,
     /// Fields of a hash get these values, one after another.
     SetFields {
         key: Word<'a>,
@@ -135,6 +158,8 @@ impl Effect<'_> {
     {
         match self {
             Effect::Set { key, value } => fits(key.as_slice()) && fits(value.as_slice()),
+            Effect::SetUntil { key, value, .. } => fits(key.as_slice()) && fits(value.as_slice()),
+            Effect::SetKeeping { key, value } => fits(key.as_slice()) && fits(value.as_slice()),
             Effect::SetAll { pairs } => pairs.fit(),
             Effect::Append { key, value } => fits(key.as_slice()) && fits(value.as_slice()),
             Effect::SetRange {
@@ -144,8 +169,11 @@ impl Effect<'_> {
             } => { fits(key.as_slice()) && fits(value.as_slice()) }
             Effect::Increase { key, .. } => fits(key.as_slice()),
             Effect::Del { key } => fits(key.as_slice()),
+            Effect::Expire { key, .. } => fits(key.as_slice()),
+            Effect::Persist { key } => fits(key.as_slice()),
             Effect::Rename { from, to } => fits(from.as_slice()) && fits(to.as_slice()),
             Effect::Clear => true,
+            Effect::Ping => true,
             Effect::SetFields { key, pairs } => fits(key.as_slice()) && pairs.fit(),
             Effect::RemoveFields { key, fields } => fits(key.as_slice()) && fields.fit(),
             Effect::Push { key, end: _, items } => fits(key.as_slice()) && items.fit(),
@@ -178,7 +206,8 @@ impl Effect<'_> {
         }
     }
 
-    /// Whether it has a spelling: lists aren't empty, no place or offset is below 0, and scores are within their limits.
+    /// Whether it has a spelling: lists aren't empty, no place or offset is below 0, and deadlines and scores are within
+    /// their limits.
     pub fn has_spelling(&self) -> bool
         ensures { result ≡ has_spelling self.now }
     {
@@ -193,12 +222,17 @@ impl Effect<'_> {
             Effect::RemoveMembers { members, .. } => !members.is_empty(),
             Effect::SetScores { scores, .. } => !scores.is_empty() && scores.are_within_limits(),
             Effect::RemoveScores { members, .. } => !members.is_empty(),
+            Effect::SetUntil { deadline, .. } => is_deadline(*deadline),
+            Effect::Expire { deadline, .. } => is_deadline(*deadline),
             Effect::Set { .. } => true,
+            Effect::SetKeeping { .. } => true,
             Effect::Append { .. } => true,
             Effect::Increase { by, .. } => is_i64(*by),
             Effect::Del { .. } => true,
+            Effect::Persist { .. } => true,
             Effect::Rename { .. } => true,
             Effect::Clear => true,
+            Effect::Ping => true,
             Effect::Pop { count, .. } => is_i64(*count),
             Effect::InsertItem { .. } => true,
             Effect::RemoveItems { count, .. } => is_i64(*count),

@@ -1,5 +1,5 @@
 // The text of an effect.
-ghost use Rattle.std.specs.Prelude.{◌≡◌, ◌++◌, ◌∷◌, [], OnOk, OnErr};
+ghost use Rattle.std.specs.Prelude.{◌≡◌, ◌++◌, ◌∷◌, [], codes, OnOk, OnErr};
 ghost use Rattle.std.specs.List.{flat_map};
 ghost use Rattle.std.specs.Fmt.{signed_decimal};
 ghost use Rattle.mr_resp.specs.Appends.{Extends};
@@ -236,6 +236,27 @@ fn push_range(key: &Word<'_>, first: i64, last: i64, out: &mut Vec<u8>) -> Resul
     )
 }
 
+// SET, a key, a value and a deadline.
+fn push_until(
+    key: &Word<'_>,
+    value: &Word<'_>,
+    deadline: i64,
+    out: &mut Vec<u8>,
+) -> Result<(), AllocError>
+    ensures ok { OnOk result (out.new.items ≡ out.old.items ++ array (text_of EffectName.Set ∷ key.now ∷ value.now ∷ codes "PXAT" ∷ signed_decimal deadline ∷ [])) }
+    ensures kept { Extends out.old.items out.new.items }
+{
+    let mut buffer = Buffer::new();
+    push_five(
+        EffectName::Set.text(),
+        key.as_slice(),
+        value.as_slice(),
+        b"PXAT",
+        buffer.format(deadline).as_bytes(),
+        out,
+    )
+}
+
 // A name, a key and a number.
 fn push_number(
     name: EffectName,
@@ -283,6 +304,18 @@ fn push_effect(effect: &Effect<'_>, out: &mut Vec<u8>) -> Result<(), AllocError>
 {
     match effect {
         Effect::Set { key, value } => push_three(b"SET", key.as_slice(), value.as_slice(), out),
+        Effect::SetUntil {
+            key,
+            value,
+            deadline,
+        } => push_until(key, value, *deadline, out),
+        Effect::SetKeeping { key, value } => push_four(
+            b"SET",
+            key.as_slice(),
+            value.as_slice(),
+            b"KEEPTTL",
+            out,
+        ),
         Effect::SetAll { pairs } => push_keys(pairs, out),
         Effect::Append { key, value } => {
             push_three(b"APPEND", key.as_slice(), value.as_slice(), out)
@@ -292,8 +325,11 @@ fn push_effect(effect: &Effect<'_>, out: &mut Vec<u8>) -> Result<(), AllocError>
         }
         Effect::Increase { key, by } => push_number(EffectName::IncrBy, key, *by, out),
         Effect::Del { key } => push_two(b"DEL", key.as_slice(), out),
+        Effect::Expire { key, deadline } => push_number(EffectName::PExpireAt, key, *deadline, out),
+        Effect::Persist { key } => push_two(b"PERSIST", key.as_slice(), out),
         Effect::Rename { from, to } => push_three(b"RENAME", from.as_slice(), to.as_slice(), out),
         Effect::Clear => push_one(b"FLUSHALL", out),
+        Effect::Ping => push_one(b"PING", out),
         Effect::SetFields { key, pairs } => push_fields(key, pairs, out),
         Effect::RemoveFields { key, fields } => push_words(EffectName::HDel, key, fields, out),
         Effect::Push { key, end, items } => push_words(push_name(*end), key, items, out),

@@ -1,6 +1,7 @@
 //! Effects: what writes do to a dataset, and their one spelling.
 #![tactic(auto)]
 
+mod deadline;
 mod decoding;
 mod effect;
 mod encoding;
@@ -9,6 +10,7 @@ mod name;
 mod reading;
 mod words;
 
+pub use deadline::is_deadline;
 pub use decoding::decode;
 pub use effect::Effect;
 pub use encoding::{encode, encode_all};

@@ -11,8 +11,11 @@ pub enum EffectName {
     SetRange,
     IncrBy,
     Del,
+    PExpireAt,
+    Persist,
     Rename,
     FlushAll,
+    Ping,
     HSet,
     HDel,
     LPush,
@@ -33,15 +36,18 @@ pub enum EffectName {
 
 impl EffectName {
     /// All of them.
-    pub const ALL: [EffectName; 24] = [
+    pub const ALL: [EffectName; 27] = [
         EffectName::Set,
         EffectName::MSet,
         EffectName::Append,
         EffectName::SetRange,
         EffectName::IncrBy,
         EffectName::Del,
+        EffectName::PExpireAt,
+        EffectName::Persist,
         EffectName::Rename,
         EffectName::FlushAll,
+        EffectName::Ping,
         EffectName::HSet,
         EffectName::HDel,
         EffectName::LPush,
@@ -86,8 +92,11 @@ impl EffectName {
             EffectName::SetRange => b"SETRANGE",
             EffectName::IncrBy => b"INCRBY",
             EffectName::Del => b"DEL",
+            EffectName::PExpireAt => b"PEXPIREAT",
+            EffectName::Persist => b"PERSIST",
             EffectName::Rename => b"RENAME",
             EffectName::FlushAll => b"FLUSHALL",
+            EffectName::Ping => b"PING",
             EffectName::HSet => b"HSET",
             EffectName::HDel => b"HDEL",
             EffectName::LPush => b"LPUSH",

@@ -1,8 +1,9 @@
 // Effects from their arguments, one function for each.
 ghost use Rattle.std.specs.Prelude.{◌≡◌, map, IfOk};
 ghost use Rattle.std.specs.Cow.{cow_slice_items};
-ghost use Rattle.mr_effect.specs.Reading.{end_of, side_of, place_of, score_of, pairs_of, scores_of, set_of, set_all_of, append_of, set_range_of, increase_of, del_of, rename_of, clear_of, set_fields_of, remove_fields_of, push_of, pop_of, set_item_of, insert_item_of, remove_items_of, trim_of, move_item_of, add_members_of, remove_members_of, move_member_of, set_scores_of, remove_scores_of};
+ghost use Rattle.mr_effect.specs.Reading.{end_of, side_of, place_of, deadline_of, score_of, pairs_of, scores_of, set_of, set_all_of, append_of, set_range_of, increase_of, del_of, expire_of, persist_of, rename_of, clear_of, ping_of, set_fields_of, remove_fields_of, push_of, pop_of, set_item_of, insert_item_of, remove_items_of, trim_of, move_item_of, add_members_of, remove_members_of, move_member_of, set_scores_of, remove_scores_of};
 
+use crate::deadline::is_deadline;
 use crate::effect::Effect;
 use crate::words::{Pairs, Scores, Words};
 use mr_value::{End, Side, Word, read_i64};
@@ -48,6 +49,17 @@ fn place_of(word: &[u8]) -> Option<i64>
         return None;
     }
     Some(place)
+}
+
+fn deadline_of(word: &[u8]) -> Option<i64>
+    ensures { result ≡ deadline_of word.now }
+{
+    let deadline = read_i64(word)?;
+    if is_deadline(deadline) {
+        Some(deadline)
+    } else {
+        None
+    }
 }
 
 fn score_of(word: &[u8]) -> Option<i64>
@@ -106,6 +118,19 @@ pub(crate) fn set_of<'a>(words: &'a [CowSlice<'_, u8>]) -> Option<Effect<'a>>
             key: borrowed(key),
             value: borrowed(value),
         }),
+        [key, value, option] if option.as_slice() == b"KEEPTTL".as_slice() => {
+            Some(Effect::SetKeeping {
+                key: borrowed(key),
+                value: borrowed(value),
+            })
+        }
+        [key, value, option, deadline] if option.as_slice() == b"PXAT".as_slice() => {
+            Some(Effect::SetUntil {
+                key: borrowed(key),
+                value: borrowed(value),
+                deadline: deadline_of(deadline.as_slice())?,
+            })
+        }
         _ => None,
     }
 }
@@ -171,6 +196,27 @@ pub(crate) fn del_of<'a>(words: &'a [CowSlice<'_, u8>]) -> Option<Effect<'a>>
     }
 }
 
+pub(crate) fn expire_of<'a>(words: &'a [CowSlice<'_, u8>]) -> Option<Effect<'a>>
+    ensures { result ≡ expire_of (map cow_slice_items words.now) }
+{
+    match words {
+        [key, deadline] => Some(Effect::Expire {
+            key: borrowed(key),
+            deadline: deadline_of(deadline.as_slice())?,
+        }),
+        _ => None,
+    }
+}
+
+pub(crate) fn persist_of<'a>(words: &'a [CowSlice<'_, u8>]) -> Option<Effect<'a>>
+    ensures { result ≡ persist_of (map cow_slice_items words.now) }
+{
+    match words {
+        [key] => Some(Effect::Persist { key: borrowed(key) }),
+        _ => None,
+    }
+}
+
 pub(crate) fn rename_of<'a>(words: &'a [CowSlice<'_, u8>]) -> Option<Effect<'a>>
     ensures { result ≡ rename_of (map cow_slice_items words.now) }
 {
@@ -188,6 +234,15 @@ pub(crate) fn clear_of<'a>(words: &'a [CowSlice<'_, u8>]) -> Option<Effect<'a>>
 {
     match words {
         [] => Some(Effect::Clear),
+        _ => None,
+    }
+}
+
+pub(crate) fn ping_of<'a>(words: &'a [CowSlice<'_, u8>]) -> Option<Effect<'a>>
+    ensures { result ≡ ping_of (map cow_slice_items words.now) }
+{
+    match words {
+        [] => Some(Effect::Ping),
         _ => None,
     }
 }

@@ -1,6 +1,6 @@
 -- What is to be done about a request, from the answer to it.
 use Rattle.std.specs.Prelude.{◌≤◌, ℕ, List, length, drop}
-use Rattle.mr_data.specs.Dataset.{Dataset}
+use Rattle.mr_entries.specs.Dataset.{Dataset}
 use Rattle.mr_data.specs.declared.given.Given.{Given}
 use Rattle.mr_plan.specs.Requests.{IsAnswer, Leads}
 use Rattle.mr_plan.specs.declared.requests.Answer.{Answer}

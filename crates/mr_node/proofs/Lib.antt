@@ -3,3 +3,4 @@ pub mod Ends
 pub mod Nodes
 pub mod Progressing
 pub mod Steps
+pub mod Deletions

@@ -1,7 +1,7 @@
 -- The value of a node, from its fields.
 use Rattle.mr_links.specs.Links.{Links}
 use Rattle.mr_repl.specs.Backlog.{Window}
-use Rattle.mr_data.specs.Dataset.{Dataset}
+use Rattle.mr_entries.specs.Dataset.{Dataset}
 use Rattle.mr_node.specs.State.{NodeState, EndState}
 use Rattle.mr_node.specs.declared.node.Node.TheInside.{Inside}
 

@@ -5,3 +5,4 @@ pub mod Listing
 pub mod Requests
 pub mod Rows
 pub mod Parts
+pub mod Ticks

@@ -7,7 +7,7 @@ use Rattle.mr_resp.specs.ReplyView.{view}
 use Rattle.mr_resp.specs.Faults.{fault_text}
 use Rattle.mr_resp.specs.declared.fault.Fault.{Fault}
 use Rattle.mr_resp.specs.declared.progress.Progress.{Progress}
-use Rattle.mr_data.specs.Dataset.{Dataset}
+use Rattle.mr_entries.specs.Dataset.{Dataset}
 use Rattle.mr_data.specs.Meaning.{apply_all}
 use Rattle.mr_effect.specs.Spelling.{texts}
 use Rattle.mr_effect.specs.declared.effect.Effect.{Effect}

@@ -5,8 +5,8 @@ use Rattle.std.specs.FinMap as map
 use Rattle.mr_repl.specs.Backlog.{Window}
 use Rattle.mr_links.specs.Links.{Links, links_code}
 use Rattle.mr_links.specs.declared.link_id.LinkId.{LinkId}
-use Rattle.mr_data.specs.Dataset.{Dataset}
-use Rattle.mr_data.specs.contracts.value.Entry as item
+use Rattle.mr_entries.specs.Dataset.{Dataset}
+use Rattle.mr_entries.specs.contracts.value.Entry as item
 
 -- what a node keeps of its end of a client's link
 pub record EndState : Type 0 where

@@ -8,6 +8,7 @@ mod node;
 mod out;
 mod outs;
 mod step;
+mod ticking;
 mod todo;
 
 pub use config::Config;

@@ -30,18 +30,24 @@ use std::marker::Model;
 use std::mem;
 
 /// No offset is greater, and no more links are opened.
-const LIMIT: u64 = 0x4000_0000_0000_0000;
+pub(crate) const LIMIT: u64 = 0x4000_0000_0000_0000;
+
+/// No link has this name.
+pub(crate) const NOWHERE: LinkId = LinkId {
+    index: 0,
+    generation: 0,
+};
 
 /// A node: its replication id, its dataset, the last bytes of its stream, and its ends of the links of its clients.
 #[derive(Drop)]
 pub struct Node {
-    alloc: Global,
-    up: bool,
-    replica: bool,
+    pub(crate) alloc: Global,
+    pub(crate) up: bool,
+    pub(crate) replica: bool,
     port: u16,
     id: ReplId,
-    held: Dataset,
-    stream: Backlog,
+    pub(crate) held: Dataset,
+    pub(crate) stream: Backlog,
     links: Links<End>,
     spare: Outs,
 }
@@ -73,10 +79,6 @@ impl Node {
         let Ok(stream) = Backlog::new(alloc, config.backlog, 0) else {
             return Err(AllocError);
         };
-        let nowhere = LinkId {
-            index: 0,
-            generation: 0,
-        };
         Ok(Node {
             alloc,
             up: true,
@@ -86,7 +88,7 @@ impl Node {
             held,
             stream,
             links: Links::new(alloc),
-            spare: Outs::new(alloc, nowhere),
+            spare: Outs::new(alloc, NOWHERE),
         })
     }
 
@@ -138,7 +140,7 @@ impl Node {
     }
 
     /// The outs kept for the next step, emptied.
-    fn fresh_outs(&mut self, link: LinkId) -> Outs
+    pub(crate) fn fresh_outs(&mut self, link: LinkId) -> Outs
         ensures outs { result ≡ no_outs link }
         ensures same { self.new ≡ self.old }
     {

@@ -1,12 +1,12 @@
 // What a step gives out.
-ghost use Rattle.std.specs.Prelude.{◌≡◌, ◌++◌, [], true, false, OnOk};
+ghost use Rattle.std.specs.Prelude.{◌≡◌, ◌++◌, [], ◌+◌, true, false, length, nat_le, if◌then◌else◌, IfOk, OnOk};
 ghost use Rattle.mr_resp.specs.Replies.{reply_text};
 ghost use Rattle.mr_resp.specs.ReplyView.{view};
-ghost use Rattle.mr_effect.specs.Spelling.{texts};
+ghost use Rattle.mr_effect.specs.Spelling.{size, text, texts};
 ghost use Rattle.mr_node.specs.Outs.{no_outs, outs_of};
 
 use crate::out::OutsIter;
-use mr_data::{Effect, encode_all};
+use mr_data::{Effect, encode, encode_all};
 use mr_links::LinkId;
 use mr_resp::{Reply, write_reply};
 use std::alloc::{AllocError, Global};
@@ -94,6 +94,20 @@ impl Outs {
         ensures { OnOk result (self.new ≡ record self.old { grown = self.old.grown ++ texts effects.now }) }
     {
         encode_all(effects, &mut self.grown)
+    }
+
+    /// Puts the text of an effect behind those that are there, if all together have no more bytes than this. Answers whether.
+    pub(crate) fn grow_within(&mut self, effect: &Effect<'_>, room: u64) -> Result<bool, AllocError>
+        ensures fits { IfOk result (λ fits. fits ≡ nat_le (length self.old.grown + size effect.now) room) }
+        ensures outs { IfOk result (λ fits. self.new ≡ if fits then record self.old { grown = self.old.grown ++ text effect.now } else self.old) }
+    {
+        let start = self.grown.len();
+        encode(effect, &mut self.grown)?;
+        if self.grown.len() as u64 > room {
+            self.grown.truncate(start);
+            return Ok(false);
+        }
+        Ok(true)
     }
 
     /// Puts a reply behind what is there.

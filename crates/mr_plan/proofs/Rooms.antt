@@ -27,7 +27,9 @@ same_number [] (v ∷ vs) h = absurd h
 same_number (w ∷ ws) [] h = absurd h
 
 no_fewer : (ws : List (List ℕ)) (c : TextAsk) → AreOfTexts ws c → length (text_words c) ≤ length ws
-no_fewer ws (text.Set k v condition reply) h = omega (arith, as_many _ _ h.1.1)
+no_fewer ws (text.Set k v condition reply lifetime) h = omega (arith, as_many _ _ h.1.1)
+no_fewer ws (text.SetEx k n v) h = omega (arith, as_many _ _ h)
+no_fewer ws (text.PSetEx k n v) h = omega (arith, as_many _ _ h)
 no_fewer ws (text.GetRange k first last) h = omega (arith, as_many _ _ h)
 no_fewer ws (text.SetRange k offset v) h = omega (arith, as_many _ _ h)
 no_fewer ws (text.Increase k by) h = omega (arith, as_many _ _ h)

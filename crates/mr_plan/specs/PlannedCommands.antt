@@ -1,6 +1,7 @@
 -- What each command does.
-use Rattle.std.specs.Prelude.{ℕ, ◌<◌, length}
+use Rattle.std.specs.Prelude.{◌<◌, length}
 use Rattle.mr_resp.specs.Usual.{commands}
+use Rattle.mr_data.specs.declared.given.Given.{Given}
 use Rattle.mr_turn.specs.Commands.{Command}
 use Rattle.mr_ask.specs.Carried.{text_words}
 use Rattle.mr_ask.specs.declared.ask.Ask.{Ask}
@@ -12,15 +13,15 @@ use Rattle.mr_plan_list.specs.Commands as lists
 use Rattle.mr_plan_set.specs.SetCommands as sets
 use Rattle.mr_plan_zset.specs.Commands as scores
 
--- by its kind; a command that draws members takes a random word
-abbrev pub command_of : Ask → ℕ → Command
-command_of (ask.Texts command) word = texts.command command
-command_of (ask.Keys command) word = keys.command command
-command_of (ask.Hashes command) word = hashes.command command
-command_of (ask.Lists command) word = lists.command command
-command_of (ask.Sets command) word = sets.command command word
-command_of (ask.SortedSets command) word = scores.command command
-command_of (ask.Server command) word = keys.server_command command
+-- by its kind; a command that speaks of time takes the moment, and one that draws members a random word
+abbrev pub command_of : Ask → Given → Command
+command_of (ask.Texts command) given = texts.command command given.now
+command_of (ask.Keys command) given = keys.command command given.now
+command_of (ask.Hashes command) given = hashes.command command
+command_of (ask.Lists command) given = lists.command command
+command_of (ask.Sets command) given = sets.command command given.word
+command_of (ask.SortedSets command) given = scores.command command
+command_of (ask.Server command) given = keys.server_command command
 
 -- A command text has room for the words that the command carries. (Only MSET and MSETNX have an effect that isn't cut.)
 abbrev pub HasRoom : Ask → Type 0

@@ -4,7 +4,7 @@ use Rattle.mr_resp.specs.Replies.{Tree, error}
 use Rattle.mr_resp.specs.ReplyView.{view}
 use Rattle.mr_resp.specs.Command.{IsCommandText}
 use Rattle.mr_resp.specs.Usual.{commands}
-use Rattle.mr_data.specs.Dataset.{Dataset}
+use Rattle.mr_entries.specs.Dataset.{Dataset}
 use Rattle.mr_data.specs.Meaning.{apply_all}
 use Rattle.mr_data.specs.declared.given.Given.{Given}
 use Rattle.mr_effect.specs.Spelling.{text}
@@ -22,7 +22,7 @@ use Rattle.mr_plan.specs.declared.requests.Answer.TheVariants as answer
 
 -- a command has its plan, and words that are none are told why
 abbrev pub IsPlannedAs : Result Ask AskFault → Given → Dataset → Tree → List Effect → Type 0
-IsPlannedAs (Ok command) given m reply effects = IsPlan (command_of command given.word) given.now m reply effects
+IsPlannedAs (Ok command) given m reply effects = IsPlan (command_of command given) given.now m reply effects
 IsPlannedAs (Err fault) given m reply effects = (reply ≡ error (fault_text fault)) × (effects ≡ [])
 
 pub record IsPlanned (words : List (List ℕ)) (given : Given) (m : Dataset) (reply : Tree) (effects : List Effect) : Type 0 where
@@ -43,7 +43,7 @@ quits words = closes (asked words)
 
 -- what is done about a command
 abbrev pub IsAnswerTo : Ask → Given → Dataset → Answer → Type 0
-IsAnswerTo command given m (answer.Run plan) = (is_quit command ≡ false) × IsPlan (command_of command given.word) given.now m (view plan.reply) plan.effects.items
+IsAnswerTo command given m (answer.Run plan) = (is_quit command ≡ false) × IsPlan (command_of command given) given.now m (view plan.reply) plan.effects.items
 IsAnswerTo command given m answer.Quit = is_quit command ≡ true
 
 abbrev pub IsAnswer : List (List ℕ) → Given → Dataset → Answer → Type 0

@@ -16,13 +16,13 @@ pub fn plan(
     ask: &Ask<'_, '_>,
     given: Given,
 ) -> Result<Plan, AllocError>
-    ensures plan { IfOk result (λ p. IsPlan (command_of ask.now given.word) given.now held.now (view p.reply) p.effects.items) }
+    ensures plan { IfOk result (λ p. IsPlan (command_of ask.now given) given.now held.now (view p.reply) p.effects.items) }
 
     // The effects lead to what the command leaves, and its own ones are there exactly where it changes something.
-    ensures faithful { AskFits ask.now → IsFaithful (command_of ask.now given.word) given.now held.now }
+    ensures faithful { AskFits ask.now → IsFaithful (command_of ask.now given) given.now held.now }
 
     // .. and their texts are command texts.
-    ensures texts { AskFits ask.now → HasRoom ask.now → HasCommandTexts (command_of ask.now given.word) given.now held.now }
+    ensures texts { AskFits ask.now → HasRoom ask.now → HasCommandTexts (command_of ask.now given) given.now held.now }
 {
     match ask {
         Ask::Texts(ask) => mr_plan_text::plan(alloc, held, ask, given),

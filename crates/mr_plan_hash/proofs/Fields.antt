@@ -12,10 +12,11 @@ use Rattle.std.proofs.lemmas.Cmp.{nat_list_cmp_total}
 use Rattle.std.proofs.lemmas.Map.Lookups.{exact_bytes}
 use Rattle.std.proofs.lemmas.Slice.Eq.{bytes_eq-Decides}
 use Rattle.mr_map.specs.Bytes.{Bytes, bytes_cmp}
-use Rattle.mr_data.specs.Collections.{with_fields}
-use Rattle.mr_data.proofs.Maps.{insert_same}
+use Rattle.mr_entries.specs.Collections.{with_fields}
+use Rattle.mr_entries.proofs.Maps.{insert_same}
 use Rattle.mr_turn.specs.Taken.{is_key}
-use Rattle.mr_turn.proofs.Maps.{is_key_itself, is_key_symm, same_key}
+use Rattle.mr_entries.proofs.Maps.{same_key}
+use Rattle.mr_entries.proofs.Puts.{is_key_itself, is_key_symm}
 use Rattle.mr_plan_hash.specs.Hashes.{Hash, last_values, is_value, changed}
 
 abbrev Pair : Type 0

@@ -5,8 +5,8 @@ use Rattle.std.proofs.Math.Seq.{take-append_seam, drop-append_seam}
 use Rattle.std.proofs.Math.ListN.{drop_of_length-le}
 use Rattle.std.proofs.lemmas.List.{take_all}
 use Rattle.mr_effect.specs.declared.effect.Effect.{Effect}
-use Rattle.mr_turn.specs.Cuts.{most_items, cut}
-use Rattle.mr_turn.proofs.Cutting.{cut_more}
+use Rattle.mr_entries.specs.Cuts.{most_items, cut}
+use Rattle.mr_entries.proofs.Cutting.{cut_more}
 use Rattle.mr_plan_hash.specs.Groups.{TakesItems}
 
 not_full : (n : ℕ) → n ≡ 0 → n ≡ most_items → ⊥

@@ -14,22 +14,24 @@ use Rattle.mr_resp.specs.Replies.{Tree}
 use Rattle.mr_effect.specs.Effects.{pair_fits, is_some_of}
 use Rattle.mr_effect.specs.declared.effect.Effect.{Effect}
 use Rattle.mr_effect.specs.declared.effect.Effect.TheVariants as effect
-use Rattle.mr_data.specs.Dataset.{Dataset, IsDataset, live, is_past}
-use Rattle.mr_data.specs.Collections.{with_fields, without_fields}
-use Rattle.mr_data.specs.Steps.{hashes, held, entry_of, deadline_of, on}
-use Rattle.mr_data.specs.Meaning.{change as made}
-use Rattle.mr_data.specs.declared.value.Entry.{Entry}
+use Rattle.mr_entries.specs.Dataset.{Dataset}
+use Rattle.mr_data.specs.Dataset.{IsDataset, live, is_past}
+use Rattle.mr_entries.specs.Collections.{with_fields, without_fields}
+use Rattle.mr_entries.specs.Steps.{hashes, held, entry_of, deadline_of, on}
+use Rattle.mr_entries.specs.Changes.{change as made}
+use Rattle.mr_entries.specs.declared.value.Entry.{Entry}
 use Rattle.mr_data.proofs.Fitting.{no_fields, with_fields_fit}
-use Rattle.mr_data.proofs.Nonempty.{with_fields_some, without_fields_none, no_elements}
+use Rattle.mr_entries.proofs.Nonempty.{without_fields_none, no_elements}
 use Rattle.mr_words.specs.Pairing.{unpaired}
-use Rattle.mr_ask.specs.Carried.{hash_words}
-use Rattle.mr_ask.specs.declared.hash_ask.HashAsk.{HashAsk}
-use Rattle.mr_ask.specs.declared.hash_ask.HashAsk.TheVariants as ask
-use Rattle.mr_turn.specs.Cuts.{cut}
+use Rattle.mr_ask_coll.specs.Carried.{hash_words}
+use Rattle.mr_ask_coll.specs.declared.hash_ask.HashAsk.{HashAsk}
+use Rattle.mr_ask_coll.specs.declared.hash_ask.HashAsk.TheVariants as ask
+use Rattle.mr_entries.specs.Cuts.{cut}
 use Rattle.mr_turn.specs.Keys.{purged}
-use Rattle.mr_turn.proofs.Cutting.{cut_whole, no_cut, IsGroup, cut_groups}
-use Rattle.mr_turn.proofs.Running.{IsStep, steps_of, IsKept, IsFold, groups_run}
-use Rattle.mr_turn.proofs.KindLaws.{hashes_are, hashes_kept}
+use Rattle.mr_entries.proofs.Cutting.{cut_whole, no_cut, IsGroup, cut_groups}
+use Rattle.mr_data.proofs.Folds.{setting_fields, set_fields_is_step}
+use Rattle.mr_data.proofs.Running.{IsStep, steps_of, IsKept, IsFold, groups_run}
+use Rattle.mr_data.proofs.KindLaws.{hashes_are, hashes_kept}
 use Rattle.mr_turn.proofs.Laws.{faithful, at_key_faithful, IsLawful}
 use Rattle.mr_turn.proofs.Changing.{IsFaithfulChange, changing_faithful}
 use Rattle.mr_turn.proofs.PlanLemmas.{purged_at}
@@ -38,7 +40,6 @@ use Rattle.mr_plan_hash.specs.Commands.{key_of, change, turn, command}
 use Rattle.mr_plan_hash.proofs.Fields.{all_map, own_entries, with_changed, none_changed}
 use Rattle.mr_plan_hash.proofs.Gone.{without_removed, none_removed, removed_fit}
 use Rattle.mr_effect.proofs.Texts.{short_effect}
-use Rattle.mr_effect.proofs.Appending.{length-pairs}
 
 both : (a b : Bool) → a ≡ true → b ≡ true → (a && b) ≡ true
 both true b h i = i
@@ -68,10 +69,6 @@ module _ {A : Type 0} (k : Bytes) (make : List A → Effect) (f : List A → Has
     some = λ e. ap (λ ys. map make (cut ys)) (some e);
   }
 
-with_append : (ps qs : List (Bytes × Bytes)) (h : Hash) → with_fields (ps ++ qs) h ≡ with_fields qs (with_fields ps h)
-with_append [] qs h = refl
-with_append (p ∷ ps) qs h = with_append ps qs _
-
 without_append : (fs gs : List Bytes) (h : Hash) → without_fields (fs ++ gs) h ≡ without_fields gs (without_fields fs h)
 without_append [] gs h = refl
 without_append (f ∷ fs) gs h = without_append fs gs _
@@ -80,29 +77,11 @@ some_of : {X : Type 0} (xs : List X) → xs ≢ [] → is_some_of xs ≡ true
 some_of [] h = absurd (h refl)
 some_of (x ∷ xs) h = refl
 
-not_none : (b : Bool) → b ≡ false → b ≡ true → ⊥
-not_none b h i = let wrong : false ≡ true = sym h ∙ i in cc
-
-setting : IsFold hashes with_fields
-setting = record {
-  nothing = λ h. refl;
-  more = with_append;
-  gone = λ ps h some none. absurd (not_none _ (with_fields_some ps h (some_of ps some)) none);
-}
-
 removing : IsFold hashes without_fields
 removing = record {
   nothing = λ h. refl;
   more = without_append;
   gone = λ fs h some none gs. ap (λ (m : Hash). len m == 0) (without_fields_none gs) ∙ no_elements Bytes;
-}
-
-set_step : (k : Bytes) → fits k ≡ true → (g : List (Bytes × Bytes)) → IsGroup pair_fits g → IsStep k (effect.SetFields k g) (on hashes (λ x. Some (with_fields g x)))
-unfolding made
-set_step k fit g i = record {
-  possible = both (is_some_of g) _ (some_of g i.some) (both (fits k) _ fit i.all);
-  short = short_effect (effect.SetFields k g) (omega (arith, length-pairs g, i.few));
-  is = λ m. refl;
 }
 
 remove_step : (k : Bytes) → fits k ≡ true → (g : List Bytes) → IsGroup fits g → IsStep k (effect.RemoveFields k g) (on hashes (λ x. Some (without_fields g x)))
@@ -147,7 +126,7 @@ unchanged_faithful reply h k o = record {
 }
 
 set_faithful : (k : Bytes) (reply : Tree) (ps : List (Bytes × Bytes)) (h : Hash) (o : Option Entry) → fits k ≡ true → list_all pair_fits ps ≡ true → held hashes o ≡ Some h → IsFaithfulChange hashes (set_pairs k reply ps h) h k o
-set_faithful k reply ps h o fit all is = cut_faithful k (effect.SetFields k) with_fields setting pair_fits (set_step k fit) reply (with_fields ps h) h o (changed ps h) (changed_fit ps h all) is (with_changed ps h) (none_changed ps h)
+set_faithful k reply ps h o fit all is = cut_faithful k (effect.SetFields k) with_fields setting_fields pair_fits (set_fields_is_step k fit) reply (with_fields ps h) h o (changed ps h) (changed_fit ps h all) is (with_changed ps h) (none_changed ps h)
 
 one_pair : (f v : Bytes) → fits f ≡ true → fits v ≡ true → list_all pair_fits ((f, v) ∷ []) ≡ true
 one_pair f v a b = both (fits f && fits v) true (both (fits f) (fits v) a b) refl

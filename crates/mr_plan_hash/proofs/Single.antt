@@ -13,9 +13,9 @@ use Rattle.mr_resp.specs.Replies as reply
 use Rattle.mr_resp.specs.Replies.{Tree}
 use Rattle.mr_effect.specs.declared.effect.Effect.{Effect}
 use Rattle.mr_effect.specs.declared.effect.Effect.TheVariants as effect
-use Rattle.mr_turn.specs.Cuts.{cut}
+use Rattle.mr_entries.specs.Cuts.{cut}
 use Rattle.mr_plan_hash.specs.Hashes.{Hash, is_value, changed, set_pairs, unchanged, count_reply, set_new_field, number_at, increase_from, increase_field, overflow, fields_reply, count_new, set_fields, removed, remove_fields}
-use Rattle.mr_ask.specs.declared.hash_ask.FieldsReply.{FieldsReply}
+use Rattle.mr_ask_coll.specs.declared.hash_ask.FieldsReply.{FieldsReply}
 use Rattle.mr_plan_hash.specs.Commands.{Makes}
 
 no_length : {A : Type 0} (xs : List A) → length xs ≡ 0 → xs ≡ []

@@ -2,9 +2,9 @@
 use Rattle.std.proofs.Common.{◌≡◌, List, ◌++◌, Option, Some, None, sym, ◌∙◌, ap}
 use Rattle.mr_resp.specs.Replies.{Tree}
 use Rattle.mr_effect.specs.declared.effect.Effect.{Effect}
-use Rattle.mr_data.specs.Steps.{hashes, held}
-use Rattle.mr_data.specs.declared.value.Entry.{Entry}
-use Rattle.mr_ask.specs.declared.hash_ask.HashAsk.{HashAsk}
+use Rattle.mr_entries.specs.Steps.{hashes, held}
+use Rattle.mr_entries.specs.declared.value.Entry.{Entry}
+use Rattle.mr_ask_coll.specs.declared.hash_ask.HashAsk.{HashAsk}
 use Rattle.mr_turn.specs.Turns.{Turn, Takes, wrong_kind}
 use Rattle.mr_turn.specs.Collections.{changed}
 use Rattle.mr_turn.proofs.PlanLemmas.{told}

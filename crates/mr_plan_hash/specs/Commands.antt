@@ -3,10 +3,10 @@ use Rattle.std.specs.Prelude.{◌≡◌, List, ◌++◌, Option}
 use Rattle.mr_map.specs.Bytes.{Bytes}
 use Rattle.mr_resp.specs.Replies.{Tree}
 use Rattle.mr_effect.specs.declared.effect.Effect.{Effect}
-use Rattle.mr_data.specs.Steps.{hashes}
-use Rattle.mr_data.specs.declared.value.Entry.{Entry}
-use Rattle.mr_ask.specs.declared.hash_ask.HashAsk.{HashAsk}
-use Rattle.mr_ask.specs.declared.hash_ask.HashAsk.TheVariants as ask
+use Rattle.mr_entries.specs.Steps.{hashes}
+use Rattle.mr_entries.specs.declared.value.Entry.{Entry}
+use Rattle.mr_ask_coll.specs.declared.hash_ask.HashAsk.{HashAsk}
+use Rattle.mr_ask_coll.specs.declared.hash_ask.HashAsk.TheVariants as ask
 use Rattle.mr_turn.specs.Turns.{Turn}
 use Rattle.mr_turn.specs.Collections.{Change, changing}
 use Rattle.mr_turn.specs.Commands.{Command, on_key}

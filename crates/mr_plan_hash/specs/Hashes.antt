@@ -11,12 +11,12 @@ use Rattle.mr_resp.specs.Replies.{Tree}
 use Rattle.mr_resp.specs.ReplyView.{trees_of}
 use Rattle.mr_effect.specs.Spelling.{pair_words}
 use Rattle.mr_effect.specs.declared.effect.Effect.TheVariants as effect
-use Rattle.mr_data.specs.Collections.{with_fields, without_fields, with_members}
-use Rattle.mr_ask.specs.declared.hash_ask.FieldsReply.{FieldsReply}
-use Rattle.mr_ask.specs.declared.hash_ask.FieldsReply.TheVariants as answer
-use Rattle.mr_ask.specs.declared.hash_ask.HashPart.{HashPart}
-use Rattle.mr_ask.specs.declared.hash_ask.HashPart.TheVariants as part
-use Rattle.mr_turn.specs.Cuts.{cut}
+use Rattle.mr_entries.specs.Collections.{with_fields, without_fields, with_members}
+use Rattle.mr_ask_coll.specs.declared.hash_ask.FieldsReply.{FieldsReply}
+use Rattle.mr_ask_coll.specs.declared.hash_ask.FieldsReply.TheVariants as answer
+use Rattle.mr_ask_coll.specs.declared.hash_ask.HashPart.{HashPart}
+use Rattle.mr_ask_coll.specs.declared.hash_ask.HashPart.TheVariants as part
+use Rattle.mr_entries.specs.Cuts.{cut}
 use Rattle.mr_turn.specs.Turns.{done}
 use Rattle.mr_turn.specs.Collections.{Change}
 

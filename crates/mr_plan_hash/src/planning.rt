@@ -5,8 +5,8 @@ ghost use Rattle.std.specs.FinMap.{empty};
 ghost use Rattle.mr_resp.specs.ReplyView.{view};
 ghost use Rattle.mr_value.specs.Words.{fits};
 ghost use Rattle.mr_data.specs.Dataset.{IsDataset};
-ghost use Rattle.mr_data.specs.Steps.{hashes, held};
-ghost use Rattle.mr_ask.specs.Carried.{hash_words};
+ghost use Rattle.mr_entries.specs.Steps.{hashes, held};
+ghost use Rattle.mr_ask_coll.specs.Carried.{hash_words};
 ghost use Rattle.mr_turn.specs.Commands.{IsPlan, IsFaithful, HasCommandTexts};
 ghost use Rattle.mr_plan_hash.specs.Commands.{key_of, change, command, Makes};
 

@@ -3,8 +3,8 @@ ghost use Rattle.std.specs.Prelude.{◌≡◌, ◌<◌, ◌^◌, [], ◌∷◌, 
 ghost use Rattle.std.specs.FinMap.{empty, keys, contains_key};
 ghost use Rattle.mr_resp.specs.ReplyView.{view};
 ghost use Rattle.mr_effect.specs.declared.effect.Effect.TheVariants as made;
-ghost use Rattle.mr_data.specs.Collections.{with_members};
-ghost use Rattle.mr_turn.specs.Cuts.{cut};
+ghost use Rattle.mr_entries.specs.Collections.{with_members};
+ghost use Rattle.mr_entries.specs.Cuts.{cut};
 ghost use Rattle.mr_plan_hash.specs.Hashes.{remove_fields};
 ghost use Rattle.mr_plan_hash.specs.Commands.{Makes};
 

@@ -3,7 +3,7 @@ ghost use Rattle.std.specs.Prelude.{◌≡◌, ◌≢◌, ◌<◌, ◌^◌, [], 
 ghost use Rattle.std.specs.FinMap.{entries, get, contains_key};
 ghost use Rattle.mr_resp.specs.ReplyView.{view};
 ghost use Rattle.mr_effect.specs.declared.effect.Effect.TheVariants as made;
-ghost use Rattle.mr_turn.specs.Cuts.{cut};
+ghost use Rattle.mr_entries.specs.Cuts.{cut};
 ghost use Rattle.mr_plan_hash.specs.Hashes.{is_value, last_values, fields_reply, set_fields, set_new_field, number_at, increase_field};
 ghost use Rattle.mr_plan_hash.specs.Commands.{Makes};
 

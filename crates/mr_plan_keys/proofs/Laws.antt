@@ -1,25 +1,29 @@
 -- The effects of commands on keys are faithful.
-use Rattle.std.proofs.Common.{◌≡◌, List, [], ◌∷◌, Some, None, refl, sym, ◌∙◌, ap, arith}
+use Rattle.std.proofs.Common.{◌≡◌, List, [], ◌∷◌, Bool, true, false, ◌&&◌, Some, None, refl, sym, ◌∙◌, ap}
 use Rattle.std.specs.Prelude.{IsTrue, is_some, ℤ, pos}
 use Rattle.std.specs.List.{list_all}
 use Rattle.std.specs.FinMap.{len}
 use Rattle.mr_map.specs.Bytes.{Bytes}
 use Rattle.mr_value.specs.Words.{fits}
 use Rattle.mr_resp.specs.Replies as reply
-use Rattle.mr_data.specs.Dataset.{Dataset}
+use Rattle.mr_entries.specs.Dataset.{Dataset}
 use Rattle.mr_ask.specs.Carried.{key_words}
+use Rattle.mr_ask.specs.Expiry.{deadline_at}
 use Rattle.mr_ask.specs.declared.key_ask.KeyAsk.{KeyAsk}
 use Rattle.mr_ask.specs.declared.key_ask.KeyAsk.TheVariants as ask
 use Rattle.mr_ask.specs.declared.server_ask.ServerAsk.{ServerAsk}
 use Rattle.mr_turn.specs.Keys.{chosen, without, dels}
 use Rattle.mr_turn.specs.Commands.{on_keys}
 use Rattle.mr_turn.proofs.KeyLists.{dels_lead, chosen_fits, without_chosen, none_chosen}
-use Rattle.mr_turn.proofs.Laws.{faithful, IsFaithfulAt, by_telling, keys_told, none_told, IsLawful, dels_short}
+use Rattle.mr_turn.proofs.Laws.{faithful, IsFaithfulAt, by_turn, by_telling, keys_told, none_told, IsLawful, dels_short}
 use Rattle.mr_plan_keys.specs.Turns.{type_reply}
 use Rattle.mr_plan_keys.specs.Outcomes.{deleted, present}
 use Rattle.mr_plan_keys.specs.Listing.{listed, bulks, scan_reply, from_cursor}
 use Rattle.mr_plan_keys.specs.Server.{server_reply}
-use Rattle.mr_plan_keys.specs.Commands.{command, server_command}
+use Rattle.mr_plan_keys.specs.Commands.{command, server_command, HasDeadline}
+use Rattle.mr_plan_keys.specs.Expiring.{expire_turn, persist_turn, told_in}
+use Rattle.mr_plan_keys.specs.declared.expiring.DeadlineForm.TheVariants as form
+use Rattle.mr_plan_keys.proofs.Deadlines.{expire_faithful, persist_faithful}
 use Rattle.mr_plan_keys.proofs.Renamings.{renamed_faithful, renamed_new_faithful, cleared_faithful}
 
 -- DEL, UNLINK
@@ -36,17 +40,27 @@ deleted_faithful ks m h = record {
 }
 
 -- ---- each command
-pub keys_faithful : (c : KeyAsk) (now : ℤ) (m : Dataset) → IsTrue (list_all fits (key_words c)) → IsLawful (command c) now m
-keys_faithful (ask.Del ks) now m h = faithful (on_keys ks (deleted ks)) now m h (deleted_faithful ks _ h)
-keys_faithful (ask.Unlink ks) now m h = faithful (on_keys ks (deleted ks)) now m h (deleted_faithful ks _ h)
-keys_faithful (ask.Exists ks) now m h = keys_told ks (λ n. reply.int (pos (present n ks))) now m h
-keys_faithful (ask.KeyType k) now m h = by_telling k type_reply now m h
-keys_faithful (ask.MatchingKeys p) now m h = none_told (λ n. bulks (listed (Some p) None n)) now m
-keys_faithful (ask.Scan c p k) now m h = none_told (λ n. scan_reply (from_cursor c (listed p k n))) now m
-keys_faithful ask.CountKeys now m h = none_told (λ n. reply.int (pos (len n))) now m
-keys_faithful (ask.Rename from to) now m h = renamed_faithful from to now m h
-keys_faithful (ask.RenameNew from to) now m h = renamed_new_faithful from to now m h
-keys_faithful (ask.Clear databases timing) now m h = cleared_faithful now m
+first : (a b : Bool) → a && b ≡ true → a ≡ true
+first true b h = refl
+first false b h = cc
+
+pub keys_faithful : (c : KeyAsk) (now : ℤ) (m : Dataset) → IsTrue (list_all fits (key_words c)) → HasDeadline c now → IsLawful (command c now) now m
+keys_faithful (ask.Del ks) now m h named = faithful (on_keys ks (deleted ks)) now m h (deleted_faithful ks _ h)
+keys_faithful (ask.Unlink ks) now m h named = faithful (on_keys ks (deleted ks)) now m h (deleted_faithful ks _ h)
+keys_faithful (ask.Exists ks) now m h named = keys_told ks (λ n. reply.int (pos (present n ks))) now m h
+keys_faithful (ask.KeyType k) now m h named = by_telling k type_reply now m h
+keys_faithful (ask.MatchingKeys p) now m h named = none_told (λ n. bulks (listed (Some p) None n)) now m
+keys_faithful (ask.Scan c p k) now m h named = none_told (λ n. scan_reply (from_cursor c (listed p k n))) now m
+keys_faithful ask.CountKeys now m h named = none_told (λ n. reply.int (pos (len n))) now m
+keys_faithful (ask.Rename from to) now m h named = renamed_faithful from to now m h
+keys_faithful (ask.RenameNew from to) now m h named = renamed_new_faithful from to now m h
+keys_faithful (ask.Clear databases timing) now m h named = cleared_faithful now m
+keys_faithful (ask.Expire k expiry when) now m h named = by_turn k (expire_turn k when now (deadline_at now expiry)) now m h (λ n. expire_faithful k when now (deadline_at now expiry) n (first _ _ h) named)
+keys_faithful (ask.Ttl k) now m h named = by_telling k (λ o. reply.int (told_in form.SecondsLeft now o)) now m h
+keys_faithful (ask.PTtl k) now m h named = by_telling k (λ o. reply.int (told_in form.MillisecondsLeft now o)) now m h
+keys_faithful (ask.ExpireTime k) now m h named = by_telling k (λ o. reply.int (told_in form.Second now o)) now m h
+keys_faithful (ask.PExpireTime k) now m h named = by_telling k (λ o. reply.int (told_in form.Millisecond now o)) now m h
+keys_faithful (ask.Persist k) now m h named = by_turn k (persist_turn k) now m h (λ n. persist_faithful k n (first _ _ h))
 
 pub server_faithful : (c : ServerAsk) (now : ℤ) (m : Dataset) → IsLawful (server_command c) now m
 server_faithful c now m = none_told (λ n. server_reply c) now m

@@ -1,4 +1,5 @@
 pub mod Renamings
+pub mod Deadlines
 pub mod Laws
 pub mod Listed
 pub mod PlanLemmas

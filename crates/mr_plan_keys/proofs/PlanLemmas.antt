@@ -1,11 +1,12 @@
 -- Plans from what was seen at several keys.
 use Rattle.std.proofs.Common.{◌≡◌, List, [], ◌∷◌, ◌++◌, length, true, ℤ, pos, refl, sym, ◌∙◌, ap, arith}
 use Rattle.std.specs.Prelude.{is_some, Option, false, Bool, ℕ, ◌+◌, ◌<◌, ◌≤◌, map, take, get_or}
-use Rattle.mr_data.specs.declared.value.Entry.{Entry}
+use Rattle.mr_entries.specs.declared.value.Entry.{Entry}
 use Rattle.std.specs.FinMap.{get}
 use Rattle.mr_map.specs.Bytes.{Bytes}
 use Rattle.mr_resp.specs.Replies as reply
-use Rattle.mr_data.specs.Dataset.{Dataset, live, seen}
+use Rattle.mr_entries.specs.Dataset.{Dataset}
+use Rattle.mr_data.specs.Dataset.{live, seen}
 use Rattle.mr_data.proofs.Seeing.{get-seen}
 use Rattle.mr_effect.specs.declared.effect.Effect.{Effect}
 use Rattle.mr_turn.specs.Keys.{chosen, dels, is_stored, past}

@@ -13,9 +13,11 @@ use Rattle.mr_map.specs.Bytes.{Bytes, bytes_cmp}
 use Rattle.mr_value.specs.Words.{fits}
 use Rattle.mr_resp.specs.Replies as reply
 use Rattle.mr_resp.specs.Replies.{Tree}
-use Rattle.mr_data.specs.Dataset.{Dataset, live, seen}
-use Rattle.mr_data.specs.Meaning.{apply, change, apply_all}
-use Rattle.mr_data.specs.declared.value.Entry.{Entry}
+use Rattle.mr_entries.specs.Dataset.{Dataset}
+use Rattle.mr_data.specs.Dataset.{live, seen}
+use Rattle.mr_entries.specs.Changes.{change}
+use Rattle.mr_data.specs.Meaning.{apply, apply_all}
+use Rattle.mr_entries.specs.declared.value.Entry.{Entry}
 use Rattle.mr_data.proofs.Seeing.{get-seen}
 use Rattle.mr_effect.specs.declared.effect.Effect.{Effect}
 use Rattle.mr_effect.specs.declared.effect.Effect.TheVariants as effect
@@ -24,7 +26,8 @@ use Rattle.mr_turn.specs.Keys.{past, purged, dels, is_stored}
 use Rattle.mr_turn.specs.Turns.{done}
 use Rattle.mr_turn.specs.Outcomes.{Outcome, answered}
 use Rattle.mr_turn.specs.Commands.{Command, on_keys, on_none, before, IsPlan}
-use Rattle.mr_turn.proofs.Maps.{is_key_itself, same_key, get_remove, removed}
+use Rattle.mr_entries.proofs.Maps.{same_key}
+use Rattle.mr_entries.proofs.Puts.{is_key_itself, get_remove, removed}
 use Rattle.mr_turn.proofs.KeyLists.{get_purged}
 use Rattle.mr_turn.proofs.Laws.{faithful, IsFaithfulAt, answered_faithful, IsLawful, one_short}
 use Rattle.mr_plan_keys.specs.Renaming.{no_key, carried, carried_if, renamed, renamed_new, cleared, Gives}

@@ -3,7 +3,8 @@ use Rattle.std.specs.Prelude.{ℕ, ℤ, pos, ◌+◌, List, [], ◌∷◌, lengt
 use Rattle.std.specs.FinMap.{get}
 use Rattle.mr_map.specs.Bytes.{Bytes}
 use Rattle.mr_resp.specs.Replies as reply
-use Rattle.mr_data.specs.Dataset.{Dataset, live}
+use Rattle.mr_entries.specs.Dataset.{Dataset}
+use Rattle.mr_data.specs.Dataset.{live}
 use Rattle.mr_turn.specs.Keys.{chosen, without, dels}
 use Rattle.mr_turn.specs.Outcomes.{Outcome, answered}
 

@@ -2,6 +2,7 @@
 #![tactic(auto)]
 
 mod counting;
+mod expiring;
 mod kinds;
 mod listing;
 mod planning;

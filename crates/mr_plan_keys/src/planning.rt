@@ -4,17 +4,20 @@ ghost use Rattle.std.specs.List.{list_all};
 ghost use Rattle.mr_value.specs.Words.{fits};
 ghost use Rattle.mr_resp.specs.ReplyView.{view};
 ghost use Rattle.mr_ask.specs.Carried.{key_words};
+ghost use Rattle.mr_ask.specs.Expiry.{deadline_at};
 ghost use Rattle.mr_turn.specs.Commands.{IsPlan, IsFaithful, HasCommandTexts, on_key, on_keys, on_none};
-ghost use Rattle.mr_plan_keys.specs.Commands.{command};
+ghost use Rattle.mr_plan_keys.specs.Commands.{command, HasDeadline};
 ghost use Rattle.mr_plan_keys.specs.Turns.{type_turn};
+ghost use Rattle.mr_plan_keys.specs.Expiring.{expire_turn, persist_turn, deadline_turn};
 ghost use Rattle.mr_plan_keys.specs.Outcomes.{deleted, counted};
 ghost use Rattle.mr_plan_keys.specs.Renaming.{cleared};
 ghost use Rattle.mr_plan_keys.specs.Listing.{matching, scanned, sized};
 
 use crate::counting::{count_keys, count_present};
+use crate::expiring::DeadlineForm;
 use crate::renaming::{rename, rename_new};
-use crate::{kinds, listing};
-use mr_ask::{Argument, Cursor, KeyAsk, KindName, Words};
+use crate::{expiring, kinds, listing};
+use mr_ask::{Argument, Cursor, ExpireCondition, Expiry, KeyAsk, KindName, Words};
 use mr_data::{Dataset, Effect, Given, Plan};
 use mr_turn::{Effects, count, done, integer, look, push_dels};
 use std::alloc::{AllocError, Global};
@@ -30,15 +33,25 @@ pub fn plan(
     ask: &KeyAsk<'_, '_>,
     given: Given,
 ) -> Result<Plan, AllocError>
-    ensures plan { IfOk result (λ p. IsPlan (command ask.now) given.now held.now (view p.reply) p.effects.items) }
+    ensures plan { IfOk result (λ p. IsPlan (command ask.now given.now) given.now held.now (view p.reply) p.effects.items) }
 
     // The effects lead to what the command leaves, and its own ones are there exactly where it changes something.
-    ensures faithful { IsTrue (list_all fits (key_words ask.now)) → IsFaithful (command ask.now) given.now held.now }
+    ensures faithful { IsTrue (list_all fits (key_words ask.now)) → IsFaithful (command ask.now given.now) given.now held.now }
 
     // .. and their texts are command texts.
-    ensures texts { IsTrue (list_all fits (key_words ask.now)) → HasCommandTexts (command ask.now) given.now held.now }
+    ensures texts { IsTrue (list_all fits (key_words ask.now)) → HasCommandTexts (command ask.now given.now) given.now held.now }
 {
+    deadline_can_be_named(ask, given);
     planned(alloc, held, ask, given)
+}
+
+// The deadline that a command sets was read within limits. Where it lies ahead, it is within those of effects.
+fn deadline_can_be_named(ask: &KeyAsk<'_, '_>, given: Given)
+    ensures { HasDeadline ask.now given.now }
+{
+    if let KeyAsk::Expire { expiry, .. } = ask {
+        let _deadline = expiry.deadline(given.now());
+    }
 }
 
 fn planned(
@@ -47,7 +60,7 @@ fn planned(
     ask: &KeyAsk<'_, '_>,
     given: Given,
 ) -> Result<Plan, AllocError>
-    ensures { IfOk result (λ p. IsPlan (command ask.now) given.now held.now (view p.reply) p.effects.items) }
+    ensures { IfOk result (λ p. IsPlan (command ask.now given.now) given.now held.now (view p.reply) p.effects.items) }
 {
     match ask {
         KeyAsk::Del { keys } => delete(alloc, held, keys, given),
@@ -64,6 +77,18 @@ fn planned(
         KeyAsk::Rename { from, to } => rename(alloc, held, from, to, given),
         KeyAsk::RenameNew { from, to } => rename_new(alloc, held, from, to, given),
         KeyAsk::Clear { .. } => clear(alloc, held, given),
+        KeyAsk::Expire {
+            key,
+            expiry,
+            condition,
+        } => expire(alloc, held, key, *expiry, *condition, given),
+        KeyAsk::Ttl { key } => deadline(alloc, held, key, DeadlineForm::SecondsLeft, given),
+        KeyAsk::PTtl { key } => deadline(alloc, held, key, DeadlineForm::MillisecondsLeft, given),
+        KeyAsk::ExpireTime { key } => deadline(alloc, held, key, DeadlineForm::Second, given),
+        KeyAsk::PExpireTime { key } => {
+            deadline(alloc, held, key, DeadlineForm::Millisecond, given)
+        }
+        KeyAsk::Persist { key } => persist(alloc, held, key, given),
     }
 }
 
@@ -159,4 +184,50 @@ fn clear(alloc: Global, held: &Dataset, given: Given) -> Result<Plan, AllocError
         effects.push(Effect::Clear)?;
     }
     Ok(effects.into_plan(done()))
+}
+
+fn expire(
+    alloc: Global,
+    held: &Dataset,
+    key: &Argument<'_>,
+    expiry: Expiry,
+    condition: Option<ExpireCondition>,
+    given: Given,
+) -> Result<Plan, AllocError>
+    ensures { IfOk result (λ p. IsPlan (on_key key.now (expire_turn key.now condition given.now (deadline_at given.now expiry))) given.now held.now (view p.reply) p.effects.items) }
+{
+    let mut effects = Effects::new(alloc);
+    let seen = look(alloc, held, key, given, &mut effects)?;
+    let deadline = expiry.deadline(given.now());
+    let reply = expiring::expire(alloc, key, condition, deadline, seen, given, &mut effects)?;
+    Ok(effects.into_plan(reply))
+}
+
+fn persist(
+    alloc: Global,
+    held: &Dataset,
+    key: &Argument<'_>,
+    given: Given,
+) -> Result<Plan, AllocError>
+    ensures { IfOk result (λ p. IsPlan (on_key key.now (persist_turn key.now)) given.now held.now (view p.reply) p.effects.items) }
+{
+    let mut effects = Effects::new(alloc);
+    let seen = look(alloc, held, key, given, &mut effects)?;
+    let reply = expiring::persist(alloc, key, seen, &mut effects)?;
+    Ok(effects.into_plan(reply))
+}
+
+fn deadline(
+    alloc: Global,
+    held: &Dataset,
+    key: &Argument<'_>,
+    form: DeadlineForm,
+    given: Given,
+) -> Result<Plan, AllocError>
+    ensures { IfOk result (λ p. IsPlan (on_key key.now (deadline_turn form given.now)) given.now held.now (view p.reply) p.effects.items) }
+{
+    let mut effects = Effects::new(alloc);
+    let seen = look(alloc, held, key, given, &mut effects)?;
+    let number = expiring::told_in(form, given, seen);
+    Ok(effects.into_plan(integer(number)))
 }

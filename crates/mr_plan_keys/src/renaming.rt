@@ -3,7 +3,8 @@ ghost use Rattle.std.specs.Prelude.{◌≡◌, ◌∷◌, [], ◌++◌, IfOk, On
 ghost use Rattle.std.specs.FinMap.{get};
 ghost use Rattle.std.specs.Str.{bytes_eq};
 ghost use Rattle.mr_resp.specs.ReplyView.{view};
-ghost use Rattle.mr_data.specs.Dataset.{Dataset as Map, live};
+ghost use Rattle.mr_data.specs.Dataset.{live};
+ghost use Rattle.mr_entries.specs.Dataset.{Dataset as Map};
 ghost use Rattle.mr_turn.specs.Keys.{dels, past};
 ghost use Rattle.mr_turn.specs.Commands.{IsPlan, on_keys};
 ghost use Rattle.mr_plan_keys.specs.Renaming.{Gives, carried_if, no_key, renamed, renamed_new};

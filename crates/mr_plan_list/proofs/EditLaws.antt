@@ -14,12 +14,12 @@ use Rattle.mr_value.specs.Lists.{count_of, without, without_first, without_last,
 use Rattle.mr_value.specs.Window.{named_place, window_of}
 use Rattle.mr_value.specs.declared.ends.Side.{Side}
 use Rattle.mr_value.proofs.Removals.{length-without}
-use Rattle.mr_data.specs.Collections.{is_place_of, is_part_of, place_beside}
-use Rattle.mr_data.specs.Steps.{lists, held, set_item_step, insert_item_step, remove_items_step, trim_step, del_step}
-use Rattle.mr_data.specs.Meaning.{change}
-use Rattle.mr_data.specs.declared.value.Entry.{Entry}
+use Rattle.mr_entries.specs.Collections.{is_place_of, is_part_of, place_beside}
+use Rattle.mr_entries.specs.Steps.{lists, held, set_item_step, insert_item_step, remove_items_step, trim_step, del_step}
+use Rattle.mr_entries.specs.Changes.{change}
+use Rattle.mr_entries.specs.declared.value.Entry.{Entry}
 use Rattle.mr_effect.specs.declared.effect.Effect.TheVariants as effect
-use Rattle.mr_turn.proofs.Running.{IsStep}
+use Rattle.mr_data.proofs.Running.{IsStep}
 use Rattle.mr_turn.proofs.Changing.{IsFaithfulChange}
 use Rattle.mr_plan_list.specs.Edits.{is_item, with_item, with_inserted, without_equal, is_whole, trimmed}
 use Rattle.mr_plan_list.proofs.Sizes.{not_both, both, three, small, positive, none_of, same_bytes, bytes_itself, place_within, window_within}

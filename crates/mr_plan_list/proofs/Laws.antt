@@ -9,16 +9,17 @@ use Rattle.mr_map.specs.Bytes.{Bytes}
 use Rattle.mr_value.specs.Words.{fits}
 use Rattle.mr_value.specs.declared.ends.End.{End}
 use Rattle.mr_value.specs.declared.ends.End.TheVariants.{Left, Right}
-use Rattle.mr_data.specs.Dataset.{Dataset, IsDataset, is_past, live}
-use Rattle.mr_data.specs.Steps.{lists, held, list_of}
-use Rattle.mr_data.specs.declared.value.Value.{Value}
-use Rattle.mr_data.specs.declared.value.Value.TheVariants as value
-use Rattle.mr_data.specs.declared.value.Entry.{Entry}
-use Rattle.mr_ask.specs.Carried.{list_words}
-use Rattle.mr_ask.specs.declared.list_ask.ListAsk.{ListAsk}
-use Rattle.mr_ask.specs.declared.list_ask.ListAsk.TheVariants as ask
-use Rattle.mr_ask.specs.declared.list_ask.PushTo.{PushTo}
-use Rattle.mr_ask.specs.declared.list_ask.PushTo.TheVariants.{AnyKey, ExistingKey}
+use Rattle.mr_entries.specs.Dataset.{Dataset}
+use Rattle.mr_data.specs.Dataset.{IsDataset, is_past, live}
+use Rattle.mr_entries.specs.Steps.{lists, held, list_of}
+use Rattle.mr_entries.specs.declared.value.Value.{Value}
+use Rattle.mr_entries.specs.declared.value.Value.TheVariants as value
+use Rattle.mr_entries.specs.declared.value.Entry.{Entry}
+use Rattle.mr_ask_coll.specs.Carried.{list_words}
+use Rattle.mr_ask_coll.specs.declared.list_ask.ListAsk.{ListAsk}
+use Rattle.mr_ask_coll.specs.declared.list_ask.ListAsk.TheVariants as ask
+use Rattle.mr_ask_coll.specs.declared.list_ask.PushTo.{PushTo}
+use Rattle.mr_ask_coll.specs.declared.list_ask.PushTo.TheVariants.{AnyKey, ExistingKey}
 use Rattle.mr_turn.specs.Taken.{has}
 use Rattle.mr_turn.specs.Keys.{purged}
 use Rattle.mr_turn.specs.Turns.{Turn}
@@ -27,7 +28,7 @@ use Rattle.mr_turn.specs.Commands.{on_key}
 use Rattle.mr_turn.proofs.KeyLists.{get_purged}
 use Rattle.mr_turn.proofs.PlanLemmas.{purged_at}
 use Rattle.mr_turn.proofs.Laws.{faithful, IsFaithfulAt, IsFaithfulTurn, at_key_faithful, IsLawful}
-use Rattle.mr_turn.proofs.KindLaws.{lists_kept}
+use Rattle.mr_data.proofs.KindLaws.{lists_kept}
 use Rattle.mr_plan_list.specs.Numbers.{HasFewItems, IsShort, IsShortFor, IsNumberFor, HasNumbersIn}
 use Rattle.mr_plan_list.specs.Pushes.{push_change, push_turn}
 use Rattle.mr_plan_list.specs.Pops.{pop_turn}

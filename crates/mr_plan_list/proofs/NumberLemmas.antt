@@ -1,8 +1,8 @@
 -- The numbers in effects.
 use Rattle.std.proofs.Common.{ℕ, ◌≡◌, Option, Some, None, sym, subst}
-use Rattle.mr_data.specs.declared.value.Entry.{Entry}
-use Rattle.mr_ask.specs.declared.list_ask.ListAsk.{ListAsk}
-use Rattle.mr_ask.specs.declared.list_ask.ListAsk.TheVariants as ask
+use Rattle.mr_entries.specs.declared.value.Entry.{Entry}
+use Rattle.mr_ask_coll.specs.declared.list_ask.ListAsk.{ListAsk}
+use Rattle.mr_ask_coll.specs.declared.list_ask.ListAsk.TheVariants as ask
 use Rattle.mr_plan_list.specs.Numbers.{IsShortFor, HasNumbers}
 
 not_many : (count : Option ℕ) → IsShortFor count None

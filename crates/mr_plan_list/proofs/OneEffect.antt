@@ -5,14 +5,15 @@ use Rattle.std.specs.Option.{option_map, option_and_then}
 use Rattle.std.specs.FinMap.{get}
 use Rattle.mr_map.specs.Bytes.{Bytes}
 use Rattle.mr_resp.specs.Replies.{Tree}
-use Rattle.mr_data.specs.Dataset.{Dataset, IsDataset}
-use Rattle.mr_data.specs.Steps.{Step, lists, held, entry_of, deadline_of, on}
-use Rattle.mr_data.specs.declared.value.Entry.{Entry}
+use Rattle.mr_entries.specs.Dataset.{Dataset}
+use Rattle.mr_data.specs.Dataset.{IsDataset}
+use Rattle.mr_entries.specs.Steps.{Step, lists, held, entry_of, deadline_of, on}
+use Rattle.mr_entries.specs.declared.value.Entry.{Entry}
 use Rattle.mr_effect.specs.declared.effect.Effect.{Effect}
 use Rattle.mr_turn.specs.Collections.{Change, telling, changing}
 use Rattle.mr_turn.proofs.Laws.{IsFaithfulTurn, kept_faithful}
-use Rattle.mr_turn.proofs.Running.{AreSteps, IsStep, run}
-use Rattle.mr_turn.proofs.KindLaws.{lists_are, lists_kept}
+use Rattle.mr_data.proofs.Running.{AreSteps, IsStep, run}
+use Rattle.mr_data.proofs.KindLaws.{lists_are, lists_kept}
 use Rattle.mr_turn.proofs.Changing.{IsFaithfulChange, changing_faithful, telling_faithful}
 use Rattle.mr_plan_list.specs.Lists.{of_list, on_list, unless}
 

@@ -5,12 +5,12 @@ use Rattle.mr_map.specs.Bytes.{Bytes}
 use Rattle.mr_value.specs.Words.{fits}
 use Rattle.mr_value.specs.Number.{is_i64}
 use Rattle.mr_value.specs.declared.ends.End.{End}
-use Rattle.mr_data.specs.Collections.{may_take, popped, end_item}
-use Rattle.mr_data.specs.Steps.{lists, held, pop_step}
-use Rattle.mr_data.specs.Meaning.{change}
-use Rattle.mr_data.specs.declared.value.Entry.{Entry}
+use Rattle.mr_entries.specs.Collections.{may_take, popped, end_item}
+use Rattle.mr_entries.specs.Steps.{lists, held, pop_step}
+use Rattle.mr_entries.specs.Changes.{change}
+use Rattle.mr_entries.specs.declared.value.Entry.{Entry}
 use Rattle.mr_effect.specs.declared.effect.Effect.TheVariants as effect
-use Rattle.mr_turn.proofs.Running.{IsStep}
+use Rattle.mr_data.proofs.Running.{IsStep}
 use Rattle.mr_turn.proofs.Changing.{IsFaithfulChange}
 use Rattle.mr_plan_list.specs.Pops.{without_item, without_items}
 use Rattle.mr_plan_list.proofs.Sizes.{both, small, positive, none_of, end_some, may_take_some, popped_none, popped_less}

@@ -8,8 +8,8 @@ use Rattle.mr_map.specs.Bytes.{Bytes}
 use Rattle.mr_effect.specs.declared.effect.Effect.{Effect}
 use Rattle.mr_effect.specs.declared.effect.Effect.TheVariants as effect
 use Rattle.mr_value.specs.declared.ends.End.{End}
-use Rattle.mr_turn.specs.Cuts.{most_items, cut}
-use Rattle.mr_turn.proofs.Cutting.{cut_more}
+use Rattle.mr_entries.specs.Cuts.{most_items, cut}
+use Rattle.mr_entries.proofs.Cutting.{cut_more}
 use Rattle.mr_plan_list.specs.Pushes.{push_effects}
 
 -- the first group, and those of the rest

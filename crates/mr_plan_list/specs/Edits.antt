@@ -6,8 +6,8 @@ use Rattle.mr_resp.specs.Replies as reply
 use Rattle.mr_value.specs.Lists.{without, removed_count, count_of}
 use Rattle.mr_value.specs.Window.{named_place, window_of}
 use Rattle.mr_value.specs.declared.ends.Side.{Side}
-use Rattle.mr_data.specs.Collections.{place_beside}
-use Rattle.mr_data.specs.declared.value.Entry.{Entry}
+use Rattle.mr_entries.specs.Collections.{place_beside}
+use Rattle.mr_entries.specs.declared.value.Entry.{Entry}
 use Rattle.mr_effect.specs.declared.effect.Effect.TheVariants as effect
 use Rattle.mr_turn.specs.Turns.{Turn, done}
 use Rattle.mr_turn.specs.Collections.{Change}

@@ -8,10 +8,10 @@ use Rattle.mr_resp.specs.Replies.{Tree}
 use Rattle.mr_value.specs.Lists.{are_equal}
 use Rattle.mr_value.specs.declared.ends.End.{End}
 use Rattle.mr_value.specs.declared.ends.End.TheVariants.{Left, Right}
-use Rattle.mr_data.specs.Dataset.{Dataset, put_at}
-use Rattle.mr_data.specs.Collections.{end_item, popped, put_item}
-use Rattle.mr_data.specs.Steps.{lists, held, entry_of, deadline_of}
-use Rattle.mr_data.specs.declared.value.Entry.{Entry}
+use Rattle.mr_entries.specs.Dataset.{Dataset, put_at}
+use Rattle.mr_entries.specs.Collections.{end_item, popped, put_item}
+use Rattle.mr_entries.specs.Steps.{lists, held, entry_of, deadline_of}
+use Rattle.mr_entries.specs.declared.value.Entry.{Entry}
 use Rattle.mr_effect.specs.declared.effect.Effect.{Effect}
 use Rattle.mr_effect.specs.declared.effect.Effect.TheVariants as effect
 use Rattle.mr_turn.specs.Turns.{Turn, wrong_kind}

@@ -2,12 +2,13 @@
 use Rattle.std.specs.Prelude.{ℕ, ℤ, ◌<◌, ◌^◌, length, IsTrue, Option, Some, None}
 use Rattle.std.specs.FinMap.{get}
 use Rattle.mr_value.specs.Number.{is_i64}
-use Rattle.mr_data.specs.Dataset.{Dataset, live}
-use Rattle.mr_data.specs.declared.value.Value.{Value}
-use Rattle.mr_data.specs.declared.value.Value.TheVariants as value
-use Rattle.mr_data.specs.declared.value.Entry.{Entry}
-use Rattle.mr_ask.specs.declared.list_ask.ListAsk.{ListAsk}
-use Rattle.mr_ask.specs.declared.list_ask.ListAsk.TheVariants as ask
+use Rattle.mr_entries.specs.Dataset.{Dataset}
+use Rattle.mr_data.specs.Dataset.{live}
+use Rattle.mr_entries.specs.declared.value.Value.{Value}
+use Rattle.mr_entries.specs.declared.value.Value.TheVariants as value
+use Rattle.mr_entries.specs.declared.value.Entry.{Entry}
+use Rattle.mr_ask_coll.specs.declared.list_ask.ListAsk.{ListAsk}
+use Rattle.mr_ask_coll.specs.declared.list_ask.ListAsk.TheVariants as ask
 
 abbrev pub HasFewItems : Value → Type 0
 HasFewItems (value.List items) = length items < 2 ^ 63

@@ -3,15 +3,15 @@ use Rattle.std.specs.Prelude.{pos, ◌+◌, List, map, length, Option}
 use Rattle.mr_map.specs.Bytes.{Bytes}
 use Rattle.mr_resp.specs.Replies as reply
 use Rattle.mr_value.specs.declared.ends.End.{End}
-use Rattle.mr_data.specs.Collections.{pushed}
-use Rattle.mr_data.specs.Steps.{lists}
-use Rattle.mr_data.specs.declared.value.Entry.{Entry}
+use Rattle.mr_entries.specs.Collections.{pushed}
+use Rattle.mr_entries.specs.Steps.{lists}
+use Rattle.mr_entries.specs.declared.value.Entry.{Entry}
 use Rattle.mr_effect.specs.declared.effect.Effect.{Effect}
 use Rattle.mr_effect.specs.declared.effect.Effect.TheVariants as effect
-use Rattle.mr_ask.specs.declared.list_ask.PushTo.{PushTo}
-use Rattle.mr_ask.specs.declared.list_ask.PushTo.TheVariants.{AnyKey, ExistingKey}
+use Rattle.mr_ask_coll.specs.declared.list_ask.PushTo.{PushTo}
+use Rattle.mr_ask_coll.specs.declared.list_ask.PushTo.TheVariants.{AnyKey, ExistingKey}
 use Rattle.mr_turn.specs.Turns.{Turn}
-use Rattle.mr_turn.specs.Cuts.{cut}
+use Rattle.mr_entries.specs.Cuts.{cut}
 use Rattle.mr_turn.specs.Collections.{Change, changing}
 use Rattle.mr_plan_list.specs.Lists.{on_list}
 

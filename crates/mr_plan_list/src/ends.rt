@@ -1,6 +1,6 @@
 // The ends of a list.
 ghost use Rattle.std.specs.Prelude.{◌≡◌, option_copied};
-ghost use Rattle.mr_data.specs.Collections.{end_item};
+ghost use Rattle.mr_entries.specs.Collections.{end_item};
 ghost use Rattle.mr_plan_list.specs.Moves.{is_same_end};
 
 use mr_value::{End, ListValue};

@@ -3,7 +3,7 @@ ghost use Rattle.std.specs.Prelude.{◌≡◌, ◌++◌, is_some, IfOk, option_c
 ghost use Rattle.std.specs.Str.{bytes_eq};
 ghost use Rattle.mr_resp.specs.ReplyView.{view};
 ghost use Rattle.mr_data.specs.Dataset.{IsDataset};
-ghost use Rattle.mr_data.specs.Steps.{lists, held};
+ghost use Rattle.mr_entries.specs.Steps.{lists, held};
 ghost use Rattle.mr_turn.specs.Turns.{Takes};
 ghost use Rattle.mr_turn.specs.Commands.{IsPlan};
 ghost use Rattle.mr_plan_list.specs.Moves.{rotate_turn, carry, moving};

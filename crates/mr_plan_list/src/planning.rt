@@ -5,7 +5,7 @@ ghost use Rattle.std.specs.FinMap.{get};
 ghost use Rattle.mr_value.specs.Words.{fits};
 ghost use Rattle.mr_resp.specs.ReplyView.{view};
 ghost use Rattle.mr_data.specs.Dataset.{IsDataset, live};
-ghost use Rattle.mr_ask.specs.Carried.{list_words};
+ghost use Rattle.mr_ask_coll.specs.Carried.{list_words};
 ghost use Rattle.mr_turn.specs.Turns.{Takes};
 ghost use Rattle.mr_turn.specs.Commands.{on_key, IsPlan, IsFaithful, HasCommandTexts};
 ghost use Rattle.mr_plan_list.specs.Numbers.{HasNumbers, HasNumbersIn};

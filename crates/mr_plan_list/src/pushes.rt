@@ -3,7 +3,7 @@ ghost use Rattle.std.specs.Prelude.{◌≡◌, ◌+◌, ◌<◌, ◌^◌, ◌++�
 ghost use Rattle.std.specs.Cow.{cow_slice_items};
 ghost use Rattle.mr_resp.specs.Replies.{int};
 ghost use Rattle.mr_resp.specs.ReplyView.{view};
-ghost use Rattle.mr_turn.specs.Cuts.{cut};
+ghost use Rattle.mr_entries.specs.Cuts.{cut};
 ghost use Rattle.mr_turn.specs.Turns.{Takes};
 ghost use Rattle.mr_plan_list.specs.Pushes.{push_turn, push_effects};
 

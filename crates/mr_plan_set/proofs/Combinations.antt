@@ -9,14 +9,15 @@ use Rattle.std.specs.FinMap.Entries.{where_key, is_sorted-where_key, find-where_
 use Rattle.std.proofs.lemmas.Cmp.{nat_list_cmp_total}
 use Rattle.std.proofs.lemmas.Map.Lookups.{exact_bytes}
 use Rattle.mr_map.specs.Bytes.{Bytes, bytes_cmp}
-use Rattle.mr_ask.specs.declared.set_ask.SetOperation.{SetOperation}
-use Rattle.mr_ask.specs.declared.set_ask.SetOperation.TheVariants as operation
-use Rattle.mr_data.specs.Dataset.{Dataset, live, seen}
-use Rattle.mr_data.specs.declared.value.Entry.{Entry}
+use Rattle.mr_ask_coll.specs.declared.set_ask.SetOperation.{SetOperation}
+use Rattle.mr_ask_coll.specs.declared.set_ask.SetOperation.TheVariants as operation
+use Rattle.mr_entries.specs.Dataset.{Dataset}
+use Rattle.mr_data.specs.Dataset.{live, seen}
+use Rattle.mr_entries.specs.declared.value.Entry.{Entry}
 use Rattle.mr_data.proofs.Seeing.{get-seen}
 use Rattle.mr_effect.specs.declared.effect.Effect.{Effect}
 use Rattle.mr_turn.specs.Keys.{is_stored, past, dels}
-use Rattle.mr_data.specs.Steps.{sets, held}
+use Rattle.mr_entries.specs.Steps.{sets, held}
 use Rattle.std.proofs.lemmas.List.{map-append}
 use Rattle.std.proofs.lemmas.List.Folds.{list_any-append}
 use Rattle.mr_turn.proofs.KeyLists.{more_words}

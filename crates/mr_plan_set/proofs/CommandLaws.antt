@@ -4,10 +4,10 @@ use Rattle.std.specs.Prelude.{IsTrue, ℤ}
 use Rattle.std.specs.List.{list_all}
 use Rattle.std.specs.FinMap.{contains_key, keys, len}
 use Rattle.mr_value.specs.Words.{fits}
-use Rattle.mr_data.specs.Dataset.{Dataset}
-use Rattle.mr_ask.specs.Carried.{set_words}
-use Rattle.mr_ask.specs.declared.set_ask.SetAsk.{SetAsk}
-use Rattle.mr_ask.specs.declared.set_ask.SetAsk.TheVariants as ask
+use Rattle.mr_entries.specs.Dataset.{Dataset}
+use Rattle.mr_ask_coll.specs.Carried.{set_words}
+use Rattle.mr_ask_coll.specs.declared.set_ask.SetAsk.{SetAsk}
+use Rattle.mr_ask_coll.specs.declared.set_ask.SetAsk.TheVariants as ask
 use Rattle.mr_turn.specs.Commands.{before}
 use Rattle.mr_turn.proofs.Laws.{faithful, answered_faithful, IsLawful}
 use Rattle.mr_plan_set.specs.declared.grouping.Write.TheVariants as write

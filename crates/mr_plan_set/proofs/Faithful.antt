@@ -5,20 +5,22 @@ use Rattle.std.specs.List.{list_all}
 use Rattle.std.specs.FinMap.{get, empty, keys, contains_key}
 use Rattle.mr_map.specs.Bytes.{Bytes}
 use Rattle.mr_value.specs.Words.{fits}
-use Rattle.mr_data.specs.Dataset.{Dataset, IsDataset, IsValue, live, is_past}
-use Rattle.mr_data.specs.Collections.{with_members, without_members}
-use Rattle.mr_data.specs.Steps.{sets, held, set_of}
-use Rattle.mr_data.specs.declared.value.Value.{Value}
-use Rattle.mr_data.specs.declared.value.Value.TheVariants as value
-use Rattle.mr_data.specs.declared.value.Entry.{Entry}
+use Rattle.mr_entries.specs.Dataset.{Dataset}
+use Rattle.mr_data.specs.Dataset.{IsDataset, IsValue, live, is_past}
+use Rattle.mr_entries.specs.Collections.{with_members, without_members}
+use Rattle.mr_entries.specs.Steps.{sets, held, set_of}
+use Rattle.mr_entries.specs.declared.value.Value.{Value}
+use Rattle.mr_entries.specs.declared.value.Value.TheVariants as value
+use Rattle.mr_entries.specs.declared.value.Entry.{Entry}
 use Rattle.mr_turn.specs.Taken.{is_key, has}
 use Rattle.mr_turn.specs.Keys.{purged}
 use Rattle.mr_turn.specs.Collections.{Change, changing}
 use Rattle.mr_turn.specs.Commands.{on_key, before}
-use Rattle.mr_turn.proofs.Maps.{is_key_itself, same_key}
+use Rattle.mr_entries.proofs.Maps.{same_key}
+use Rattle.mr_entries.proofs.Puts.{is_key_itself}
 use Rattle.mr_turn.proofs.KeyLists.{get_purged}
 use Rattle.mr_turn.proofs.Laws.{faithful, at_key_faithful, IsLawful}
-use Rattle.mr_turn.proofs.KindLaws.{sets_are, sets_kept}
+use Rattle.mr_data.proofs.KindLaws.{sets_are, sets_kept}
 use Rattle.mr_turn.proofs.Changing.{IsFaithfulChange, changing_faithful}
 use Rattle.mr_plan_set.specs.Members.{Members, as_set, from_place}
 use Rattle.mr_plan_set.specs.Turns.{added, removed, taken, count_or_one}

@@ -6,22 +6,23 @@ use Rattle.std.specs.FinMap.{empty, keys, len}
 use Rattle.mr_map.specs.Bytes.{Bytes}
 use Rattle.mr_value.specs.Words.{fits}
 use Rattle.mr_resp.specs.Replies.{Tree}
-use Rattle.mr_data.specs.Collections.{with_members, without_members}
-use Rattle.mr_data.specs.Steps.{sets, held, entry_of, deadline_of}
-use Rattle.mr_data.specs.Meaning.{change}
-use Rattle.mr_data.specs.declared.value.Entry.{Entry}
-use Rattle.mr_data.proofs.Nonempty.{with_members_some, without_members_none, no_elements}
+use Rattle.mr_entries.specs.Collections.{with_members, without_members}
+use Rattle.mr_entries.specs.Steps.{sets, held, entry_of, deadline_of}
+use Rattle.mr_entries.specs.Changes.{change}
+use Rattle.mr_entries.specs.declared.value.Entry.{Entry}
+use Rattle.mr_entries.proofs.Nonempty.{without_members_none, no_elements}
 use Rattle.mr_effect.specs.Effects.{is_some_of}
-use Rattle.mr_turn.specs.Cuts.{cut}
-use Rattle.mr_turn.proofs.Cutting.{IsGroup, cut_groups, cut_whole, no_cut}
-use Rattle.mr_turn.proofs.Running.{IsStep, steps_of, IsFold, StaysNone, group_step, groups_run}
-use Rattle.mr_turn.proofs.KindLaws.{sets_are}
+use Rattle.mr_entries.specs.Cuts.{cut}
+use Rattle.mr_entries.proofs.Cutting.{IsGroup, cut_groups, cut_whole, no_cut}
+use Rattle.mr_data.proofs.Folds.{adding_members, add_members_is_step}
+use Rattle.mr_data.proofs.Running.{IsStep, steps_of, IsFold, group_step, groups_run}
+use Rattle.mr_data.proofs.KindLaws.{sets_are}
 use Rattle.mr_turn.proofs.Changing.{IsFaithfulChange}
 use Rattle.mr_plan_set.specs.declared.grouping.Write.{Write}
 use Rattle.mr_plan_set.specs.declared.grouping.Write.TheVariants as write
 use Rattle.mr_plan_set.specs.Members.{Members}
 use Rattle.mr_plan_set.specs.Grouping.{group_effect, group_effects}
-use Rattle.mr_plan_set.proofs.Sets.{with_append, without_append, no_members}
+use Rattle.mr_plan_set.proofs.Sets.{without_append, no_members}
 use Rattle.mr_effect.proofs.Texts.{short_effect}
 use Rattle.mr_effect.specs.declared.effect.Effect.TheVariants as effect
 
@@ -34,11 +35,8 @@ some_word : (xs : List Bytes) → xs ≢ [] → is_some_of xs ≡ true
 some_word [] n = absurd (n refl)
 some_word (x ∷ xs) n = refl
 
-stays_some : (xs : List Bytes) (s : Members) → xs ≢ [] → StaysNone sets with_members (with_members xs s)
-stays_some xs s n none ys = let wrong : true ≡ false = sym none ∙ with_members_some xs s (some_word xs n) in absurd (cc)
-
 fold_of : (w : Write) → IsFold sets (written w)
-fold_of write.Add = record { nothing = λ s. refl; more = λ xs ys s. with_append xs ys s; gone = λ xs s n. stays_some xs s n }
+fold_of write.Add = adding_members
 fold_of write.Remove = record { nothing = λ s. refl; more = λ xs ys s. without_append xs ys s; gone = λ xs s n none ys. ap (λ (t : Members). len t == 0) (without_members_none ys) ∙ no_elements (Unit {0}) }
 
 both : (a b : Bool) → a ≡ true → b ≡ true → a && b ≡ true
@@ -47,7 +45,7 @@ both false b p q = cc
 
 is_step : (w : Write) (k : Bytes) (g : List Bytes) → IsTrue (fits k) → IsGroup fits g → IsStep k (group_effect w k g) (group_step sets sets_are (written w) (fold_of w) g)
 unfolding change
-is_step write.Add k g h i = record { possible = both _ _ (some_word g i.some) (both _ _ h i.all); short = short_effect (effect.AddMembers k g) (omega (arith, i.few)); is = λ m. refl }
+is_step write.Add k g h i = add_members_is_step k h g i
 is_step write.Remove k g h i = record { possible = both _ _ (some_word g i.some) (both _ _ h i.all); short = short_effect (effect.RemoveMembers k g) (omega (arith, i.few)); is = λ m. refl }
 
 are_steps : (w : Write) (k : Bytes) (gs : List (List Bytes)) → IsTrue (fits k) → AllByRecursion (IsGroup fits) gs → AllByRecursion (λ g. IsStep k (group_effect w k g) (group_step sets sets_are (written w) (fold_of w) g)) gs

@@ -10,11 +10,11 @@ use Rattle.std.specs.declared.cmp.Ordering.TheVariants.{Less, Equal, Greater}
 use Rattle.std.proofs.lemmas.List.Sums.{sum_by-append}
 use Rattle.std.proofs.lemmas.List.{length-append, length-take, length-drop, take-append-drop}
 use Rattle.mr_map.specs.Bytes.{Bytes, bytes_cmp}
-use Rattle.mr_ask.specs.declared.set_ask.SetOperation.TheVariants as operation
+use Rattle.mr_ask_coll.specs.declared.set_ask.SetOperation.TheVariants as operation
 use Rattle.mr_plan_set.specs.Members.{Members, common, minus, joined, from_place, drawn}
 use Rattle.mr_plan_set.specs.Combining.{of_all}
 use Rattle.mr_turn.specs.Taken.{is_key}
-use Rattle.mr_turn.proofs.Maps.{same_key}
+use Rattle.mr_entries.proofs.Maps.{same_key}
 use Rattle.mr_plan_set.proofs.Pushing.{names}
 use Rattle.mr_plan_set.proofs.Sets.{contains_retain, contains_with, has_keys, len_keys}
 

@@ -10,12 +10,14 @@ use Rattle.std.proofs.lemmas.Slice.Eq.{bytes_eq-Decides}
 use Rattle.mr_map.specs.Bytes.{Bytes}
 use Rattle.mr_value.specs.Words.{fits}
 use Rattle.mr_resp.specs.Replies.{Tree}
-use Rattle.mr_data.specs.Dataset.{Dataset, put_at, live, seen}
-use Rattle.mr_data.specs.Steps.{sets, held, entry_of, deadline_of, set_of, add_members_step, remove_members_step}
-use Rattle.mr_data.specs.Meaning.{apply, change, apply_all, at_key, is_member, has_member, carry_member}
-use Rattle.mr_data.specs.declared.value.Value.{Value}
-use Rattle.mr_data.specs.declared.value.Value.TheVariants as value
-use Rattle.mr_data.specs.declared.value.Entry.{Entry}
+use Rattle.mr_entries.specs.Dataset.{Dataset, put_at}
+use Rattle.mr_data.specs.Dataset.{live, seen}
+use Rattle.mr_entries.specs.Steps.{sets, held, entry_of, deadline_of, set_of, add_members_step, remove_members_step}
+use Rattle.mr_entries.specs.Changes.{change, at_key, is_member, has_member, carry_member}
+use Rattle.mr_data.specs.Meaning.{apply, apply_all}
+use Rattle.mr_entries.specs.declared.value.Value.{Value}
+use Rattle.mr_entries.specs.declared.value.Value.TheVariants as value
+use Rattle.mr_entries.specs.declared.value.Entry.{Entry}
 use Rattle.mr_data.proofs.Seeing.{get-seen}
 use Rattle.mr_effect.specs.declared.effect.Effect.{Effect}
 use Rattle.mr_effect.specs.declared.effect.Effect.TheVariants as effect
@@ -23,11 +25,12 @@ use Rattle.mr_turn.specs.Taken.{is_key, has}
 use Rattle.mr_turn.specs.Keys.{past, purged, dels, is_stored}
 use Rattle.mr_turn.specs.Outcomes.{answered}
 use Rattle.mr_turn.specs.Commands.{Command, before, IsPlan}
-use Rattle.mr_turn.proofs.Maps.{is_key_itself, same_key, get_put, get_put_other, get_remove}
+use Rattle.mr_entries.proofs.Maps.{same_key}
+use Rattle.mr_entries.proofs.Puts.{is_key_itself, get_put, get_put_other, get_remove}
 use Rattle.mr_turn.proofs.KeyLists.{get_purged}
 use Rattle.mr_turn.proofs.Laws.{faithful, IsFaithfulAt, IsLawful, answered_faithful, one_short}
-use Rattle.mr_turn.proofs.Running.{held_entry}
-use Rattle.mr_turn.proofs.KindLaws.{sets_are}
+use Rattle.mr_data.proofs.Running.{held_entry}
+use Rattle.mr_data.proofs.KindLaws.{sets_are}
 use Rattle.mr_plan_set.specs.Members.{Members}
 use Rattle.mr_plan_set.specs.Turns.{number}
 use Rattle.mr_plan_set.specs.Moving.{carried, moved, moving, move_member, Gives}

@@ -7,9 +7,10 @@ use Rattle.std.proofs.lemmas.List.{length-map, nil_from_length}
 use Rattle.std.proofs.lemmas.Cmp.{nat_list_cmp_total}
 use Rattle.std.proofs.lemmas.Map.Lookups.{exact_bytes}
 use Rattle.mr_map.specs.Bytes.{Bytes, bytes_cmp}
-use Rattle.mr_data.specs.Collections.{with_members, without_members}
+use Rattle.mr_entries.specs.Collections.{with_members, without_members}
 use Rattle.mr_turn.specs.Taken.{is_key, has}
-use Rattle.mr_turn.proofs.Maps.{same_key}
+use Rattle.mr_entries.proofs.Maps.{same_key}
+use Rattle.mr_data.proofs.Folds.{members-append}
 use Rattle.mr_turn.proofs.KeyLists.{more_words}
 use Rattle.mr_plan_set.specs.Members.{Members, as_set}
 
@@ -82,10 +83,6 @@ pub as_set_keys : (s : Members) → as_set (keys s) ≡ s
 as_set_keys s = same_set (as_set (keys s)) s (λ q. contains_as_set (keys s) q ∙ has_keys s q)
 
 -- ---- one word more
-pub with_append : (xs ys : List Bytes) (s : Members) → with_members (xs ++ ys) s ≡ with_members ys (with_members xs s)
-with_append [] ys s = refl
-with_append (x ∷ xs) ys s = with_append xs ys (insert s x tt)
-
 pub without_append : (xs ys : List Bytes) (s : Members) → without_members (xs ++ ys) s ≡ without_members ys (without_members xs s)
 without_append [] ys s = refl
 without_append (x ∷ xs) ys s = without_append xs ys (remove s x)
@@ -117,7 +114,7 @@ pub retain_empty : (p : Bytes → Bool) → retain_keys {X = Unit {0}} (empty {R
 retain_empty p = same_set _ _ (λ q. contains_retain empty p q ∙ ap (λ b. b && p q) (contains_empty q) ∙ sym (contains_empty q))
 
 as_set_push : (xs : List Bytes) (x : Bytes) → as_set (xs ++ x ∷ []) ≡ insert (as_set xs) x tt
-as_set_push xs x = with_append xs (x ∷ []) empty
+as_set_push xs x = members-append xs (x ∷ []) empty
 
 -- ---- a loop over words
 module _ {A : Type 0} (f : A → Bytes) (xs : List A) (i : ℕ) (x : A) (here : i < length xs) (is : x ≡ get_or xs i x) (w : Bytes) (word : w ≡ f x) where

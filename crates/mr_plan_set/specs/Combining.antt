@@ -4,10 +4,10 @@ use Rattle.std.specs.Option.{option_map, option_and_then}
 use Rattle.std.specs.FinMap.{get, empty, keys}
 use Rattle.mr_map.specs.Bytes.{Bytes}
 use Rattle.mr_resp.specs.Replies.{Tree}
-use Rattle.mr_ask.specs.declared.set_ask.SetOperation.{SetOperation}
-use Rattle.mr_ask.specs.declared.set_ask.SetOperation.TheVariants as operation
-use Rattle.mr_data.specs.Dataset.{Dataset}
-use Rattle.mr_data.specs.Steps.{sets, held}
+use Rattle.mr_ask_coll.specs.declared.set_ask.SetOperation.{SetOperation}
+use Rattle.mr_ask_coll.specs.declared.set_ask.SetOperation.TheVariants as operation
+use Rattle.mr_entries.specs.Dataset.{Dataset}
+use Rattle.mr_entries.specs.Steps.{sets, held}
 use Rattle.mr_turn.specs.Turns.{wrong_kind}
 use Rattle.mr_turn.specs.Outcomes.{Outcome, answered}
 use Rattle.mr_plan_set.specs.Members.{Members, common, minus, joined}

@@ -3,8 +3,8 @@ use Rattle.std.specs.Prelude.{◌≡◌, List, [], ◌∷◌, ◌++◌, if◌the
 use Rattle.std.specs.FinMap.{get, contains_key, insert, remove}
 use Rattle.std.specs.Str.{bytes_eq}
 use Rattle.mr_map.specs.Bytes.{Bytes}
-use Rattle.mr_data.specs.Dataset.{Dataset, put_at}
-use Rattle.mr_data.specs.Steps.{sets, held, entry_of, deadline_of}
+use Rattle.mr_entries.specs.Dataset.{Dataset, put_at}
+use Rattle.mr_entries.specs.Steps.{sets, held, entry_of, deadline_of}
 use Rattle.mr_effect.specs.declared.effect.Effect.{Effect}
 use Rattle.mr_effect.specs.declared.effect.Effect.TheVariants as effect
 use Rattle.mr_resp.specs.Replies.{Tree}

@@ -4,7 +4,7 @@ ghost use Rattle.std.specs.Option.{option_map};
 ghost use Rattle.std.specs.FinMap as map;
 ghost use Rattle.mr_resp.specs.ReplyView.{view};
 ghost use Rattle.mr_data.specs.Dataset.{seen};
-ghost use Rattle.mr_ask.specs.declared.set_ask.SetOperation.TheVariants as operation;
+ghost use Rattle.mr_ask_coll.specs.declared.set_ask.SetOperation.TheVariants as operation;
 ghost use Rattle.mr_turn.specs.Keys.{dels, past};
 ghost use Rattle.mr_plan_set.specs.Combining.{sets_at, combined, of_all};
 ghost use Rattle.mr_plan_set.specs.Finding.{HasFound};

@@ -3,7 +3,7 @@ ghost use Rattle.std.specs.Prelude.{◌≡◌, IfOk, option_copied};
 ghost use Rattle.std.specs.FinMap.{get};
 ghost use Rattle.std.specs.Str.{bytes_eq};
 ghost use Rattle.mr_resp.specs.ReplyView.{view};
-ghost use Rattle.mr_data.specs.Dataset.{Dataset as Map};
+ghost use Rattle.mr_entries.specs.Dataset.{Dataset as Map};
 ghost use Rattle.mr_plan_set.specs.Moving.{move_member, Gives};
 
 use crate::replies::set_at;

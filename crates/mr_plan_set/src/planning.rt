@@ -4,8 +4,8 @@ ghost use Rattle.std.specs.List.{list_all};
 ghost use Rattle.mr_value.specs.Words.{fits};
 ghost use Rattle.mr_resp.specs.ReplyView.{view};
 ghost use Rattle.mr_data.specs.Dataset.{IsDataset};
-ghost use Rattle.mr_ask.specs.Carried.{set_words};
-ghost use Rattle.mr_ask.specs.declared.set_ask.SetAsk.TheVariants as asks;
+ghost use Rattle.mr_ask_coll.specs.Carried.{set_words};
+ghost use Rattle.mr_ask_coll.specs.declared.set_ask.SetAsk.TheVariants as asks;
 ghost use Rattle.mr_turn.specs.Commands.{IsPlan, IsFaithful, HasCommandTexts};
 ghost use Rattle.mr_plan_set.specs.SetCommands.{command, RestsOn};
 

@@ -2,7 +2,7 @@
 ghost use Rattle.std.specs.Prelude.{◌≡◌, IfOk, option_copied};
 ghost use Rattle.std.specs.FinMap as map;
 ghost use Rattle.mr_resp.specs.ReplyView.{view};
-ghost use Rattle.mr_data.specs.Steps.{sets, held};
+ghost use Rattle.mr_entries.specs.Steps.{sets, held};
 ghost use Rattle.mr_plan_set.specs.Turns.{flag, bulks};
 
 use mr_data::{Entry, Value};

@@ -6,7 +6,8 @@ use Rattle.mr_map.specs.Bytes.{Bytes}
 use Rattle.mr_resp.specs.Replies as reply
 use Rattle.mr_resp.specs.Replies.{Tree}
 use Rattle.mr_resp.specs.ReplyView.{trees_of}
-use Rattle.mr_data.specs.Dataset.{Dataset, seen}
+use Rattle.mr_entries.specs.Dataset.{Dataset}
+use Rattle.mr_data.specs.Dataset.{seen}
 use Rattle.mr_data.proofs.Seeing.{get-seen}
 use Rattle.mr_effect.specs.declared.effect.Effect.{Effect}
 use Rattle.mr_turn.specs.Keys.{dels, past}

@@ -15,18 +15,20 @@ use Rattle.mr_value.specs.Words.{fits}
 use Rattle.mr_resp.specs.Replies as reply
 use Rattle.mr_resp.specs.Replies.{Tree}
 use Rattle.mr_effect.specs.Effects.{pair_fits}
-use Rattle.mr_data.specs.Dataset.{Dataset}
-use Rattle.mr_data.specs.Collections.{with_fields}
-use Rattle.mr_data.specs.Meaning.{apply, change, apply_all, with_texts}
-use Rattle.mr_data.specs.declared.value.Entry.{Entry}
+use Rattle.mr_entries.specs.Dataset.{Dataset}
+use Rattle.mr_entries.specs.Collections.{with_fields}
+use Rattle.mr_entries.specs.Changes.{change, with_texts}
+use Rattle.mr_data.specs.Meaning.{apply, apply_all}
+use Rattle.mr_entries.specs.declared.value.Entry.{Entry}
 use Rattle.mr_data.proofs.Fitting.{no_fields, with_fields_fit}
-use Rattle.mr_data.proofs.Maps.{insert_same}
+use Rattle.mr_entries.proofs.Maps.{insert_same}
 use Rattle.mr_words.specs.Pairing.{unpaired}
 use Rattle.mr_turn.specs.Taken.{is_key}
 use Rattle.mr_turn.specs.Turns.{done}
 use Rattle.mr_turn.specs.Outcomes.{answered}
 use Rattle.mr_turn.specs.Commands.{Command, on_keys, before, IsFaithful, HasCommandTexts}
-use Rattle.mr_turn.proofs.Maps.{is_key_itself, is_key_symm, same_key}
+use Rattle.mr_entries.proofs.Maps.{same_key}
+use Rattle.mr_entries.proofs.Puts.{is_key_itself, is_key_symm}
 use Rattle.mr_turn.proofs.Laws.{answered_faithful, IsLeadingAt, leading_at, leading, sent, none_short, one_short}
 use Rattle.mr_plan_text.specs.Setting.{plain, is_plain}
 use Rattle.mr_plan_text.specs.SettingAll.{names, last_texts, changed, set_effects, put_all, set_all, is_any_there, set_all_new}

@@ -8,16 +8,18 @@ use Rattle.mr_map.specs.Bytes.{Bytes, ByteMap, bytes_cmp}
 use Rattle.mr_resp.specs.Replies as reply
 use Rattle.mr_resp.specs.Replies.{Tree}
 use Rattle.mr_effect.specs.declared.effect.Effect.{Effect}
-use Rattle.mr_data.specs.Dataset.{Dataset, live, seen}
-use Rattle.mr_data.specs.Collections.{with_fields}
-use Rattle.mr_data.specs.declared.value.Entry.{Entry}
+use Rattle.mr_entries.specs.Dataset.{Dataset}
+use Rattle.mr_data.specs.Dataset.{live, seen}
+use Rattle.mr_entries.specs.Collections.{with_fields}
+use Rattle.mr_entries.specs.declared.value.Entry.{Entry}
 use Rattle.mr_data.proofs.Seeing.{get-seen}
 use Rattle.mr_turn.specs.Taken.{is_key, has}
 use Rattle.mr_turn.specs.Keys.{chosen, dels, is_stored, past, purged}
 use Rattle.mr_turn.specs.Turns.{done}
 use Rattle.mr_turn.specs.Outcomes.{answered}
 use Rattle.mr_turn.specs.Commands.{IsPlan, on_keys}
-use Rattle.mr_turn.proofs.Maps.{is_key_itself, same_key}
+use Rattle.mr_entries.proofs.Maps.{same_key}
+use Rattle.mr_entries.proofs.Puts.{is_key_itself}
 use Rattle.mr_turn.proofs.KeyLists.{chosen_alike, get_purged}
 use Rattle.mr_plan_text.specs.Setting.{is_plain}
 use Rattle.mr_plan_text.specs.SettingAll.{names, last_texts, changed, set_effects, put_all, set_all, is_any_there, set_all_new}

@@ -3,7 +3,8 @@ use Rattle.std.specs.Prelude.{ℤ, List, filter, Bool, true, not, is_some}
 use Rattle.std.specs.List.{list_any}
 use Rattle.std.specs.FinMap.{get}
 use Rattle.mr_map.specs.Bytes.{Bytes}
-use Rattle.mr_data.specs.Dataset.{Dataset, live}
+use Rattle.mr_entries.specs.Dataset.{Dataset}
+use Rattle.mr_data.specs.Dataset.{live}
 use Rattle.mr_turn.specs.Keys.{is_stored}
 use Rattle.mr_plan_text.specs.Setting.{is_plain}
 

@@ -6,10 +6,11 @@ use Rattle.mr_value.specs.Window.{window_of, windowed}
 use Rattle.mr_resp.specs.Replies as reply
 use Rattle.mr_resp.specs.Replies.{Tree}
 use Rattle.mr_resp.specs.ReplyView.{trees_of}
-use Rattle.mr_data.specs.Dataset.{Dataset, live}
-use Rattle.mr_data.specs.declared.value.Value.{Value}
-use Rattle.mr_data.specs.declared.value.Value.TheVariants as value
-use Rattle.mr_data.specs.declared.value.Entry.{Entry}
+use Rattle.mr_entries.specs.Dataset.{Dataset}
+use Rattle.mr_data.specs.Dataset.{live}
+use Rattle.mr_entries.specs.declared.value.Value.{Value}
+use Rattle.mr_entries.specs.declared.value.Value.TheVariants as value
+use Rattle.mr_entries.specs.declared.value.Entry.{Entry}
 use Rattle.mr_turn.specs.Turns.{Turn, kept, wrong_kind}
 use Rattle.mr_turn.specs.Outcomes.{Outcome, answered}
 

@@ -4,7 +4,7 @@ ghost use Rattle.std.specs.Ordering.{int_eq};
 ghost use Rattle.std.specs.Str.{bytes_eq};
 ghost use Rattle.mr_resp.specs.ReplyView.{view};
 ghost use Rattle.mr_value.specs.Texts.{overwritten};
-ghost use Rattle.mr_data.specs.Steps.{texts as strings, held};
+ghost use Rattle.mr_entries.specs.Steps.{texts as strings, held};
 ghost use Rattle.mr_turn.specs.Turns.{Takes};
 ghost use Rattle.mr_plan_text.specs.Changing.{append_turn, set_range_turn, increase_turn};
 

@@ -2,6 +2,7 @@
 #![tactic(auto)]
 
 mod changing;
+mod deadlines;
 mod planning;
 mod replies;
 mod setting;

@@ -5,16 +5,20 @@ ghost use Rattle.mr_value.specs.Number.{is_i64};
 ghost use Rattle.mr_value.specs.Words.{fits};
 ghost use Rattle.mr_resp.specs.ReplyView.{view};
 ghost use Rattle.mr_resp.specs.Usual.{commands};
-ghost use Rattle.mr_ask.specs.Carried.{text_words};
+ghost use Rattle.mr_data.specs.Given.{IsMoment};
+ghost use Rattle.mr_ask.specs.Carried.{text_words, IsTimed};
 ghost use Rattle.mr_turn.specs.Commands.{IsPlan, IsFaithful, HasCommandTexts, on_key, on_keys};
-ghost use Rattle.mr_plan_text.specs.Commands.{command, HasNumber};
+ghost use Rattle.mr_plan_text.specs.Commands.{command, HasNumber, HasLimit};
 ghost use Rattle.mr_plan_text.specs.Texts.{get_turn, length_turn, range_turn, texts};
-ghost use Rattle.mr_plan_text.specs.Setting.{set_turn, set_new_turn, get_and_set_turn, get_and_delete_turn};
+ghost use Rattle.mr_plan_text.specs.Setting.{said_at, set_turn, set_for_turn, set_new_turn, get_and_set_turn, get_and_delete_turn};
+ghost use Rattle.mr_ask.specs.declared.text_ask.Lifetime.TheVariants.{Until};
 ghost use Rattle.mr_plan_text.specs.Changing.{append_turn, set_range_turn, increase_turn};
 
+use crate::deadlines::NewDeadline;
+use crate::setting::SetRules;
 use crate::setting_all::{set_all, set_all_new};
 use crate::{changing, setting, texts};
-use mr_ask::{Argument, SetCondition, SetReply, TextAsk, Words};
+use mr_ask::{Argument, Expiry, Lifetime, SetReply, TextAsk, Words};
 use mr_data::{Dataset, Given, Plan};
 use mr_turn::{Effects, look, push_dels};
 use std::alloc::{AllocError, Global};
@@ -30,15 +34,39 @@ pub fn plan(
     ask: &TextAsk<'_, '_>,
     given: Given,
 ) -> Result<Plan, AllocError>
-    ensures plan { IfOk result (λ p. IsPlan (command ask.now) given.now held.now (view p.reply) p.effects.items) }
+    ensures plan { IfOk result (λ p. IsPlan (command ask.now given.now) given.now held.now (view p.reply) p.effects.items) }
 
     // The effects lead to what the command leaves, and its own ones are there exactly where it changes something.
-    ensures faithful { IsTrue (list_all fits (text_words ask.now)) → IsFaithful (command ask.now) given.now held.now }
+    ensures faithful { IsTrue (list_all fits (text_words ask.now)) → IsTimed ask.now → IsFaithful (command ask.now given.now) given.now held.now }
 
     // .. and their texts are command texts. (MSET's effect has as many words as its request at most.)
-    ensures texts { IsTrue (list_all fits (text_words ask.now)) → length (text_words ask.now) < commands.words → HasCommandTexts (command ask.now) given.now held.now }
+    ensures texts { IsTrue (list_all fits (text_words ask.now)) → IsTimed ask.now → length (text_words ask.now) < commands.words → HasCommandTexts (command ask.now given.now) given.now held.now }
 {
+    times_are_limited(ask, given);
     planned(alloc, held, ask, given)
+}
+
+// What a request says of time is within its limit, and so is the moment.
+fn times_are_limited(ask: &TextAsk<'_, '_>, given: Given)
+    ensures moment { IsMoment given.now }
+    ensures limit { HasLimit ask.now }
+{
+    let _now = given.now();
+    match ask {
+        TextAsk::Set {
+            lifetime: Lifetime::Until(expiry),
+            ..
+        } => {
+            let _time = expiry.milliseconds();
+        }
+        TextAsk::SetEx { seconds, .. } => {
+            let _time = Expiry::Seconds(*seconds).milliseconds();
+        }
+        TextAsk::PSetEx { milliseconds, .. } => {
+            let _time = Expiry::Milliseconds(*milliseconds).milliseconds();
+        }
+        _ => {}
+    }
 }
 
 fn planned(
@@ -48,7 +76,7 @@ fn planned(
     given: Given,
 ) -> Result<Plan, AllocError>
     ensures number { HasNumber ask.now }
-    ensures plan { IfOk result (λ p. IsPlan (command ask.now) given.now held.now (view p.reply) p.effects.items) }
+    ensures plan { IfOk result (λ p. IsPlan (command ask.now given.now) given.now held.now (view p.reply) p.effects.items) }
 {
     match ask {
         TextAsk::Get { key } => get(alloc, held, key, given),
@@ -57,7 +85,32 @@ fn planned(
             value,
             condition,
             reply,
-        } => set(alloc, held, key, value, *condition, *reply, given),
+            lifetime,
+        } => {
+            let rules = SetRules {
+                condition: *condition,
+                reply: *reply,
+                deadline: NewDeadline::said(*lifetime, given),
+            };
+            set(alloc, held, key, value, rules, given)
+        }
+        TextAsk::SetEx {
+            key,
+            seconds,
+            value,
+        } => set_for(alloc, held, key, Expiry::Seconds(*seconds), value, given),
+        TextAsk::PSetEx {
+            key,
+            milliseconds,
+            value,
+        } => set_for(
+            alloc,
+            held,
+            key,
+            Expiry::Milliseconds(*milliseconds),
+            value,
+            given,
+        ),
         TextAsk::TextLength { key } => text_length(alloc, held, key, given),
         TextAsk::GetRange { key, first, last } => get_range(alloc, held, key, *first, *last, given),
         TextAsk::GetAll { keys } => get_all(alloc, held, keys, given),
@@ -132,16 +185,34 @@ fn set(
     held: &Dataset,
     key: &Argument<'_>,
     value: &Argument<'_>,
-    condition: Option<SetCondition>,
-    reply: SetReply,
+    rules: SetRules,
     given: Given,
 ) -> Result<Plan, AllocError>
-    ensures { IfOk result (λ p. IsPlan (on_key key.now (set_turn key.now value.now condition reply)) given.now held.now (view p.reply) p.effects.items) }
+    ensures { IfOk result (λ p. IsPlan (on_key key.now (set_turn key.now value.now rules.condition rules.reply rules.deadline)) given.now held.now (view p.reply) p.effects.items) }
 {
     let mut effects = Effects::new(alloc);
     let seen = look(alloc, held, key, given, &mut effects)?;
-    let reply = setting::set(alloc, key, value, condition, reply, seen, &mut effects)?;
+    let reply = setting::set(alloc, key, value, rules, seen, &mut effects)?;
     Ok(effects.into_plan(reply))
+}
+
+// SETEX, PSETEX
+fn set_for(
+    alloc: Global,
+    held: &Dataset,
+    key: &Argument<'_>,
+    expiry: Expiry,
+    value: &Argument<'_>,
+    given: Given,
+) -> Result<Plan, AllocError>
+    ensures { IfOk result (λ p. IsPlan (on_key key.now (set_for_turn key.now value.now (said_at given.now (Until expiry)))) given.now held.now (view p.reply) p.effects.items) }
+{
+    let rules = SetRules {
+        condition: None,
+        reply: SetReply::Done,
+        deadline: NewDeadline::said(Lifetime::Until(expiry), given),
+    };
+    set(alloc, held, key, value, rules, given)
 }
 
 fn set_new(

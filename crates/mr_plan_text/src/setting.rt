@@ -5,8 +5,9 @@ ghost use Rattle.mr_resp.specs.ReplyView.{view};
 ghost use Rattle.mr_effect.specs.declared.effect.Effect.TheVariants as effect;
 ghost use Rattle.mr_turn.specs.Turns.{Takes};
 ghost use Rattle.mr_ask.specs.declared.text_ask.SetReply.TheVariants as asked;
-ghost use Rattle.mr_plan_text.specs.Setting.{put, set_turn, set_new_turn, get_and_set_turn, get_and_delete_turn, allows, is_text, is_plain, is_other, holds_other};
+ghost use Rattle.mr_plan_text.specs.Setting.{put, set_turn, set_new_turn, get_and_set_turn, get_and_delete_turn, allows, is_text, is_plain, holds_until, is_other, holds_other};
 
+use crate::deadlines::{NewDeadline, is_same};
 use crate::texts::get;
 use mr_ask::{Argument, SetCondition, SetReply};
 use mr_data::{Effect, Entry, Value};
@@ -15,21 +16,28 @@ use mr_turn::{Effects, bulk, count, done, wrong_kind};
 use mr_value::Word;
 use std::alloc::{AllocError, Global};
 
+/// What a `SET` is told besides its key and its text.
+#[derive(Clone, Copy)]
+pub struct SetRules {
+    pub condition: Option<SetCondition>,
+    pub reply: SetReply,
+    pub deadline: NewDeadline,
+}
+
 /// `SET`
 pub fn set(
     alloc: Global,
     key: &Argument<'_>,
     text: &Argument<'_>,
-    condition: Option<SetCondition>,
-    reply: SetReply,
+    rules: SetRules,
     seen: Option<&Entry>,
     effects: &mut Effects,
 ) -> Result<Reply, AllocError>
-    ensures { IfOk result (λ r. Takes (set_turn key.now text.now condition reply (option_copied seen.entry)) (view r) effects.old effects.new) }
+    ensures { IfOk result (λ r. Takes (set_turn key.now text.now rules.condition rules.reply rules.deadline (option_copied seen.entry)) (view r) effects.old effects.new) }
 {
-    match reply {
-        SetReply::Done => set_and_say(alloc, key, text, condition, seen, effects),
-        SetReply::Before => set_and_get(alloc, key, text, condition, seen, effects),
+    match rules.reply {
+        SetReply::Done => set_and_say(alloc, key, text, rules, seen, effects),
+        SetReply::Before => set_and_get(alloc, key, text, rules, seen, effects),
     }
 }
 
@@ -38,16 +46,16 @@ fn set_and_say(
     alloc: Global,
     key: &Argument<'_>,
     text: &Argument<'_>,
-    condition: Option<SetCondition>,
+    rules: SetRules,
     seen: Option<&Entry>,
     effects: &mut Effects,
 ) -> Result<Reply, AllocError>
-    ensures { IfOk result (λ r. Takes (set_turn key.now text.now condition asked.Done (option_copied seen.entry)) (view r) effects.old effects.new) }
+    ensures { IfOk result (λ r. Takes (set_turn key.now text.now rules.condition asked.Done rules.deadline (option_copied seen.entry)) (view r) effects.old effects.new) }
 {
-    if !allows(condition, seen) {
+    if !allows(rules.condition, seen) {
         return Ok(Reply::NullBulk);
     }
-    put(alloc, key, text, done(), seen, effects)
+    put(alloc, key, text, rules.deadline, done(), seen, effects)
 }
 
 // SET with GET.
@@ -55,20 +63,20 @@ fn set_and_get(
     alloc: Global,
     key: &Argument<'_>,
     text: &Argument<'_>,
-    condition: Option<SetCondition>,
+    rules: SetRules,
     seen: Option<&Entry>,
     effects: &mut Effects,
 ) -> Result<Reply, AllocError>
-    ensures { IfOk result (λ r. Takes (set_turn key.now text.now condition asked.Before (option_copied seen.entry)) (view r) effects.old effects.new) }
+    ensures { IfOk result (λ r. Takes (set_turn key.now text.now rules.condition asked.Before rules.deadline (option_copied seen.entry)) (view r) effects.old effects.new) }
 {
     if holds_other(seen) {
         return Ok(wrong_kind());
     }
     let before = get(alloc, seen)?;
-    if !allows(condition, seen) {
+    if !allows(rules.condition, seen) {
         return Ok(before);
     }
-    put(alloc, key, text, before, seen, effects)
+    put(alloc, key, text, rules.deadline, before, seen, effects)
 }
 
 /// `SETNX`
@@ -84,7 +92,15 @@ pub fn set_new(
     if seen.is_some() {
         return Ok(count(0));
     }
-    put(alloc, key, text, count(1), seen, effects)
+    put(
+        alloc,
+        key,
+        text,
+        NewDeadline::Endless,
+        count(1),
+        seen,
+        effects,
+    )
 }
 
 /// `GETSET`
@@ -97,7 +113,12 @@ pub fn get_and_set(
 ) -> Result<Reply, AllocError>
     ensures { IfOk result (λ r. Takes (get_and_set_turn key.now text.now (option_copied seen.entry)) (view r) effects.old effects.new) }
 {
-    set_and_get(alloc, key, text, None, seen, effects)
+    let rules = SetRules {
+        condition: None,
+        reply: SetReply::Before,
+        deadline: NewDeadline::Endless,
+    };
+    set_and_get(alloc, key, text, rules, seen, effects)
 }
 
 /// `GETDEL`
@@ -135,22 +156,20 @@ fn take(
     Ok(reply)
 }
 
-// The key gets the text, and this is answered.
+// The key gets the text with its deadline, and this is answered.
 fn put(
     alloc: Global,
     key: &Argument<'_>,
     text: &Argument<'_>,
+    deadline: NewDeadline,
     reply: Reply,
     seen: Option<&Entry>,
     effects: &mut Effects,
 ) -> Result<Reply, AllocError>
-    ensures { IfOk result (λ r. Takes (put key.now text.now (view reply) (option_copied seen.entry)) (view r) effects.old effects.new) }
+    ensures { IfOk result (λ r. Takes (put key.now text.now deadline (view reply) (option_copied seen.entry)) (view r) effects.old effects.new) }
 {
-    if !is_plain(text.as_slice(), seen) {
-        effects.push(Effect::Set {
-            key: Word::copied(alloc, key.as_slice())?,
-            value: Word::copied(alloc, text.as_slice())?,
-        })?;
+    if !holds_until(text.as_slice(), deadline.until(seen), seen) {
+        effects.push(deadline.effect(alloc, key, text)?)?;
     }
     Ok(reply)
 }
@@ -189,10 +208,17 @@ fn is_other(value: &Value) -> bool
 pub fn is_plain(text: &[u8], seen: Option<&Entry>) -> bool
     ensures { result ≡ is_plain text.now (option_copied seen.entry) }
 {
+    holds_until(text, None, seen)
+}
+
+// Whether the entry is this text already, with this deadline.
+fn holds_until(text: &[u8], deadline: Option<i64>, seen: Option<&Entry>) -> bool
+    ensures { result ≡ holds_until text.now deadline (option_copied seen.entry) }
+{
     let Some(entry) = seen else {
         return false;
     };
-    entry.deadline.is_none() && is_text(text, &entry.value)
+    is_same(entry.deadline, deadline) && is_text(text, &entry.value)
 }
 
 fn is_text(text: &[u8], value: &Value) -> bool

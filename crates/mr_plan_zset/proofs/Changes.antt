@@ -7,35 +7,36 @@ use Rattle.std.proofs.lemmas.Cmp.{nat_list_cmp_total}
 use Rattle.mr_map.specs.Bytes.{Bytes, bytes_cmp}
 use Rattle.mr_value.specs.Words.{fits}
 use Rattle.mr_resp.specs.Replies.{Tree}
-use Rattle.mr_effect.specs.Effects.{is_some_of, member_fits, has_score}
+use Rattle.mr_effect.specs.Effects.{is_some_of}
 use Rattle.mr_effect.specs.declared.effect.Effect.{Effect}
 use Rattle.mr_effect.specs.declared.effect.Effect.TheVariants as effect
-use Rattle.mr_data.specs.Dataset.{Dataset, IsDataset, IsValue, live, is_past}
-use Rattle.mr_data.specs.Collections.{with_scores, without_scores}
-use Rattle.mr_data.specs.Steps.{sorted_sets, held, sorted_set_of, entry_of, deadline_of, on}
-use Rattle.mr_data.specs.Meaning.{change}
-use Rattle.mr_data.specs.declared.value.Value.{Value}
-use Rattle.mr_data.specs.declared.value.Value.TheVariants as value
-use Rattle.mr_data.specs.declared.value.Entry.{Entry}
-use Rattle.mr_data.proofs.Nonempty.{with_scores_some, without_scores_none, no_elements}
-use Rattle.mr_turn.specs.Cuts.{cut}
+use Rattle.mr_entries.specs.Dataset.{Dataset}
+use Rattle.mr_data.specs.Dataset.{IsDataset, IsValue, live, is_past}
+use Rattle.mr_entries.specs.Collections.{with_scores, without_scores}
+use Rattle.mr_entries.specs.Steps.{sorted_sets, held, sorted_set_of, entry_of, deadline_of, on}
+use Rattle.mr_entries.specs.Changes.{change}
+use Rattle.mr_entries.specs.declared.value.Value.{Value}
+use Rattle.mr_entries.specs.declared.value.Value.TheVariants as value
+use Rattle.mr_entries.specs.declared.value.Entry.{Entry}
+use Rattle.mr_entries.proofs.Nonempty.{without_scores_none, no_elements}
+use Rattle.mr_entries.specs.Cuts.{cut}
 use Rattle.mr_turn.specs.Taken.{is_key, has}
 use Rattle.mr_turn.specs.Keys.{purged}
 use Rattle.mr_turn.specs.Collections.{Change, changing}
 use Rattle.mr_turn.specs.Commands.{on_key, before}
-use Rattle.mr_turn.proofs.Cutting.{IsGroup, cut_groups, cut_whole, no_cut}
-use Rattle.mr_turn.proofs.Running.{IsStep, steps_of, IsFold, groups_run}
-use Rattle.mr_turn.proofs.KindLaws.{sorted_sets_are, sorted_sets_kept}
-use Rattle.mr_turn.proofs.Maps.{same_key}
+use Rattle.mr_entries.proofs.Cutting.{IsGroup, cut_groups, cut_whole, no_cut}
+use Rattle.mr_data.proofs.Entries.{all_map}
+use Rattle.mr_data.proofs.Folds.{setting_scores, is_kept, set_scores_is_step}
+use Rattle.mr_data.proofs.Running.{IsStep, steps_of, IsFold, groups_run}
+use Rattle.mr_data.proofs.KindLaws.{sorted_sets_are, sorted_sets_kept}
+use Rattle.mr_entries.proofs.Maps.{same_key}
 use Rattle.mr_turn.proofs.KeyLists.{get_purged}
 use Rattle.mr_turn.proofs.Laws.{faithful, at_key_faithful, IsLawful}
 use Rattle.mr_turn.proofs.Changing.{IsFaithfulChange, changing_faithful}
 use Rattle.mr_plan_zset.specs.Scores.{Scores, changed, lost, unchanged, set_to, reduced_to}
-use Rattle.mr_plan_zset.proofs.Entries.{all_map}
 use Rattle.mr_plan_zset.proofs.Maps.{get_without}
 use Rattle.mr_plan_zset.proofs.Differences.{with_changed, none_changed, changed_all, without_lost, none_lost, lost_all}
 use Rattle.mr_effect.proofs.Texts.{short_effect}
-use Rattle.mr_effect.proofs.Appending.{length-scores}
 
 pub both : (a b : Bool) → a ≡ true → b ≡ true → (a && b) ≡ true
 both true b h i = i
@@ -65,10 +66,6 @@ module _ {A : Type 0} (k : Bytes) (make : List A → Effect) (f : List A → Sco
     some = λ e. ap (λ ys. map make (cut ys)) (some e);
   }
 
-with_append : (ps qs : List (Bytes × ℤ)) (s : Scores) → with_scores (ps ++ qs) s ≡ with_scores qs (with_scores ps s)
-with_append [] qs s = refl
-with_append (p ∷ ps) qs s = with_append ps qs _
-
 without_append : (xs ys : List Bytes) (s : Scores) → without_scores (xs ++ ys) s ≡ without_scores ys (without_scores xs s)
 without_append [] ys s = refl
 without_append (x ∷ xs) ys s = without_append xs ys _
@@ -77,40 +74,11 @@ some_of : {X : Type 0} (xs : List X) → xs ≢ [] → is_some_of xs ≡ true
 some_of [] h = absurd (h refl)
 some_of (x ∷ xs) h = refl
 
-not_none : (b : Bool) → b ≡ false → b ≡ true → ⊥
-not_none b h i = let wrong : false ≡ true = sym h ∙ i in cc
-
-setting : IsFold sorted_sets with_scores
-setting = record {
-  nothing = λ s. refl;
-  more = with_append;
-  gone = λ ps s some none. absurd (not_none _ (with_scores_some ps s (some_of ps some)) none);
-}
-
 removing : IsFold sorted_sets without_scores
 removing = record {
   nothing = λ s. refl;
   more = without_append;
   gone = λ xs s some none ys. ap (λ (m : Scores). len m == 0) (without_scores_none ys) ∙ no_elements ℤ;
-}
-
--- a member and its score are within their limits
-abbrev pub is_kept : Bytes × ℤ → Bool
-is_kept p = member_fits p && has_score p
-
-parted : (g : List (Bytes × ℤ)) → list_all is_kept g ≡ true → (list_all member_fits g ≡ true) × (list_all has_score g ≡ true)
-parted [] h = (refl, refl)
-parted (p ∷ ps) h =
-    let here = left (is_kept p) _ h in
-    let rest = parted ps (right (is_kept p) _ h) in
-    (both (member_fits p) _ (left (member_fits p) _ here) rest.0, both (has_score p) _ (right (member_fits p) _ here) rest.1)
-
-set_step : (k : Bytes) → fits k ≡ true → (g : List (Bytes × ℤ)) → IsGroup is_kept g → IsStep k (effect.SetScores k g) (on sorted_sets (λ x. Some (with_scores g x)))
-unfolding change
-set_step k fit g i = record {
-  possible = both (is_some_of g && list_all has_score g) _ (both (is_some_of g) _ (some_of g i.some) (parted g i.all).1) (both (fits k) _ fit (parted g i.all).0);
-  short = short_effect (effect.SetScores k g) (omega (arith, length-scores g, i.few));
-  is = λ m. refl;
 }
 
 remove_step : (k : Bytes) → fits k ≡ true → (g : List Bytes) → IsGroup fits g → IsStep k (effect.RemoveScores k g) (on sorted_sets (λ x. Some (without_scores g x)))
@@ -130,7 +98,7 @@ abbrev pub IsGrown : Scores → Scores → Type 0
 IsGrown s t = (q : Bytes) → is_some (get s q) ≡ true → is_some (get t q) ≡ true
 
 pub set_faithful : (k : Bytes) (reply : Tree) (s t : Scores) (o : Option Entry) → fits k ≡ true → AreKept t → IsGrown s t → held sorted_sets o ≡ Some s → IsFaithfulChange sorted_sets (set_to k reply s t) s k o
-set_faithful k reply s t o fit kept grown is = cut_faithful k (effect.SetScores k) with_scores setting is_kept (set_step k fit) reply t s o (changed s t) (changed_all is_kept s t kept) is (with_changed s t grown) (none_changed s t)
+set_faithful k reply s t o fit kept grown is = cut_faithful k (effect.SetScores k) with_scores setting_scores is_kept (set_scores_is_step k fit) reply t s o (changed s t) (changed_all is_kept s t kept) is (with_changed s t grown) (none_changed s t)
 
 pub reduced_faithful : (k : Bytes) (reply : Tree) (xs : List Bytes) (s : Scores) (o : Option Entry) → fits k ≡ true → AreKept s → held sorted_sets o ≡ Some s → IsFaithfulChange sorted_sets (reduced_to k reply s (without_scores xs s)) s k o
 reduced_faithful k reply xs s o fit kept is =

@@ -9,9 +9,10 @@ use Rattle.mr_value.specs.Window.{window_of, windowed}
 use Rattle.mr_zset.specs.Score.{is_score}
 use Rattle.mr_zset.specs.Pairs.{pairs_of, range_of}
 use Rattle.mr_resp.specs.Replies.{Tree}
-use Rattle.mr_data.specs.Dataset.{Dataset, IsDataset}
-use Rattle.mr_data.specs.Steps.{sorted_sets, held}
-use Rattle.mr_data.specs.declared.value.Entry.{Entry}
+use Rattle.mr_entries.specs.Dataset.{Dataset}
+use Rattle.mr_data.specs.Dataset.{IsDataset}
+use Rattle.mr_entries.specs.Steps.{sorted_sets, held}
+use Rattle.mr_entries.specs.declared.value.Entry.{Entry}
 use Rattle.mr_ask_zset.specs.Carried.{zset_words, members_of}
 use Rattle.mr_ask_zset.specs.Scored.{is_scored}
 use Rattle.mr_ask_zset.specs.declared.zset_ask.ZSetAsk.{ZSetAsk}
@@ -26,7 +27,8 @@ use Rattle.mr_plan_zset.specs.Scores.{Scores, score_reply, unchanged, set_to}
 use Rattle.mr_plan_zset.specs.Adding.{is_set, with_pair, with_pairs, add_scores, increase_score, set_score, out_of_range, score_or_0}
 use Rattle.mr_plan_zset.specs.Removing.{members_of as names_of, taken, remove_members, take_pairs, remove_ranks, remove_scores}
 use Rattle.mr_plan_zset.specs.Commands.{command, HasScores}
-use Rattle.mr_plan_zset.proofs.Changes.{both, left, right, AreKept, IsGrown, is_kept, insert_kept, insert_grown, set_faithful, reduced_faithful, unchanged_faithful, changing_set}
+use Rattle.mr_data.proofs.Folds.{is_kept}
+use Rattle.mr_plan_zset.proofs.Changes.{both, left, right, AreKept, IsGrown, insert_kept, insert_grown, set_faithful, reduced_faithful, unchanged_faithful, changing_set}
 
 -- ---- pairs one after another
 module _ (only : Option ScoreCondition) (than : Option Comparison) where

@@ -7,11 +7,12 @@ use Rattle.std.specs.FinMap.{get, empty, insert, keys, entries, contains_key, re
 use Rattle.std.specs.FinMap.Entries.{put}
 use Rattle.std.proofs.lemmas.Cmp.{nat_list_cmp_total}
 use Rattle.mr_map.specs.Bytes.{Bytes, bytes_cmp}
-use Rattle.mr_data.specs.Collections.{with_scores, without_scores}
+use Rattle.mr_entries.specs.Collections.{with_scores, without_scores}
 use Rattle.mr_turn.specs.Taken.{is_key, has}
-use Rattle.mr_turn.proofs.Maps.{same_key}
+use Rattle.mr_entries.proofs.Maps.{same_key}
 use Rattle.mr_plan_zset.specs.Scores.{Scores, is_same, changed, changed_alone, lost, over}
-use Rattle.mr_plan_zset.proofs.Entries.{own_entries, entries_retained, all_map, all_true}
+use Rattle.mr_data.proofs.Entries.{own_entries, all_map, all_true}
+use Rattle.mr_plan_zset.proofs.Entries.{entries_retained}
 use Rattle.mr_plan_zset.proofs.Maps.{same_score, same_itself, or_else, get_over, same_scores, get_without, get_retained, has_keys, no_entries, retained_none}
 
 wrong : false ≡ true → ⊥

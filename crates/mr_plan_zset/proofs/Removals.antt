@@ -13,7 +13,7 @@ use Rattle.mr_value.specs.Window.{windowed}
 use Rattle.mr_resp.specs.Replies.{Tree}
 use Rattle.mr_effect.specs.declared.effect.Effect.{Effect}
 use Rattle.mr_effect.specs.declared.effect.Effect.TheVariants as effect
-use Rattle.mr_turn.specs.Cuts.{cut}
+use Rattle.mr_entries.specs.Cuts.{cut}
 use Rattle.mr_zset.specs.Order.{placed, in_order}
 use Rattle.mr_zset.specs.Pairs.{pair_cmp, pairs_of, range_of}
 use Rattle.mr_zset.specs.Bounds.{is_within}
@@ -21,14 +21,14 @@ use Rattle.mr_zset.specs.declared.bound.Bound.{Bound}
 use Rattle.mr_ask_zset.specs.declared.zset_ask.Order.{Order}
 use Rattle.mr_ask_zset.specs.declared.zset_ask.Order.TheVariants as order
 use Rattle.mr_ask_zset.specs.declared.zset_ask.RangeReply.TheVariants.{WithScores}
-use Rattle.mr_data.specs.Collections.{with_members, without_scores}
+use Rattle.mr_entries.specs.Collections.{with_members, without_scores}
 use Rattle.mr_turn.specs.Taken.{is_key, has}
-use Rattle.mr_turn.proofs.Maps.{same_key}
+use Rattle.mr_entries.proofs.Maps.{same_key}
 use Rattle.mr_turn.proofs.KeyLists.{more_words}
 use Rattle.mr_plan_zset.specs.Scores.{Scores, number, lost, pairs_in, reduced_to, Makes}
 use Rattle.mr_plan_zset.specs.Removing.{members_of, as_set, remove_all}
 use Rattle.mr_plan_zset.specs.Ranges.{pairs_reply}
-use Rattle.mr_plan_zset.proofs.Entries.{own_entries}
+use Rattle.mr_data.proofs.Entries.{own_entries}
 use Rattle.mr_plan_zset.proofs.Maps.{get_without, get_retained}
 
 -- ---- sets of words

@@ -2,8 +2,8 @@
 use Rattle.std.proofs.Common.{◌≡◌, List, [], ◌++◌, Option, Some, None, refl, sym, ◌∙◌, ap}
 use Rattle.mr_resp.specs.Replies.{Tree}
 use Rattle.mr_effect.specs.declared.effect.Effect.{Effect}
-use Rattle.mr_data.specs.Steps.{sorted_sets, held}
-use Rattle.mr_data.specs.declared.value.Entry.{Entry}
+use Rattle.mr_entries.specs.Steps.{sorted_sets, held}
+use Rattle.mr_entries.specs.declared.value.Entry.{Entry}
 use Rattle.mr_turn.specs.Turns.{Turn, Takes, wrong_kind}
 use Rattle.mr_turn.specs.Collections.{Change, changed, changing, telling, told as tells}
 use Rattle.mr_turn.proofs.PlanLemmas.{told}

@@ -2,8 +2,8 @@
 use Rattle.std.specs.Prelude.{IsTrue, Option}
 use Rattle.std.specs.List.{list_all}
 use Rattle.mr_map.specs.Bytes.{Bytes}
-use Rattle.mr_data.specs.Steps.{sorted_sets}
-use Rattle.mr_data.specs.declared.value.Entry.{Entry}
+use Rattle.mr_entries.specs.Steps.{sorted_sets}
+use Rattle.mr_entries.specs.declared.value.Entry.{Entry}
 use Rattle.mr_ask_zset.specs.Scored.{is_scored}
 use Rattle.mr_ask_zset.specs.declared.zset_ask.ZSetAsk.{ZSetAsk}
 use Rattle.mr_ask_zset.specs.declared.zset_ask.ZSetAsk.TheVariants as ask

@@ -1,7 +1,7 @@
 -- A group of items that are to go into one effect.
 use Rattle.std.specs.Prelude.{◌≡◌, List, ◌++◌, map}
 use Rattle.mr_effect.specs.declared.effect.Effect.{Effect}
-use Rattle.mr_turn.specs.Cuts.{cut}
+use Rattle.mr_entries.specs.Cuts.{cut}
 
 -- Items are taken: the effects so far, and those of the group and of whatever comes behind, are those of all items, cut.
 pub record TakesItems {X : Type 0} (effect : List X → Effect) (items group new_group : List X) (effects new_effects : List Effect) : Type 0 where

@@ -5,7 +5,7 @@ use Rattle.mr_map.specs.Bytes.{Bytes, ByteMap}
 use Rattle.mr_value.specs.Window.{window_of, windowed}
 use Rattle.mr_zset.specs.Pairs.{pairs_of, range_of}
 use Rattle.mr_zset.specs.declared.bound.Bound.{Bound}
-use Rattle.mr_data.specs.Collections.{with_members, without_scores}
+use Rattle.mr_entries.specs.Collections.{with_members, without_scores}
 use Rattle.mr_ask_zset.specs.declared.zset_ask.Order.{Order}
 use Rattle.mr_ask_zset.specs.declared.zset_ask.RangeReply.TheVariants.{WithScores}
 use Rattle.mr_turn.specs.Collections.{Change}

@@ -9,10 +9,10 @@ use Rattle.mr_resp.specs.Replies.{Tree}
 use Rattle.mr_zset.specs.Pairs.{pairs_of}
 use Rattle.mr_effect.specs.declared.effect.Effect.{Effect}
 use Rattle.mr_effect.specs.declared.effect.Effect.TheVariants as effect
-use Rattle.mr_data.specs.Collections.{with_scores}
+use Rattle.mr_entries.specs.Collections.{with_scores}
 use Rattle.mr_ask_zset.specs.declared.zset_ask.Order.{Order}
 use Rattle.mr_ask_zset.specs.declared.zset_ask.Order.TheVariants as order
-use Rattle.mr_turn.specs.Cuts.{cut}
+use Rattle.mr_entries.specs.Cuts.{cut}
 use Rattle.mr_turn.specs.Collections.{Change}
 
 abbrev pub Scores : Type 0

@@ -8,8 +8,8 @@ use Rattle.mr_resp.specs.Replies.{Tree}
 use Rattle.mr_resp.specs.ReplyView.{trees_of}
 use Rattle.mr_zset.specs.declared.bound.Bound.{Bound}
 use Rattle.mr_zset.specs.Pairs.{range_of, rank_of}
-use Rattle.mr_data.specs.Steps.{sorted_sets}
-use Rattle.mr_data.specs.declared.value.Entry.{Entry}
+use Rattle.mr_entries.specs.Steps.{sorted_sets}
+use Rattle.mr_entries.specs.declared.value.Entry.{Entry}
 use Rattle.mr_turn.specs.Turns.{Turn}
 use Rattle.mr_turn.specs.Collections.{telling}
 use Rattle.mr_ask_zset.specs.declared.zset_ask.Order.{Order}

@@ -3,7 +3,7 @@ ghost use Rattle.std.specs.Prelude.{◌≡◌, ◌≢◌, ◌<◌, ◌^◌, ◌+
 ghost use Rattle.std.specs.FinMap.{get};
 ghost use Rattle.mr_resp.specs.ReplyView.{view};
 ghost use Rattle.mr_zset.specs.Texts.{within_limit};
-ghost use Rattle.mr_data.specs.Steps.{sorted_sets};
+ghost use Rattle.mr_entries.specs.Steps.{sorted_sets};
 ghost use Rattle.mr_turn.specs.Turns.{Takes};
 ghost use Rattle.mr_turn.specs.Collections.{changing};
 ghost use Rattle.mr_plan_zset.specs.Scores.{over, Makes};

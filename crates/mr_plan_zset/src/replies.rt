@@ -2,7 +2,7 @@
 ghost use Rattle.std.specs.Prelude.{◌≡◌, IfOk, option_copied};
 ghost use Rattle.std.specs.FinMap as map;
 ghost use Rattle.mr_resp.specs.ReplyView.{view};
-ghost use Rattle.mr_data.specs.Steps.{sorted_sets, held};
+ghost use Rattle.mr_entries.specs.Steps.{sorted_sets, held};
 ghost use Rattle.mr_plan_zset.specs.Scores.{score_reply};
 ghost use Rattle.mr_plan_zset.specs.Adding.{out_of_range};
 

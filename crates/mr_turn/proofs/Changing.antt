@@ -5,15 +5,15 @@ use Rattle.std.specs.Option.{option_map}
 use Rattle.std.specs.FinMap.{get}
 use Rattle.mr_map.specs.Bytes.{Bytes}
 use Rattle.mr_resp.specs.Replies.{Tree}
-use Rattle.mr_data.specs.Dataset.{Dataset, put_at}
-use Rattle.mr_data.specs.Steps.{Step, Kind, held, entry_of, deadline_of}
+use Rattle.mr_entries.specs.Dataset.{Dataset, put_at}
+use Rattle.mr_entries.specs.Steps.{Step, Kind, held, entry_of, deadline_of}
 use Rattle.mr_data.specs.Meaning.{apply_all}
-use Rattle.mr_data.specs.declared.value.Entry.{Entry}
+use Rattle.mr_entries.specs.declared.value.Entry.{Entry}
 use Rattle.mr_effect.specs.declared.effect.Effect.{Effect}
 use Rattle.mr_turn.specs.Collections.{Change, told, telling, changed, changing}
-use Rattle.mr_turn.proofs.Maps.{put_same}
+use Rattle.mr_entries.proofs.Puts.{put_same}
 use Rattle.mr_turn.proofs.Laws.{IsFaithfulTurn, kept_faithful}
-use Rattle.mr_turn.proofs.Running.{AreSteps, steps_short, run, run_leads, IsKind, IsKept, same_entry, same_collection}
+use Rattle.mr_data.proofs.Running.{AreSteps, steps_short, run, run_leads, IsKind, IsKept, same_entry, same_collection}
 
 -- The effects are steps that lead to the new collection, and are there exactly where it is another.
 pub record IsFaithfulChange {X : Type 0} (kind : Kind X) (change : Change X) (x : X) (k : Bytes) (o : Option Entry) : Type 0 where

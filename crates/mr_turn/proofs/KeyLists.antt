@@ -7,16 +7,19 @@ use Rattle.std.specs.FinMap.{get, remove}
 use Rattle.std.proofs.lemmas.List.{take_more, map-append}
 use Rattle.mr_map.specs.Bytes.{Bytes}
 use Rattle.mr_value.specs.Words.{fits}
-use Rattle.mr_data.specs.Dataset.{Dataset, is_past, live, seen}
-use Rattle.mr_data.specs.Meaning.{apply, change, apply_all}
+use Rattle.mr_entries.specs.Dataset.{Dataset}
+use Rattle.mr_data.specs.Dataset.{is_past, live, seen}
+use Rattle.mr_entries.specs.Changes.{change}
+use Rattle.mr_data.specs.Meaning.{apply, apply_all}
 use Rattle.mr_data.proofs.Seeing.{get-seen}
-use Rattle.mr_data.specs.declared.value.Entry.{Entry}
+use Rattle.mr_entries.specs.declared.value.Entry.{Entry}
 use Rattle.mr_effect.specs.declared.effect.Effect.{Effect}
 use Rattle.mr_effect.specs.declared.effect.Effect.TheVariants as effect
 use Rattle.mr_turn.specs.Taken.{is_key, has}
 use Rattle.mr_turn.specs.Keys.{chosen, without, dels, is_stored}
 use Rattle.mr_turn.specs.Keys.{past, purged}
-use Rattle.mr_turn.proofs.Maps.{is_key_itself, is_key_symm, same_key, get_remove, removed, remove_absent}
+use Rattle.mr_entries.proofs.Maps.{same_key, remove_absent}
+use Rattle.mr_entries.proofs.Puts.{is_key_itself, is_key_symm, get_remove, removed}
 
 -- ---- effects one after another
 pub apply_all-append : (xs ys : List Effect) (m : Dataset) → apply_all (xs ++ ys) m ≡ option_and_then (apply_all ys) (apply_all xs m)

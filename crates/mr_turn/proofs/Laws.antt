@@ -10,9 +10,10 @@ use Rattle.mr_resp.specs.Replies.{Tree}
 use Rattle.mr_resp.specs.Command.{IsCommandText}
 use Rattle.mr_resp.specs.Usual.{commands}
 use Rattle.mr_value.specs.Words.{fits}
-use Rattle.mr_data.specs.Dataset.{Dataset, put_at}
-use Rattle.mr_data.specs.Meaning.{apply, apply_all, change}
-use Rattle.mr_data.specs.declared.value.Entry.{Entry}
+use Rattle.mr_entries.specs.Dataset.{Dataset, put_at}
+use Rattle.mr_entries.specs.Changes.{change}
+use Rattle.mr_data.specs.Meaning.{apply, apply_all}
+use Rattle.mr_entries.specs.declared.value.Entry.{Entry}
 use Rattle.mr_effect.specs.Effects.{has_spelling, words_fit}
 use Rattle.mr_effect.specs.Spelling.{text, IsShort}
 use Rattle.mr_effect.specs.declared.effect.Effect.{Effect}
@@ -22,7 +23,7 @@ use Rattle.mr_turn.specs.Keys.{past, dels, is_stored}
 use Rattle.mr_turn.specs.Turns.{Turn, kept}
 use Rattle.mr_turn.specs.Outcomes.{Outcome, answered, at_key}
 use Rattle.mr_turn.specs.Commands.{Command, on_key, on_keys, on_none, before, after, effects, own_effects, IsFaithful, HasCommandTexts}
-use Rattle.mr_turn.proofs.Maps.{get_put, put_same}
+use Rattle.mr_entries.proofs.Puts.{get_put, put_same}
 use Rattle.mr_turn.proofs.KeyLists.{apply_all-append, dels_lead, chosen_fits}
 
 -- ---- effects that can be done one after another, and are short, have command texts

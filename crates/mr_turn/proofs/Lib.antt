@@ -1,9 +1,5 @@
-pub mod Maps
 pub mod KeyLists
 pub mod TakenLemmas
 pub mod Laws
-pub mod Running
-pub mod Cutting
-pub mod KindLaws
 pub mod Changing
 pub mod PlanLemmas

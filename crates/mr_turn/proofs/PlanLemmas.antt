@@ -4,15 +4,16 @@ use Rattle.std.specs.Prelude.{◌||◌, ℤ, Ok, Err, Result, IfOk}
 use Rattle.std.specs.FinMap.{get}
 use Rattle.mr_map.specs.Bytes.{Bytes}
 use Rattle.mr_resp.specs.Replies.{Tree}
-use Rattle.mr_data.specs.Dataset.{Dataset, live, seen}
+use Rattle.mr_entries.specs.Dataset.{Dataset}
+use Rattle.mr_data.specs.Dataset.{live, seen}
 use Rattle.mr_data.proofs.Seeing.{get-seen}
-use Rattle.mr_data.specs.declared.value.Entry.{Entry}
+use Rattle.mr_entries.specs.declared.value.Entry.{Entry}
 use Rattle.mr_effect.specs.declared.effect.Effect.{Effect}
 use Rattle.mr_turn.specs.Keys.{dels, past, purged}
 use Rattle.mr_turn.specs.Turns.{Turn, Takes}
 use Rattle.mr_turn.specs.Outcomes.{answered}
 use Rattle.mr_turn.specs.Commands.{on_key, on_keys, on_none, IsPlan}
-use Rattle.mr_turn.proofs.Maps.{is_key_itself}
+use Rattle.mr_entries.proofs.Puts.{is_key_itself}
 use Rattle.mr_turn.proofs.KeyLists.{get_purged}
 
 pub purged_at : (now : ℤ) (k : Bytes) (m : Dataset) → get (purged now (k ∷ []) m) k ≡ live now (get m k)

@@ -1,8 +1,8 @@
 -- What a command on a collection answers, makes of it, and has as its effects.
 use Rattle.std.specs.Prelude.{List, Option, Some, None}
 use Rattle.mr_resp.specs.Replies.{Tree}
-use Rattle.mr_data.specs.Steps.{Kind, held, entry_of, deadline_of}
-use Rattle.mr_data.specs.declared.value.Entry.{Entry}
+use Rattle.mr_entries.specs.Steps.{Kind, held, entry_of, deadline_of}
+use Rattle.mr_entries.specs.declared.value.Entry.{Entry}
 use Rattle.mr_effect.specs.declared.effect.Effect.{Effect}
 use Rattle.mr_turn.specs.Turns.{Turn, kept, wrong_kind}
 

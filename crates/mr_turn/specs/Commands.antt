@@ -4,9 +4,10 @@ use Rattle.mr_map.specs.Bytes.{Bytes}
 use Rattle.mr_resp.specs.Replies.{Tree}
 use Rattle.mr_resp.specs.Command.{IsCommandText}
 use Rattle.mr_resp.specs.Usual.{commands}
-use Rattle.mr_data.specs.Dataset.{Dataset, seen}
+use Rattle.mr_entries.specs.Dataset.{Dataset}
+use Rattle.mr_data.specs.Dataset.{seen}
 use Rattle.mr_data.specs.Meaning.{apply_all}
-use Rattle.mr_data.specs.declared.value.Entry.{Entry}
+use Rattle.mr_entries.specs.declared.value.Entry.{Entry}
 use Rattle.mr_effect.specs.Spelling.{text}
 use Rattle.mr_effect.specs.declared.effect.Effect.{Effect}
 use Rattle.mr_turn.specs.Keys.{past, purged, dels}

@@ -2,8 +2,9 @@
 use Rattle.std.specs.Prelude.{ℤ, List, [], ◌∷◌, map, Bool, true, false, not, if◌then◌else◌, Option, Some, None}
 use Rattle.std.specs.FinMap.{get, remove}
 use Rattle.mr_map.specs.Bytes.{Bytes}
-use Rattle.mr_data.specs.Dataset.{Dataset, is_past}
-use Rattle.mr_data.specs.declared.value.Entry.{Entry}
+use Rattle.mr_entries.specs.Dataset.{Dataset}
+use Rattle.mr_data.specs.Dataset.{is_past}
+use Rattle.mr_entries.specs.declared.value.Entry.{Entry}
 use Rattle.mr_effect.specs.declared.effect.Effect.{Effect}
 use Rattle.mr_effect.specs.declared.effect.Effect.TheVariants as effect
 

@@ -3,5 +3,4 @@ pub mod Keys
 pub mod Turns
 pub mod Outcomes
 pub mod Commands
-pub mod Cuts
 pub mod Collections

@@ -3,8 +3,8 @@ use Rattle.std.specs.Prelude.{List, [], Option}
 use Rattle.std.specs.FinMap.{get}
 use Rattle.mr_map.specs.Bytes.{Bytes}
 use Rattle.mr_resp.specs.Replies.{Tree}
-use Rattle.mr_data.specs.Dataset.{Dataset, put_at}
-use Rattle.mr_data.specs.declared.value.Entry.{Entry}
+use Rattle.mr_entries.specs.Dataset.{Dataset, put_at}
+use Rattle.mr_entries.specs.declared.value.Entry.{Entry}
 use Rattle.mr_effect.specs.declared.effect.Effect.{Effect}
 use Rattle.mr_turn.specs.Turns.{Turn}
 

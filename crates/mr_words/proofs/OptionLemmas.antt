@@ -39,6 +39,14 @@ module _ {A S : Type 0} (add : S → A → Result S AskFault) (options : S → L
         parts = parts_joined (spelling a) (flat_map spelling items) o (in_a_row rest.order) first.1.0 rest.parts;
       }
 
+-- one option, and then those behind it
+pub one_first : (o : List Part) (xs ys : List (List ℕ)) (before middle after : List (List Part)) → AreParts xs o → IsPermutation middle (o ∷ before) → Adds ys middle after → Adds (xs ++ ys) before after
+one_first o xs ys before middle after is more rest = record {
+  order = o ∷ rest.order;
+  same = IsPermutation-trans _ _ _ rest.same (IsPermutation-trans _ _ _ (IsPermutation-append_right rest.order middle (o ∷ before) more) (IsPermutation-middle rest.order o before));
+  parts = parts_joined xs ys o (in_a_row rest.order) is rest.parts;
+}
+
 -- where none stood before
 pub from_none : (words : List (List ℕ)) (after : List (List Part)) → Adds words [] after → (order : List (List Part)) × (IsPermutation after order × AreParts words (in_a_row order))
 from_none words after h = (h.order, (subst (λ os. IsPermutation after os) (append-nil h.order) h.same, h.parts))

@@ -1,6 +1,7 @@
 -- Options that stand side by side may change places.
-use Rattle.std.proofs.Common.{◌≡◌, List, [], ◌∷◌, ◌++◌, Bool, true, false, refl, sym, ◌∙◌, ap}
+use Rattle.std.proofs.Common.{◌≡◌, List, [], ◌∷◌, ◌++◌, Bool, true, false, Option, Some, None, refl, sym, ◌∙◌, ap}
 use Rattle.std.specs.Prelude.{Result, Ok, Err, if◌then◌else◌}
+use Rattle.std.specs.Option.{ok_or}
 use Rattle.mr_words.specs.Parts.{with}
 use Rattle.mr_words.specs.Options.{added}
 use Rattle.mr_words.specs.declared.fault.AskFault.{AskFault}
@@ -69,3 +70,8 @@ pub unless : {A : Type 0} (b : Bool) (x : A) → OnlySyntax (if b then Err Synta
 unfolding OnlySyntax
 unless true x = refl
 unless false x = tt
+
+pub only_found : {A : Type 0} (o : Option A) → OnlySyntax (ok_or o Syntax)
+unfolding OnlySyntax
+only_found None = refl
+only_found (Some a) = tt

@@ -1,6 +1,6 @@
 -- What was read of an argument is what its word spells.
-use Rattle.std.proofs.Common.{ℕ, ℤ, pos, negsuc, ◌≡◌, List, true, false, Some, None, refl, sym, ap}
-use Rattle.std.specs.Prelude.{IfOk, if◌then◌else◌, Result, Ok, Err}
+use Rattle.std.proofs.Common.{ℕ, ℤ, pos, negsuc, ◌≡◌, List, [], ◌∷◌, Bool, true, false, cond, Option, Some, None, refl, sym, ◌∙◌, ap}
+use Rattle.std.specs.Prelude.{find, IfOk, if◌then◌else◌, Result, Ok, Err}
 use Rattle.std.specs.Option.{ok_or}
 use Rattle.std.specs.Fmt.{signed_decimal}
 use Rattle.std.specs.Str.{bytes_eq}
@@ -9,6 +9,7 @@ use Rattle.mr_value.proofs.Numbers.{same_bytes, number_text}
 use Rattle.mr_words.specs.Names.{lowered}
 use Rattle.mr_words.specs.Pairing.{paired, unpaired, are_pairs, pairs_of}
 use Rattle.mr_words.specs.Parts.{with, integer, not_below_0, count, offset}
+use Rattle.mr_words.specs.Spelling.{Part, Word, Number, IsPart}
 use Rattle.mr_words.proofs.PairLemmas.{unpaired-paired}
 use Rattle.mr_words.specs.declared.fault.AskFault.{AskFault}
 use Rattle.mr_words.specs.declared.fault.AskFault.TheVariants.{Integer, Syntax}
@@ -75,3 +76,32 @@ integer_read w n h = elim (number_of w) as (λ o. ok_or o Integer ≡ Ok n → o
   | None ↦ λ s. cc
   | Some m ↦ λ s. let same : m ≡ n = cc in ap (λ (x : ℤ). Some x) same
 ] h
+
+-- what a word is: the number that is read, or the word itself
+abbrev pub part_of : Option ℤ → List ℕ → Part
+part_of None w = Word w
+part_of (Some n) w = Number n
+
+abbrev pub number_part : List ℕ → Part
+number_part w = part_of (number_of w) w
+
+pub is_number_part : (w : List ℕ) → IsPart w (number_part w)
+is_number_part w = elim (number_of w) as (λ o. number_of w ≡ o → IsPart w (part_of o w)) [
+  | None ↦ λ s. refl
+  | Some n ↦ λ s. (number_text w n s).0
+] refl
+
+pub number_part_read : (w : List ℕ) (n : ℤ) → integer w ≡ Ok n → number_part w ≡ Number n
+number_part_read w n h = ap (λ (o : Option ℤ). part_of o w) (integer_read w n h)
+
+-- what is found passes the test
+pub found_passes : {A : Type 0} (p : A → Bool) (xs : List A) (x : A) → find p xs ≡ Some x → p x ≡ true
+found_passes p [] x h = cc
+found_passes p (y ∷ ys) x h = elim (p y) as (λ b. p y ≡ b → cond b (Some y) (find p ys) ≡ Some x → p x ≡ true) [
+  | true ↦ λ t s. let same : y ≡ x = cc in ap p (sym same) ∙ t
+  | false ↦ λ t s. found_passes p ys x s
+] refl h
+
+pub ok_found : {A : Type 0} (o : Option A) (x : A) → ok_or o Syntax ≡ Ok x → o ≡ Some x
+ok_found None x h = cc
+ok_found (Some y) x h = let same : y ≡ x = cc in ap (λ z. Some z) same

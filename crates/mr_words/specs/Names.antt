@@ -2,7 +2,7 @@
 use Rattle.std.specs.Prelude.{ℕ, ◌+◌, List, [], ◌∷◌, Bool, nat_lt, if◌then◌else◌, Option, map, find, codes}
 use Rattle.std.specs.Str.{bytes_eq}
 use Rattle.mr_words.specs.declared.name.Name.{Name}
-use Rattle.mr_words.specs.declared.name.Name.TheVariants.{Get, Set, Del, Unlink, Exists, KeyType, StrLen, GetRange, MGet, SetNx, GetSet, GetDel, Keys, Scan, DbSize, MSet, MSetNx, Append, SetRange, Incr, Decr, IncrBy, DecrBy, Rename, RenameNx, FlushAll, FlushDb, HSet, HMSet, HSetNx, HGet, HMGet, HGetAll, HKeys, HVals, HDel, HExists, HLen, HStrLen, HIncrBy, LPush, RPush, LPushX, RPushX, LPop, RPop, LLen, LRange, LIndex, LSet, LInsert, LRem, LTrim, LMove, RPopLPush, SAdd, SRem, SIsMember, SMIsMember, SMembers, SCard, SPop, SRandMember, SMove, SInter, SUnion, SDiff, Ping, Echo, Select, Quit, Command, Client, ZAdd, ZIncrBy, ZRem, ZCard, ZCount, ZScore, ZMScore, ZRank, ZRevRank, ZRange, ZRevRange, ZRangeByScore, ZRevRangeByScore, ZPopMin, ZPopMax, ZRemRangeByRank, ZRemRangeByScore}
+use Rattle.mr_words.specs.declared.name.Name.TheVariants.{Get, Set, Del, Unlink, Exists, KeyType, StrLen, GetRange, MGet, SetNx, GetSet, GetDel, Keys, Scan, DbSize, MSet, MSetNx, Append, SetRange, Incr, Decr, IncrBy, DecrBy, Rename, RenameNx, FlushAll, FlushDb, SetEx, PSetEx, Expire, PExpire, ExpireAt, PExpireAt, Ttl, PTtl, ExpireTime, PExpireTime, Persist, HSet, HMSet, HSetNx, HGet, HMGet, HGetAll, HKeys, HVals, HDel, HExists, HLen, HStrLen, HIncrBy, LPush, RPush, LPushX, RPushX, LPop, RPop, LLen, LRange, LIndex, LSet, LInsert, LRem, LTrim, LMove, RPopLPush, SAdd, SRem, SIsMember, SMIsMember, SMembers, SCard, SPop, SRandMember, SMove, SInter, SUnion, SDiff, Ping, Echo, Select, Quit, Command, Client, ZAdd, ZIncrBy, ZRem, ZCard, ZCount, ZScore, ZMScore, ZRank, ZRevRank, ZRange, ZRevRange, ZRangeByScore, ZRevRangeByScore, ZPopMin, ZPopMax, ZRemRangeByRank, ZRemRangeByScore}
 
 -- a letter from A to Z in lower case, and any other byte as it is
 abbrev pub lowered_byte : ℕ → ℕ
@@ -40,6 +40,17 @@ text_of Rename = codes "rename"
 text_of RenameNx = codes "renamenx"
 text_of FlushAll = codes "flushall"
 text_of FlushDb = codes "flushdb"
+text_of SetEx = codes "setex"
+text_of PSetEx = codes "psetex"
+text_of Expire = codes "expire"
+text_of PExpire = codes "pexpire"
+text_of ExpireAt = codes "expireat"
+text_of PExpireAt = codes "pexpireat"
+text_of Ttl = codes "ttl"
+text_of PTtl = codes "pttl"
+text_of ExpireTime = codes "expiretime"
+text_of PExpireTime = codes "pexpiretime"
+text_of Persist = codes "persist"
 text_of HSet = codes "hset"
 text_of HMSet = codes "hmset"
 text_of HSetNx = codes "hsetnx"
@@ -106,7 +117,7 @@ text_of Client = codes "client"
 
 -- all of them
 abbrev pub names : List Name
-names = Get ∷ Set ∷ Del ∷ Unlink ∷ Exists ∷ KeyType ∷ StrLen ∷ GetRange ∷ MGet ∷ SetNx ∷ GetSet ∷ GetDel ∷ Keys ∷ Scan ∷ DbSize ∷ MSet ∷ MSetNx ∷ Append ∷ SetRange ∷ Incr ∷ Decr ∷ IncrBy ∷ DecrBy ∷ Rename ∷ RenameNx ∷ FlushAll ∷ FlushDb ∷ HSet ∷ HMSet ∷ HSetNx ∷ HGet ∷ HMGet ∷ HGetAll ∷
+names = Get ∷ Set ∷ Del ∷ Unlink ∷ Exists ∷ KeyType ∷ StrLen ∷ GetRange ∷ MGet ∷ SetNx ∷ GetSet ∷ GetDel ∷ Keys ∷ Scan ∷ DbSize ∷ MSet ∷ MSetNx ∷ Append ∷ SetRange ∷ Incr ∷ Decr ∷ IncrBy ∷ DecrBy ∷ Rename ∷ RenameNx ∷ FlushAll ∷ FlushDb ∷ SetEx ∷ PSetEx ∷ Expire ∷ PExpire ∷ ExpireAt ∷ PExpireAt ∷ Ttl ∷ PTtl ∷ ExpireTime ∷ PExpireTime ∷ Persist ∷ HSet ∷ HMSet ∷ HSetNx ∷ HGet ∷ HMGet ∷ HGetAll ∷
     HKeys ∷ HVals ∷ HDel ∷ HExists ∷ HLen ∷ HStrLen ∷ HIncrBy ∷ LPush ∷ RPush ∷ LPushX ∷ RPushX ∷ LPop ∷
     RPop ∷ LLen ∷ LRange ∷ LIndex ∷ LSet ∷ LInsert ∷ LRem ∷ LTrim ∷ LMove ∷ RPopLPush ∷ SAdd ∷ SRem ∷
     SIsMember ∷ SMIsMember ∷ SMembers ∷ SCard ∷ SPop ∷ SRandMember ∷ SMove ∷ SInter ∷ SUnion ∷ SDiff ∷

@@ -4,6 +4,7 @@ use Rattle.std.specs.Fmt.{signed_decimal}
 use Rattle.mr_zset.specs.declared.bound.Bound.{Bound}
 use Rattle.mr_zset.specs.Texts.{IsScoreText, bound_of}
 use Rattle.mr_words.specs.Names.{lowered}
+use Rattle.mr_words.specs.declared.name.Name.{Name}
 
 -- an argument: this word as it is, the text of this number, this option word in any case, the text of some number from 1 on, or a text of this score or of this bound on scores
 pub data Part : Type 0 where
@@ -50,3 +51,8 @@ AreWithOptions words parts options = (order : List (List Part)) × (IsPermutatio
 -- the words are these arguments, then these options, in some order, and then further arguments
 abbrev pub AreAroundOptions : List (List ℕ) → List Part → List (List Part) → List Part → Type 0
 AreAroundOptions words front options back = (order : List (List Part)) × (IsPermutation options order × AreParts words (front ++ in_a_row order ++ back))
+
+-- the command's name is this one, and these are its arguments
+pub record NameAndArguments (its called : Name) (Arguments : Type 0) : Type 0 where
+  pub name_is : its ≡ called
+  pub parts : Arguments

@@ -1,6 +1,6 @@
 // Why words are no command.
 ghost use Rattle.std.specs.Prelude.{◌≡◌};
-ghost use Rattle.mr_words.specs.Faults.{bad_value, fault_text, wrong_count};
+ghost use Rattle.mr_words.specs.Faults.{bad_value, expiring_name, fault_text, invalid_time, wrong_count};
 ghost use Rattle.mr_resp.specs.Replies.{error};
 ghost use Rattle.mr_resp.specs.ReplyView.{view};
 
@@ -21,8 +21,39 @@ pub enum AskFault {
     Syntax,
     #[error("value is not an integer or out of range")]
     Integer,
+    #[error("invalid expire time in '{0}' command")]
+    ExpireTime(ExpiringCommand),
     #[error("{0}")]
     Other(BadValue),
+}
+
+/// A command that may set a deadline.
+#[derive(Clone, Copy, PartialEq, Eq, Debug)]
+pub enum ExpiringCommand {
+    Set,
+    SetEx,
+    PSetEx,
+    Expire,
+    PExpire,
+    ExpireAt,
+    PExpireAt,
+}
+
+impl ExpiringCommand {
+    // The name that it is called by.
+    fn name(self) -> Name
+        ensures { result ≡ expiring_name self }
+    {
+        match self {
+            ExpiringCommand::Set => Name::Set,
+            ExpiringCommand::SetEx => Name::SetEx,
+            ExpiringCommand::PSetEx => Name::PSetEx,
+            ExpiringCommand::Expire => Name::Expire,
+            ExpiringCommand::PExpire => Name::PExpire,
+            ExpiringCommand::ExpireAt => Name::ExpireAt,
+            ExpiringCommand::PExpireAt => Name::PExpireAt,
+        }
+    }
 }
 
 /// An argument that is read, and that the command doesn't take.
@@ -64,6 +95,7 @@ impl AskFault {
             AskFault::Arity(name) => wrong_count(name),
             AskFault::Syntax => b"ERR syntax error",
             AskFault::Integer => b"ERR value is not an integer or out of range",
+            AskFault::ExpireTime(command) => invalid_time(command),
             AskFault::Other(value) => bad_value(value),
         }
     }
@@ -79,6 +111,21 @@ fn bad_value(value: BadValue) -> &'static [u8]
         BadValue::Offset => b"ERR offset is out of range",
         BadValue::Decrement => b"ERR decrement would overflow",
         BadValue::Bound => b"ERR min or max is not a score",
+    }
+}
+
+// What a command answers to a deadline that it doesn't take.
+fn invalid_time(command: ExpiringCommand) -> &'static [u8]
+    ensures { result.now ≡ invalid_time command }
+{
+    match command {
+        ExpiringCommand::Set => b"ERR invalid expire time in 'set' command",
+        ExpiringCommand::SetEx => b"ERR invalid expire time in 'setex' command",
+        ExpiringCommand::PSetEx => b"ERR invalid expire time in 'psetex' command",
+        ExpiringCommand::Expire => b"ERR invalid expire time in 'expire' command",
+        ExpiringCommand::PExpire => b"ERR invalid expire time in 'pexpire' command",
+        ExpiringCommand::ExpireAt => b"ERR invalid expire time in 'expireat' command",
+        ExpiringCommand::PExpireAt => b"ERR invalid expire time in 'pexpireat' command",
     }
 }
 
@@ -114,6 +161,17 @@ fn wrong_count(name: Name) -> &'static [u8]
         Name::RenameNx => b"ERR wrong number of arguments for 'renamenx' command",
         Name::FlushAll => b"ERR wrong number of arguments for 'flushall' command",
         Name::FlushDb => b"ERR wrong number of arguments for 'flushdb' command",
+        Name::SetEx => b"ERR wrong number of arguments for 'setex' command",
+        Name::PSetEx => b"ERR wrong number of arguments for 'psetex' command",
+        Name::Expire => b"ERR wrong number of arguments for 'expire' command",
+        Name::PExpire => b"ERR wrong number of arguments for 'pexpire' command",
+        Name::ExpireAt => b"ERR wrong number of arguments for 'expireat' command",
+        Name::PExpireAt => b"ERR wrong number of arguments for 'pexpireat' command",
+        Name::Ttl => b"ERR wrong number of arguments for 'ttl' command",
+        Name::PTtl => b"ERR wrong number of arguments for 'pttl' command",
+        Name::ExpireTime => b"ERR wrong number of arguments for 'expiretime' command",
+        Name::PExpireTime => b"ERR wrong number of arguments for 'pexpiretime' command",
+        Name::Persist => b"ERR wrong number of arguments for 'persist' command",
         Name::HSet => b"ERR wrong number of arguments for 'hset' command",
         Name::HMSet => b"ERR wrong number of arguments for 'hmset' command",
         Name::HSetNx => b"ERR wrong number of arguments for 'hsetnx' command",
@@ -188,5 +246,17 @@ impl fmt::Display for Name {
 
     fn fmt<W: fmt::Write>(&self, f: &mut fmt::Formatter<W>) -> fmt::Result {
         f.write_str(self.text())
+    }
+}
+
+impl fmt::Display for ExpiringCommand {
+    ghost use Rattle.std.specs.Prelude.{Some};
+    ghost use Rattle.mr_words.specs.Faults.{expiring_name};
+    ghost use Rattle.mr_words.specs.Names.{text_of};
+
+    ghost output = { λ command. Some (text_of (expiring_name command)) };
+
+    fn fmt<W: fmt::Write>(&self, f: &mut fmt::Formatter<W>) -> fmt::Result {
+        f.write_str(self.name().text())
     }
 }

@@ -7,7 +7,7 @@ mod name;
 mod numbers;
 mod words;
 
-pub use fault::{AskFault, BadValue};
+pub use fault::{AskFault, BadValue, ExpiringCommand};
 pub use laws::names_are_found;
 pub use name::Name;
 pub use numbers::{count, integer, offset};

@@ -14,10 +14,13 @@ pub enum Call {
     Step(usize),
     Room(usize),
     Close(usize),
+    Tick,
     Shows,
     Spell(Vec<u8>),
     Apply(Vec<u8>, Way),
     Ask(Vec<u8>),
+    Due,
+    Rebuild,
 }
 
 /// How an effect comes to the dataset.
@@ -44,6 +47,7 @@ impl Call {
             ("step", Some(link), None) => Ok(Call::Step(place(link)?)),
             ("room", Some(link), None) => Ok(Call::Room(place(link)?)),
             ("close", Some(link), None) => Ok(Call::Close(place(link)?)),
+            ("tick", None, None) => Ok(Call::Tick),
             ("shows", None, None) => Ok(Call::Shows),
             ("spell", Some(bytes), None) => Ok(Call::Spell(bytes_of(alloc, bytes)?)),
             ("lend", Some(bytes), None) => Ok(Call::Apply(
@@ -52,6 +56,8 @@ impl Call {
             )),
             ("give", Some(bytes), None) => Ok(Call::Apply(bytes_of(alloc, bytes)?, Way::Moved)),
             ("ask", Some(bytes), None) => Ok(Call::Ask(bytes_of(alloc, bytes)?)),
+            ("due", None, None) => Ok(Call::Due),
+            ("rebuild", None, None) => Ok(Call::Rebuild),
             _ => Err(RehearsalFault::Line),
         }
     }

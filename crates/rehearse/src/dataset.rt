@@ -2,7 +2,7 @@
 use crate::call::Way;
 use crate::fault::RehearsalFault;
 use crate::telling::{tell, tell_bytes, tell_refusal};
-use mr_data::{ApplyFault, Dataset, Given, decode, encode};
+use mr_data::{ApplyFault, Dataset, Effect, Given, decode, encode};
 use mr_plan::{Answer, plan_words};
 use mr_resp::{Scan, next_command, next_request, write_reply};
 use std::alloc::Global;
@@ -12,11 +12,23 @@ pub fn spell(alloc: Global, text: &[u8], out: &mut Vec<u8>) -> Result<(), Rehear
     let Scan::Whole { words, used: _ } = next_command(alloc, text)? else {
         return Err(RehearsalFault::Line);
     };
-    let Some(effect) = decode(alloc, words.as_slice())? else {
-        return tell(out, "no effect");
-    };
+    match decode(alloc, words.as_slice())? {
+        None => tell(out, "no effect"),
+        Some(effect) => {
+            // The effect is dropped at one place alone: an exit behind a `?` would be one more for each kind.
+            let told = tell_spelled(alloc, &effect, out);
+            told
+        }
+    }
+}
+
+fn tell_spelled(
+    alloc: Global,
+    effect: &Effect<'_>,
+    out: &mut Vec<u8>,
+) -> Result<(), RehearsalFault> {
     let mut spelled = Vec::new(alloc);
-    encode(&effect, &mut spelled)?;
+    encode(effect, &mut spelled)?;
     tell(out, "spelled")?;
     tell_bytes(alloc, spelled.as_slice(), out)
 }
@@ -75,4 +87,27 @@ pub fn ask(
             tell_bytes(alloc, reply.as_slice(), out)
         }
     }
+}
+
+/// Writes the first key that is past.
+pub fn tell_due(
+    alloc: Global,
+    held: &Dataset,
+    given: Given,
+    out: &mut Vec<u8>,
+) -> Result<(), RehearsalFault> {
+    match held.due(given.now()) {
+        Some(key) => {
+            tell(out, "due")?;
+            tell_bytes(alloc, key, out)
+        }
+        None => tell(out, "nothing due"),
+    }
+}
+
+/// Writes the texts of the effects that make the dataset again.
+pub fn rebuild(alloc: Global, held: &Dataset, out: &mut Vec<u8>) -> Result<(), RehearsalFault> {
+    let text = held.rebuild(alloc)?;
+    tell(out, "rebuilt")?;
+    tell_bytes(alloc, text.as_slice(), out)
 }

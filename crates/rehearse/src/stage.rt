@@ -1,6 +1,6 @@
 //! A node, the links that were opened on it, and a dataset beside it.
 use crate::call::Call;
-use crate::dataset::{apply, ask, spell};
+use crate::dataset::{apply, ask, rebuild, spell, tell_due};
 use crate::fault::RehearsalFault;
 use crate::telling::{tell, tell_outs, tell_refusal};
 use mr_data::{Dataset, Given};
@@ -73,6 +73,7 @@ impl Stage {
                 self.node.close(link);
                 tell(out, "closed")
             }
+            Call::Tick => self.tick(alloc, out),
             Call::Shows => match self.node.shows() {
                 Some((id, offset)) => tell(out, format!(in alloc; "shows {id} {offset}")?.as_str()),
                 None => tell(out, "nothing"),
@@ -80,6 +81,8 @@ impl Stage {
             Call::Spell(text) => spell(alloc, text.as_slice(), out),
             Call::Apply(text, way) => apply(alloc, &mut self.held, text.as_slice(), *way, out),
             Call::Ask(text) => ask(alloc, &self.held, text.as_slice(), self.given, out),
+            Call::Due => tell_due(alloc, &self.held, self.given, out),
+            Call::Rebuild => rebuild(alloc, &self.held, out),
         }
     }
 
@@ -111,6 +114,17 @@ impl Stage {
             Ok(Step::Idle) => tell(out, "idle"),
             Ok(Step::Closed) => tell(out, "closed"),
             Ok(Step::Done(outs)) => {
+                tell_outs(alloc, &outs, out)?;
+                self.node.reuse(outs);
+                Ok(())
+            }
+            Err(fault) => tell_refusal(alloc, fault, out),
+        }
+    }
+
+    fn tick(&mut self, alloc: Global, out: &mut Vec<u8>) -> Result<(), RehearsalFault> {
+        match self.node.tick(self.given) {
+            Ok(outs) => {
                 tell_outs(alloc, &outs, out)?;
                 self.node.reuse(outs);
                 Ok(())

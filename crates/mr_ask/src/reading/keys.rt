@@ -1,11 +1,12 @@
 // Commands on keys of any kind.
 ghost use Rattle.std.specs.Prelude.{◌≡◌, map};
 ghost use Rattle.std.specs.Cow.{cow_slice_items};
-ghost use Rattle.mr_ask.specs.Keys.{del, unlink, exists, key_type, matching_keys, scan, dbsize, rename, renamenx, clear};
+ghost use Rattle.mr_ask.specs.Keys.{del, unlink, exists, key_type, matching_keys, scan, dbsize, rename, renamenx, clear, expire, ttl, pttl, expiretime, pexpiretime, persist};
 
-use crate::key_ask::{Databases, KeyAsk};
+use crate::expiry::ExpiryUnit;
+use crate::key_ask::{Databases, ExpireCondition, KeyAsk};
 use crate::options::ScanOptions;
-use crate::parts::{cursor_of, kind_if_any, positive_if_any, timing_of};
+use crate::parts::{cursor_of, key_expiry, kind_if_any, positive_if_any, timing_of};
 use mr_words::{Argument, Arguments, AskFault, Name, Words};
 
 type Reading<'a, 't> = Result<KeyAsk<'a, 't>, AskFault>;
@@ -138,5 +139,86 @@ pub(crate) fn clear<'a, 't>(databases: Databases, arguments: Arguments<'a, 't>) 
             timing: Some(timing_of(timing)?),
         }),
         _ => Err(AskFault::Syntax),
+    }
+}
+
+/// `EXPIRE key seconds [NX|XX|GT|LT]`, `PEXPIRE key milliseconds ..`, `EXPIREAT key second ..`, `PEXPIREAT key millisecond ..`
+pub(crate) fn expire<'a, 't>(
+    name: Name,
+    unit: ExpiryUnit,
+    arguments: Arguments<'a, 't>,
+) -> Reading<'a, 't>
+    ensures { result ≡ expire name unit (map cow_slice_items arguments.now) }
+{
+    match arguments {
+        [] | [_] => Err(AskFault::Arity(name)),
+        [key, number, words @ ..] => {
+            let condition = ExpireCondition::if_any(words)?;
+            Ok(KeyAsk::Expire {
+                key: Argument::of(key),
+                expiry: key_expiry(unit, number)?,
+                condition,
+            })
+        }
+    }
+}
+
+/// `TTL key`
+pub(crate) fn ttl<'a, 't>(arguments: Arguments<'a, 't>) -> Reading<'a, 't>
+    ensures { result ≡ ttl (map cow_slice_items arguments.now) }
+{
+    match arguments {
+        [key] => Ok(KeyAsk::Ttl {
+            key: Argument::of(key),
+        }),
+        _ => Err(AskFault::Arity(Name::Ttl)),
+    }
+}
+
+/// `PTTL key`
+pub(crate) fn pttl<'a, 't>(arguments: Arguments<'a, 't>) -> Reading<'a, 't>
+    ensures { result ≡ pttl (map cow_slice_items arguments.now) }
+{
+    match arguments {
+        [key] => Ok(KeyAsk::PTtl {
+            key: Argument::of(key),
+        }),
+        _ => Err(AskFault::Arity(Name::PTtl)),
+    }
+}
+
+/// `EXPIRETIME key`
+pub(crate) fn expiretime<'a, 't>(arguments: Arguments<'a, 't>) -> Reading<'a, 't>
+    ensures { result ≡ expiretime (map cow_slice_items arguments.now) }
+{
+    match arguments {
+        [key] => Ok(KeyAsk::ExpireTime {
+            key: Argument::of(key),
+        }),
+        _ => Err(AskFault::Arity(Name::ExpireTime)),
+    }
+}
+
+/// `PEXPIRETIME key`
+pub(crate) fn pexpiretime<'a, 't>(arguments: Arguments<'a, 't>) -> Reading<'a, 't>
+    ensures { result ≡ pexpiretime (map cow_slice_items arguments.now) }
+{
+    match arguments {
+        [key] => Ok(KeyAsk::PExpireTime {
+            key: Argument::of(key),
+        }),
+        _ => Err(AskFault::Arity(Name::PExpireTime)),
+    }
+}
+
+/// `PERSIST key`
+pub(crate) fn persist<'a, 't>(arguments: Arguments<'a, 't>) -> Reading<'a, 't>
+    ensures { result ≡ persist (map cow_slice_items arguments.now) }
+{
+    match arguments {
+        [key] => Ok(KeyAsk::Persist {
+            key: Argument::of(key),
+        }),
+        _ => Err(AskFault::Arity(Name::Persist)),
     }
 }

@@ -1,10 +1,10 @@
 // Commands on strings.
 ghost use Rattle.std.specs.Prelude.{◌≡◌, map};
 ghost use Rattle.std.specs.Cow.{cow_slice_items};
-ghost use Rattle.mr_ask.specs.Texts.{get, set, strlen, getrange, mget, setnx, getset, getdel, mset, msetnx, append, setrange, step, incrby, decrby};
+ghost use Rattle.mr_ask.specs.Texts.{get, set, setex, psetex, strlen, getrange, mget, setnx, getset, getdel, mset, msetnx, append, setrange, step, incrby, decrby};
 
 use crate::options::SetOptions;
-use crate::parts::opposite;
+use crate::parts::{lifetime_if_any, milliseconds, opposite, seconds};
 use crate::text_ask::{Amount, TextAsk};
 use mr_words::{Argument, Arguments, AskFault, Name, Pairs, Words, integer, offset};
 
@@ -22,7 +22,7 @@ pub(crate) fn get<'a, 't>(arguments: Arguments<'a, 't>) -> Reading<'a, 't>
     }
 }
 
-/// `SET key value [NX|XX] [GET]`
+/// `SET key value [NX|XX] [GET] [EX seconds|PX milliseconds|EXAT second|PXAT millisecond|KEEPTTL]`
 pub(crate) fn set<'a, 't>(arguments: Arguments<'a, 't>) -> Reading<'a, 't>
     ensures { result ≡ set (map cow_slice_items arguments.now) }
 {
@@ -30,13 +30,43 @@ pub(crate) fn set<'a, 't>(arguments: Arguments<'a, 't>) -> Reading<'a, 't>
         [] | [_] => Err(AskFault::Arity(Name::Set)),
         [key, value, words @ ..] => {
             let options = SetOptions::read(words)?;
+            let lifetime = lifetime_if_any(&options.lifetime)?;
             Ok(TextAsk::Set {
                 key: Argument::of(key),
                 value: Argument::of(value),
                 condition: options.condition,
                 reply: options.reply,
+                lifetime,
             })
         }
+    }
+}
+
+/// `SETEX key seconds value`
+pub(crate) fn setex<'a, 't>(arguments: Arguments<'a, 't>) -> Reading<'a, 't>
+    ensures { result ≡ setex (map cow_slice_items arguments.now) }
+{
+    match arguments {
+        [key, amount, value] => Ok(TextAsk::SetEx {
+            key: Argument::of(key),
+            seconds: seconds(integer(amount)?)?,
+            value: Argument::of(value),
+        }),
+        _ => Err(AskFault::Arity(Name::SetEx)),
+    }
+}
+
+/// `PSETEX key milliseconds value`
+pub(crate) fn psetex<'a, 't>(arguments: Arguments<'a, 't>) -> Reading<'a, 't>
+    ensures { result ≡ psetex (map cow_slice_items arguments.now) }
+{
+    match arguments {
+        [key, amount, value] => Ok(TextAsk::PSetEx {
+            key: Argument::of(key),
+            milliseconds: milliseconds(integer(amount)?)?,
+            value: Argument::of(value),
+        }),
+        _ => Err(AskFault::Arity(Name::PSetEx)),
     }
 }
 

@@ -2,11 +2,12 @@
 ghost use Rattle.std.specs.Prelude.{◌≡◌, ◌≢◌, ◌↔◌, ◌&&◌, [], Some, None, Err, IsOk, OnOk};
 ghost use Rattle.std.specs.List.{AllByRecursion};
 ghost use Rattle.mr_effect.specs.Effects.{has_spelling, words_fit};
-ghost use Rattle.mr_data.specs.Meaning.{apply, apply_all, NeedsNoMemory};
+ghost use Rattle.mr_entries.specs.Changes.{NeedsNoMemory};
+ghost use Rattle.mr_data.specs.Meaning.{apply, apply_all};
 
 use crate::dataset::Dataset;
-use crate::fault::ApplyFault;
 use mr_effect::Effect;
+use mr_entries::ApplyFault;
 
 impl Dataset {
     /// Does an effect, whose words are copied. A dataset for which memory ran out is emptied.

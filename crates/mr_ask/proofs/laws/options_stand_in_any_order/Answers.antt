@@ -1,4 +1,5 @@
-use Rattle.mr_ask.proofs.OrderLemmas.{set_in_any_order, scan_in_any_order}
+use Rattle.mr_ask.proofs.OrderLemmas.{scan_in_any_order}
+use Rattle.mr_ask.proofs.SetOrderLemmas.{set_in_any_order}
 use Rattle.mr_ask.proofs.laws.options_stand_in_any_order.Goals as goal
 
 pub returns-clause-set : goal.returns-clause-set

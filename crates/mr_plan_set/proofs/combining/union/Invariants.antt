@@ -1,5 +1,5 @@
 use Rattle.std.proofs.Common.{◌≡◌, take}
-use Rattle.mr_ask.specs.declared.set_ask.SetOperation.TheVariants as operation
+use Rattle.mr_ask_coll.specs.declared.set_ask.SetOperation.TheVariants as operation
 use Rattle.mr_plan_set.specs.Combining.{of_all}
 use Rattle.mr_plan_set.specs.Grouping.{members_of}
 use Rattle.mr_plan_set.proofs.combining.union.Given as goal

@@ -7,7 +7,7 @@ use Rattle.mr_resp.specs.ReplyView.{view}
 use Rattle.mr_value.specs.Words.{fits}
 use Rattle.mr_value.specs.Texts.{overwritten}
 use Rattle.mr_effect.specs.declared.effect.Effect.TheVariants as effect
-use Rattle.mr_data.specs.Steps.{texts as strings, held}
+use Rattle.mr_entries.specs.Steps.{texts as strings, held}
 use Rattle.mr_plan_text.proofs.WritingOver.{small_end, written_before, written_over}
 use Rattle.mr_plan_text.proofs.changing.set_range.Goals as goal
 

@@ -1,6 +1,6 @@
 use Rattle.std.proofs.Common.{◌≡◌}
 use Rattle.std.specs.FinMap.{empty}
-use Rattle.mr_data.specs.Collections.{with_fields}
+use Rattle.mr_entries.specs.Collections.{with_fields}
 use Rattle.mr_plan_text.proofs.setting_all.last_texts.Given as goal
 
 abbrev pub invariant-loop-key : goal.invariant-loop-key

@@ -1,6 +1,6 @@
 use Rattle.std.proofs.Common.{◌≡◌, map, drop}
 use Rattle.mr_zset.specs.Pairs.{shown}
-use Rattle.mr_data.specs.Collections.{with_members}
+use Rattle.mr_entries.specs.Collections.{with_members}
 use Rattle.mr_plan_zset.specs.Removing.{members_of, as_set}
 use Rattle.mr_plan_zset.proofs.removing.in_byte_order.Given as goal
 

@@ -3,7 +3,7 @@ use Rattle.std.proofs.lemmas.Int.{to_z-of_z}
 use Rattle.std.specs.FinMap.{len}
 use Rattle.mr_value.specs.Window.{window_of, windowed}
 use Rattle.mr_zset.specs.Pairs.{pairs_of, shown}
-use Rattle.mr_data.specs.Steps.{sorted_sets, held}
+use Rattle.mr_entries.specs.Steps.{sorted_sets, held}
 use Rattle.mr_plan_zset.specs.Removing.{remove_ranks}
 use Rattle.mr_plan_zset.proofs.Removals.{pairs_made, windowed_in, pairs_are_in}
 use Rattle.mr_plan_zset.proofs.TurnLemmas.{takes_made}

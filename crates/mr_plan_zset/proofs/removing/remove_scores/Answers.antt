@@ -1,6 +1,6 @@
 use Rattle.std.proofs.Common.{rules, ◌≡◌, ◌∙◌, ap, map, Some, option_copied}
 use Rattle.mr_zset.specs.Pairs.{range_of, shown}
-use Rattle.mr_data.specs.Steps.{sorted_sets, held}
+use Rattle.mr_entries.specs.Steps.{sorted_sets, held}
 use Rattle.mr_plan_zset.specs.Removing.{remove_scores}
 use Rattle.mr_plan_zset.proofs.Removals.{pairs_made, range_in}
 use Rattle.mr_plan_zset.proofs.TurnLemmas.{takes_made}

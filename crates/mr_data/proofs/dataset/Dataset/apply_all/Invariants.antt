@@ -1,6 +1,7 @@
 use Rattle.std.proofs.Common.{◌≡◌, ◌++◌}
 use Rattle.std.specs.List.{AllByRecursion}
-use Rattle.mr_data.specs.Meaning.{apply_all, NeedsNoMemory}
+use Rattle.mr_entries.specs.Changes.{NeedsNoMemory}
+use Rattle.mr_data.specs.Meaning.{apply_all}
 use Rattle.mr_data.proofs.dataset.Dataset.apply_all.Given as goal
 
 abbrev pub invariant-loop-effect : goal.invariant-loop-effect

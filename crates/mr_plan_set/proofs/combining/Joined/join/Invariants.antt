@@ -1,5 +1,5 @@
 use Rattle.std.proofs.Common.{◌≡◌}
-use Rattle.mr_data.specs.Collections.{with_members}
+use Rattle.mr_entries.specs.Collections.{with_members}
 use Rattle.mr_plan_set.specs.Members.{joined}
 use Rattle.mr_plan_set.proofs.combining.Joined.join.Given as goal
 

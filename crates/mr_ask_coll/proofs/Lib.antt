@@ -1,0 +1,4 @@
+pub mod PartLemmas
+pub mod HashLemmas
+pub mod ListLemmas
+pub mod SetLemmas

@@ -1,0 +1,43 @@
+-- The past keys, in the order in which they are deleted.
+use Rattle.std.specs.Prelude.{◌≡◌, IsTrue, ℤ, slice_get, List, [], ◌∷◌, int_le, if◌then◌else◌, Option, Some, None}
+use Rattle.std.specs.List.{flat_map}
+use Rattle.std.specs.Option.{option_map, option_and_then}
+use Rattle.std.specs.FinMap.{get, keys}
+use Rattle.mr_map.specs.Bytes.{Bytes}
+use Rattle.mr_value.specs.Words.{fits}
+use Rattle.mr_zset.specs.Order.{in_order}
+use Rattle.mr_zset.specs.Pairs.{pair_cmp}
+use Rattle.mr_entries.specs.Dataset.{Dataset}
+use Rattle.mr_data.specs.declared.due.DueKey.{DueKey}
+
+-- the deadline of a key, where it is there and has one
+abbrev pub deadline_at : Dataset → Bytes → Option ℤ
+deadline_at m k = option_and_then (λ e. e.deadline) (get m k)
+
+-- a key with its deadline, if that is past at this moment
+abbrev pub if_past : ℤ → Bytes → Option ℤ → List (Bytes × ℤ)
+if_past now k None = []
+if_past now k (Some d) = if int_le d now then (k, d) ∷ [] else []
+
+-- the past ones of these keys with their deadlines, in order of deadline and then of key
+abbrev pub due_among : ℤ → Dataset → List Bytes → List (Bytes × ℤ)
+due_among now m ks = in_order pair_cmp (flat_map (λ k. if_past now k (deadline_at m k)) ks)
+
+abbrev pub due : ℤ → Dataset → List (Bytes × ℤ)
+due now m = due_among now m (keys m)
+
+-- what is answered, as a key with its deadline
+abbrev pub shown : DueKey → Bytes × ℤ
+shown d = (d.key.now, d.deadline)
+
+-- its key is within the word limit
+abbrev pub HasWord : DueKey → Type 0
+HasWord d = IsTrue (fits d.key.now)
+
+abbrev pub listed : Option DueKey → List (Bytes × ℤ)
+listed None = []
+listed (Some d) = shown d ∷ []
+
+-- this is the first pair of a list
+abbrev pub IsFirst : Option DueKey → List (Bytes × ℤ) → Type 0
+IsFirst found ps = option_map shown found ≡ slice_get ps 0

@@ -1,0 +1,202 @@
+// The effects that make a dataset again, as text.
+ghost use Rattle.std.specs.Prelude.{◌≡◌, ◌≤◌, ◌++◌, map, length, IfOk, OnOk};
+ghost use Rattle.std.specs.FinMap.{get};
+ghost use Rattle.mr_value.specs.declared.ends.End.TheVariants.{Right};
+ghost use Rattle.mr_effect.specs.declared.effect.Effect.TheVariants as made;
+ghost use Rattle.mr_effect.specs.Spelling.{texts};
+ghost use Rattle.mr_entries.specs.Cuts.{cut, most_items};
+ghost use Rattle.mr_entries.specs.declared.value.Value.TheVariants as stored;
+ghost use Rattle.mr_data.specs.Rebuilding.{rebuilding, rebuilt, rebuilt_value, rebuilt_deadline};
+
+use crate::dataset::Dataset;
+use mr_effect::{Effect, Pairs, Scores, Words, encode};
+use mr_entries::Value;
+use mr_value::{End, Hash, ListValue, SetValue, Word};
+use mr_zset::ZSet;
+use std::alloc::{AllocError, Global};
+
+// So many items are in one effect at most.
+const MOST_ITEMS: usize = 64;
+
+impl Dataset {
+    /// The texts of effects that make the dataset again out of nothing, past keys included, in byte order of keys.
+    pub fn rebuild(&self, alloc: Global) -> Result<Vec<u8>, AllocError>
+        ensures { IfOk result (λ text. text.items ≡ texts (rebuilding self.now)) }
+    {
+        let mut out = Vec::new(alloc);
+        for key in self.keys() {
+            self.push_key(alloc, key, &mut out)?;
+        }
+        Ok(out)
+    }
+
+    fn push_key(&self, alloc: Global, key: &[u8], out: &mut Vec<u8>) -> Result<(), AllocError>
+        ensures { OnOk result (out.new.items ≡ out.old.items ++ texts (rebuilt key.now (get self.now key.now))) }
+    {
+        let Some(entry) = self.entry(key) else {
+            return Ok(());
+        };
+        push_value(alloc, key, &entry.value, out)?;
+        push_deadline(key, entry.deadline, out)
+    }
+}
+
+fn push_deadline(key: &[u8], deadline: Option<i64>, out: &mut Vec<u8>) -> Result<(), AllocError>
+    ensures { OnOk result (out.new.items ≡ out.old.items ++ texts (rebuilt_deadline key.now deadline)) }
+{
+    let Some(deadline) = deadline else {
+        return Ok(());
+    };
+    let key = Word::borrowed(key);
+    encode(&Effect::Expire { key, deadline }, out)
+}
+
+fn push_value<'d>(
+    alloc: Global,
+    key: &'d [u8],
+    value: &'d Value,
+    out: &mut Vec<u8>,
+) -> Result<(), AllocError>
+    ensures { OnOk result (out.new.items ≡ out.old.items ++ texts (rebuilt_value key.now value.now)) }
+{
+    match value {
+        Value::Text(text) => push_text(key, text.as_slice(), out),
+        Value::Hash(fields) => push_hash(alloc, key, fields, out),
+        Value::List(items) => push_list(alloc, key, items, out),
+        Value::Set(members) => push_set(alloc, key, members, out),
+        Value::SortedSet(scores) => push_sorted_set(alloc, key, scores, out),
+    }
+}
+
+fn push_text<'d>(key: &'d [u8], text: &'d [u8], out: &mut Vec<u8>) -> Result<(), AllocError>
+    ensures { OnOk result (out.new.items ≡ out.old.items ++ texts (rebuilt_value key.now (stored.Text text.now))) }
+{
+    let key = Word::borrowed(key);
+    let value = Word::borrowed(text);
+    encode(&Effect::Set { key, value }, out)
+}
+
+fn push_hash<'d>(
+    alloc: Global,
+    key: &'d [u8],
+    fields: &'d Hash,
+    out: &mut Vec<u8>,
+) -> Result<(), AllocError>
+    ensures { OnOk result (out.new.items ≡ out.old.items ++ texts (rebuilt_value key.now (stored.Hash fields.now))) }
+{
+    let mut group = Pairs::new(alloc);
+    for (field, value) in fields.iter() {
+        group.push(Word::borrowed(field), Word::borrowed(value.as_slice()))?;
+        if group.len() == MOST_ITEMS {
+            push_fields(key, group, out)?;
+            group = Pairs::new(alloc);
+        }
+    }
+    push_fields(key, group, out)
+}
+
+// The effect of a group, unless it is empty.
+fn push_fields<'d>(key: &'d [u8], pairs: Pairs<'d>, out: &mut Vec<u8>) -> Result<(), AllocError>
+    requires { length pairs ≤ most_items }
+    ensures { OnOk result (out.new.items ≡ out.old.items ++ texts (map (made.SetFields key.now) (cut pairs.entry))) }
+{
+    if pairs.is_empty() {
+        return Ok(());
+    }
+    let key = Word::borrowed(key);
+    encode(&Effect::SetFields { key, pairs }, out)
+}
+
+fn push_list<'d>(
+    alloc: Global,
+    key: &'d [u8],
+    items: &'d ListValue,
+    out: &mut Vec<u8>,
+) -> Result<(), AllocError>
+    ensures { OnOk result (out.new.items ≡ out.old.items ++ texts (rebuilt_value key.now (stored.List items.now))) }
+{
+    let mut group = Words::new(alloc);
+    for item in items.iter() {
+        group.push(Word::borrowed(item))?;
+        if group.len() == MOST_ITEMS {
+            push_items(key, group, out)?;
+            group = Words::new(alloc);
+        }
+    }
+    push_items(key, group, out)
+}
+
+// The effect of a group, unless it is empty.
+fn push_items<'d>(key: &'d [u8], items: Words<'d>, out: &mut Vec<u8>) -> Result<(), AllocError>
+    requires { length items ≤ most_items }
+    ensures { OnOk result (out.new.items ≡ out.old.items ++ texts (map (made.Push key.now Right) (cut items.entry))) }
+{
+    if items.is_empty() {
+        return Ok(());
+    }
+    let key = Word::borrowed(key);
+    let end = End::Right;
+    encode(&Effect::Push { key, end, items }, out)
+}
+
+fn push_set<'d>(
+    alloc: Global,
+    key: &'d [u8],
+    members: &'d SetValue,
+    out: &mut Vec<u8>,
+) -> Result<(), AllocError>
+    ensures { OnOk result (out.new.items ≡ out.old.items ++ texts (rebuilt_value key.now (stored.Set members.now))) }
+{
+    let mut group = Words::new(alloc);
+    for member in members.members() {
+        group.push(Word::borrowed(member))?;
+        if group.len() == MOST_ITEMS {
+            push_members(key, group, out)?;
+            group = Words::new(alloc);
+        }
+    }
+    push_members(key, group, out)
+}
+
+// The effect of a group, unless it is empty.
+fn push_members<'d>(key: &'d [u8], members: Words<'d>, out: &mut Vec<u8>) -> Result<(), AllocError>
+    requires { length members ≤ most_items }
+    ensures { OnOk result (out.new.items ≡ out.old.items ++ texts (map (made.AddMembers key.now) (cut members.entry))) }
+{
+    if members.is_empty() {
+        return Ok(());
+    }
+    let key = Word::borrowed(key);
+    encode(&Effect::AddMembers { key, members }, out)
+}
+
+fn push_sorted_set<'d>(
+    alloc: Global,
+    key: &'d [u8],
+    scores: &'d ZSet,
+    out: &mut Vec<u8>,
+) -> Result<(), AllocError>
+    ensures { OnOk result (out.new.items ≡ out.old.items ++ texts (rebuilt_value key.now (stored.SortedSet scores.now))) }
+{
+    let mut group = Scores::new(alloc);
+    for (member, score) in scores.iter() {
+        group.push(Word::borrowed(member), *score)?;
+        if group.len() == MOST_ITEMS {
+            push_scores(key, group, out)?;
+            group = Scores::new(alloc);
+        }
+    }
+    push_scores(key, group, out)
+}
+
+// The effect of a group, unless it is empty.
+fn push_scores<'d>(key: &'d [u8], scores: Scores<'d>, out: &mut Vec<u8>) -> Result<(), AllocError>
+    requires { length scores ≤ most_items }
+    ensures { OnOk result (out.new.items ≡ out.old.items ++ texts (map (made.SetScores key.now) (cut scores.entry))) }
+{
+    if scores.is_empty() {
+        return Ok(());
+    }
+    let key = Word::borrowed(key);
+    encode(&Effect::SetScores { key, scores }, out)
+}

@@ -1,0 +1,7 @@
+pub mod Dataset
+pub mod Collections
+pub mod Texts
+pub mod Steps
+pub mod Changes
+pub mod Outcome
+pub mod Cuts

@@ -1,0 +1,65 @@
+// Effects on deadlines.
+ghost use Rattle.std.specs.Prelude.{◌≢◌, Err};
+ghost use Rattle.mr_entries.specs.Changes.{at_key};
+ghost use Rattle.mr_entries.specs.Steps.{set_until_step, set_keeping_step, expire_step, persist_step};
+ghost use Rattle.mr_entries.specs.Outcome.{Applies};
+
+use crate::entries::Entries;
+use crate::fault::ApplyFault;
+use crate::value::{Entry, Value};
+use mr_value::Word;
+
+impl Entries {
+    /// Sets a key to a text, until a moment. A key that is there is written over in its place.
+    pub(super) fn set_until(
+        &mut self,
+        key: Word<'_>,
+        text: Word<'_>,
+        deadline: i64,
+    ) -> Result<(), ApplyFault>
+        ensures { Applies (at_key (set_until_step text.entry deadline) key.entry self.old) self.old result self.new }
+    {
+        let text = text.into_bytes(self.alloc)?;
+        let entry = Entry {
+            value: Value::Text(text),
+            deadline: Some(deadline),
+        };
+        self.put(key, entry)
+    }
+
+    /// Sets a key to a text, and leaves its deadline.
+    pub(super) fn set_keeping(&mut self, key: Word<'_>, text: Word<'_>) -> Result<(), ApplyFault>
+        ensures { Applies (at_key (set_keeping_step text.entry) key.entry self.old) self.old result self.new }
+    {
+        let text = text.into_bytes(self.alloc)?;
+        let Some(entry) = self.by_key.get_mut(key.as_slice()) else {
+            return self.create(key, Value::Text(text));
+        };
+        entry.value = Value::Text(text);
+        Ok(())
+    }
+
+    /// Sets the deadline of a key.
+    pub(super) fn expire(&mut self, key: &[u8], deadline: i64) -> Result<(), ApplyFault>
+        ensures applies { Applies (at_key (expire_step deadline) key.now self.old) self.old result self.new }
+        ensures memory { result ≢ Err ApplyFault.Memory }
+    {
+        let Some(entry) = self.by_key.get_mut(key) else {
+            return Err(ApplyFault::Refused);
+        };
+        entry.deadline = Some(deadline);
+        Ok(())
+    }
+
+    /// Takes the deadline off a key.
+    pub(super) fn persist(&mut self, key: &[u8]) -> Result<(), ApplyFault>
+        ensures applies { Applies (at_key persist_step key.now self.old) self.old result self.new }
+        ensures memory { result ≢ Err ApplyFault.Memory }
+    {
+        let Some(entry) = self.by_key.get_mut(key) else {
+            return Err(ApplyFault::Refused);
+        };
+        entry.deadline = None;
+        Ok(())
+    }
+}

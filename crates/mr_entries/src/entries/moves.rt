@@ -1,0 +1,105 @@
+// Effects on two keys.
+ghost use Rattle.std.specs.Prelude.{◌≡◌, ◌≢◌, IsTrue, false};
+ghost use Rattle.std.specs.Str.{bytes_eq};
+ghost use Rattle.std.specs.FinMap as map;
+ghost use Rattle.mr_entries.specs.Changes.{has_member, is_member, move_item, carry_item, move_member, carry_member};
+ghost use Rattle.mr_entries.specs.Outcome.{Applies};
+
+use crate::entries::Entries;
+use crate::fault::ApplyFault;
+use crate::value::Value;
+use mr_effect::Words;
+use mr_value::{End, Word};
+
+impl Entries {
+    /// Takes an item from one key's list and puts it to another's, or to the same.
+    pub(super) fn move_item(
+        &mut self,
+        from: &[u8],
+        to: Word<'_>,
+        taken: End,
+        put: End,
+    ) -> Result<(), ApplyFault>
+        ensures { Applies (move_item from.now to.entry taken put self.old) self.old result self.new }
+    {
+        if from == to.as_slice() {
+            return self.turn(from, taken, put);
+        }
+        self.carry_item(from, to, taken, put)
+    }
+
+    fn carry_item(
+        &mut self,
+        from: &[u8],
+        to: Word<'_>,
+        taken: End,
+        put: End,
+    ) -> Result<(), ApplyFault>
+        requires { bytes_eq from.now to ≡ false }
+        ensures { Applies (carry_item from.now to.entry taken put self.old) self.old result self.new }
+    {
+        if !self.takes_items(to.as_slice()) {
+            return Err(ApplyFault::Refused);
+        }
+        let Some(item) = self.take_item(from, taken) else {
+            return Err(ApplyFault::Refused);
+        };
+        self.put_item(to, put, item)
+    }
+
+    /// Takes a member from one key's set and puts it to another's, or to the same.
+    pub(super) fn move_member(
+        &mut self,
+        from: &[u8],
+        to: Word<'_>,
+        member: Word<'_>,
+    ) -> Result<(), ApplyFault>
+        ensures { Applies (move_member from.now to.entry member.entry self.old) self.old result self.new }
+    {
+        if !self.has_member(from, member.as_slice()) {
+            return Err(ApplyFault::Refused);
+        }
+        if from == to.as_slice() {
+            return Ok(());
+        }
+        self.carry_member(from, to, member)
+    }
+
+    fn carry_member(
+        &mut self,
+        from: &[u8],
+        to: Word<'_>,
+        member: Word<'_>,
+    ) -> Result<(), ApplyFault>
+        requires apart { bytes_eq from.now to ≡ false }
+        requires there { IsTrue (has_member member (map.get self.old from.now)) }
+        ensures { Applies (carry_member from.now to.entry member.entry self.old) self.old result self.new }
+    {
+        if !self.takes_members(to.as_slice()) {
+            return Err(ApplyFault::Refused);
+        }
+        let mut members = Words::new(self.alloc);
+        members.push(member)?;
+        self.remove_members(from, members.as_slice())?;
+        self.add_members(to, members)
+    }
+
+    // Whether the key holds a set with this member.
+    fn has_member(&self, key: &[u8], member: &[u8]) -> bool
+        ensures { result ≡ has_member member.now (map.get self.now key.now) }
+    {
+        match self.by_key.get(key) {
+            None => false,
+            Some(entry) => is_member(&entry.value, member),
+        }
+    }
+}
+
+fn is_member(value: &Value, member: &[u8]) -> bool
+    ensures { result ≡ is_member member.now value.now }
+{
+    match value {
+        Value::Set(set) => set.contains(member),
+        Value::Text(_) | Value::Hash(_) | Value::List(_) | Value::SortedSet(_) => false,
+    }
+}

@@ -1,0 +1,176 @@
+// Effects on texts, and on keys of any kind.
+ghost use Rattle.std.specs.Prelude.{◌≡◌, ◌≢◌, ◌↔◌, [], ◌++◌, is_some, Err, IfOk, None, OnOk, Some};
+ghost use Rattle.std.specs.FinMap as map;
+ghost use Rattle.mr_value.specs.Texts.{overwritten};
+ghost use Rattle.mr_entries.specs.Changes.{at_key};
+ghost use Rattle.mr_entries.specs.Steps.{set_step, del_step, append_step, set_range_step, increase_step, held, on, same, texts};
+ghost use Rattle.mr_entries.specs.Texts.{fitting, increased, sum_with};
+ghost use Rattle.mr_entries.specs.Outcome.{Applies};
+
+use crate::entries::Entries;
+use crate::fault::ApplyFault;
+use crate::value::{Entry, Value};
+use mr_value::{Bytes, Word, fits, read_i64, write_i64};
+use std::alloc::Global;
+
+impl Entries {
+    /// Sets a key to a text, without a deadline. A key that is there is written over in its place.
+    pub(super) fn set(&mut self, key: Word<'_>, text: Word<'_>) -> Result<(), ApplyFault>
+        ensures { Applies (at_key (set_step text.entry) key.entry self.old) self.old result self.new }
+    {
+        let text = text.into_bytes(self.alloc)?;
+        let Some(place) = self.by_key.get_mut(key.as_slice()) else {
+            return self.create(key, Value::Text(text));
+        };
+        *place = Entry {
+            value: Value::Text(text),
+            deadline: None,
+        };
+        Ok(())
+    }
+
+    /// Removes a key, where it is there.
+    pub(super) fn delete(&mut self, key: &[u8]) -> Result<(), ApplyFault>
+        ensures applies { Applies (at_key del_step key.now self.old) self.old result self.new }
+        ensures memory { result ≢ Err ApplyFault.Memory }
+    {
+        let _ = self.by_key.remove(key);
+        Ok(())
+    }
+
+    /// Puts more behind the text at a key.
+    pub(super) fn append(&mut self, key: Word<'_>, more: Word<'_>) -> Result<(), ApplyFault>
+        ensures { Applies (at_key (append_step more.entry) key.entry self.old) self.old result self.new }
+    {
+        let Some(entry) = self.by_key.get_mut(key.as_slice()) else {
+            if !fits(more.as_slice()) {
+                return Err(ApplyFault::Refused);
+            }
+            let text = more.into_bytes(self.alloc)?;
+            return self.create(key, Value::Text(text));
+        };
+        let Value::Text(text) = &mut entry.value else {
+            return Err(ApplyFault::Refused);
+        };
+        extend(text, more.as_slice())
+    }
+
+    /// Writes a part over the text at a key, from an offset on.
+    pub(super) fn set_range(
+        &mut self,
+        key: Word<'_>,
+        offset: i64,
+        part: &[u8],
+    ) -> Result<(), ApplyFault>
+        ensures { Applies (at_key (set_range_step offset part.now) key.entry self.old) self.old result self.new }
+    {
+        if part.is_empty() {
+            return self.keep_text(key.as_slice());
+        }
+        self.write_range(key, offset.unsigned_abs() as usize, part)
+    }
+
+    // Changes nothing. A key that holds another kind is refused.
+    fn keep_text(&mut self, key: &[u8]) -> Result<(), ApplyFault>
+        ensures { Applies (at_key (same (texts [])) key.now self.old) self.old result self.new }
+    {
+        if !self.takes_text(key) {
+            return Err(ApplyFault::Refused);
+        }
+        Ok(())
+    }
+
+    // Whether the key holds a text or is absent.
+    fn takes_text(&self, key: &[u8]) -> bool
+        ensures { result ≡ is_some (held (texts []) (map.get self.now key.now)) }
+    {
+        match self.by_key.get(key) {
+            None => true,
+            Some(entry) => is_text(&entry.value),
+        }
+    }
+
+    fn write_range(&mut self, key: Word<'_>, offset: usize, part: &[u8]) -> Result<(), ApplyFault>
+        ensures { Applies (at_key (on (texts []) (λ text. fitting (overwritten offset part.now text))) key.entry self.old) self.old result self.new }
+    {
+        let Some(entry) = self.by_key.get_mut(key.as_slice()) else {
+            let mut text = Bytes::from_vec(Vec::new(self.alloc));
+            overwrite(&mut text, offset, part)?;
+            return self.create(key, Value::Text(text));
+        };
+        let Value::Text(text) = &mut entry.value else {
+            return Err(ApplyFault::Refused);
+        };
+        overwrite(text, offset, part)
+    }
+
+    /// Makes the number greater that the text at a key spells.
+    pub(super) fn increase(&mut self, key: Word<'_>, by: i64) -> Result<(), ApplyFault>
+        ensures { Applies (at_key (increase_step by) key.entry self.old) self.old result self.new }
+    {
+        let alloc = self.alloc;
+        let Some(entry) = self.by_key.get_mut(key.as_slice()) else {
+            let text = increased(alloc, by, b"0")?;
+            return self.create(key, Value::Text(text));
+        };
+        let Value::Text(text) = &mut entry.value else {
+            return Err(ApplyFault::Refused);
+        };
+        *text = increased(alloc, by, text.as_slice())?;
+        Ok(())
+    }
+}
+
+fn is_text(value: &Value) -> bool
+    ensures { result ≡ is_some ((texts []).of value.now) }
+{
+    match value {
+        Value::Text(_) => true,
+        Value::Hash(_) | Value::List(_) | Value::Set(_) | Value::SortedSet(_) => false,
+    }
+}
+
+// Puts more behind a text.
+fn extend(text: &mut Bytes, more: &[u8]) -> Result<(), ApplyFault>
+    ensures ok { OnOk result (fitting (text.old ++ more.now) ≡ Some text.new) }
+    ensures refused { (result ≡ Err ApplyFault.Refused) ↔ (fitting (text.old ++ more.now) ≡ None) }
+    ensures unchanged { result ≡ Err ApplyFault.Refused → text.new ≡ text.old }
+{
+    if !text.fits_with(more) {
+        return Err(ApplyFault::Refused);
+    }
+    text.extend_from_slice(more)?;
+    Ok(())
+}
+
+// Writes a part over a text.
+fn overwrite(text: &mut Bytes, offset: usize, part: &[u8]) -> Result<(), ApplyFault>
+    ensures ok { OnOk result (fitting (overwritten offset part.now text.old) ≡ Some text.new) }
+    ensures refused { (result ≡ Err ApplyFault.Refused) ↔ (fitting (overwritten offset part.now text.old) ≡ None) }
+    ensures unchanged { result ≡ Err ApplyFault.Refused → text.new ≡ text.old }
+{
+    if !text.fits_overwritten(offset, part) {
+        return Err(ApplyFault::Refused);
+    }
+    text.overwrite(offset, part)?;
+    Ok(())
+}
+
+// The text of the number that a text spells, and this much, together.
+fn increased(alloc: Global, by: i64, text: &[u8]) -> Result<Bytes, ApplyFault>
+    ensures ok { IfOk result (λ sum. increased by text.now ≡ Some sum) }
+    ensures refused { (result ≡ Err ApplyFault.Refused) ↔ (increased by text.now ≡ None) }
+{
+    let Some(sum) = sum_with(by, text) else {
+        return Err(ApplyFault::Refused);
+    };
+    let text = write_i64(alloc, sum)?;
+    Ok(text)
+}
+
+// The number that a text spells, and this much, together, where that has 64 bits.
+fn sum_with(by: i64, text: &[u8]) -> Option<i64>
+    ensures { result ≡ sum_with by text.now }
+{
+    read_i64(text)?.checked_add(by)
+}

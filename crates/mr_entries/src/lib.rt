@@ -1,0 +1,10 @@
+//! What keys hold, and what each effect does to it.
+#![tactic(auto)]
+
+mod entries;
+mod fault;
+mod value;
+
+pub use entries::Entries;
+pub use fault::ApplyFault;
+pub use value::{Entry, Value};
