@@ -5,3 +5,4 @@ pub mod Steps
 pub mod Changes
 pub mod Outcome
 pub mod Cuts
+pub mod Expiries

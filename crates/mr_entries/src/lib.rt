@@ -2,7 +2,9 @@
 #![tactic(auto)]
 
 mod entries;
+mod expiry;
 mod fault;
+mod keyspace;
 mod value;
 
 pub use entries::Entries;

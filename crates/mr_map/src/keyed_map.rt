@@ -1,5 +1,5 @@
 // A map from byte strings by a seeded hash, with its keys in byte order beside it.
-ghost use Rattle.std.specs.Prelude.{◌≡◌, ◌==◌, ◌<◌, ◌^◌, OnOk, OnErr, IfOk, option_copied};
+ghost use Rattle.std.specs.Prelude.{◌≡◌, ◌==◌, ◌<◌, ◌^◌, OnOk, OnErr, IfOk, IfSome, option_copied, option_map};
 ghost use Rattle.std.specs.FinMap as map;
 ghost use Rattle.std.specs.Option.{option_copied_mut};
 
@@ -118,12 +118,22 @@ impl<V: Drop> KeyedMap<V> {
         }
     }
 
-    /// Removes a key, and answers its value.
+    /// Removes a key, and answers its value. It takes no memory.
     pub fn remove(&mut self, key: &[u8]) -> Option<V>
         ensures before { result ≡ map.get self.old key.now }
         ensures removed { self.new ≡ map.remove self.old key.now }
     {
-        let before = self.table.remove(key)?;
+        let (_, value) = self.remove_entry(key)?;
+        Some(value)
+    }
+
+    /// Removes a key, and answers its bytes with its value. It takes no memory.
+    pub fn remove_entry(&mut self, key: &[u8]) -> Option<(Vec<u8>, V)>
+        ensures before { option_map (λ e. e.1) result ≡ map.get self.old key.now }
+        ensures key { IfSome result (λ e. e.0.items ≡ key.now) }
+        ensures removed { self.new ≡ map.remove self.old key.now }
+    {
+        let before = self.table.remove_entry(key)?;
         self.order.remove(key);
         Some(before)
     }
