@@ -9,3 +9,5 @@ pub mod Stepping
 pub mod TextSteps
 pub mod Cutting
 pub mod Puts
+mod Index
+mod Coming

@@ -5,7 +5,7 @@ use Rattle.std.specs.Option.{option_map, option_and_then}
 use Rattle.std.specs.FinMap.{get, insert, remove}
 use Rattle.mr_map.specs.Bytes.{Bytes, ByteMap}
 use Rattle.mr_entries.specs.Dataset.{Dataset}
-use Rattle.mr_entries.specs.Steps.{Step, Kind, without_deadline, hashes, lists, sets, sorted_sets, on, entry_of}
+use Rattle.mr_entries.specs.Steps.{Step, Kind, without_deadline, deadline_of, hashes, lists, sets, sorted_sets, on, entry_of}
 use Rattle.mr_entries.specs.Changes.{at_key}
 use Rattle.mr_entries.specs.Outcome.{Applies}
 use Rattle.mr_entries.specs.declared.value.Value.{Value}
@@ -40,6 +40,20 @@ goes step {n} {m} same k e r h s e' is = subst (λ (x : Dataset). Applies (at_ke
 -- the key isn't there, and stays away
 pub stays_away : (step : Step) {n m : Dataset} → n ≡ m → (k : Bytes) (r : Dataset) → None ≡ get n k → step None ≡ Some None → r ≡ n → Applies (at_key step k m) m (Ok tt) r
 stays_away step {n} {m} same k r h s is = subst (λ (x : Dataset). Applies (at_key step k x) x (Ok tt) r) same (rw (sym h, s) ((λ f. cc), is ∙ sym (remove_absent n k (sym h))))
+
+-- what a key has, by its value
+abbrev pub entry_at : Dataset → Bytes → Value → Entry
+entry_at m k v = record { value = v; deadline = deadline_of (get m k) }
+
+pub is_there : (m : Dataset) (k : Bytes) (v : Value) → Some v ≡ option_map (λ e. e.value) (get m k) → Some (entry_at m k v) ≡ get m k
+is_there m k v h = elim (get m k) as (λ (o : Option Entry). Some v ≡ option_map (λ e. e.value) o → Some (record { value = v; deadline = deadline_of o }) ≡ o) [
+  | None ↦ λ p. cc
+  | Some e ↦ λ p. (let same : v ≡ e.value = cc in ap (λ (w : Value). let f : Entry = record { value = w; deadline = e.deadline } in Some f) same)
+] h
+
+pub is_absent : (o : Option Entry) → None ≡ option_map (λ e. e.value) o → None ≡ o
+is_absent None h = refl
+is_absent (Some e) h = cc
 
 -- a key is made
 pub creates : (step : Step) (m : Dataset) (k : Bytes) (e : Entry) (r : Result (Unit {0}) ApplyFault) (new : Dataset) → None ≡ get m k → step None ≡ Some (Some e) → OnOk r (new ≡ insert m k e) → (r ≡ Err Refused → ⊥) → Applies (at_key step k m) m r new

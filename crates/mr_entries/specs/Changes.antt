@@ -86,11 +86,9 @@ change effect.Ping = λ m. Some m
 change (effect.SetScores k scores) = at_key (set_scores_step scores) k
 change (effect.RemoveScores k members) = at_key (remove_scores_step members) k
 
--- the effect takes away, or changes no more than a deadline
+-- the effect takes away, or does nothing
 abbrev pub NeedsNoMemory : Effect → Type 0
 NeedsNoMemory (effect.Del k) = Unit {0}
-NeedsNoMemory (effect.Expire k d) = Unit {0}
-NeedsNoMemory (effect.Persist k) = Unit {0}
 NeedsNoMemory effect.Clear = Unit {0}
 NeedsNoMemory effect.Ping = Unit {0}
 NeedsNoMemory (effect.RemoveFields k fields) = Unit {0}

@@ -1,9 +1,11 @@
 -- The deadlines of keys, and the order in which they come.
-use Rattle.std.specs.Prelude.{◌≡◌, ℤ, Bool, false, int_eq, List, [], ◌∷◌, Option, Some, None}
+use Rattle.std.specs.Prelude.{◌≡◌, ℤ, Bool, false, if◌then◌else◌, List, [], ◌∷◌, Option, Some, None}
 use Rattle.std.specs.List.{flat_map}
+use Rattle.std.specs.declared.cmp.Ordering.{Ordering}
+use Rattle.std.specs.Ordering.{int_eq, eq_by_cmp}
 use Rattle.std.specs.FinMap.{get, keys}
-use Rattle.std.specs.BTreeSet.{BTreeSet, contains}
-use Rattle.mr_map.specs.Bytes.{Bytes}
+use Rattle.std.specs.BTreeSet.{BTreeSet, contains_by}
+use Rattle.mr_map.specs.Bytes.{Bytes, bytes_cmp}
 use Rattle.mr_zset.specs.Order.{in_order}
 use Rattle.mr_zset.specs.Pairs.{pair_cmp}
 use Rattle.mr_entries.specs.Dataset.{Dataset}
@@ -19,9 +21,24 @@ abbrev pub is_deadline : ℤ → Option ℤ → Bool
 is_deadline d None = false
 is_deadline d (Some e) = int_eq d e
 
+abbrev pub expiry_cmp : Expiry → Expiry → Ordering
+expiry_cmp x y = pair_cmp (shown x) (shown y)
+
+-- whether an index has this key with this deadline
+abbrev pub has : BTreeSet Expiry → Bytes × ℤ → Bool
+has s p = contains_by (λ x. pair_cmp p (shown x)) s
+
 -- the index has exactly the entries' deadlines
 abbrev pub IsIndex : Dataset → BTreeSet Expiry → Type 0
-IsIndex m s = (x : Expiry) → contains (λ a b. pair_cmp (shown a) (shown b)) s x ≡ is_deadline x.deadline (deadline_of (get m x.key.items))
+IsIndex m s = (p : Bytes × ℤ) → has s p ≡ is_deadline p.1 (deadline_of (get m p.0))
+
+-- of this key an index has this deadline alone, or none
+abbrev pub IsDeadlineOf : Bytes → Option ℤ → BTreeSet Expiry → Type 0
+IsDeadlineOf k d s = (p : Bytes × ℤ) → p.0 ≡ k → has s p ≡ is_deadline p.1 d
+
+-- of this key the second index has this deadline alone, or none; of others it has what the first has
+abbrev pub Reindexes : Bytes → Option ℤ → BTreeSet Expiry → BTreeSet Expiry → Type 0
+Reindexes k d s n = (p : Bytes × ℤ) → has n p ≡ (if eq_by_cmp bytes_cmp p.0 k then is_deadline p.1 d else has s p)
 
 -- a key with its deadline, if it has one
 abbrev pub expiring : Bytes → Option ℤ → List (Bytes × ℤ)

@@ -6,3 +6,4 @@ pub mod Changes
 pub mod Outcome
 pub mod Cuts
 pub mod Expiries
+pub mod Lends

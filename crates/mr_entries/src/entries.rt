@@ -1,6 +1,7 @@
 // Entries by key, whatever they hold.
-ghost use Rattle.std.specs.Prelude.{◌≡◌, ◌≢◌, ◌<◌, ◌^◌, option_copied, OnOk, Err};
+ghost use Rattle.std.specs.Prelude.{◌≡◌, ◌≢◌, ◌<◌, ◌^◌, map as each, option_copied, OnOk, Err};
 ghost use Rattle.std.specs.FinMap as map;
+ghost use Rattle.mr_entries.specs.Expiries.{expiries, shown};
 ghost use Rattle.mr_entries.specs.Steps.{without_deadline};
 
 mod copying;
@@ -14,11 +15,14 @@ mod sorted_sets;
 mod texts;
 mod whole;
 
+use crate::expiry::Expiry;
 use crate::fault::ApplyFault;
+use crate::keyspace::Keyspace;
 use crate::value::{Entry, Value};
-use mr_map::{KeyedMap, Keys};
+use mr_map::Keys;
 use mr_value::Word;
 use std::alloc::Global;
+use std::collections::btree_set;
 use std::hash::RandomState;
 use std::marker::Model;
 
@@ -26,7 +30,7 @@ use std::marker::Model;
 #[derive(Drop)]
 pub struct Entries {
     alloc: Global,
-    by_key: KeyedMap<Entry>,
+    by_key: Keyspace,
 }
 
 impl Model for Entries {
@@ -50,7 +54,7 @@ impl Entries {
     {
         Entries {
             alloc,
-            by_key: KeyedMap::new(alloc, seed),
+            by_key: Keyspace::new(alloc, seed),
         }
     }
 
@@ -76,6 +80,13 @@ impl Entries {
         self.by_key.get(key)
     }
 
+    /// The keys that have a deadline with it, in order of deadline and then of bytes.
+    pub fn expiries(&self) -> btree_set::Iter<'_, Expiry>
+        ensures { each shown result ≡ expiries self.now }
+    {
+        self.by_key.expiries()
+    }
+
     /// Empties entries for which memory ran out.
     pub fn settle(&mut self, outcome: &Result<(), ApplyFault>)
         ensures spent { outcome.now ≡ Err ApplyFault.Memory → self.new ≡ map.empty }
@@ -88,7 +99,7 @@ impl Entries {
         }
     }
 
-    /// Sets what a key has, without a deadline.
+    /// Sets what a key has, without a deadline. A key that is there is written over in its place.
     fn create(&mut self, key: Word<'_>, value: Value) -> Result<(), ApplyFault>
         ensures ok { OnOk result (self.new ≡ map.insert self.old key.entry (without_deadline value)) }
         ensures refused { result ≢ Err ApplyFault.Refused }
@@ -97,8 +108,7 @@ impl Entries {
             value,
             deadline: None,
         };
-        let key = key.into_bytes(self.alloc)?;
-        self.by_key.insert(key.into_vec(), entry)?;
+        self.by_key.put(key, entry)?;
         Ok(())
     }
 }

@@ -2,8 +2,8 @@
 
 /// A key with its deadline. They are in order of deadline, and then of the keys' bytes.
 #[derive(Debug, PartialEq, Eq, PartialOrd, Ord, Drop)]
-pub(crate) struct Expiry {
+pub struct Expiry {
     /// The moment from which the key is past, in milliseconds.
-    pub(crate) deadline: i64,
-    pub(crate) key: Vec<u8>,
+    pub deadline: i64,
+    pub key: Vec<u8>,
 }

@@ -1,12 +1,19 @@
 // Entries by key, with an index of their deadlines.
-ghost use Rattle.std.specs.Prelude.{◌≡◌, ◌<◌, ◌^◌, option_copied, OnOk, OnErr};
+ghost use Rattle.std.specs.Prelude.{◌≡◌, ◌≢◌, ◌<◌, ◌^◌, None, Some, map as each, option_copied, option_map, Err, OnOk, OnErr};
 ghost use Rattle.std.specs.FinMap as map;
+ghost use Rattle.std.specs.Option.{option_copied_mut};
+ghost use Rattle.mr_entries.specs.Changes.{at_key};
+ghost use Rattle.mr_entries.specs.Expiries.{expiries, shown, IsDeadlineOf, Reindexes};
+ghost use Rattle.mr_entries.specs.Outcome.{Applies};
+ghost use Rattle.mr_entries.specs.Steps.{deadline_step};
 
 use crate::expiry::Expiry;
-use crate::value::Entry;
+use crate::fault::ApplyFault;
+use crate::value::{Entry, Value};
 use mr_map::{KeyedMap, Keys};
-use std::alloc::Global;
-use std::collections::BTreeSet;
+use mr_value::Word;
+use std::alloc::{AllocError, Global};
+use std::collections::{BTreeSet, btree_set};
 use std::hash::RandomState;
 use std::marker::Model;
 
@@ -76,4 +83,156 @@ impl Keyspace {
     {
         self.by_key.contains_key(key)
     }
+}
+
+impl Keyspace {
+    ghost use Rattle.std.specs.Borrow.{sem};
+    ghost use Rattle.mr_entries.specs.Lends.{lends_value};
+
+    /// The value of a key, to be changed in place. Its deadline stays.
+    pub(crate) fn value_mut(&mut self, key: &[u8]) -> Option<&mut Value>
+        ensures* writes_back { sem 𝓛 (lends_value self.entry key.now result) }
+        ensures value { option_copied_mut result ≡ option_map (λ e. e.value) (map.get self.old key.now) }
+    {
+        match self.by_key.get_mut(key) {
+            Some(entry) => Some(&mut entry.value),
+            None => None,
+        }
+    }
+}
+
+impl Keyspace {
+    /// Sets what a key has. A key that is there is written over in its place. Where memory runs out nothing has changed.
+    pub(crate) fn put(&mut self, key: Word<'_>, entry: Entry) -> Result<(), AllocError>
+        ensures ok { OnOk result (self.new ≡ map.insert self.old key.entry entry) }
+        ensures err { OnErr result (self.new ≡ self.old) }
+    {
+        let Some(place) = self.by_key.get_mut(key.as_slice()) else {
+            return self.create(key, entry);
+        };
+        if place.deadline == entry.deadline {
+            *place = entry;
+            return Ok(());
+        }
+        let name = key.into_bytes(self.alloc)?.into_vec();
+        reindex(self.alloc, &mut self.expiries, name, place.deadline, entry.deadline)?;
+        *place = entry;
+        Ok(())
+    }
+
+    /// Sets what a new key has. Where memory runs out nothing has changed.
+    fn create(&mut self, key: Word<'_>, entry: Entry) -> Result<(), AllocError>
+        requires { map.get self.old key ≡ None }
+        ensures ok { OnOk result (self.new ≡ map.insert self.old key.entry entry) }
+        ensures err { OnErr result (self.new ≡ self.old) }
+    {
+        let key = key.into_bytes(self.alloc)?.into_vec();
+        let Some(deadline) = entry.deadline else {
+            let _ = self.by_key.insert(key, entry)?;
+            return Ok(());
+        };
+        let name = Vec::from_slice(self.alloc, key.as_slice())?;
+        let _ = self.by_key.insert(key, entry)?;
+        match self.expiries.insert(Expiry { deadline, key: name }) {
+            Ok(_) => Ok(()),
+            Err(refused) => {
+                let _ = self.by_key.remove(refused.value.key.as_slice());
+                Err(AllocError)
+            }
+        }
+    }
+
+    /// Sets the deadline of a key, or takes it off. Where memory runs out nothing has changed.
+    pub(crate) fn set_deadline(
+        &mut self,
+        key: Word<'_>,
+        deadline: Option<i64>,
+    ) -> Result<(), ApplyFault>
+        ensures applies { Applies (at_key (deadline_step deadline) key.entry self.old) self.old result self.new }
+        ensures memory { result ≡ Err ApplyFault.Memory → self.new ≡ self.old }
+    {
+        let Some(place) = self.by_key.get_mut(key.as_slice()) else {
+            return Err(ApplyFault::Refused);
+        };
+        if place.deadline == deadline {
+            return Ok(());
+        }
+        let name = key.into_bytes(self.alloc)?.into_vec();
+        reindex(self.alloc, &mut self.expiries, name, place.deadline, deadline)?;
+        place.deadline = deadline;
+        Ok(())
+    }
+
+    /// Removes a key, and answers what it had. It takes no memory.
+    pub(crate) fn remove(&mut self, key: &[u8]) -> Option<Entry>
+        ensures before { result ≡ map.get self.old key.now }
+        ensures removed { self.new ≡ map.remove self.old key.now }
+    {
+        let (name, entry) = self.by_key.remove_entry(key)?;
+        if let Some(deadline) = entry.deadline {
+            let _ = self.expiries.remove(&Expiry { deadline, key: name });
+        }
+        Some(entry)
+    }
+
+    /// Removes every key. It takes no memory.
+    pub(crate) fn clear(&mut self)
+        ensures { self.new ≡ map.empty }
+    {
+        self.by_key.clear();
+        self.expiries.clear();
+    }
+
+    /// The keys that have a deadline with it, in order of deadline and then of bytes.
+    pub(crate) fn expiries(&self) -> btree_set::Iter<'_, Expiry>
+        ensures { each shown result ≡ expiries self.now }
+    {
+        self.expiries.iter()
+    }
+}
+
+// Makes this the deadline of a key in an index, or none. Where memory runs out nothing has changed.
+fn reindex(
+    alloc: Global,
+    expiries: &mut BTreeSet<Expiry>,
+    key: Vec<u8>,
+    before: Option<i64>,
+    after: Option<i64>,
+) -> Result<(), AllocError>
+    requires { IsDeadlineOf key.items before expiries.old }
+    ensures ok { OnOk result (Reindexes key.items after expiries.old expiries.new) }
+    ensures err { OnErr result (expiries.new ≡ expiries.old) }
+{
+    match (before, after) {
+        (None, None) => {}
+        (None, Some(after)) => {
+            let _ = expiries.insert(Expiry { deadline: after, key })?;
+        }
+        (Some(before), None) => {
+            let _ = expiries.remove(&Expiry { deadline: before, key });
+        }
+        (Some(before), Some(after)) => move_deadline(alloc, expiries, key, before, after)?,
+    }
+    Ok(())
+}
+
+// Moves the deadline of a key in an index.
+fn move_deadline(
+    alloc: Global,
+    expiries: &mut BTreeSet<Expiry>,
+    key: Vec<u8>,
+    before: i64,
+    after: i64,
+) -> Result<(), AllocError>
+    requires { IsDeadlineOf key.items (Some before) expiries.old }
+    ensures ok { OnOk result (Reindexes key.items (Some after) expiries.old expiries.new) }
+    ensures err { OnErr result (expiries.new ≡ expiries.old) }
+{
+    if before == after {
+        return Ok(());
+    }
+    let name = Vec::from_slice(alloc, key.as_slice())?;
+    let _ = expiries.insert(Expiry { deadline: after, key: name })?;
+    let _ = expiries.remove(&Expiry { deadline: before, key });
+    Ok(())
 }

@@ -8,5 +8,6 @@ mod keyspace;
 mod value;
 
 pub use entries::Entries;
+pub use expiry::Expiry;
 pub use fault::ApplyFault;
 pub use value::{Entry, Value};

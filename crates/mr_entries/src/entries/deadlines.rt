@@ -1,5 +1,4 @@
 // Effects on deadlines.
-ghost use Rattle.std.specs.Prelude.{◌≢◌, Err};
 ghost use Rattle.mr_entries.specs.Changes.{at_key};
 ghost use Rattle.mr_entries.specs.Steps.{set_until_step, set_keeping_step, expire_step, persist_step};
 ghost use Rattle.mr_entries.specs.Outcome.{Applies};
@@ -32,34 +31,24 @@ impl Entries {
         ensures { Applies (at_key (set_keeping_step text.entry) key.entry self.old) self.old result self.new }
     {
         let text = text.into_bytes(self.alloc)?;
-        let Some(entry) = self.by_key.get_mut(key.as_slice()) else {
+        let Some(value) = self.by_key.value_mut(key.as_slice()) else {
             return self.create(key, Value::Text(text));
         };
-        entry.value = Value::Text(text);
+        *value = Value::Text(text);
         Ok(())
     }
 
     /// Sets the deadline of a key.
-    pub(super) fn expire(&mut self, key: &[u8], deadline: i64) -> Result<(), ApplyFault>
-        ensures applies { Applies (at_key (expire_step deadline) key.now self.old) self.old result self.new }
-        ensures memory { result ≢ Err ApplyFault.Memory }
+    pub(super) fn expire(&mut self, key: Word<'_>, deadline: i64) -> Result<(), ApplyFault>
+        ensures { Applies (at_key (expire_step deadline) key.entry self.old) self.old result self.new }
     {
-        let Some(entry) = self.by_key.get_mut(key) else {
-            return Err(ApplyFault::Refused);
-        };
-        entry.deadline = Some(deadline);
-        Ok(())
+        self.by_key.set_deadline(key, Some(deadline))
     }
 
     /// Takes the deadline off a key.
-    pub(super) fn persist(&mut self, key: &[u8]) -> Result<(), ApplyFault>
-        ensures applies { Applies (at_key persist_step key.now self.old) self.old result self.new }
-        ensures memory { result ≢ Err ApplyFault.Memory }
+    pub(super) fn persist(&mut self, key: Word<'_>) -> Result<(), ApplyFault>
+        ensures { Applies (at_key persist_step key.entry self.old) self.old result self.new }
     {
-        let Some(entry) = self.by_key.get_mut(key) else {
-            return Err(ApplyFault::Refused);
-        };
-        entry.deadline = None;
-        Ok(())
+        self.by_key.set_deadline(key, None)
     }
 }

@@ -20,12 +20,12 @@ impl Entries {
         ensures { Applies (at_key (set_fields_step pairs.entry) key.entry self.old) self.old result self.new }
     {
         let alloc = self.alloc;
-        let Some(entry) = self.by_key.get_mut(key.as_slice()) else {
+        let Some(value) = self.by_key.value_mut(key.as_slice()) else {
             let mut hash = Hash::new(alloc);
             put_fields(alloc, &mut hash, pairs)?;
             return self.create(key, Value::Hash(hash));
         };
-        let Value::Hash(hash) = &mut entry.value else {
+        let Value::Hash(hash) = value else {
             return Err(ApplyFault::Refused);
         };
         put_fields(alloc, hash, pairs)?;
@@ -41,10 +41,10 @@ impl Entries {
         ensures applies { Applies (at_key (remove_fields_step fields.now) key.now self.old) self.old result self.new }
         ensures memory { result ≢ Err ApplyFault.Memory }
     {
-        let Some(entry) = self.by_key.get_mut(key) else {
+        let Some(value) = self.by_key.value_mut(key) else {
             return Ok(());
         };
-        let Value::Hash(hash) = &mut entry.value else {
+        let Value::Hash(hash) = value else {
             return Err(ApplyFault::Refused);
         };
         take_fields(hash, fields);

@@ -26,12 +26,12 @@ impl Entries {
         ensures { Applies (at_key (push_step end items.entry) key.entry self.old) self.old result self.new }
     {
         let alloc = self.alloc;
-        let Some(entry) = self.by_key.get_mut(key.as_slice()) else {
+        let Some(value) = self.by_key.value_mut(key.as_slice()) else {
             let mut list = ListValue::new(alloc);
             push_items(alloc, &mut list, end, items)?;
             return self.create(key, Value::List(list));
         };
-        let Value::List(list) = &mut entry.value else {
+        let Value::List(list) = value else {
             return Err(ApplyFault::Refused);
         };
         push_items(alloc, list, end, items)?;
@@ -43,10 +43,10 @@ impl Entries {
         ensures applies { Applies (at_key (pop_step end count) key.now self.old) self.old result self.new }
         ensures memory { result ≢ Err ApplyFault.Memory }
     {
-        let Some(entry) = self.by_key.get_mut(key) else {
+        let Some(value) = self.by_key.value_mut(key) else {
             return Err(ApplyFault::Refused);
         };
-        let Value::List(list) = &mut entry.value else {
+        let Value::List(list) = value else {
             return Err(ApplyFault::Refused);
         };
         let Some(taken) = taken_of(count, list.len()) else {
@@ -70,10 +70,10 @@ impl Entries {
         ensures { Applies (at_key (set_item_step place item.entry) key.now self.old) self.old result self.new }
     {
         let alloc = self.alloc;
-        let Some(entry) = self.by_key.get_mut(key) else {
+        let Some(value) = self.by_key.value_mut(key) else {
             return Err(ApplyFault::Refused);
         };
-        let Value::List(list) = &mut entry.value else {
+        let Value::List(list) = value else {
             return Err(ApplyFault::Refused);
         };
         let Some(place) = place_of(place, list.len()) else {
@@ -95,10 +95,10 @@ impl Entries {
         ensures { Applies (at_key (insert_item_step side pivot.now item.entry) key.now self.old) self.old result self.new }
     {
         let alloc = self.alloc;
-        let Some(entry) = self.by_key.get_mut(key) else {
+        let Some(value) = self.by_key.value_mut(key) else {
             return Err(ApplyFault::Refused);
         };
-        let Value::List(list) = &mut entry.value else {
+        let Value::List(list) = value else {
             return Err(ApplyFault::Refused);
         };
         let Some(place) = place_beside(list, side, pivot) else {
@@ -119,10 +119,10 @@ impl Entries {
         ensures applies { Applies (at_key (remove_items_step count item.now) key.now self.old) self.old result self.new }
         ensures memory { result ≢ Err ApplyFault.Memory }
     {
-        let Some(entry) = self.by_key.get_mut(key) else {
+        let Some(value) = self.by_key.value_mut(key) else {
             return Ok(());
         };
-        let Value::List(list) = &mut entry.value else {
+        let Value::List(list) = value else {
             return Err(ApplyFault::Refused);
         };
         let _ = list.remove_matching(count, item);
@@ -138,10 +138,10 @@ impl Entries {
         ensures applies { Applies (at_key (trim_step first last) key.now self.old) self.old result self.new }
         ensures memory { result ≢ Err ApplyFault.Memory }
     {
-        let Some(entry) = self.by_key.get_mut(key) else {
+        let Some(value) = self.by_key.value_mut(key) else {
             return Err(ApplyFault::Refused);
         };
-        let Value::List(list) = &mut entry.value else {
+        let Value::List(list) = value else {
             return Err(ApplyFault::Refused);
         };
         let Some((first, last)) = part_of(first, last, list.len()) else {
@@ -155,10 +155,10 @@ impl Entries {
     pub(super) fn turn(&mut self, key: &[u8], taken: End, put: End) -> Result<(), ApplyFault>
         ensures { Applies (at_key (turn_step taken put) key.now self.old) self.old result self.new }
     {
-        let Some(entry) = self.by_key.get_mut(key) else {
+        let Some(value) = self.by_key.value_mut(key) else {
             return Err(ApplyFault::Refused);
         };
-        let Value::List(list) = &mut entry.value else {
+        let Value::List(list) = value else {
             return Err(ApplyFault::Refused);
         };
         if list.is_empty() {
@@ -174,10 +174,10 @@ impl Entries {
         ensures item { IfSome result (λ item. item_at end (map.get self.old key.now) ≡ Some item) }
         ensures taken { IfSome result (λ item. at_key (pop_step end (pos 1)) key.now self.old ≡ Some self.new) }
     {
-        let Some(entry) = self.by_key.get_mut(key) else {
+        let Some(value) = self.by_key.value_mut(key) else {
             return None;
         };
-        let Value::List(list) = &mut entry.value else {
+        let Value::List(list) = value else {
             return None;
         };
         let Some(item) = pop_item(list, end) else {
@@ -200,12 +200,12 @@ impl Entries {
         ensures { Applies (at_key (push_step end (item ∷ [])) key.entry self.old) self.old result self.new }
     {
         let alloc = self.alloc;
-        let Some(entry) = self.by_key.get_mut(key.as_slice()) else {
+        let Some(value) = self.by_key.value_mut(key.as_slice()) else {
             let mut list = ListValue::new(alloc);
             push_item(&mut list, end, item)?;
             return self.create(key, Value::List(list));
         };
-        let Value::List(list) = &mut entry.value else {
+        let Value::List(list) = value else {
             return Err(ApplyFault::Refused);
         };
         push_item(list, end, item)?;

@@ -26,8 +26,8 @@ impl Entries {
             } => self.set_until(key, value, deadline),
             Effect::SetKeeping { key, value } => self.set_keeping(key, value),
             Effect::Del { key } => self.delete(key.as_slice()),
-            Effect::Expire { key, deadline } => self.expire(key.as_slice(), deadline),
-            Effect::Persist { key } => self.persist(key.as_slice()),
+            Effect::Expire { key, deadline } => self.expire(key, deadline),
+            Effect::Persist { key } => self.persist(key),
             Effect::SetFields { key, pairs } => self.set_fields(key, pairs),
             Effect::RemoveFields { key, fields } => {
                 self.remove_fields(key.as_slice(), fields.as_slice())
@@ -93,8 +93,8 @@ impl Entries {
             } => self.set_until(same(key), same(value), *deadline),
             Effect::SetKeeping { key, value } => self.set_keeping(same(key), same(value)),
             Effect::Del { key } => self.delete(key.as_slice()),
-            Effect::Expire { key, deadline } => self.expire(key.as_slice(), *deadline),
-            Effect::Persist { key } => self.persist(key.as_slice()),
+            Effect::Expire { key, deadline } => self.expire(same(key), *deadline),
+            Effect::Persist { key } => self.persist(same(key)),
             Effect::SetFields { key, pairs } => self.copy_fields(key, pairs),
             Effect::RemoveFields { key, fields } => {
                 self.remove_fields(key.as_slice(), fields.as_slice())

@@ -24,12 +24,12 @@ impl Entries {
         ensures { Applies (at_key (add_members_step members.entry) key.entry self.old) self.old result self.new }
     {
         let alloc = self.alloc;
-        let Some(entry) = self.by_key.get_mut(key.as_slice()) else {
+        let Some(value) = self.by_key.value_mut(key.as_slice()) else {
             let mut set = SetValue::new(alloc);
             put_members(alloc, &mut set, members)?;
             return self.create(key, Value::Set(set));
         };
-        let Value::Set(set) = &mut entry.value else {
+        let Value::Set(set) = value else {
             return Err(ApplyFault::Refused);
         };
         put_members(alloc, set, members)?;
@@ -45,10 +45,10 @@ impl Entries {
         ensures applies { Applies (at_key (remove_members_step members.now) key.now self.old) self.old result self.new }
         ensures memory { result ≢ Err ApplyFault.Memory }
     {
-        let Some(entry) = self.by_key.get_mut(key) else {
+        let Some(value) = self.by_key.value_mut(key) else {
             return Ok(());
         };
-        let Value::Set(set) = &mut entry.value else {
+        let Value::Set(set) = value else {
             return Err(ApplyFault::Refused);
         };
         take_members(set, members);

@@ -26,12 +26,12 @@ impl Entries {
         ensures { Applies (at_key (set_scores_step scores.now) key.entry self.old) self.old result self.new }
     {
         let alloc = self.alloc;
-        let Some(entry) = self.by_key.get_mut(key.as_slice()) else {
+        let Some(value) = self.by_key.value_mut(key.as_slice()) else {
             let mut set = ZSet::new(alloc);
             put_scores(&mut set, scores)?;
             return self.create(key, Value::SortedSet(set));
         };
-        let Value::SortedSet(held) = &mut entry.value else {
+        let Value::SortedSet(held) = value else {
             return Err(ApplyFault::Refused);
         };
         put_scores(held, scores)?;
@@ -47,10 +47,10 @@ impl Entries {
         ensures applies { Applies (at_key (remove_scores_step members.now) key.now self.old) self.old result self.new }
         ensures memory { result ≢ Err ApplyFault.Memory }
     {
-        let Some(entry) = self.by_key.get_mut(key) else {
+        let Some(value) = self.by_key.value_mut(key) else {
             return Ok(());
         };
-        let Value::SortedSet(set) = &mut entry.value else {
+        let Value::SortedSet(set) = value else {
             return Err(ApplyFault::Refused);
         };
         take_scores(set, members);

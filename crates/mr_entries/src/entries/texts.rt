@@ -9,7 +9,7 @@ ghost use Rattle.mr_entries.specs.Outcome.{Applies};
 
 use crate::entries::Entries;
 use crate::fault::ApplyFault;
-use crate::value::{Entry, Value};
+use crate::value::Value;
 use mr_value::{Bytes, Word, fits, read_i64, write_i64};
 use std::alloc::Global;
 
@@ -19,14 +19,7 @@ impl Entries {
         ensures { Applies (at_key (set_step text.entry) key.entry self.old) self.old result self.new }
     {
         let text = text.into_bytes(self.alloc)?;
-        let Some(place) = self.by_key.get_mut(key.as_slice()) else {
-            return self.create(key, Value::Text(text));
-        };
-        *place = Entry {
-            value: Value::Text(text),
-            deadline: None,
-        };
-        Ok(())
+        self.create(key, Value::Text(text))
     }
 
     /// Removes a key, where it is there.
@@ -42,14 +35,14 @@ impl Entries {
     pub(super) fn append(&mut self, key: Word<'_>, more: Word<'_>) -> Result<(), ApplyFault>
         ensures { Applies (at_key (append_step more.entry) key.entry self.old) self.old result self.new }
     {
-        let Some(entry) = self.by_key.get_mut(key.as_slice()) else {
+        let Some(value) = self.by_key.value_mut(key.as_slice()) else {
             if !fits(more.as_slice()) {
                 return Err(ApplyFault::Refused);
             }
             let text = more.into_bytes(self.alloc)?;
             return self.create(key, Value::Text(text));
         };
-        let Value::Text(text) = &mut entry.value else {
+        let Value::Text(text) = value else {
             return Err(ApplyFault::Refused);
         };
         extend(text, more.as_slice())
@@ -93,12 +86,12 @@ impl Entries {
     fn write_range(&mut self, key: Word<'_>, offset: usize, part: &[u8]) -> Result<(), ApplyFault>
         ensures { Applies (at_key (on (texts []) (λ text. fitting (overwritten offset part.now text))) key.entry self.old) self.old result self.new }
     {
-        let Some(entry) = self.by_key.get_mut(key.as_slice()) else {
+        let Some(value) = self.by_key.value_mut(key.as_slice()) else {
             let mut text = Bytes::from_vec(Vec::new(self.alloc));
             overwrite(&mut text, offset, part)?;
             return self.create(key, Value::Text(text));
         };
-        let Value::Text(text) = &mut entry.value else {
+        let Value::Text(text) = value else {
             return Err(ApplyFault::Refused);
         };
         overwrite(text, offset, part)
@@ -109,11 +102,11 @@ impl Entries {
         ensures { Applies (at_key (increase_step by) key.entry self.old) self.old result self.new }
     {
         let alloc = self.alloc;
-        let Some(entry) = self.by_key.get_mut(key.as_slice()) else {
+        let Some(value) = self.by_key.value_mut(key.as_slice()) else {
             let text = increased(alloc, by, b"0")?;
             return self.create(key, Value::Text(text));
         };
-        let Value::Text(text) = &mut entry.value else {
+        let Value::Text(text) = value else {
             return Err(ApplyFault::Refused);
         };
         *text = increased(alloc, by, text.as_slice())?;

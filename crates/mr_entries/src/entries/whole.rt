@@ -60,12 +60,7 @@ impl Entries {
         ensures ok { OnOk result (self.new ≡ map.insert self.old key.entry entry) }
         ensures refused { result ≢ Err ApplyFault.Refused }
     {
-        let Some(place) = self.by_key.get_mut(key.as_slice()) else {
-            let key = key.into_bytes(self.alloc)?;
-            self.by_key.insert(key.into_vec(), entry)?;
-            return Ok(());
-        };
-        *place = entry;
+        self.by_key.put(key, entry)?;
         Ok(())
     }
 
