@@ -164,6 +164,16 @@ entries_are m is = all_map _ _ (λ x h. is.entries x.0 x.1 h) (entries m) (own_e
 pub dataset_made : (m : Dataset) → IsDataset m → apply_all (rebuilding m) empty ≡ Some m
 dataset_made m is = keys_made m (entries m) empty (entries_apart m) (own_entries m) (entries_are m is) (none_there (entries m)) ∙ ap Some (put_entries m)
 
+-- where there is no key, each entry is as it should be
+no_entries : (es : List (Bytes × Entry)) → map (λ x. x.0) es ≡ [] → es ≡ []
+no_entries [] none = refl
+no_entries (e ∷ es) none = cc
+
+pub kept_by_none : (m : Dataset) → keys m ≡ [] → IsDataset m
+kept_by_none m none =
+    let same : empty ≡ m = sym (ap (λ es. put_all es empty) (no_entries (entries m) none)) ∙ put_entries m in
+    record { entries = λ k e here. (let lie : None ≡ Some e = sym (get-empty bytes_cmp k) ∙ ap (λ (d : Dataset). get d k) same ∙ here in cc) }
+
 -- ---- each effect is possible and short
 pub record IsPossible (e : Effect) : Type 0 where
   pub spelled : IsTrue (has_spelling e)

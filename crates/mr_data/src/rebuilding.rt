@@ -1,11 +1,14 @@
 // The effects that make a dataset again, as text.
-ghost use Rattle.std.specs.Prelude.{◌≡◌, ◌≤◌, ◌++◌, map, length, IfOk, OnOk};
-ghost use Rattle.std.specs.FinMap.{get};
+ghost use Rattle.std.specs.Prelude.{◌≡◌, ◌≤◌, ◌++◌, All, map, length, IfOk, IsTrue, OnOk, Some};
+ghost use Rattle.std.specs.FinMap.{empty, get};
 ghost use Rattle.mr_value.specs.declared.ends.End.TheVariants.{Right};
 ghost use Rattle.mr_effect.specs.declared.effect.Effect.TheVariants as made;
-ghost use Rattle.mr_effect.specs.Spelling.{texts};
+ghost use Rattle.mr_effect.specs.Effects.{has_spelling, words_fit};
+ghost use Rattle.mr_effect.specs.Spelling.{texts, IsShort};
 ghost use Rattle.mr_entries.specs.Cuts.{cut, most_items};
 ghost use Rattle.mr_entries.specs.declared.value.Value.TheVariants as stored;
+ghost use Rattle.mr_data.specs.Dataset.{IsDataset};
+ghost use Rattle.mr_data.specs.Meaning.{apply_all};
 ghost use Rattle.mr_data.specs.Rebuilding.{rebuilding, rebuilt, rebuilt_value, rebuilt_deadline};
 
 use crate::dataset::Dataset;
@@ -19,9 +22,21 @@ use std::alloc::{AllocError, Global};
 const MOST_ITEMS: usize = 64;
 
 impl Dataset {
-    /// The texts of effects that make the dataset again out of nothing, past keys included, in byte order of keys.
+    /// The texts of effects that make the dataset again out of nothing, past keys included, in byte order of keys. Each of
+    /// the effects has a command text.
     pub fn rebuild(&self, alloc: Global) -> Result<Vec<u8>, AllocError>
-        ensures { IfOk result (λ text. text.items ≡ texts (rebuilding self.now)) }
+        ensures text { IfOk result (λ text. text.items ≡ texts (rebuilding self.now)) }
+        ensures again { apply_all (rebuilding self.now) empty ≡ Some self.now }
+        ensures spelled { All (λ e. IsTrue (has_spelling e)) (rebuilding self.now) }
+        ensures fit { All (λ e. IsTrue (words_fit e)) (rebuilding self.now) }
+        ensures short { All IsShort (rebuilding self.now) }
+    {
+        self.effect_texts(alloc)
+    }
+
+    fn effect_texts(&self, alloc: Global) -> Result<Vec<u8>, AllocError>
+        ensures text { IfOk result (λ text. text.items ≡ texts (rebuilding self.now)) }
+        ensures kept { IsDataset self.now }
     {
         let mut out = Vec::new(alloc);
         for key in self.keys() {
@@ -31,7 +46,8 @@ impl Dataset {
     }
 
     fn push_key(&self, alloc: Global, key: &[u8], out: &mut Vec<u8>) -> Result<(), AllocError>
-        ensures { OnOk result (out.new.items ≡ out.old.items ++ texts (rebuilt key.now (get self.now key.now))) }
+        ensures text { OnOk result (out.new.items ≡ out.old.items ++ texts (rebuilt key.now (get self.now key.now))) }
+        ensures kept { IsDataset self.now }
     {
         let Some(entry) = self.entry(key) else {
             return Ok(());

@@ -1,10 +1,12 @@
 -- Texts of bounds: which of them are bounds on a score.
 use Rattle.std.proofs.Common.{◌≡◌, ◌≢◌, ℕ, suc, ℤ, pos, negsuc, ◌<◌, ◌≤◌, ◌^◌, List, [], ◌∷◌, ◌++◌, length, get_or, drop, decimal, true, false, ◌||◌, cond, Option, Some, None, IsTrue, ◌⊎◌, inl, inr, refl, sym, ap, subst, ◌∙◌, arith}
-use Rattle.std.specs.Prelude.{◌==◌, ◌↔◌, codes, option_map, replicate}
+use Rattle.std.specs.Prelude.{◌==◌, ◌↔◌, if◌then◌else◌, codes, option_map, replicate}
 use Rattle.std.specs.Fmt.{signed_decimal}
-use Rattle.std.specs.Str.{bytes_eq}
+use Rattle.std.specs.Str.{bytes_eq, str_eq_ignore_ascii_case, str_to_ascii_lowercase}
+use Rattle.std.specs.Char.{to_ascii_lowercase}
 use Rattle.std.proofs.lemmas.List.{append-nil}
 use Rattle.std.proofs.lemmas.Bool.{eqb-true, ltb-true}
+use Rattle.std.proofs.lemmas.Bool.Decides.{nat_tests}
 use Rattle.mr_value.proofs.Numbers.{bounds, digit, each_is_digit, same_bytes}
 use Rattle.mr_value.specs.Number.{is_i64}
 use Rattle.mr_zset.specs.declared.bound.Bound.{Bound}
@@ -47,35 +49,46 @@ no_parenthesis text n h e =
       | inr m ↦ omega (arith, m.0)
     ]
 
+-- a digit and a minus have no other case
+
+digit_lowered : (b : ℕ) → IsDigit b → to_ascii_lowercase b ≡ b
+digit_lowered b d = grind (arith, nat_tests, d.0, d.1)
+
+first_lowered : (text : List ℕ) → get_or (str_to_ascii_lowercase text) 0 0 ≡ to_ascii_lowercase (get_or text 0 0)
+first_lowered [] = refl
+first_lowered (b ∷ bs) = refl
+
+second_lowered : (text : List ℕ) → get_or (str_to_ascii_lowercase text) 1 0 ≡ to_ascii_lowercase (get_or text 1 0)
+second_lowered [] = refl
+second_lowered (b ∷ bs) = first_lowered bs
+
+begins_lowered : (text : List ℕ) → BeginsNumber text → BeginsNumber (str_to_ascii_lowercase text)
+begins_lowered text (inl d) = inl (subst IsDigit (sym (first_lowered text ∙ digit_lowered (get_or text 0 0) d)) d)
+begins_lowered text (inr m) = inr (first_lowered text ∙ ap to_ascii_lowercase m.0, subst IsDigit (sym (second_lowered text ∙ digit_lowered (get_or text 1 0) m.1)) m.1)
+
 -- the names of the infinities are no scores
 
-no_score : (name : List ℕ) → (BeginsNumber name → ⊥) → score_of name ≡ None
-no_score name other = elim (score_of name) as (λ o. score_of name ≡ o → o ≡ None) [
-  | None ↦ λ e. refl
-  | Some n ↦ λ e. absurd (other (score_begins name n (read_spelled name n e)))
-] refl
-
-bare : score_of (codes "inf") ≡ None
-bare = no_score (codes "inf") (λ h. elim h [
+bare : BeginsNumber (codes "inf") → ⊥
+bare h = elim h [
   | inl d ↦ (let lie : 105 ≤ 57 = d.1 in omega arith)
   | inr m ↦ (let lie : 105 ≡ 45 = m.0 in omega arith)
-])
+]
 
-with_plus : score_of (codes "+inf") ≡ None
-with_plus = no_score (codes "+inf") (λ h. elim h [
+with_plus : BeginsNumber (codes "+inf") → ⊥
+with_plus h = elim h [
   | inl d ↦ (let lie : 48 ≤ 43 = d.0 in omega arith)
   | inr m ↦ (let lie : 43 ≡ 45 = m.0 in omega arith)
-])
+]
 
-with_minus : score_of (codes "-inf") ≡ None
-with_minus = no_score (codes "-inf") (λ h. elim h [
+with_minus : BeginsNumber (codes "-inf") → ⊥
+with_minus h = elim h [
   | inl d ↦ (let lie : 48 ≤ 45 = d.0 in omega arith)
   | inr m ↦ (let lie : 105 ≤ 57 = m.1.1 in omega arith)
-])
+]
 
-other_text : (text name : List ℕ) (n : ℤ) → score_of name ≡ None → score_of text ≡ Some n → bytes_eq text name ≡ false
-other_text text name n none some = elim (bytes_eq text name) as (λ b. bytes_eq text name ≡ b → b ≡ false) [
-  | true ↦ λ e. (let same : text ≡ name = same_bytes text name e in let both : Some n ≡ None = sym some ∙ ap score_of same ∙ none in cc)
+other_text : (text name : List ℕ) (n : ℤ) → (BeginsNumber (str_to_ascii_lowercase name) → ⊥) → score_of text ≡ Some n → str_eq_ignore_ascii_case text name ≡ false
+other_text text name n other some = elim (str_eq_ignore_ascii_case text name) as (λ b. str_eq_ignore_ascii_case text name ≡ b → b ≡ false) [
+  | true ↦ λ e. absurd (other (subst BeginsNumber (same_bytes (str_to_ascii_lowercase text) (str_to_ascii_lowercase name) e) (begins_lowered text (score_begins text n (read_spelled text n some)))))
   | false ↦ λ e. refl
 ] refl
 
@@ -96,9 +109,9 @@ scored (Some m) b n e p =
 
 limit_score : (text : List ℕ) (b : Bound) (n : ℤ) → excluding b ≡ Excluded n → limit_of text ≡ Some b → score_of text ≡ Some n
 unfolding limit_of
-limit_score text b n e h = elim (bytes_eq text (codes "inf") || bytes_eq text (codes "+inf")) as (λ t. cond t (Some PositiveInfinity) (cond (bytes_eq text (codes "-inf")) (Some NegativeInfinity) (option_map Included (score_of text))) ≡ Some b → score_of text ≡ Some n) [
+limit_score text b n e h = elim (str_eq_ignore_ascii_case text (codes "inf") || str_eq_ignore_ascii_case text (codes "+inf")) as (λ t. cond t (Some PositiveInfinity) (cond (str_eq_ignore_ascii_case text (codes "-inf")) (Some NegativeInfinity) (option_map Included (score_of text))) ≡ Some b → score_of text ≡ Some n) [
   | true ↦ λ p. (let same : PositiveInfinity ≡ b = cc in let other : PositiveInfinity ≡ Excluded n = ap excluding same ∙ e in cc)
-  | false ↦ λ q. elim (bytes_eq text (codes "-inf")) as (λ t. cond t (Some NegativeInfinity) (option_map Included (score_of text)) ≡ Some b → score_of text ≡ Some n) [
+  | false ↦ λ q. elim (str_eq_ignore_ascii_case text (codes "-inf")) as (λ t. cond t (Some NegativeInfinity) (option_map Included (score_of text)) ≡ Some b → score_of text ≡ Some n) [
     | true ↦ λ p. (let same : NegativeInfinity ≡ b = cc in let other : NegativeInfinity ≡ Excluded n = ap excluding same ∙ e in cc)
     | false ↦ λ p. scored (score_of text) b n e p
   ] q
@@ -110,9 +123,9 @@ included_alone (Some m) n p = cc
 
 not_excluded : (text : List ℕ) (n : ℤ) → limit_of text ≡ Some (Excluded n) → ⊥
 unfolding limit_of
-not_excluded text n h = elim (bytes_eq text (codes "inf") || bytes_eq text (codes "+inf")) as (λ t. cond t (Some PositiveInfinity) (cond (bytes_eq text (codes "-inf")) (Some NegativeInfinity) (option_map Included (score_of text))) ≡ Some (Excluded n) → ⊥) [
+not_excluded text n h = elim (str_eq_ignore_ascii_case text (codes "inf") || str_eq_ignore_ascii_case text (codes "+inf")) as (λ t. cond t (Some PositiveInfinity) (cond (str_eq_ignore_ascii_case text (codes "-inf")) (Some NegativeInfinity) (option_map Included (score_of text))) ≡ Some (Excluded n) → ⊥) [
   | true ↦ λ p. cc
-  | false ↦ λ q. elim (bytes_eq text (codes "-inf")) as (λ t. cond t (Some NegativeInfinity) (option_map Included (score_of text)) ≡ Some (Excluded n) → ⊥) [
+  | false ↦ λ q. elim (str_eq_ignore_ascii_case text (codes "-inf")) as (λ t. cond t (Some NegativeInfinity) (option_map Included (score_of text)) ≡ Some (Excluded n) → ⊥) [
     | true ↦ λ p. cc
     | false ↦ λ p. included_alone (score_of text) n p
   ] q
@@ -161,10 +174,10 @@ excluded_texts text n = (read_excluded text n, spelled_excluded text n)
 
 -- which texts are infinite bounds
 
-one_name : (text : List ℕ) → (bytes_eq text (codes "inf") || bytes_eq text (codes "+inf")) ≡ true → (text ≡ codes "inf") ⊎ (text ≡ codes "+inf")
-one_name text h = elim (bytes_eq text (codes "inf")) as (λ t. bytes_eq text (codes "inf") ≡ t → (t || bytes_eq text (codes "+inf")) ≡ true → (text ≡ codes "inf") ⊎ (text ≡ codes "+inf")) [
-  | true ↦ λ t p. inl (same_bytes text (codes "inf") t)
-  | false ↦ λ t p. inr (same_bytes text (codes "+inf") p)
+one_name : (text : List ℕ) → (str_eq_ignore_ascii_case text (codes "inf") || str_eq_ignore_ascii_case text (codes "+inf")) ≡ true → (str_to_ascii_lowercase text ≡ codes "inf") ⊎ (str_to_ascii_lowercase text ≡ codes "+inf")
+one_name text h = elim (str_eq_ignore_ascii_case text (codes "inf")) as (λ t. str_eq_ignore_ascii_case text (codes "inf") ≡ t → (t || str_eq_ignore_ascii_case text (codes "+inf")) ≡ true → (str_to_ascii_lowercase text ≡ codes "inf") ⊎ (str_to_ascii_lowercase text ≡ codes "+inf")) [
+  | true ↦ λ t p. inl (same_bytes (str_to_ascii_lowercase text) (codes "inf") t)
+  | false ↦ λ t p. inr (same_bytes (str_to_ascii_lowercase text) (codes "+inf") p)
 ] refl h
 
 never_infinite : (o : Option ℤ) (b : Bound) → excluding b ≡ b → option_map Included o ≡ Some b → ⊥
@@ -174,22 +187,22 @@ never_infinite (Some n) b e p =
     let out : Excluded n ≡ Included n = ap excluding same ∙ e ∙ sym same in
     cc
 
-limit_positive : (text : List ℕ) → limit_of text ≡ Some PositiveInfinity → (text ≡ codes "inf") ⊎ (text ≡ codes "+inf")
+limit_positive : (text : List ℕ) → limit_of text ≡ Some PositiveInfinity → (str_to_ascii_lowercase text ≡ codes "inf") ⊎ (str_to_ascii_lowercase text ≡ codes "+inf")
 unfolding limit_of
-limit_positive text h = elim (bytes_eq text (codes "inf") || bytes_eq text (codes "+inf")) as (λ t. (bytes_eq text (codes "inf") || bytes_eq text (codes "+inf")) ≡ t → cond t (Some PositiveInfinity) (cond (bytes_eq text (codes "-inf")) (Some NegativeInfinity) (option_map Included (score_of text))) ≡ Some PositiveInfinity → (text ≡ codes "inf") ⊎ (text ≡ codes "+inf")) [
+limit_positive text h = elim (str_eq_ignore_ascii_case text (codes "inf") || str_eq_ignore_ascii_case text (codes "+inf")) as (λ t. (str_eq_ignore_ascii_case text (codes "inf") || str_eq_ignore_ascii_case text (codes "+inf")) ≡ t → cond t (Some PositiveInfinity) (cond (str_eq_ignore_ascii_case text (codes "-inf")) (Some NegativeInfinity) (option_map Included (score_of text))) ≡ Some PositiveInfinity → (str_to_ascii_lowercase text ≡ codes "inf") ⊎ (str_to_ascii_lowercase text ≡ codes "+inf")) [
   | true ↦ λ t p. one_name text t
-  | false ↦ λ t q. elim (bytes_eq text (codes "-inf")) as (λ m. cond m (Some NegativeInfinity) (option_map Included (score_of text)) ≡ Some PositiveInfinity → (text ≡ codes "inf") ⊎ (text ≡ codes "+inf")) [
+  | false ↦ λ t q. elim (str_eq_ignore_ascii_case text (codes "-inf")) as (λ m. cond m (Some NegativeInfinity) (option_map Included (score_of text)) ≡ Some PositiveInfinity → (str_to_ascii_lowercase text ≡ codes "inf") ⊎ (str_to_ascii_lowercase text ≡ codes "+inf")) [
     | true ↦ λ p. cc
     | false ↦ λ p. absurd (never_infinite (score_of text) PositiveInfinity refl p)
   ] q
 ] refl h
 
-limit_negative : (text : List ℕ) → limit_of text ≡ Some NegativeInfinity → text ≡ codes "-inf"
+limit_negative : (text : List ℕ) → limit_of text ≡ Some NegativeInfinity → str_to_ascii_lowercase text ≡ codes "-inf"
 unfolding limit_of
-limit_negative text h = elim (bytes_eq text (codes "inf") || bytes_eq text (codes "+inf")) as (λ t. cond t (Some PositiveInfinity) (cond (bytes_eq text (codes "-inf")) (Some NegativeInfinity) (option_map Included (score_of text))) ≡ Some NegativeInfinity → text ≡ codes "-inf") [
+limit_negative text h = elim (str_eq_ignore_ascii_case text (codes "inf") || str_eq_ignore_ascii_case text (codes "+inf")) as (λ t. cond t (Some PositiveInfinity) (cond (str_eq_ignore_ascii_case text (codes "-inf")) (Some NegativeInfinity) (option_map Included (score_of text))) ≡ Some NegativeInfinity → str_to_ascii_lowercase text ≡ codes "-inf") [
   | true ↦ λ p. cc
-  | false ↦ λ q. elim (bytes_eq text (codes "-inf")) as (λ m. bytes_eq text (codes "-inf") ≡ m → cond m (Some NegativeInfinity) (option_map Included (score_of text)) ≡ Some NegativeInfinity → text ≡ codes "-inf") [
-    | true ↦ λ m p. same_bytes text (codes "-inf") m
+  | false ↦ λ q. elim (str_eq_ignore_ascii_case text (codes "-inf")) as (λ m. str_eq_ignore_ascii_case text (codes "-inf") ≡ m → cond m (Some NegativeInfinity) (option_map Included (score_of text)) ≡ Some NegativeInfinity → str_to_ascii_lowercase text ≡ codes "-inf") [
+    | true ↦ λ m p. same_bytes (str_to_ascii_lowercase text) (codes "-inf") m
     | false ↦ λ m p. absurd (never_infinite (score_of text) NegativeInfinity refl p)
   ] refl q
 ] h
@@ -209,17 +222,21 @@ excluded_negative (Some (Excluded n)) p = cc
 excluded_negative (Some PositiveInfinity) p = cc
 
 abbrev IsPositive : List ℕ → Type 0
-IsPositive text = (text ≡ codes "inf") ⊎ (text ≡ codes "+inf") ⊎ (text ≡ codes "(inf") ⊎ (text ≡ codes "(+inf")
+IsPositive text = (str_to_ascii_lowercase text ≡ codes "inf") ⊎ (str_to_ascii_lowercase text ≡ codes "+inf") ⊎ (str_to_ascii_lowercase text ≡ codes "(inf") ⊎ (str_to_ascii_lowercase text ≡ codes "(+inf")
 
 abbrev IsNegative : List ℕ → Type 0
-IsNegative text = (text ≡ codes "-inf") ⊎ (text ≡ codes "(-inf")
+IsNegative text = (str_to_ascii_lowercase text ≡ codes "-inf") ⊎ (str_to_ascii_lowercase text ≡ codes "(-inf")
+
+-- the name behind a parenthesis
+behind : (text name : List ℕ) → text ≡ 40 ∷ drop 1 text → str_to_ascii_lowercase (drop 1 text) ≡ name → str_to_ascii_lowercase text ≡ 40 ∷ name
+behind text name front e = ap str_to_ascii_lowercase front ∙ ap (λ rest. 40 ∷ rest) e
 
 read_positive : (text : List ℕ) → bound_of text ≡ Some PositiveInfinity → IsPositive text
 unfolding bound_of
 read_positive text h = elim (get_or text 0 0 == 40) as (λ t. (get_or text 0 0 == 40) ≡ t → cond t (option_map excluding (limit_of (drop 1 text))) (limit_of text) ≡ Some PositiveInfinity → IsPositive text) [
   | true ↦ λ t p. (let front = parenthesis text (eqb-true _ _ t) in elim (limit_positive (drop 1 text) (excluded_positive (limit_of (drop 1 text)) p)) [
-    | inl e ↦ inr (inr (inl (front ∙ ap (λ rest. 40 ∷ rest) e)))
-    | inr e ↦ inr (inr (inr (front ∙ ap (λ rest. 40 ∷ rest) e)))
+    | inl e ↦ inr (inr (inl (behind text (codes "inf") front e)))
+    | inr e ↦ inr (inr (inr (behind text (codes "+inf") front e)))
   ])
   | false ↦ λ t p. elim (limit_positive text p) [
     | inl e ↦ inl e
@@ -230,21 +247,46 @@ read_positive text h = elim (get_or text 0 0 == 40) as (λ t. (get_or text 0 0 =
 read_negative : (text : List ℕ) → bound_of text ≡ Some NegativeInfinity → IsNegative text
 unfolding bound_of
 read_negative text h = elim (get_or text 0 0 == 40) as (λ t. (get_or text 0 0 == 40) ≡ t → cond t (option_map excluding (limit_of (drop 1 text))) (limit_of text) ≡ Some NegativeInfinity → IsNegative text) [
-  | true ↦ λ t p. inr (parenthesis text (eqb-true _ _ t) ∙ ap (λ rest. 40 ∷ rest) (limit_negative (drop 1 text) (excluded_negative (limit_of (drop 1 text)) p)))
+  | true ↦ λ t p. inr (behind text (codes "-inf") (parenthesis text (eqb-true _ _ t)) (limit_negative (drop 1 text) (excluded_negative (limit_of (drop 1 text)) p)))
   | false ↦ λ t p. inl (limit_negative text p)
 ] refl h
 
+-- a text that in lower case is an infinity's name is that bound
+
+parenthesis_lowered : (b : ℕ) → to_ascii_lowercase b ≡ 40 → b ≡ 40
+parenthesis_lowered b e = grind (arith, nat_tests, e)
+
+unlowered : (text name : List ℕ) → str_to_ascii_lowercase text ≡ 40 ∷ name → (rest : List ℕ) × (text ≡ 40 ∷ rest) × (str_to_ascii_lowercase rest ≡ name)
+unlowered [] name e = cc
+unlowered (b ∷ bs) name e =
+    let first : to_ascii_lowercase b ≡ 40 = cc in
+    let rest : str_to_ascii_lowercase bs ≡ name = cc in
+    (bs, ap (λ c. c ∷ bs) (parenthesis_lowered b first), rest)
+
+limit_named : (text name : List ℕ) → str_to_ascii_lowercase text ≡ name → limit_of text ≡ (if bytes_eq name (codes "inf") || bytes_eq name (codes "+inf") then Some PositiveInfinity else (if bytes_eq name (codes "-inf") then Some NegativeInfinity else option_map Included (score_of text)))
+unfolding limit_of
+limit_named text name e = ap (λ word. if bytes_eq word (codes "inf") || bytes_eq word (codes "+inf") then Some PositiveInfinity else (if bytes_eq word (codes "-inf") then Some NegativeInfinity else option_map Included (score_of text))) e
+
+-- a bound that a `(` before it doesn't change
+plainly : (text name : List ℕ) (b : Bound) → str_to_ascii_lowercase text ≡ name → get_or name 0 0 ≢ 40 → limit_of text ≡ Some b → bound_of text ≡ Some b
+plainly text name b e front limit =
+    let other : get_or text 0 0 ≢ 40 = λ at. front (ap (λ word. get_or word 0 0) (sym e) ∙ first_lowered text ∙ ap to_ascii_lowercase at) in
+    sym (bound_plain text other) ∙ limit
+
+behind_parenthesis : (text name : List ℕ) (b : Bound) → excluding b ≡ b → str_to_ascii_lowercase text ≡ 40 ∷ name → ((rest : List ℕ) → str_to_ascii_lowercase rest ≡ name → limit_of rest ≡ Some b) → bound_of text ≡ Some b
+behind_parenthesis text name b same e limit =
+    let found = unlowered text name e in
+    sym (bound_excluding text found.0 (Some b) (sym found.1) (sym (limit found.0 found.2))) ∙ ap (λ x. Some x) same
+
 spelled_positive : (text : List ℕ) → IsPositive text → bound_of text ≡ Some PositiveInfinity
-unfolding bound_of limit_of
-spelled_positive text (inl e) = ap bound_of e
-spelled_positive text (inr (inl e)) = ap bound_of e
-spelled_positive text (inr (inr (inl e))) = ap bound_of e
-spelled_positive text (inr (inr (inr e))) = ap bound_of e
+spelled_positive text (inl e) = plainly text (codes "inf") PositiveInfinity e (λ lie. let no : 105 ≡ 40 = lie in omega arith) (limit_named text (codes "inf") e)
+spelled_positive text (inr (inl e)) = plainly text (codes "+inf") PositiveInfinity e (λ lie. let no : 43 ≡ 40 = lie in omega arith) (limit_named text (codes "+inf") e)
+spelled_positive text (inr (inr (inl e))) = behind_parenthesis text (codes "inf") PositiveInfinity refl e (λ rest r. limit_named rest (codes "inf") r)
+spelled_positive text (inr (inr (inr e))) = behind_parenthesis text (codes "+inf") PositiveInfinity refl e (λ rest r. limit_named rest (codes "+inf") r)
 
 spelled_negative : (text : List ℕ) → IsNegative text → bound_of text ≡ Some NegativeInfinity
-unfolding bound_of limit_of
-spelled_negative text (inl e) = ap bound_of e
-spelled_negative text (inr e) = ap bound_of e
+spelled_negative text (inl e) = plainly text (codes "-inf") NegativeInfinity e (λ lie. let no : 45 ≡ 40 = lie in omega arith) (limit_named text (codes "-inf") e)
+spelled_negative text (inr e) = behind_parenthesis text (codes "-inf") NegativeInfinity refl e (λ rest r. limit_named rest (codes "-inf") r)
 
 pub positive_texts : (text : List ℕ) → (bound_of text ≡ Some PositiveInfinity) ↔ IsPositive text
 positive_texts text = (read_positive text, spelled_positive text)

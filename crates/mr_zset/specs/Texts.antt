@@ -2,7 +2,7 @@
 use Rattle.std.specs.Prelude.{◌≡◌, ℕ, ◌+◌, ◌<◌, ◌==◌, ◌⊎◌, ◌||◌, ◌&&◌, ℤ, List, ◌∷◌, ◌++◌, length, take, drop, replicate, position, slice_index, codes, Bool, IsTrue, nat_lt, if◌then◌else◌, Option, Some, None, option_map, option_and_then}
 use Rattle.std.specs.Fmt.{signed_decimal}
 use Rattle.std.specs.List.{list_all}
-use Rattle.std.specs.Str.{bytes_eq}
+use Rattle.std.specs.Str.{str_eq_ignore_ascii_case}
 use Rattle.mr_value.specs.Number.{number_of}
 use Rattle.mr_zset.specs.declared.bound.Bound.{Bound}
 use Rattle.mr_zset.specs.declared.bound.Bound.TheVariants.{NegativeInfinity, Included, Excluded, PositiveInfinity}
@@ -39,11 +39,11 @@ excluding (Included n) = Excluded n
 excluding (Excluded n) = Excluded n
 excluding PositiveInfinity = PositiveInfinity
 
--- the bound that a text without a parenthesis spells
+-- the bound that a text without a parenthesis spells: the names of the infinities are read in any case
 unfoldable pub limit_of : List ℕ → Option Bound
 limit_of text =
-    if bytes_eq text (codes "inf") || bytes_eq text (codes "+inf") then Some PositiveInfinity
-    else (if bytes_eq text (codes "-inf") then Some NegativeInfinity
+    if str_eq_ignore_ascii_case text (codes "inf") || str_eq_ignore_ascii_case text (codes "+inf") then Some PositiveInfinity
+    else (if str_eq_ignore_ascii_case text (codes "-inf") then Some NegativeInfinity
     else option_map Included (score_of text))
 
 -- the bound that a text spells: behind a `(` the range doesn't have what lies on it

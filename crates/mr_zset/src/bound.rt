@@ -1,6 +1,6 @@
 // The bounds of a range of scores.
 ghost use Rattle.std.specs.Prelude.{◌≡◌};
-ghost use Rattle.std.specs.Str.{bytes_eq};
+ghost use Rattle.std.specs.Str.{str_eq_ignore_ascii_case};
 ghost use Rattle.mr_zset.specs.Bounds.{is_from, is_to};
 ghost use Rattle.mr_zset.specs.Texts.{bound_of, excluding, limit_of};
 
@@ -55,8 +55,8 @@ impl Bound {
     }
 }
 
-/// The bound that a text spells: a score, `inf`, `+inf` or `-inf`, in front of which a `(` excludes
-/// what lies on the bound. It takes no memory.
+/// The bound that a text spells: a score, or in any case `inf`, `+inf` or `-inf`, in front of which a
+/// `(` excludes what lies on the bound. It takes no memory.
 pub fn read_bound(text: &[u8]) -> Option<Bound>
     ensures { result ≡ bound_of text.now }
 {
@@ -71,17 +71,17 @@ pub fn read_bound(text: &[u8]) -> Option<Bound>
 fn read_limit(text: &[u8]) -> Option<Bound>
     ensures { result ≡ limit_of text.now }
 {
-    if is_same(text, b"inf") || is_same(text, b"+inf") {
+    if is_in_any_case(text, b"inf") || is_in_any_case(text, b"+inf") {
         return Some(Bound::PositiveInfinity);
     }
-    if is_same(text, b"-inf") {
+    if is_in_any_case(text, b"-inf") {
         return Some(Bound::NegativeInfinity);
     }
     Some(Bound::Included(read_score(text)?))
 }
 
-fn is_same(text: &[u8], other: &[u8]) -> bool
-    ensures { result ≡ bytes_eq text.now other.now }
+fn is_in_any_case(text: &[u8], name: &[u8]) -> bool
+    ensures { result ≡ str_eq_ignore_ascii_case text.now name.now }
 {
-    text == other
+    text.eq_ignore_ascii_case(name)
 }

@@ -2,6 +2,7 @@
 ghost use Rattle.std.specs.Prelude.{◌≡◌, ◌↔◌, ◌⊎◌, ◌∷◌, ℕ, ℤ, List, Some, codes};
 ghost use Rattle.std.specs.FinMap.{entries};
 ghost use Rattle.std.specs.List.Sorted.{IsPermutation, IsSorted};
+ghost use Rattle.std.specs.Str.{str_to_ascii_lowercase};
 ghost use Rattle.mr_zset.specs.Pairs.{pair_cmp, pairs_of};
 ghost use Rattle.mr_zset.specs.Texts.{IsScoreText, bound_of, score_of};
 ghost use Rattle.mr_zset.specs.declared.bound.Bound.TheVariants.{Excluded, Included, NegativeInfinity, PositiveInfinity};
@@ -20,10 +21,10 @@ pub fn score_texts()
 {}
 
 /// A text is read as a bound on a score exactly where it spells that score, behind a `(` where what lies on the bound is left out. It is read as an
-/// infinite bound exactly where it is that infinity's name in lower case; a `(` before it says nothing.
+/// infinite bound exactly where, in lower case, it is that infinity's name; a `(` before it says nothing.
 pub fn bound_texts()
     ensures included { (text : List ℕ) (n : ℤ) → (bound_of text ≡ Some (Included n)) ↔ IsScoreText text n }
     ensures excluded { (text : List ℕ) (n : ℤ) → (bound_of text ≡ Some (Excluded n)) ↔ ((rest : List ℕ) × (text ≡ 40 ∷ rest) × IsScoreText rest n) }
-    ensures positive { (text : List ℕ) → (bound_of text ≡ Some PositiveInfinity) ↔ ((text ≡ codes "inf") ⊎ (text ≡ codes "+inf") ⊎ (text ≡ codes "(inf") ⊎ (text ≡ codes "(+inf")) }
-    ensures negative { (text : List ℕ) → (bound_of text ≡ Some NegativeInfinity) ↔ ((text ≡ codes "-inf") ⊎ (text ≡ codes "(-inf")) }
+    ensures positive { (text : List ℕ) → (bound_of text ≡ Some PositiveInfinity) ↔ ((str_to_ascii_lowercase text ≡ codes "inf") ⊎ (str_to_ascii_lowercase text ≡ codes "+inf") ⊎ (str_to_ascii_lowercase text ≡ codes "(inf") ⊎ (str_to_ascii_lowercase text ≡ codes "(+inf")) }
+    ensures negative { (text : List ℕ) → (bound_of text ≡ Some NegativeInfinity) ↔ ((str_to_ascii_lowercase text ≡ codes "-inf") ⊎ (str_to_ascii_lowercase text ≡ codes "(-inf")) }
 {}
