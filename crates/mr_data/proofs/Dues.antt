@@ -1,107 +1,210 @@
--- The past keys, one key after another.
-use Rattle.std.proofs.Common.{◌≡◌, ℤ, List, [], ◌∷◌, ◌++◌, append_assoc, append-nil, map, true, false, Option, Some, None, refl, sym, ◌∙◌, ap, subst}
-use Rattle.std.specs.Prelude.{slice_get, filter, if◌then◌else◌, IsPermutation, IsSortedBy}
-use Rattle.std.specs.List.{flat_map}
-use Rattle.std.specs.Option.{option_map}
-use Rattle.std.specs.Ordering.{is_lt}
-use Rattle.std.specs.FinMap.{keys}
-use Rattle.std.proofs.lemmas.List.Sorted.{IsPermutation-map, IsPermutation-middle, IsPermutation-trans}
-use Rattle.std.proofs.lemmas.List.{map_push}
-use Rattle.std.proofs.lemmas.List.Concat.{flat_map-append}
-use Rattle.mr_map.specs.Bytes.{Bytes}
-use Rattle.mr_zset.specs.Order.{placed, in_order}
-use Rattle.mr_zset.specs.Pairs.{pair_cmp, pair_lt}
-use Rattle.mr_zset.proofs.Orders.{Ascends-sorted, Ascends-in_order, IsPermutation-in_order, sorted_filter}
-use Rattle.mr_zset.proofs.PairLemmas.{pairs_total, exact_pair, filter-all}
+-- The past keys are the first of those that have a deadline.
+use Rattle.std.proofs.Common.{rules, ◌≡◌, ℕ, zero, suc, ℤ, ◌≤◌, ◌+◌, length, List, [], ◌∷◌, ◌++◌, append_assoc, append-nil, map, take, Bool, true, false, cond, Option, Some, None, IsTrue, refl, sym, ◌∙◌, ap, subst, arith}
+use Rattle.std.specs.Prelude.{All, MatchOption, slice_get, filter, int_le, ◌<ℤ◌, ◌≤ℤ◌, IsPermutation}
+use Rattle.std.specs.declared.cmp.Ordering.{Ordering}
+use Rattle.std.specs.declared.cmp.Ordering.TheVariants.{Less, Equal, Greater}
+use Rattle.std.specs.Ordering.{int_cmp, is_gt, ordering_then}
+use Rattle.std.specs.List.{AllByRecursion, flat_map}
+use Rattle.std.specs.Option.{option_map, option_and_then}
+use Rattle.std.specs.FinMap.{get, keys}
+use Rattle.std.proofs.lemmas.Int.{ints}
+use Rattle.std.proofs.lemmas.Cmp.{int_ranked}
+use Rattle.std.proofs.lemmas.List.{map_push, length-map, length-append}
+use Rattle.std.proofs.Math.Seq.{take-append_seam, take-length}
+use Rattle.std.proofs.lemmas.List.Elements.{filter-append, All-from_recursion, recursion_from_All}
+use Rattle.std.proofs.lemmas.List.Sorted.{All-permutation}
+use Rattle.mr_map.specs.Bytes.{Bytes, bytes_cmp}
+use Rattle.mr_value.specs.Words.{fits}
+use Rattle.mr_zset.specs.Order.{in_order}
+use Rattle.mr_zset.specs.Pairs.{pair_cmp}
+use Rattle.mr_zset.proofs.Orders.{Above, Ascends, Ascends-in_order, IsPermutation-in_order, sorted_filter}
+use Rattle.mr_zset.proofs.PairLemmas.{pairs_total, exact_pair}
 use Rattle.mr_entries.specs.Dataset.{Dataset}
+use Rattle.mr_entries.specs.Steps.{deadline_of}
+use Rattle.mr_entries.specs.Expiries.{shown as entered, expiring, expiries}
+use Rattle.mr_entries.specs.declared.expiry.Expiry.{Expiry}
+use Rattle.mr_entries.specs.declared.value.Entry.{Entry}
+use Rattle.mr_data.specs.Dataset.{IsDataset}
 use Rattle.mr_data.specs.declared.due.DueKey.{DueKey}
-use Rattle.mr_data.specs.Due.{deadline_at, if_past, due_among, due, listed, shown, IsFirst}
+use Rattle.mr_data.specs.Due.{deadline_at, if_past, due, shown, HasWord}
 
-abbrev past_at : ℤ → Dataset → Bytes → List (Bytes × ℤ)
-past_at now m k = if_past now k (deadline_at m k)
+abbrev Pair : Type 0
+Pair = Bytes × ℤ
 
--- a list in order is known by its elements
-pub one_order : (xs ys : List (Bytes × ℤ)) → IsPermutation xs ys → in_order pair_cmp xs ≡ in_order pair_cmp ys
-one_order xs ys moved =
-    sym (sorted_filter pairs_total exact_pair xs (in_order pair_cmp ys) (λ p. true) (Ascends-in_order pairs_total ys)
-    (subst (λ (zs : List (Bytes × ℤ)). IsPermutation zs (in_order pair_cmp ys)) (sym (filter-all xs)) (IsPermutation-trans xs ys (in_order pair_cmp ys) moved (IsPermutation-in_order pair_cmp ys)))
-    ∙ filter-all (in_order pair_cmp xs))
+-- whether a pair's deadline is past
+abbrev pub past : ℤ → Pair → Bool
+past now p = int_le p.1 now
 
--- what was found, sorted
-pub sorted_keys : (ps : List (Bytes × ℤ)) (found ordered : List DueKey) → map shown found ≡ ps → IsPermutation found ordered → IsSortedBy (λ a b. pair_lt (shown a) (shown b)) ordered → map shown ordered ≡ in_order pair_cmp ps
-sorted_keys ps found ordered same moved up =
-    sorted_filter pairs_total exact_pair ps (map shown ordered) (λ p. true) (Ascends-sorted pairs_total shown ordered up)
-    (subst (λ (zs : List (Bytes × ℤ)). IsPermutation zs (map shown ordered)) (same ∙ sym (filter-all ps)) (IsPermutation-map shown found ordered moved))
-    ∙ filter-all (in_order pair_cmp ps)
+one_key : (now : ℤ) (k : Bytes) (o : Option Entry) → if_past now k (option_and_then (λ e. e.deadline) o) ≡ filter (past now) (expiring k (deadline_of o))
+one_key now k None = refl
+one_key now k (Some e) = elim e.deadline as (λ (d : Option ℤ). if_past now k d ≡ filter (past now) (expiring k d)) [
+  | None ↦ refl
+  | Some d ↦ refl
+]
 
--- the first stays, or another comes before it
-pub first_stays : (x y : Bytes × ℤ) (ps : List (Bytes × ℤ)) → Some y ≡ slice_get ps 0 → pair_lt y x ≡ true → Some y ≡ slice_get (placed pair_cmp x ps) 0
-first_stays x y [] h lt = cc
-first_stays x y (z ∷ zs) h lt =
-    let same : y ≡ z = cc in
-    h ∙ sym (ap (λ b. slice_get (if b then z ∷ placed pair_cmp x zs else x ∷ z ∷ zs) 0) (ap (λ (w : Bytes × ℤ). pair_lt w x) (sym same) ∙ lt))
+each_key : (now : ℤ) (m : Dataset) (ks : List Bytes) → flat_map (λ k. if_past now k (deadline_at m k)) ks ≡ filter (past now) (flat_map (λ k. expiring k (deadline_of (get m k))) ks)
+each_key now m [] = refl
+each_key now m (k ∷ ks) =
+    (λ i. one_key now k (get m k) i ++ each_key now m ks i)
+    ∙ sym (filter-append (past now) (expiring k (deadline_of (get m k))) (flat_map (λ k. expiring k (deadline_of (get m k))) ks))
 
-pub first_comes : (x : Bytes × ℤ) (ps : List (Bytes × ℤ)) → ((y : Bytes × ℤ) → Some y ≡ slice_get ps 0 → pair_lt y x ≡ false) → Some x ≡ slice_get (placed pair_cmp x ps) 0
-first_comes x [] h = refl
-first_comes x (z ∷ zs) h = sym (ap (λ b. slice_get (if b then z ∷ placed pair_cmp x zs else x ∷ z ∷ zs) 0) (h z refl))
+-- the past keys are those of all expiries whose deadline is past
+pub due_is : (now : ℤ) (m : Dataset) → due now m ≡ filter (past now) (expiries m)
+due_is now m =
+    let all : List Pair = flat_map (λ k. expiring k (deadline_of (get m k))) (keys m) in
+    ap (in_order pair_cmp) (each_key now m (keys m))
+    ∙ sorted_filter pairs_total exact_pair all (in_order pair_cmp (filter (past now) all)) (past now) (Ascends-in_order pairs_total (filter (past now) all)) (IsPermutation-in_order pair_cmp (filter (past now) all))
 
-flat_map-push : (f : Bytes → List (Bytes × ℤ)) (ks : List Bytes) (k : Bytes) → flat_map f (ks ++ k ∷ []) ≡ flat_map f ks ++ f k
-flat_map-push f ks k = flat_map-append f ks (k ∷ []) ∙ ap (λ (ps : List (Bytes × ℤ)). flat_map f ks ++ ps) (append-nil (f k))
+-- what is behind an expiry that isn't past isn't past either
 
--- a key more, which is past
-pub one_past : (now : ℤ) (m : Dataset) (ks : List Bytes) (k : Bytes) (d : DueKey) → listed (Some d) ≡ past_at now m k → due_among now m (ks ++ k ∷ []) ≡ placed pair_cmp (shown d) (due_among now m ks)
-one_past now m ks k d is =
-    ap (in_order pair_cmp) (flat_map-push (past_at now m) ks k ∙ ap (λ (ps : List (Bytes × ℤ)). flat_map (past_at now m) ks ++ ps) (sym is))
-    ∙ one_order (flat_map (past_at now m) ks ++ shown d ∷ []) (shown d ∷ flat_map (past_at now m) ks) (back (flat_map (past_at now m) ks) (shown d))
-  where
-    back : (ps : List (Bytes × ℤ)) (p : Bytes × ℤ) → IsPermutation (ps ++ p ∷ []) (p ∷ ps)
-    back ps p = subst (λ (qs : List (Bytes × ℤ)). IsPermutation (ps ++ p ∷ []) (p ∷ qs)) (append-nil ps) (IsPermutation-middle ps p [])
+not_more : (a b : ℤ) → is_gt (int_cmp a b) ≡ false → a ≤ℤ b
+not_more a b h = elim (int_cmp a b) as (λ (r : Ordering). r ≡ int_cmp a b → is_gt r ≡ false → a ≤ℤ b) [
+  | Less ↦ λ e g. (let less : a <ℤ b = int_ranked a b Less e in omega (arith, ints))
+  | Equal ↦ λ e g. (let same : a ≡ b = int_ranked a b Equal e in omega (arith, ints))
+  | Greater ↦ λ e g. cc
+] refl h
 
--- .. or isn't
-pub none_past : (now : ℤ) (m : Dataset) (ks : List Bytes) (k : Bytes) → [] ≡ past_at now m k → due_among now m (ks ++ k ∷ []) ≡ due_among now m ks
-none_past now m ks k is = ap (in_order pair_cmp) (flat_map-push (past_at now m) ks k ∙ ap (λ (ps : List (Bytes × ℤ)). flat_map (past_at now m) ks ++ ps) (sym is) ∙ append-nil (flat_map (past_at now m) ks))
+deadline_first : (r s : Ordering) → is_gt (ordering_then r s) ≡ false → is_gt r ≡ false
+deadline_first Less s h = refl
+deadline_first Equal s h = refl
+deadline_first Greater s h = h
 
--- the first of the keys that were gone over, and those still to come
-pub record Searching (now : ℤ) (m : Dataset) (first : Option DueKey) (rest : List Bytes) : Type 0 where
-  pub done : List Bytes
-  pub all : done ++ rest ≡ keys m
-  pub found : IsFirst first (due_among now m done)
+later : (x y : Pair) (now : ℤ) → is_gt (pair_cmp x y) ≡ false → past now x ≡ false → past now y ≡ false
+later x y now h out =
+    let up : x.1 ≤ℤ y.1 = not_more x.1 y.1 (deadline_first _ _ h) in
+    elim (past now y) as (λ b. past now y ≡ b → b ≡ false) [
+      | true ↦ λ e. absurd (omega (arith, ints))
+      | false ↦ λ e. refl
+    ] refl
 
-module _ {now : ℤ} {m : Dataset} {found : Option DueKey} {keys_now rest : List Bytes} (k : Bytes) (searching : Searching now m found keys_now) (next : keys_now ≡ k ∷ rest) where
-  later : (searching.done ++ k ∷ []) ++ rest ≡ keys m
-  later = append_assoc searching.done (k ∷ []) rest ∙ ap (λ ks. searching.done ++ ks) (sym next) ∙ searching.all
+none_later : (x : Pair) (ys : List Pair) (now : ℤ) → Above pair_cmp x ys → past now x ≡ false → filter (past now) ys ≡ []
+none_later x [] now h out = refl
+none_later x (y ∷ ys) now h out = ap (λ b. cond b (y ∷ filter (past now) ys) (filter (past now) ys)) (later x y now h.0 out) ∙ none_later x ys now h.1 out
 
-  pub search_past : (o : Option DueKey) (d s : DueKey) → o ≡ Some d → listed o ≡ past_at now m k → ((ps : List (Bytes × ℤ)) → IsFirst found ps → IsFirst (Some s) (placed pair_cmp (shown d) ps)) → Searching now m (Some s) rest
-  search_past o d s is past comes = record {
-    done = searching.done ++ k ∷ [];
-    all = later;
-    found = subst (IsFirst (Some s)) (sym (one_past now m searching.done k d (ap listed (sym is) ∙ past))) (comes (due_among now m searching.done) searching.found);
+Ascends-behind : (xs ys : List Pair) → Ascends pair_cmp (xs ++ ys) → Ascends pair_cmp ys
+Ascends-behind [] ys h = h
+Ascends-behind (x ∷ xs) ys h = Ascends-behind xs ys h.1
+
+-- the keys that have a deadline are words
+
+abbrev IsWordPair : Pair → Type 0
+IsWordPair p = IsTrue (fits p.0)
+
+word_of_key : (k : Bytes) (o : Option Entry) → ((e : Entry) → o ≡ Some e → IsTrue (fits k)) → AllByRecursion IsWordPair (expiring k (deadline_of o))
+word_of_key k None h = tt
+word_of_key k (Some e) h = elim e.deadline as (λ (d : Option ℤ). AllByRecursion IsWordPair (expiring k d)) [
+  | None ↦ tt
+  | Some d ↦ (h e refl, tt)
+]
+
+both_lists : (ps qs : List Pair) → AllByRecursion IsWordPair ps → AllByRecursion IsWordPair qs → AllByRecursion IsWordPair (ps ++ qs)
+both_lists [] qs h g = g
+both_lists (p ∷ ps) qs h g = (h.0, both_lists ps qs h.1 g)
+
+in_front : (ps qs : List Pair) → AllByRecursion IsWordPair (ps ++ qs) → AllByRecursion IsWordPair ps
+in_front [] qs h = tt
+in_front (p ∷ ps) qs h = (h.0, in_front ps qs h.1)
+
+words_of_keys : (m : Dataset) → IsDataset m → (ks : List Bytes) → AllByRecursion IsWordPair (flat_map (λ k. expiring k (deadline_of (get m k))) ks)
+words_of_keys m kept [] = tt
+words_of_keys m kept (k ∷ ks) = both_lists (expiring k (deadline_of (get m k))) (flat_map (λ k. expiring k (deadline_of (get m k))) ks) (word_of_key k (get m k) (λ e h. (kept.entries k e h).key)) (words_of_keys m kept ks)
+
+words_of : (m : Dataset) → IsDataset m → All IsWordPair (expiries m)
+words_of m kept =
+    let ps : List Pair = flat_map (λ k. expiring k (deadline_of (get m k))) (keys m) in
+    All-permutation IsWordPair ps (expiries m) (IsPermutation-in_order pair_cmp ps) (All-from_recursion IsWordPair ps (words_of_keys m kept (keys m)))
+
+take-all : (n : ℕ) (ps : List Pair) → length ps ≤ n → take n ps ≡ ps
+take-all zero [] h = refl
+take-all zero (p ∷ ps) h = absurd (omega (arith, h))
+take-all (suc n) [] h = refl
+take-all (suc n) (p ∷ ps) h = ap (λ (qs : List Pair). p ∷ qs) (take-all n ps (omega (arith, h)))
+
+-- ---- going over an index
+
+-- what was found, and what is still to come
+pub record Taking (now : ℤ) (most : ℕ) (m : Dataset) (found : List DueKey) (rest : List Expiry) : Type 0 where
+  pub all : map shown found ++ map entered rest ≡ expiries m
+  pub past : filter (past now) (map shown found) ≡ map shown found
+  pub few : length found ≤ most
+
+module _ {now : ℤ} {most : ℕ} {m : Dataset} {found : List DueKey} {rest : List Expiry} (taking : Taking now most m found rest) where
+  -- what stands in front of what isn't past
+  only_found : filter (past now) (map entered rest) ≡ [] → map shown found ≡ take most (due now m)
+  only_found none =
+      sym (ap (take most) (due_is now m ∙ ap (filter (past now)) (sym taking.all) ∙ filter-append (past now) (map shown found) (map entered rest) ∙ (λ i. taking.past i ++ none i) ∙ append-nil (map shown found))
+      ∙ take-all most (map shown found) (omega (arith, taking.few, length-map found shown)))
+
+  pub at_end : rest ≡ [] → map shown found ≡ take most (due now m)
+  at_end none = only_found (ap (λ (xs : List Expiry). filter (past now) (map entered xs)) none)
+
+  pub at_later : (x : Expiry) (xs : List Expiry) → rest ≡ x ∷ xs → int_le x.deadline now ≡ false → map shown found ≡ take most (due now m)
+  at_later x xs is out =
+      let up : Ascends pair_cmp (map entered (x ∷ xs)) = Ascends-behind (map shown found) (map entered (x ∷ xs)) (subst (Ascends pair_cmp) (sym taking.all ∙ ap (λ (ys : List Expiry). map shown found ++ map entered ys) is) (Ascends-in_order pairs_total (flat_map (λ k. expiring k (deadline_of (get m k))) (keys m)))) in
+      only_found (ap (λ (ys : List Expiry). filter (past now) (map entered ys)) is
+      ∙ ap (λ b. cond b (entered x ∷ filter (past now) (map entered xs)) (filter (past now) (map entered xs))) out ∙ none_later (entered x) (map entered xs) now up.0 out)
+
+  pub at_full : length found ≡ most → map shown found ≡ take most (due now m)
+  at_full full =
+      sym (ap (take most) (due_is now m ∙ ap (filter (past now)) (sym taking.all) ∙ filter-append (past now) (map shown found) (map entered rest) ∙ ap (λ (ps : List Pair). ps ++ filter (past now) (map entered rest)) taking.past)
+      ∙ ap (λ (n : ℕ). take n (map shown found ++ filter (past now) (map entered rest))) (sym full ∙ sym (length-map found shown)) ∙ take-append_seam (map shown found) (filter (past now) (map entered rest)))
+
+  pub one_more : (x : Expiry) (xs : List Expiry) (d : DueKey) (more : List DueKey) → rest ≡ x ∷ xs → shown d ≡ entered x → int_le x.deadline now ≡ true → more ≡ found ++ d ∷ [] → (length found ≡ most → ⊥) → Taking now most m more xs
+  one_more x xs d more is same here pushed room = record {
+    all = ap (λ (ds : List DueKey). map shown ds ++ map entered xs) pushed ∙ ap (λ (ps : List Pair). ps ++ map entered xs) (map_push shown found d) ∙ append_assoc (map shown found) (shown d ∷ []) (map entered xs)
+        ∙ ap (λ (p : Pair). map shown found ++ p ∷ map entered xs) same ∙ ap (λ (ys : List Expiry). map shown found ++ map entered ys) (sym is) ∙ taking.all;
+    past = ap (λ (ds : List DueKey). filter (past now) (map shown ds)) pushed ∙ ap (filter (past now)) (map_push shown found d) ∙ filter-append (past now) (map shown found) (shown d ∷ [])
+        ∙ (λ i. taking.past i ++ one_past i) ∙ sym (ap (map shown) pushed ∙ map_push shown found d);
+    few = subst (λ (ds : List DueKey). length ds ≤ most) (sym pushed) (let size : length (found ++ d ∷ []) ≡ length found + 1 = length-append found (d ∷ []) in omega (arith, taking.few, room));
   }
+    where
+      one_past : filter (past now) (shown d ∷ []) ≡ shown d ∷ []
+      one_past = ap (λ b. cond b (shown d ∷ []) []) (ap (λ (p : Pair). past now p) same ∙ here)
 
-  pub search_on : (o : Option DueKey) → ((d : DueKey) → o ≡ Some d → ⊥) → listed o ≡ past_at now m k → Searching now m found rest
-  search_on None other past = record {
-    done = searching.done ++ k ∷ [];
-    all = later;
-    found = subst (IsFirst found) (sym (none_past now m searching.done k past)) searching.found;
-  }
-  search_on (Some d) other past = absurd (other d refl)
+  -- the keys of a dataset are words
+  pub each_is_word : IsDataset m → All HasWord found
+  each_is_word kept = All-from_recursion HasWord found (words found (in_front (map shown found) (map entered rest) (subst (AllByRecursion IsWordPair) (sym taking.all) (recursion_from_All IsWordPair (expiries m) (words_of m kept)))))
+    where
+      words : (ds : List DueKey) → AllByRecursion IsWordPair (map shown ds) → AllByRecursion HasWord ds
+      words [] h = tt
+      words (d ∷ ds) h = (h.0, words ds h.1)
 
-some_is : {X : Type 0} {x y : X} → Some x ≡ Some y → x ≡ y
-some_is h = cc
+pub at_start : (now : ℤ) (most : ℕ) (m : Dataset) (none : List DueKey) (all : List Expiry) → none ≡ [] → map entered all ≡ expiries m → Taking now most m none all
+at_start now most m none all is whole = record {
+  all = ap (λ (ds : List DueKey). map shown ds ++ map entered all) is ∙ whole;
+  past = ap (λ (ds : List DueKey). filter (past now) (map shown ds)) is ∙ sym (ap (map shown) is);
+  few = subst (λ (ds : List DueKey). length ds ≤ most) (sym is) (omega arith);
+}
 
-pub other_comes : (found next : DueKey) (o : Option DueKey) (ps : List (Bytes × ℤ)) → o ≡ Some found → IsFirst o ps → pair_lt (shown found) (shown next) ≡ false → Some (shown next) ≡ slice_get (placed pair_cmp (shown next) ps) 0
-other_comes found next o ps is first later = first_comes (shown next) ps (λ y h. ap (λ (z : Bytes × ℤ). pair_lt z (shown next)) (some_is (h ∙ sym first ∙ ap (option_map shown) is)) ∙ later)
+-- what is answered of an expiry
 
-pub only_comes : (next : DueKey) (o : Option DueKey) (ps : List (Bytes × ℤ)) → o ≡ None → IsFirst o ps → Some (shown next) ≡ slice_get (placed pair_cmp (shown next) ps) 0
-only_comes next o ps is first = first_comes (shown next) ps (λ y h. let none : Some y ≡ None = h ∙ sym first ∙ ap (option_map shown) is in cc)
+abbrev pub Told : ℤ → Expiry → Option DueKey → Type 0
+Told now x o = MatchOption o (int_le x.deadline now ≡ false) (λ d. (shown d ≡ entered x) × (int_le x.deadline now ≡ true))
 
--- a key more among those that were found
-pub one_more : (f : Bytes → List (Bytes × ℤ)) (ds es : List DueKey) (d : DueKey) (o : Option DueKey) (k : Bytes) (keys_now rest : List Bytes) (all : List (Bytes × ℤ))
-    → map shown ds ++ flat_map f keys_now ≡ all → keys_now ≡ k ∷ rest → o ≡ Some d → listed o ≡ f k → es ≡ ds ++ d ∷ [] → map shown es ++ flat_map f rest ≡ all
-one_more f ds es d o k keys_now rest all before next is past pushed =
-    ap (λ (zs : List DueKey). map shown zs ++ flat_map f rest) pushed
-    ∙ ap (λ (ps : List (Bytes × ℤ)). ps ++ flat_map f rest) (map_push shown ds d)
-    ∙ append_assoc (map shown ds) (shown d ∷ []) (flat_map f rest)
-    ∙ ap (λ (ps : List (Bytes × ℤ)). map shown ds ++ (ps ++ flat_map f rest)) (ap listed (sym is) ∙ past)
-    ∙ ap (λ (ks : List Bytes). map shown ds ++ flat_map f ks) (sym next)
-    ∙ before
+pub is_out : (now : ℤ) (x : Expiry) (o : Option DueKey) → Told now x o → ((d : DueKey) → o ≡ Some d → ⊥) → int_le x.deadline now ≡ false
+is_out now x None h none = h
+is_out now x (Some d) h none = absurd (none d refl)
+
+pub is_none : (now : ℤ) (x : Expiry) (o : Option DueKey) → Told now x o → o ≡ None → int_le x.deadline now ≡ false
+is_none now x None h none = h
+is_none now x (Some d) h none = cc
+
+pub is_due : (now : ℤ) (x : Expiry) (o : Option DueKey) (d : DueKey) → Told now x o → o ≡ Some d → (shown d ≡ entered x) × (int_le x.deadline now ≡ true)
+is_due now x None d h some = cc
+is_due now x (Some e) d h some = (let same : e ≡ d = cc in subst (λ (z : DueKey). (shown z ≡ entered x) × (int_le x.deadline now ≡ true)) same h)
+
+-- ---- the first of an index
+
+some_first : (now : ℤ) (m : Dataset) (x : Expiry) (xs : List Expiry) → map entered (x ∷ xs) ≡ expiries m → due now m ≡ cond (int_le x.deadline now) (entered x ∷ filter (past now) (map entered xs)) (filter (past now) (map entered xs))
+some_first now m x xs all = due_is now m ∙ ap (filter (past now)) (sym all)
+
+pub first_past : (now : ℤ) (m : Dataset) (x : Expiry) (xs : List Expiry) → map entered (x ∷ xs) ≡ expiries m → int_le x.deadline now ≡ true → slice_get (due now m) 0 ≡ Some (entered x)
+first_past now m x xs all here = ap (λ (ps : List Pair). slice_get ps 0) (some_first now m x xs all ∙ ap (λ b. cond b (entered x ∷ filter (past now) (map entered xs)) (filter (past now) (map entered xs))) here)
+
+pub first_later : (now : ℤ) (m : Dataset) (x : Expiry) (xs : List Expiry) → map entered (x ∷ xs) ≡ expiries m → int_le x.deadline now ≡ false → slice_get (due now m) 0 ≡ None
+first_later now m x xs all out =
+    let up : Ascends pair_cmp (map entered (x ∷ xs)) = subst (Ascends pair_cmp) (sym all) (Ascends-in_order pairs_total (flat_map (λ k. expiring k (deadline_of (get m k))) (keys m))) in
+    ap (λ (ps : List Pair). slice_get ps 0) (some_first now m x xs all ∙ ap (λ b. cond b (entered x ∷ filter (past now) (map entered xs)) (filter (past now) (map entered xs))) out ∙ none_later (entered x) (map entered xs) now up.0 out)
+
+pub none_first : (now : ℤ) (m : Dataset) (xs : List Expiry) → xs ≡ [] → map entered xs ≡ expiries m → slice_get (due now m) 0 ≡ None
+none_first now m xs none all = ap (λ (ps : List Pair). slice_get ps 0) (due_is now m ∙ ap (filter (past now)) (sym all ∙ ap (map entered) none))

@@ -1,7 +1,7 @@
 -- The past keys, in the order in which they are deleted.
-use Rattle.std.specs.Prelude.{◌≡◌, IsTrue, ℤ, slice_get, List, [], ◌∷◌, int_le, if◌then◌else◌, Option, Some, None}
+use Rattle.std.specs.Prelude.{IsTrue, ℤ, List, [], ◌∷◌, int_le, if◌then◌else◌, Option, Some, None}
 use Rattle.std.specs.List.{flat_map}
-use Rattle.std.specs.Option.{option_map, option_and_then}
+use Rattle.std.specs.Option.{option_and_then}
 use Rattle.std.specs.FinMap.{get, keys}
 use Rattle.mr_map.specs.Bytes.{Bytes}
 use Rattle.mr_value.specs.Words.{fits}
@@ -33,11 +33,3 @@ shown d = (d.key.now, d.deadline)
 -- its key is within the word limit
 abbrev pub HasWord : DueKey → Type 0
 HasWord d = IsTrue (fits d.key.now)
-
-abbrev pub listed : Option DueKey → List (Bytes × ℤ)
-listed None = []
-listed (Some d) = shown d ∷ []
-
--- this is the first pair of a list
-abbrev pub IsFirst : Option DueKey → List (Bytes × ℤ) → Type 0
-IsFirst found ps = option_map shown found ≡ slice_get ps 0

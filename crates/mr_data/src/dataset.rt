@@ -1,13 +1,15 @@
 // The dataset: entries by key.
-ghost use Rattle.std.specs.Prelude.{◌≡◌, ◌==◌, ◌<◌, ◌^◌, option_copied};
+ghost use Rattle.std.specs.Prelude.{◌≡◌, ◌==◌, ◌<◌, ◌^◌, map as each, option_copied};
 ghost use Rattle.std.specs.Option.{option_map, option_and_then};
 ghost use Rattle.std.specs.FinMap as map;
+ghost use Rattle.mr_entries.specs.Expiries.{expiries, shown};
 
 mod applying;
 
-use mr_entries::{Entries, Entry, Value};
+use mr_entries::{Entries, Entry, Expiry, Value};
 use mr_map::Keys;
 use std::alloc::Global;
+use std::collections::btree_set;
 use std::hash::RandomState;
 use std::marker::Model;
 
@@ -92,5 +94,13 @@ impl Dataset {
         ensures { result ≡ option_and_then (λ e. e.deadline) (map.get self.now key.now) }
     {
         self.entry(key)?.deadline
+    }
+
+    /// The keys that have a deadline with it, in order of deadline and then of bytes, past or not.
+    pub(crate) fn expiries(&self) -> btree_set::Iter<'_, Expiry>
+        ensures all { each shown result ≡ expiries self.now }
+        ensures kept { IsDataset self.now }
+    {
+        self.entries.expiries()
     }
 }

@@ -1,11 +1,10 @@
 // The past keys of a dataset.
-ghost use Rattle.std.specs.Prelude.{◌≡◌, IfOk, IfSome, All, IsPermutation, IsSortedBy, map, take, slice_get, option_copied, option_map, List, Some, ℤ};
-ghost use Rattle.mr_map.specs.Bytes.{Bytes};
-ghost use Rattle.mr_zset.specs.Order.{placed};
-ghost use Rattle.mr_zset.specs.Pairs.{pair_cmp, pair_lt};
-ghost use Rattle.mr_data.specs.Due.{deadline_at, due, if_past, listed, shown, HasWord, IsFirst};
+ghost use Rattle.std.specs.Prelude.{◌≡◌, IfOk, All, MatchOption, map, take, slice_get, int_le, option_copied, option_map, true, false};
+ghost use Rattle.mr_entries.specs.Expiries.{shown as entered};
+ghost use Rattle.mr_data.specs.Due.{due, shown, HasWord};
 
 use crate::dataset::Dataset;
+use mr_entries::Expiry;
 use std::alloc::{AllocError, Global};
 
 /// A key with its deadline. They are in order of deadline, and then of the keys' bytes.
@@ -17,7 +16,8 @@ pub struct DueKey<'a> {
 }
 
 impl Dataset {
-    /// The first keys that are past at a moment, so many at most, in the order in which they are deleted.
+    /// The first keys that are past at a moment, so many at most, in the order in which they are deleted. Its time grows with
+    /// their number alone, neither with that of the keys nor with that of the past ones.
     pub fn due_keys(
         &self,
         alloc: Global,
@@ -28,13 +28,15 @@ impl Dataset {
         ensures words { IfOk result (λ keys. All HasWord keys.items) }
     {
         let mut keys = Vec::new(alloc);
-        for key in self.keys() {
-            if let Some(due) = self.if_past(key, now) {
-                keys.push(due)?;
+        for expiry in self.expiries() {
+            if keys.len() == most {
+                return Ok(keys);
             }
+            let Some(due) = if_past(expiry, now) else {
+                return Ok(keys);
+            };
+            keys.push(due)?;
         }
-        put_in_order(&mut keys);
-        keys.truncate(most);
         Ok(keys)
     }
 
@@ -42,47 +44,21 @@ impl Dataset {
     pub fn due(&self, now: i64) -> Option<&[u8]>
         ensures { option_copied result ≡ option_map (λ d. d.0) (slice_get (due now self.now) 0) }
     {
-        let mut first = None;
-        for key in self.keys() {
-            if let Some(next) = self.if_past(key, now) {
-                first = Some(sooner(first, next));
-            }
-        }
-        Some(first?.key)
-    }
-
-    // A key with its deadline, if that is past.
-    fn if_past<'a>(&'a self, key: &'a [u8], now: i64) -> Option<DueKey<'a>>
-        ensures past { listed result ≡ if_past now key.now (deadline_at self.now key.now) }
-        ensures word { IfSome result HasWord }
-    {
-        let deadline = self.entry(key)?.deadline?;
-        if deadline <= now {
-            return Some(DueKey { deadline, key });
-        }
-        None
+        let first = self.expiries().next()?;
+        let due = if_past(first, now)?;
+        Some(due.key)
     }
 }
 
-// The first of those found so far and another one.
-fn sooner<'a>(found: Option<DueKey<'a>>, next: DueKey<'a>) -> DueKey<'a>
-    ensures { (ps : List (Bytes × ℤ)) → IsFirst found.entry ps → IsFirst (Some result) (placed pair_cmp (shown next.entry) ps) }
+// A key with its deadline, if that is past.
+fn if_past(expiry: &Expiry, now: i64) -> Option<DueKey<'_>>
+    ensures { MatchOption result (int_le expiry.now.deadline now ≡ false) (λ d. (shown d ≡ entered expiry.now) × (int_le expiry.now.deadline now ≡ true)) }
 {
-    match found {
-        Some(first) if is_before(first, next) => first,
-        _ => next,
+    if expiry.deadline > now {
+        return None;
     }
-}
-
-fn is_before(one: DueKey<'_>, other: DueKey<'_>) -> bool
-    ensures { result ≡ pair_lt (shown one.entry) (shown other.entry) }
-{
-    one.cmp(&other).is_lt()
-}
-
-fn put_in_order(keys: &mut Vec<DueKey<'_>>)
-    ensures moved { IsPermutation keys.old.items keys.new.items }
-    ensures sorted { IsSortedBy (λ a b. pair_lt (shown a) (shown b)) keys.new.items }
-{
-    keys.sort_unstable();
+    Some(DueKey {
+        deadline: expiry.deadline,
+        key: expiry.key.as_slice(),
+    })
 }
