@@ -1,7 +1,7 @@
 -- Keys that go as time passes.
-use Rattle.std.proofs.Common.{ℕ, suc, ◌≤◌, ◌+◌, ◌-◌, ◌≡◌, ℤ, ◌<◌, List, [], ◌∷◌, ◌++◌, append_assoc, append-nil, length, length-append, map, true, false, Option, Some, None, Result, Ok, Err, refl, sym, ◌∙◌, ap, subst, arith}
-use Rattle.std.specs.Prelude.{IsTrue, All, Bool, ◌&&◌, nat_le, if◌then◌else◌}
-use Rattle.std.specs.List.{AllByRecursion, flat_map}
+use Rattle.std.proofs.Common.{ℕ, ◌≤◌, ◌+◌, ◌-◌, ◌≡◌, ℤ, ◌<◌, List, [], ◌∷◌, ◌++◌, append_assoc, append-nil, length, length-append, map, true, false, Option, Some, None, Result, Err, refl, sym, ◌∙◌, ap, subst, arith}
+use Rattle.std.specs.Prelude.{IsTrue, All, Bool, nat_le, if◌then◌else◌}
+use Rattle.std.specs.List.{AllByRecursion}
 use Rattle.std.specs.Option.{option_and_then}
 use Rattle.std.specs.FinMap.{remove}
 use Rattle.std.proofs.lemmas.Bool.{leb-true, leb-false, le-leb, lt-leb}
@@ -9,7 +9,6 @@ use Rattle.std.proofs.lemmas.List.Concat.{flat_map-append}
 use Rattle.std.proofs.lemmas.List.Elements.{All-head, All-tail, All-nil, All-push}
 use Rattle.mr_map.specs.Bytes.{Bytes}
 use Rattle.mr_value.specs.Words.{fits}
-use Rattle.mr_effect.specs.Effects.{has_spelling, words_fit}
 use Rattle.mr_effect.specs.Spelling.{text, texts, size}
 use Rattle.mr_effect.specs.declared.effect.Effect.{Effect}
 use Rattle.mr_effect.specs.declared.effect.Effect.TheVariants as effect

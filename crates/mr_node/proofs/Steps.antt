@@ -38,7 +38,7 @@ used_end a b l u used ag uses = uses (open_end u) ag.is
 leaves_of : (a b : NodeState) (l : LinkId) (rest : List ℕ) → b ≡ put_end a l (open_end rest) → Leaves a l b rest
 leaves_of a b l rest e = record { agrees = put_agrees a b l rest e; others = put_others a b l _ e }
 
-pub skip_row : (a b : NodeState) (l : LinkId) (given : Given) (u : List ℕ) (used : ℕ) → Passes u used → Uses a l used b → Agrees a l u → ClientRow a l u given b (no_outs l)
+pub skip_row : (a b : NodeState) (l : LinkId) (given : Given) (u : List ℕ) (used : ℕ) → Passes u used → Uses a l used b → Agrees a l u → ClientRow a l u given b (record no_outs { link = Some l })
 skip_row a b l given u used p uses ag =
     let e = used_end a b l u used ag uses in
     ClientRow.skips (record { rest = drop used u; asks = p.asks; core = ap (λ (s : NodeState). s.core) e; leaves = leaves_of a b l (drop used u) e; outs_are = refl })

@@ -4,8 +4,6 @@ use Rattle.mr_repl.specs.Backlog.{after_bytes}
 use Rattle.mr_links.specs.declared.link_id.LinkId.{LinkId}
 use Rattle.mr_resp.specs.Replies.{Tree, error, reply_text}
 use Rattle.mr_resp.specs.ReplyView.{view}
-use Rattle.mr_resp.specs.Faults.{fault_text}
-use Rattle.mr_resp.specs.declared.fault.Fault.{Fault}
 use Rattle.mr_resp.specs.declared.progress.Progress.{Progress}
 use Rattle.mr_entries.specs.Dataset.{Dataset}
 use Rattle.mr_data.specs.Meaning.{apply_all}
@@ -13,10 +11,9 @@ use Rattle.mr_effect.specs.Spelling.{texts}
 use Rattle.mr_effect.specs.declared.effect.Effect.{Effect}
 use Rattle.mr_data.specs.declared.given.Given.{Given}
 use Rattle.mr_data.specs.declared.plan.Plan.{Plan}
-use Rattle.mr_turn.specs.Turns.{done}
 use Rattle.mr_plan.specs.Requests.{IsPlanned, quits}
 use Rattle.mr_node.specs.State.{NodeState, EndState, end_of, put_end, full}
-use Rattle.mr_node.specs.Outs.{OutsState}
+use Rattle.mr_node.specs.Outs.{OutsState, no_outs}
 use Rattle.mr_node.specs.Requests.{Asks, AsksNothing, Waits, IsDoomedBy}
 use Rattle.mr_node.specs.Progresses.{AgreesAlong}
 use Rattle.mr_node.specs.Rows.{offset_limit, limit_text}
@@ -93,20 +90,20 @@ Hears a l bytes b = (e : EndState) → end_of a l ≡ Some e → b ≡ put_end a
 
 -- this is told last
 abbrev pub last_outs : LinkId → List ℕ → OutsState
-last_outs l last = record { link = l; grown = []; reply = last; closes = true }
+last_outs l last = record no_outs { link = Some l; reply = last; closes = true }
 
 -- The effects are done, and all is told.
 pub record Commits (a : NodeState) (l : LinkId) (used : ℕ) (reply : Tree) (effects : List Effect) (b : NodeState) (s : Step) : Type 0 where
   pub held : Dataset
   pub applied : apply_all effects a.core.held ≡ Some held
   pub state : Uses (record a { core = record a.core { held = held; stream = after_bytes a.core.stream (texts effects) } }) l used b
-  pub step : s ≡ Done (record { link = l; grown = texts effects; reply = reply_text reply; closes = false })
+  pub step : s ≡ Done (record no_outs { link = Some l; grown = texts effects; reply = reply_text reply })
 
 -- The effects would carry the offset past its limit.
 pub record IsTooFar (a : NodeState) (l : LinkId) (used : ℕ) (effects : List Effect) (b : NodeState) (s : Step) : Type 0 where
   pub beyond : offset_limit < a.core.stream.offset + length (texts effects)
   pub state : Uses a l used b
-  pub step : s ≡ Done (record { link = l; grown = []; reply = reply_text (error limit_text); closes = false })
+  pub step : s ≡ Done (record no_outs { link = Some l; reply = reply_text (error limit_text) })
 
 pub data Ran (a : NodeState) (l : LinkId) (used : ℕ) (reply : Tree) (effects : List Effect) (b : NodeState) (s : Step) : Type 0 where
   commits : a.core.stream.offset + length (texts effects) ≤ offset_limit → Commits a l used reply effects b s → Ran a l used reply effects b s

@@ -13,7 +13,7 @@ use Rattle.mr_data.specs.declared.given.Given.{Given}
 use Rattle.mr_turn.specs.Turns.{done}
 use Rattle.mr_plan.specs.Requests.{IsPlanned, quits}
 use Rattle.mr_node.specs.State.{NodeState, Agrees, IsShut, OthersStay, full}
-use Rattle.mr_node.specs.Outs.{OutsState}
+use Rattle.mr_node.specs.Outs.{OutsState, no_outs}
 use Rattle.mr_node.specs.Requests.{Asks, AsksNothing, Waits, IsDoomedBy}
 use Rattle.mr_node.specs.declared.step.Step.{Step}
 use Rattle.mr_node.specs.declared.step.Step.TheVariants as step
@@ -44,7 +44,7 @@ pub record Replies (a : NodeState) (l : LinkId) (u : List ℕ) (given : Given) (
   pub applied : apply_all effects a.core.held ≡ Some held
   pub core : b.core ≡ record a.core { held = held; stream = after_bytes a.core.stream (texts effects) }
   pub leaves : Leaves a l b rest
-  pub outs_are : outs ≡ record { link = l; grown = texts effects; reply = reply_text reply; closes = false }
+  pub outs_are : outs ≡ record no_outs { link = Some l; grown = texts effects; reply = reply_text reply }
 
 -- A request whose effects would carry the offset past its limit is used, is told so, and changes nothing.
 pub record PassesLimit (a : NodeState) (l : LinkId) (u : List ℕ) (given : Given) (b : NodeState) (outs : OutsState) : Type 0 where
@@ -58,7 +58,7 @@ pub record PassesLimit (a : NodeState) (l : LinkId) (u : List ℕ) (given : Give
   pub beyond : offset_limit < a.core.stream.offset + length (texts effects)
   pub core : b.core ≡ a.core
   pub leaves : Leaves a l b rest
-  pub outs_are : outs ≡ record { link = l; grown = []; reply = reply_text (error limit_text); closes = false }
+  pub outs_are : outs ≡ record no_outs { link = Some l; reply = reply_text (error limit_text) }
 
 -- An empty request is used, and nothing is sent.
 pub record Skips (a : NodeState) (l : LinkId) (u : List ℕ) (b : NodeState) (outs : OutsState) : Type 0 where
@@ -66,7 +66,7 @@ pub record Skips (a : NodeState) (l : LinkId) (u : List ℕ) (b : NodeState) (ou
   pub asks : AsksNothing u rest
   pub core : b.core ≡ a.core
   pub leaves : Leaves a l b rest
-  pub outs_are : outs ≡ record { link = l; grown = []; reply = []; closes = false }
+  pub outs_are : outs ≡ record no_outs { link = Some l }
 
 -- These bytes end a link, and this is told last: they are doomed, or a client asks that its link be closed.
 pub data Ends (u last : List ℕ) : Type 0 where
@@ -80,7 +80,7 @@ pub record Closes (a : NodeState) (l : LinkId) (u : List ℕ) (b : NodeState) (o
   pub core : b.core ≡ a.core
   pub shut : IsShut b l
   pub others : OthersStay a b l
-  pub outs_are : outs ≡ record { link = l; grown = []; reply = last; closes = true }
+  pub outs_are : outs ≡ record no_outs { link = Some l; reply = last; closes = true }
 
 pub data ClientRow (a : NodeState) (l : LinkId) (u : List ℕ) (given : Given) (b : NodeState) (outs : OutsState) : Type 0 where
   replies : Replies a l u given b outs → ClientRow a l u given b outs

@@ -9,7 +9,7 @@ use Rattle.mr_entries.specs.Dataset.{Dataset}
 use Rattle.mr_data.specs.Due.{due}
 use Rattle.mr_data.specs.Meaning.{apply_all}
 use Rattle.mr_node.specs.State.{NodeState}
-use Rattle.mr_node.specs.Outs.{OutsState, outs_of, grown_outs}
+use Rattle.mr_node.specs.Outs.{OutsState, no_outs}
 use Rattle.mr_node.specs.Rows.{offset_limit}
 
 -- so many keys go in one tick at most
@@ -38,9 +38,9 @@ pub record Deletes (a : NodeState) (now : ℤ) (b : NodeState) (outs : OutsState
   pub applied : apply_all effects a.core.held ≡ Some held
   pub core : b.core ≡ record a.core { held = held; stream = after_bytes a.core.stream (texts effects) }
   pub links : b.links ≡ a.links
-  pub outs_are : outs_of outs ≡ grown_outs (texts effects)
+  pub outs_are : outs ≡ record no_outs { grown = texts effects }
 
 -- A replica deletes nothing: it waits for what its master deletes.
 pub data TickRow (a : NodeState) (now : ℤ) (b : NodeState) (outs : OutsState) : Type 0 where
-  waits : a.core.replica ≡ true → b ≡ a → outs_of outs ≡ [] → TickRow a now b outs
+  waits : a.core.replica ≡ true → b ≡ a → outs ≡ no_outs → TickRow a now b outs
   deletes : a.core.replica ≡ false → Deletes a now b outs → TickRow a now b outs

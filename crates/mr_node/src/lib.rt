@@ -8,7 +8,6 @@ mod node;
 mod out;
 mod outs;
 mod step;
-mod ticking;
 mod todo;
 
 pub use config::Config;

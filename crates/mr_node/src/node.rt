@@ -14,6 +14,8 @@ ghost use Rattle.mr_node.specs.Progresses.{AgreesAlong};
 ghost use Rattle.mr_node.specs.Parts.{Leads, HasAhead, HasRoom, Uses, Hears, last_outs, Ran, Commits, Tells, KeepsOn};
 ghost use Rattle.mr_node.specs.Rows.{StepRow, WhyStopped, offset_limit};
 
+mod ticking;
+
 use crate::config::Config;
 use crate::end::End;
 use crate::fault::NodeFault;
@@ -30,24 +32,18 @@ use std::marker::Model;
 use std::mem;
 
 /// No offset is greater, and no more links are opened.
-pub(crate) const LIMIT: u64 = 0x4000_0000_0000_0000;
-
-/// No link has this name.
-pub(crate) const NOWHERE: LinkId = LinkId {
-    index: 0,
-    generation: 0,
-};
+const LIMIT: u64 = 0x4000_0000_0000_0000;
 
 /// A node: its replication id, its dataset, the last bytes of its stream, and its ends of the links of its clients.
 #[derive(Drop)]
 pub struct Node {
-    pub(crate) alloc: Global,
-    pub(crate) up: bool,
-    pub(crate) replica: bool,
+    alloc: Global,
+    up: bool,
+    replica: bool,
     port: u16,
     id: ReplId,
-    pub(crate) held: Dataset,
-    pub(crate) stream: Backlog,
+    held: Dataset,
+    stream: Backlog,
     links: Links<End>,
     spare: Outs,
 }
@@ -88,7 +84,7 @@ impl Node {
             held,
             stream,
             links: Links::new(alloc),
-            spare: Outs::new(alloc, NOWHERE),
+            spare: Outs::new(alloc),
         })
     }
 
@@ -140,11 +136,11 @@ impl Node {
     }
 
     /// The outs kept for the next step, emptied.
-    pub(crate) fn fresh_outs(&mut self, link: LinkId) -> Outs
-        ensures outs { result ≡ no_outs link }
+    fn fresh_outs(&mut self, link: Option<LinkId>) -> Outs
+        ensures outs { result ≡ record no_outs { link = link } }
         ensures same { self.new ≡ self.old }
     {
-        let mut outs = mem::replace(&mut self.spare, Outs::new(self.alloc, link));
+        let mut outs = mem::replace(&mut self.spare, Outs::new(self.alloc));
         outs.reset(link);
         outs
     }
@@ -158,10 +154,10 @@ impl Node {
 
     fn skip(&mut self, link: LinkId, used: usize) -> Step
         requires { HasAhead self.old link used }
-        ensures step { result ≡ Step.Done (no_outs link) }
+        ensures step { result ≡ Step.Done (record no_outs { link = Some link }) }
         ensures state { Uses self.old link used self.new }
     {
-        let outs = self.fresh_outs(link);
+        let outs = self.fresh_outs(Some(link));
         self.advance(link, used);
         Step::Done(outs)
     }
@@ -173,7 +169,7 @@ impl Node {
         ensures state { OnOk result (self.new ≡ put_end self.old link shut_end) }
         ensures err { IfErr result (λ e. (e ≡ NodeFault.Memory) × (self.new ≡ self.old)) }
     {
-        let mut outs = self.fresh_outs(link);
+        let mut outs = self.fresh_outs(Some(link));
         if outs.say(reply).is_err() {
             return Err(NodeFault::Memory);
         }
@@ -215,7 +211,7 @@ impl Node {
         ensures stopped { IsErrOf result NodeFault.Stopped → (self.new.core.up ≡ false) × (plan.effects.items ≢ []) }
         ensures no_other { IfErr result (λ e. (e ≡ NodeFault.Memory) ⊎ (e ≡ NodeFault.Stopped)) }
     {
-        let mut outs = self.fresh_outs(link);
+        let mut outs = self.fresh_outs(Some(link));
         match told(&mut outs, &plan, self.stream.end()) {
             Err(_) => Err(NodeFault::Memory),
             Ok(false) => {
@@ -236,7 +232,7 @@ impl Node {
     ) -> Result<Step, NodeFault>
         requires ahead { HasAhead self.old link used }
         requires leads { Leads plan.effects.items self.old.core.held }
-        requires outs { outs ≡ record { link = link; grown = texts plan.effects.items; reply = reply_text (view plan.reply); closes = false } }
+        requires outs { outs ≡ record no_outs { link = Some link; grown = texts plan.effects.items; reply = reply_text (view plan.reply) } }
         requires within { self.old.core.stream.offset + length (texts plan.effects.items) ≤ offset_limit }
         ensures step { IfOk result (λ s. Commits self.old link used (view plan.reply) plan.effects.items self.new s) }
         ensures stopped { IfErr result (λ e. (e ≡ NodeFault.Stopped) × (self.new.core.up ≡ false) × (plan.effects.items ≢ [])) }

@@ -74,14 +74,18 @@ impl<'a> Iterator for OutsIter<'a> {
         }
         if let Place::Send = self.place {
             self.place = Place::Close;
-            if !outs.reply().is_empty() {
-                return Some(Out::Send(outs.link(), outs.reply()));
+            if let Some(link) = outs.link()
+                && !outs.reply().is_empty()
+            {
+                return Some(Out::Send(link, outs.reply()));
             }
         }
         if let Place::Close = self.place {
             self.place = Place::End;
-            if outs.closes() {
-                return Some(Out::Close(outs.link()));
+            if let Some(link) = outs.link()
+                && outs.closes()
+            {
+                return Some(Out::Close(link));
             }
         }
         None

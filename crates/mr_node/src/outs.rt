@@ -13,10 +13,11 @@ use std::alloc::{AllocError, Global};
 use std::marker::Model;
 
 /// What a step gives out: the texts of its effects, what it sends on its link, and whether the link is closed behind that.
+/// A tick is made on no link, and only lets the stream grow.
 /// A node uses its room again (`Node::reuse`).
 #[derive(Drop)]
 pub struct Outs {
-    link: LinkId,
+    link: Option<LinkId>,
     grown: Vec<u8>,
     reply: Vec<u8>,
     closes: bool,
@@ -33,20 +34,20 @@ impl Model for Outs {
 }
 
 impl Outs {
-    pub(crate) fn new(alloc: Global, link: LinkId) -> Outs
-        ensures { result ≡ no_outs link }
+    pub(crate) fn new(alloc: Global) -> Outs
+        ensures { result ≡ no_outs }
     {
         Outs {
-            link,
+            link: None,
             grown: Vec::new(alloc),
             reply: Vec::new(alloc),
             closes: false,
         }
     }
 
-    /// Empties it, for this link. It keeps its room.
-    pub(crate) fn reset(&mut self, link: LinkId)
-        ensures { self.new ≡ no_outs link }
+    /// Empties it, for a step on this link. It keeps its room.
+    pub(crate) fn reset(&mut self, link: Option<LinkId>)
+        ensures { self.new ≡ record no_outs { link = link } }
     {
         self.link = link;
         self.grown.clear();
@@ -61,8 +62,8 @@ impl Outs {
         OutsIter::new(self)
     }
 
-    /// The link that the step was made on.
-    pub fn link(&self) -> LinkId
+    /// The link that the step was made on, none where it was a tick.
+    pub fn link(&self) -> Option<LinkId>
         ensures { result ≡ self.now.link }
     {
         self.link

@@ -1,15 +1,13 @@
-use Rattle.std.proofs.Common.{rules, arith, ◌≡◌, ◌≤◌, ℕ, List, ◌++◌, map, take, drop, length, subst, sym, ap, All, IsTrue}
+use Rattle.std.proofs.Common.{arith, ◌≤◌, ◌++◌, map, take, length, subst, sym, All, IsTrue}
 use Rattle.std.proofs.lemmas.List.{take-append-drop}
 use Rattle.std.specs.Cow.{cow_slice_items}
 use Rattle.mr_resp.specs.Scans.{Reads}
 use Rattle.mr_resp.specs.declared.request.Scan.TheVariants.{Whole, More, Bad}
 use Rattle.mr_resp.specs.Resumed.{Agrees}
-use Rattle.mr_resp.specs.ReplyView.{view}
-use Rattle.mr_resp.specs.Usual.{usual, usual-word}
+use Rattle.mr_resp.specs.Usual.{usual-word}
 use Rattle.std.specs.List.{list_all}
 use Rattle.mr_value.specs.Words.{fits}
 use Rattle.mr_plan.specs.Requests.{IsAnswer, Leads}
-use Rattle.mr_node.specs.Parts.{IsTodo, KeepsAlong}
 use Rattle.mr_node.proofs.Answering.{answer_todo, answer_along}
 use Rattle.mr_node.proofs.Progressing.{agrees_now, not_le, all_fit}
 use Rattle.mr_node.proofs.todo.todo_of.Goals as goal

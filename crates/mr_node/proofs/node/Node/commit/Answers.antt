@@ -1,7 +1,6 @@
 use Rattle.std.proofs.Common.{rules, ◌≡◌, ap, subst, ◌∙◌}
 use Rattle.mr_repl.specs.Backlog.{Window, after_bytes}
 use Rattle.mr_effect.specs.Spelling.{texts}
-use Rattle.mr_data.specs.Meaning.{apply_all}
 use Rattle.mr_node.specs.State.{NodeState}
 use Rattle.mr_node.specs.Parts.{Uses}
 use Rattle.mr_node.specs.declared.step.Step.TheVariants.{Done}

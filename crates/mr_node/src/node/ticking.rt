@@ -8,7 +8,7 @@ ghost use Rattle.mr_node.specs.Rows.{offset_limit};
 ghost use Rattle.mr_node.specs.Ticks.{TickRow, IsDeletion, deletions};
 
 use crate::fault::NodeFault;
-use crate::node::{LIMIT, NOWHERE, Node};
+use crate::node::{LIMIT, Node};
 use crate::outs::Outs;
 use mr_data::{Dataset, Effect, Given};
 use mr_value::Word;
@@ -29,7 +29,7 @@ impl Node {
         if !self.up {
             return Err(NodeFault::Stopped);
         }
-        let mut outs = self.fresh_outs(NOWHERE);
+        let mut outs = self.fresh_outs(None);
         if self.replica {
             return Ok(outs);
         }

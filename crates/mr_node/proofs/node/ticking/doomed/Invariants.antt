@@ -4,7 +4,7 @@ use Rattle.mr_effect.specs.declared.effect.Effect.TheVariants as effect
 use Rattle.mr_data.specs.Due.{due}
 use Rattle.mr_node.specs.Ticks.{most_deleted}
 use Rattle.mr_node.proofs.Deletions.{Growing}
-use Rattle.mr_node.proofs.ticking.doomed.Given as goal
+use Rattle.mr_node.proofs.node.ticking.doomed.Given as goal
 
 -- the deletions so far, whose texts stand in the outs, and those of the keys to come
 abbrev pub invariant-loop-due : goal.invariant-loop-due
