@@ -35,6 +35,11 @@ def asked(*words):
     return "ask " + request(*words_of(words)).hex()
 
 
+def holding(*lines):
+    """The calls that have these effects applied to the dataset, each with its answer."""
+    return [("give " + effect(line).hex(), "applied") for line in lines]
+
+
 class Rehearsing(unittest.TestCase):
     def answers_to(self, calls, backlog=1_048_576):
         """What each call on a fresh node and its dataset answers."""
