@@ -8,6 +8,6 @@ build:
 test:
 	python3 tests/run.py
 
-# Processor time a request and peak memory, beside redis-server where it is installed.
+# Processor time a request and peak memory, beside redis-server where it is installed. RUNS="SETEX tick" chooses runs by words of their names.
 bench:
-	python3 bench/bench.py
+	python3 bench/bench.py $(RUNS)

@@ -1,15 +1,25 @@
 """Processor time a request and peak memory of `./minired pipe`, beside redis-server where it is installed.
 
 Each run hands a file of requests to the program, and to redis-server by `redis-cli --pipe`. The times are the
-processor time of the program, or of the server, without that of starting it."""
+processor time of the program, or of the server, without that of starting it. Words given to this script choose
+the runs whose names have one of them.
+
+The clock of `pipe` stands still, so ticks are made by `rehearse` (crates/rehearse) on a dataset of a million keys; what it
+takes to read the lines and to write the effects in hexadecimal digits is counted in. What redis-server does in their place is
+its active expiry, ten times a second: of keys none of which are past, the server's time so long, a cycle; of past keys, its time
+until none is left, a key."""
 
 import os
 import shutil
 import subprocess
+import sys
 import tempfile
 import time
 
 ROOT = os.path.dirname(os.path.dirname(os.path.abspath(__file__)))
+sys.path.insert(0, os.path.join(ROOT, "tests"))
+from program import built  # noqa: E402
+
 LAUNCHER = os.path.join(ROOT, "minired")
 PAIRS = 500_000
 KEYS = 1_000_000
@@ -221,10 +231,27 @@ def ten_set(count):
     return write
 
 
+def of_keys(name, reply, *last):
+    """One request for each of a million keys."""
+
+    def write(file):
+        for at in range(KEYS):
+            file.write(request(name, scrambled(at), *last))
+        return KEYS, KEYS * len(reply)
+
+    return write
+
+
 def ten_got(count):
     return asked(count, b"*10\r\n" + 10 * bulk(VALUE), b"MGET", *(key(n) for n in range(10)))
 
 
+OK = b"+OK\r\n"
+ONE = b":1\r\n"
+# in milliseconds: as long as SETEX below says, from moment 0 on
+DEADLINE = 1_000_000_000
+NEW = of_keys(b"SET", OK, VALUE)
+NEW_UNTIL = of_keys(b"SETEX", OK, b"1000000", VALUE)
 HUNDRED = b"*100\r\n" + 100 * bulk(VALUE)
 ONE_KEY = bulk(key(0))
 
@@ -256,34 +283,58 @@ RUNS = [
     ("APPEND of 3 bytes", None, appended(200_000)),
     ("MSET of 10", None, ten_set(100_000)),
     ("MGET of 10", ten_set(2_000), ten_got(100_000)),
+    ("SETEX of a million keys", None, NEW_UNTIL),
+    ("SETEX over a million keys", NEW_UNTIL, of_keys(b"SETEX", OK, b"2000000", OTHER)),
+    ("EXPIRE of a million keys", NEW, of_keys(b"EXPIRE", ONE, b"1000000")),
+    ("EXPIRE that moves a million", NEW_UNTIL, of_keys(b"EXPIRE", ONE, b"2000000")),
+    ("PERSIST of a million keys", NEW_UNTIL, of_keys(b"PERSIST", ONE)),
+    ("TTL of a million keys", NEW_UNTIL, of_keys(b"TTL", b":1000000\r\n")),
+    ("GET of a million deadlines", NEW_UNTIL, of_keys(b"GET", bulk(VALUE))),
 ]
+
+# what takes memory, told a key of a million
+HELD = [("bytes a key", NEW), ("bytes a key with a deadline", NEW_UNTIL)]
+
+# ticks on a million deadlines: how many, and at which moment; the time is told a tick, or a key where they delete some
+TICKS = [("tick, none of a million past", KEYS, 0), ("tick, all of a million past", KEYS // 64, DEADLINE)]
+
+
+def timed(words, path, out):
+    """Nanoseconds of processor time and bytes of peak memory of a program on a file, whose output goes to another."""
+    with open(path, "rb") as asked, open(out, "wb") as replies:
+        child = subprocess.Popen(words, stdin=asked, stdout=replies)
+        _, status, used = os.wait4(child.pid, 0)
+        child.returncode = os.waitstatus_to_exitcode(status)
+    if child.returncode:
+        raise SystemExit(f"bench: {words[0]} ended with {child.returncode}")
+    return (used.ru_utime + used.ru_stime) * 1e9, used.ru_maxrss * 1024
 
 
 def minired(path, wanted, room, words=()):
-    """Nanoseconds of processor time and bytes of peak memory of the program on a file of requests."""
+    """The same of `minired` on a file of requests."""
     out = os.path.join(room, "replies")
-    with open(path, "rb") as asked, open(out, "wb") as replies:
-        child = subprocess.Popen([LAUNCHER, "pipe", *words], stdin=asked, stdout=replies)
-        _, status, used = os.wait4(child.pid, 0)
-        child.returncode = os.waitstatus_to_exitcode(status)
+    times = timed([LAUNCHER, "pipe", *words], path, out)
     size = os.path.getsize(out)
     os.remove(out)
-    if child.returncode or size != wanted:
-        raise SystemExit(f"bench: ./minired ended with {child.returncode} and {size} bytes of replies in place of {wanted}")
-    return (used.ru_utime + used.ru_stime) * 1e9, used.ru_maxrss * 1024
+    if size != wanted:
+        raise SystemExit(f"bench: ./minired wrote {size} bytes of replies in place of {wanted}")
+    return times
 
 
 class Redis:
     """A server of its own in this folder, which keeps nothing on disk."""
 
-    def __init__(self, room):
+    def __init__(self, room, *more):
         self.socket = os.path.join(room, "redis")
-        words = ["--port", "0", "--unixsocket", self.socket, "--save", "", "--appendonly", "no", "--dir", room]
+        words = ["--port", "0", "--unixsocket", self.socket, "--save", "", "--appendonly", "no", "--dir", room, *more]
         self.server = subprocess.Popen(["redis-server", *words], stdout=subprocess.DEVNULL)
         while not os.path.exists(self.socket):
             if self.server.poll() is not None:
                 raise SystemExit("bench: redis-server does not start")
             time.sleep(0.01)
+
+    def asked(self, *words):
+        return subprocess.run(["redis-cli", "-s", self.socket, *words], capture_output=True, text=True, check=True).stdout.strip()
 
     def used(self):
         """Nanoseconds of processor time so far, of all threads."""
@@ -342,7 +393,70 @@ def measured(room, start, has_redis, before, write, words):
     return cells + [f"{(nanoseconds - idle) / count:,.0f}", f"{peak / MIB:,.1f}"]
 
 
-def main():
+def held(room, empty, has_redis, write):
+    """How many keys, and bytes of peak memory a key of both programs."""
+    path = os.path.join(room, "requests")
+    with open(path, "wb") as file:
+        count, wanted = write(file)
+    cells = [f"{count:,}"]
+    for run in [lambda it, size: minired(it, size, room), lambda it, size: redis(it, room)][: 2 if has_redis else 1]:
+        cells += [f"{(run(path, wanted)[1] - run(empty, 0)[1]) / count:,.0f}", ""]
+    return cells if has_redis else cells + ["-", "-"]
+
+
+def ticked(room, count, now):
+    """Nanoseconds of so many ticks at this moment, on a million keys with deadlines."""
+    out, program = os.path.join(room, "answers"), built("rehearse")
+    times = []
+    for ticks in (0, count):
+        path = os.path.join(room, "lines")
+        with open(path, "w") as file:
+            file.write("start 1048576\n")
+            for at in range(KEYS):
+                file.write("give %s\n" % request(b"SET", scrambled(at), VALUE, b"PXAT", b"%d" % DEADLINE).hex())
+            file.write("master\ngiven %d 0\n" % now + "tick\n" * ticks)
+        times.append(timed([program], path, out)[0])
+    with open(out) as answers:
+        gone = sum(line.count(b"$3\r\nDEL\r\n".hex()) for line in answers)
+    if gone != (KEYS if now >= DEADLINE else 0):
+        raise SystemExit(f"bench: the ticks deleted {gone} keys")
+    return times[1] - times[0]
+
+
+def expired(room, is_past):
+    """Nanoseconds of redis-server's active expiry on a million keys with deadlines: a key that was past, or a cycle where none is."""
+    path = os.path.join(room, "requests")
+    with open(path, "wb") as file:
+        for at in range(KEYS):
+            file.write(request(b"SET", scrambled(at), VALUE, b"PX", b"1" if is_past else b"%d" % DEADLINE))
+    server = Redis(room, "--enable-debug-command", "yes")
+    try:
+        server.asked("DEBUG", "SET-ACTIVE-EXPIRE", "0")
+        server.run(path)
+        server.asked("DEBUG", "SET-ACTIVE-EXPIRE", "1")
+        before, seconds = server.used(), 5
+        if not is_past:
+            time.sleep(seconds)
+            return (server.used() - before) / (10 * seconds)
+        while server.asked("DBSIZE") != "0":
+            time.sleep(0.05)
+        return (server.used() - before) / KEYS
+    finally:
+        server.stop()
+
+
+def tick_cells(room, has_redis, count, now):
+    is_past = now >= DEADLINE
+    a_time = ticked(room, count, now) / (KEYS if is_past else count)
+    cells = [f"{KEYS if is_past else count:,}", f"{a_time:,.0f}", ""]
+    return cells + ([f"{expired(room, is_past):,.0f}", ""] if has_redis else ["-", "-"])
+
+
+def is_chosen(name, chosen):
+    return not chosen or any(word in name for word in chosen)
+
+
+def main(*chosen):
     has_redis = shutil.which("redis-server") and shutil.which("redis-cli")
     with tempfile.TemporaryDirectory() as room:
         empty = os.path.join(room, "none")
@@ -352,11 +466,17 @@ def main():
         line("", "requests", "minired", "", "redis", "")
         line("", "", "ns a request", "peak MiB", "ns a request", "peak MiB")
         for name, before, write, *words in RUNS:
-            cells = measured(room, start, has_redis, before, write, words)
-            line(name, *cells)
+            if is_chosen(name, chosen):
+                line(name, *measured(room, start, has_redis, before, write, words))
+        for name, write in HELD:
+            if is_chosen(name, chosen):
+                line(name, *held(room, empty, has_redis, write))
+        for name, count, now in TICKS:
+            if is_chosen(name, chosen):
+                line(name, *tick_cells(room, has_redis, count, now))
     if not has_redis:
         print("redis-server and redis-cli are not installed (Debian's redis-server and redis-tools)")
 
 
 if __name__ == "__main__":
-    main()
+    main(*sys.argv[1:])

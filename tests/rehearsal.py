@@ -35,6 +35,22 @@ def asked(*words):
     return "ask " + request(*words_of(words)).hex()
 
 
+def texts_of(data):
+    """The command texts that these bytes are, one after another."""
+    while data:
+        count, _, rest = data[1:].partition(b"\r\n")
+        for _ in range(int(count)):
+            length, _, rest = rest[1:].partition(b"\r\n")
+            rest = rest[int(length) + 2 :]
+        yield data[: len(data) - len(rest)]
+        data = rest
+
+
+def holding(*lines):
+    """The calls that have these effects applied to the dataset, each with its answer."""
+    return [("give " + effect(line).hex(), "applied") for line in lines]
+
+
 class Rehearsing(unittest.TestCase):
     def answers_to(self, calls, backlog=1_048_576):
         """What each call on a fresh node and its dataset answers."""

@@ -3,7 +3,7 @@
 import unittest
 
 from program import request
-from rehearsal import ID, Rehearsing, done, effect
+from rehearsal import ID, Rehearsing, done, effect, holding, texts_of
 from replies import INTEGER, NIL, OK, SYNTAX, WRONG_KIND, arity, bulk, number
 
 # the last moment, and as many milliseconds as a request may name
@@ -31,69 +31,13 @@ class AtMoments(Rehearsing):
         self.plays_at([(now, *row) for row in rows])
 
 
-class Ticking(AtMoments):
-    def test_a_tick_deletes_in_order_of_deadline_and_then_of_key(self):
-        sets = [effect("SET a 1 PXAT 5"), effect("SET b 1 PXAT 5"), effect("SET c 1 PXAT 4")]
-        self.assertEqual([len(it) for it in sets], [44, 44, 44])
-        self.rehearses([
-            ("open", "opened"),
-            ("feed 0 " + (request("SET", "a", "1", "PX", "5") + request("SET", "b", "1", "PX", "5") + request("SET", "c", "1", "PX", "4")).hex(), "fed"),
-            *[("step 0", done(OK, it)) for it in sets],
-            ("given 3 0", "given"),
-            ("tick", done(b"")),
-            ("given 5 0", "given"),
-            ("tick", done(b"", effect("DEL c") + effect("DEL a") + effect("DEL b"))),
-            ("tick", done(b"")),
-            ("shows", "shows %s 192" % ID),
-        ])
-
-    def test_a_tick_deletes_64_keys_at_most(self):
-        keys = ["k%02d" % it for it in range(70)]
-        self.rehearses([
-            ("open", "opened"),
-            ("feed 0 " + b"".join(request("SET", it, "v", "PX", "1") for it in keys).hex(), "fed"),
-            *[("step 0", None)] * 70,
-            ("given 1 0", "given"),
-            ("tick", done(b"", b"".join(effect("DEL", it) for it in keys[:64]))),
-            ("tick", done(b"", b"".join(effect("DEL", it) for it in keys[64:]))),
-            ("tick", done(b"")),
-        ])
-
-    def test_keys_without_a_deadline_stay(self):
-        self.rehearses([
-            ("open", "opened"),
-            ("feed 0 " + (request("SET", "a", "1") + request("SET", "b", "1", "PX", "9")).hex(), "fed"),
-            *[("step 0", None)] * 2,
-            ("given 8 0", "given"),
-            ("tick", done(b"")),
-            ("given 9 0", "given"),
-            ("tick", done(b"", effect("DEL b"))),
-            ("feed 0 " + request("GET", "a").hex(), "fed"),
-            ("step 0", done(bulk("1"))),
-        ])
-
-
-class Due(AtMoments):
-    def test_the_first_past_key_is_due(self):
-        self.rehearses([
-            *[("give " + effect(it).hex(), "applied") for it in ("SET a v PXAT 7", "SET c v PXAT 5", "SET b v PXAT 5", "SET d v")],
-            ("given 4 0", "given"),
-            ("due", "nothing due"),
-            ("given 5 0", "given"),
-            ("due", "due 62"),
-            ("give " + effect("DEL b").hex(), "applied"),
-            ("due", "due 63"),
-            ("give " + effect("PERSIST c").hex(), "applied"),
-            ("due", "nothing due"),
-            ("given 7 0", "given"),
-            ("due", "due 61"),
-        ])
-
-
 class Rebuilding(AtMoments):
     def rebuilds(self, effects, commands):
+        """Whatever the moment is: past keys are rebuilt too."""
         texts = b"".join(effect(*it) for it in commands)
-        self.rehearses([*[("give " + effect(*it).hex(), "applied") for it in effects], ("rebuild", "rebuilt " + (texts.hex() or "-"))])
+        for now in (0, 8, MOST):
+            calls = [("give " + effect(*it).hex(), "applied") for it in effects]
+            self.rehearses([*calls, ("given %d 0" % now, "given"), ("rebuild", "rebuilt " + (texts.hex() or "-"))])
 
     def test_nothing_is_rebuilt_by_nothing(self):
         self.rebuilds([], [])
@@ -114,6 +58,79 @@ class Rebuilding(AtMoments):
             ("ZADD d 2 m 1 n",),
             ("PEXPIREAT d 9",),
             ("HSET e f 1 g 2",),
+        ])
+
+    def test_keys_of_one_kind_each_with_a_deadline(self):
+        self.rebuilds([
+            ("HSET a f v",),
+            ("PEXPIREAT a 1",),
+            ("RPUSH b v",),
+            ("PEXPIREAT b 4611686018427387904",),
+            ("SADD c v",),
+            ("PEXPIREAT c 7",),
+            ("SET d v PXAT 7",),
+            ("ZADD e 1 v",),
+            ("PEXPIREAT e 7",),
+        ], [
+            ("HSET a f v",),
+            ("PEXPIREAT a 1",),
+            ("RPUSH b v",),
+            ("PEXPIREAT b 4611686018427387904",),
+            ("SADD c v",),
+            ("PEXPIREAT c 7",),
+            ("SET d v",),
+            ("PEXPIREAT d 7",),
+            ("ZADD e 1 v",),
+            ("PEXPIREAT e 7",),
+        ])
+
+    def test_deadlines_that_were_moved_or_taken_off(self):
+        self.rebuilds([
+            ("MSET a v b v c v",),
+            ("PEXPIREAT a 9",),
+            ("PEXPIREAT a 7",),
+            ("PEXPIREAT b 9",),
+            ("PERSIST b",),
+            ("PEXPIREAT c 9",),
+            ("RENAME c d",),
+            ("SET e v PXAT 9",),
+            ("SET e v",),
+        ], [
+            ("SET a v",),
+            ("PEXPIREAT a 7",),
+            ("SET b v",),
+            ("SET d v",),
+            ("PEXPIREAT d 9",),
+            ("SET e v",),
+        ])
+
+    def test_what_is_rebuilt_is_rebuilt_again(self):
+        names = ["%02d" % it for it in range(65)]
+        held = [
+            ("SET", "", "\r\n*1", "PXAT", "7"),
+            ("HSET", "h", *(word for it in names for word in (it, "v"))),
+            ("PEXPIREAT h 9",),
+            ("RPUSH", "l", *names),
+            ("SADD", "s", *names),
+            ("ZADD", "z", *(word for it in names for word in (it.lstrip("0") or "0", it))),
+            ("PEXPIREAT z 9",),
+        ]
+        calls = [*[("give " + effect(*it).hex(), "applied") for it in held], ("rebuild", None)]
+        rebuilt = self.answers_to([call for call, _ in calls])[-1]
+        texts = bytes.fromhex(rebuilt.removeprefix("rebuilt "))
+        parts = list(texts_of(texts))
+        self.assertEqual(len(parts), 12)
+        again = [("give " + it.hex(), "applied") for it in parts]
+        self.rehearses([
+            *again,
+            ("rebuild", rebuilt),
+            ("given 8 0", "given"),
+            ("due", "due -"),
+            ("give " + effect("DEL", "").hex(), "applied"),
+            ("due", "nothing due"),
+            ("given 9 0", "given"),
+            ("due", "due 68"),
+            ("ask " + request("DBSIZE").hex(), "replied " + number(2).hex()),
         ])
 
     def test_a_command_has_64_items_at_most(self):
@@ -321,34 +338,69 @@ class Telling(AtMoments):
         ])
 
 
-class Keeping(AtMoments):
-    def test_what_changes_a_value_keeps_the_deadline(self):
-        self.plays_at([
-            (1000, "RPUSH l a", number(1), "RPUSH l a"),
-            (1000, "EXPIRE l 10", number(1), "PEXPIREAT l 11000"),
-            (2000, "RPUSH l b", number(2), "RPUSH l b"),
-            (2000, "PTTL l", number(9000)),
-            (2000, "SET k v", OK, "SET k v"),
-            (2000, "EXPIRE k 10", number(1), "PEXPIREAT k 12000"),
-            (2000, "APPEND k w", number(2), "APPEND k w"),
-            (2000, "PEXPIRETIME k", number(12000)),
-            (2000, "RENAME k l", OK, "RENAME k l"),
-            (2000, "PEXPIRETIME l", number(12000)),
-        ])
+# what makes the key k, and what then is asked and keeps its deadline
+KEPT = [
+    ("SET k 5", ["INCR k", "DECR k", "INCRBY k 0", "DECRBY k 7", "APPEND k 1", "APPEND k ", "SETRANGE k 0 1", "SETRANGE k 9 ", "SET k 5 KEEPTTL",
+                 "SET k 6 KEEPTTL XX GET", "SET k v NX", "SET k v NX EX 1", "SETNX k v", "MSETNX j v k v", "SETRANGE k 16777216 v", "LPUSH k v"]),
+    ("SET k v", ["INCR k", "RENAME k k", "RENAMENX k k", "RENAMENX k h", "EXPIRE k 1 NX", "EXPIRE k 99 LT", "EXPIRE k 0 GT", "PEXPIREAT k 9000",
+                 "GET k", "STRLEN k", "MGET k", "EXISTS k", "TYPE k", "TTL k", "RENAME x k", "DEL x", "KEYS *", "FLUSHALL x"]),
+    ("HSET k f 1 g 2", ["HSET k h 3", "HSET k f 9", "HMSET k f 8", "HSETNX k i 4", "HINCRBY k f 1", "HDEL k g", "HGETALL k", "SET k v GET"]),
+    ("RPUSH k a b c", ["LPUSH k d", "RPUSH k e", "LPUSHX k f", "RPUSHX k g", "LPOP k", "RPOP k 2", "LSET k 0 z", "LINSERT k AFTER z y", "LREM k 0 z",
+                       "LTRIM k 0 1", "LMOVE k k LEFT RIGHT", "LMOVE k j LEFT RIGHT", "LMOVE l k LEFT LEFT", "RPOPLPUSH l k", "LRANGE k 0 -1"]),
+    ("SADD k a b c", ["SADD k d", "SREM k d", "SPOP k", "SMOVE k j b", "SMOVE s k m", "SMOVE k k c", "SMEMBERS k", "SUNION k s"]),
+    ("ZADD k 1 a 2 b 3 c 4 d 5 e", ["ZADD k 6 f", "ZADD k XX 7 f", "ZINCRBY k 1 f", "ZREM k f", "ZPOPMIN k", "ZPOPMAX k", "ZREMRANGEBYRANK k 0 0",
+                                    "ZREMRANGEBYSCORE k 3 3", "ZRANGE k 0 -1"]),
+]
 
-    def test_a_key_that_is_made_anew_has_no_deadline(self):
-        self.plays_all_at(1000, [
-            ("SET k v", OK, "SET k v"),
-            ("EXPIRE k 10", number(1), "PEXPIREAT k 11000"),
-            ("SET k v", OK, "SET k v"),
-            ("TTL k", number(-1)),
-            ("EXPIRE k 10", number(1), "PEXPIREAT k 11000"),
-            ("GETSET k v", bulk("v"), "SET k v"),
-            ("TTL k", number(-1)),
-            ("EXPIRE k 10", number(1), "PEXPIREAT k 11000"),
-            ("MSET k v", OK, "MSET k v"),
-            ("TTL k", number(-1)),
-        ])
+# what makes the key k anew, or takes its deadline off
+CLEARED = ["SET k v", "SET k 5", "SET k v XX", "SET k v GET", "GETSET k v", "GETSET k 5", "MSET k v", "MSET j v k 5", "PERSIST k", "RENAME h k"]
+
+
+class Keeping(AtMoments):
+    def told(self, held, lines, question, reply):
+        """What is answered at 1000, after these effects and commands."""
+        fed = b"".join(request(*line.split(" ")) for line in [*lines, question])
+        calls = [*holding(*held), ("master", "started"), ("given 1000 0", "given"), ("open", "opened"), ("feed 0 " + fed.hex(), "fed")]
+        with self.subTest(held=held, lines=lines):
+            self.rehearses([*calls, *[("step 0", None)] * len(lines), ("step 0", done(reply))])
+
+    def test_a_value_is_changed_and_its_deadline_stays(self):
+        others = ["HSET h f v", "RPUSH l x y", "SADD s m"]
+        for made, lines in KEPT:
+            for end in range(1, len(lines) + 1):
+                self.told([made, *others, "PEXPIREAT k 9000"], lines[:end], "PEXPIRETIME k", number(9000))
+
+    def test_a_key_is_made_anew_without_a_deadline(self):
+        for line in CLEARED:
+            for made in ("SET k 5", "RPUSH k 5"):
+                if made == "SET k 5" or "GET" not in line:
+                    self.told([made, "HSET h f v", "PEXPIREAT k 9000"], [line], "PEXPIRETIME k", number(-1))
+
+    def test_a_deleted_key_leaves_no_deadline(self):
+        for line in ("DEL k", "UNLINK k", "GETDEL k", "RENAME k j", "EXPIRE k 0", "FLUSHALL"):
+            self.told(["SET k 5 PXAT 9000"], [line], "PEXPIRETIME k", number(-2))
+            for anew in ("SET k 5", "APPEND k 5", "RPUSH k v", "SADD k v", "SETNX k v", "MSETNX k v", "SET k v KEEPTTL"):
+                self.told(["SET k 5 PXAT 9000"], [line, anew], "PEXPIRETIME k", number(-1))
+
+    def test_an_emptied_collection_leaves_no_deadline(self):
+        rows = [("HSET k f v", "HDEL k f"), ("RPUSH k v", "LPOP k"), ("RPUSH k v v", "LREM k 0 v"), ("RPUSH k v", "LTRIM k 1 0"), ("RPUSH k v", "RPOPLPUSH k j"),
+                ("SADD k v", "SREM k v"), ("SADD k v", "SPOP k"), ("SADD k v", "SMOVE k j v"), ("ZADD k 1 v", "ZREM k v"), ("ZADD k 1 v", "ZPOPMIN k"),
+                ("ZADD k 1 v", "ZREMRANGEBYRANK k 0 0"), ("ZADD k 1 v", "ZREMRANGEBYSCORE k 1 1")]
+        for made, line in rows:
+            self.told([made, "PEXPIREAT k 9000"], [line], "PEXPIRETIME k", number(-2))
+            self.told([made, "PEXPIREAT k 9000"], [line, made], "PEXPIRETIME k", number(-1))
+
+    def test_a_renamed_key_takes_its_deadline_along(self):
+        for name in ("RENAME", "RENAMENX"):
+            self.told(["SET k v PXAT 9000"], [name + " k j"], "PEXPIRETIME j", number(9000))
+            self.told(["SET k v"], [name + " k j"], "PEXPIRETIME j", number(-1))
+        self.told(["SET k v PXAT 9000", "RPUSH j v", "PEXPIREAT j 7000"], ["RENAME k j"], "PEXPIRETIME j", number(9000))
+        self.told(["SET k v PXAT 9000", "SET j v"], ["RENAME k j"], "PEXPIRETIME j", number(9000))
+        self.told(["SET k v", "SET j v PXAT 7000"], ["RENAME k j"], "PEXPIRETIME j", number(-1))
+
+    def test_a_new_item_gets_no_deadline_from_its_source(self):
+        self.told(["RPUSH k a b", "PEXPIREAT k 9000"], ["LMOVE k j LEFT LEFT"], "PEXPIRETIME j", number(-1))
+        self.told(["SADD k a b", "PEXPIREAT k 9000"], ["SMOVE k j a"], "PEXPIRETIME j", number(-1))
 
 
 class SetUntil(AtMoments):

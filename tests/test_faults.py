@@ -18,7 +18,7 @@ class Faults(Rehearsing):
             ("get", arity("get")),
             ("GET a b", arity("get")),
             ("Set k", arity("set")),
-            ("SET k v EX 10", SYNTAX),
+            ("SET k v EX 10 GET NX PX 10", SYNTAX),
             ("DEL", arity("del")),
             ("Unlink", arity("unlink")),
             ("EXISTS", arity("exists")),
@@ -202,9 +202,11 @@ class Faults(Rehearsing):
         ])
 
     def test_texts_that_are_no_score_or_bound(self):
-        scores = ("", "1.", ".0", "-0.0", "+1", "01", "1.0.0", "1.01", "1e3", "inf", "-9007199254740993")
+        scores = ("", "1.", ".0", "-0.0", "+1", "01", "1.0.0", "1.01", "1e3", "inf", "INF", "+Inf", "(1", "-9007199254740993")
         self.are_told([("ZADD k %s m" % text, INTEGER) for text in scores])
-        self.are_told([("ZCOUNT k %s 1" % text, NO_BOUND) for text in ("", "(", "((1", "INF", "(1.5")])
+        bounds = ("", "(", "((1", "(1.5", "in", "i", "infinity", "INFX", "inff", "++inf", "+-inf", "--INF", "((inf", "+(inf", "-(Inf", "nan", "+", "-", "(+")
+        self.are_told([("ZCOUNT k %s 1" % text, NO_BOUND) for text in bounds])
+        self.are_told([("ZREVRANGEBYSCORE k 1 " + text, NO_BOUND) for text in bounds])
 
 
 if __name__ == "__main__":

@@ -5,8 +5,9 @@ import subprocess
 import tempfile
 import unittest
 
-from program import LATE, PROGRAM, compiler, request, run
-from replies import OK, asked
+from program import LATE, PROGRAM, built, compiler, request, run
+from rehearsal import asked as asking, holding
+from replies import NIL, NONE, OK, array, asked, bulk, number
 from test_collections import HASHES, LISTS, SERVER, SETS
 from test_sorted_sets import SORTED_SETS
 from test_strings import KEYS, STRINGS
@@ -31,6 +32,48 @@ ANSWERED = (
 )
 
 
+# commands on deadlines at moment 1000, with keys that are past at once
+DEADLINES = [
+    ("SETEX k 10 v", OK),
+    ("SETEX k 20 w", OK),
+    ("PSETEX l 1 v", OK),
+    ("SET m v EX 10 GET", NIL),
+    ("SET m w KEEPTTL", OK),
+    ("EXPIRE k 30", number(1)),
+    ("PEXPIREAT m 1001", number(1)),
+    ("TTL k", number(30)),
+    ("PTTL l", number(1)),
+    ("PEXPIRETIME m", number(1001)),
+    ("PERSIST k", number(1)),
+    ("PERSIST k", number(0)),
+    ("EXPIRE k -1", number(1)),
+    ("RENAME m n", OK),
+    ("PEXPIRETIME n", number(1001)),
+    ("SET a v PXAT 1", OK),
+    ("SET b v PXAT 1", OK),
+    ("MGET b a n b", array(None, None, "w", None)),
+    ("SET a v PXAT 1", OK),
+    ("SET b v PXAT 1", OK),
+    ("MSET b v a w", OK),
+    ("SET c v PXAT 1", OK),
+    ("KEYS *", array("a", "b", "l", "n")),
+    ("RPUSH c x", number(1)),
+    ("PEXPIRE c 1", number(1)),
+    ("LPOP c", bulk("x")),
+    ("SET d v PXAT 1", OK),
+    ("SUNION d c", NONE),
+    ("FLUSHALL", OK),
+]
+
+REFUSAL = b"refused: out of memory"
+
+# a dataset with more past keys than a tick deletes, and others
+HELD = ["SET a v PXAT 5", "HSET h f v g w", "RPUSH l x y", "PEXPIREAT l 4", "SADD s m", "ZADD z 1 m", "PEXPIREAT z 9", "PERSIST z", "SET a w KEEPTTL",
+        *("SET k%02d v PXAT 5" % it for it in range(66))]
+LOOKED_AT = ["given 5 0", "due", asking("PTTL", "a"), asking("DBSIZE"), "rebuild", "due", "rebuild"]
+TICKED = ["master", "given 5 0", "tick", "tick", "tick"]
+
+
 class Memory(unittest.TestCase):
     def setUp(self):
         self.room = tempfile.TemporaryDirectory()
@@ -38,29 +81,29 @@ class Memory(unittest.TestCase):
         self.shim = os.path.join(self.room.name, "refusing_malloc.so")
         subprocess.run([*compiler(), "-O1", "-fPIC", "-shared", "-nostdlib", "-o", self.shim, SHIM], check=True)
 
-    def refused(self, call, data, words):
-        """Runs the program with this allocation refused: how it ended, and whether it asked for so many."""
+    def refused(self, call, data, *words):
+        """Runs a program with this allocation refused: how it ended, and whether it asked for so many."""
         heard, teller = os.pipe()
         env = {**os.environ, "LD_PRELOAD": self.shim, "REFUSE_CALL": str(call), "TELL_REFUSAL": str(teller)}
-        ran = subprocess.run([PROGRAM, *words], input=data, capture_output=True, timeout=LATE, env=env, pass_fds=[teller])
+        ran = subprocess.run(words, input=data, capture_output=True, timeout=LATE, env=env, pass_fds=[teller])
         os.close(teller)
         was_refused = os.read(heard, 1) == b"r"
         os.close(heard)
         return ran, was_refused
 
-    def each_refusal(self, data, words, check):
+    def each_refusal(self, data, check, *words):
         """Refuses each allocation in turn, and returns how many there were."""
         for call in range(1, 100_000):
-            ran, was_refused = self.refused(call, data, words)
+            ran, was_refused = self.refused(call, data, *words)
             with self.subTest(call=call):
                 check(ran, was_refused)
             if not was_refused:
                 return call - 1
         self.fail("each of 100,000 runs was refused an allocation")
 
-    def beginnings(self, data, wanted):
+    def beginnings(self, data, wanted, *words):
         """Whichever allocation is refused, the replies are a beginning of these."""
-        self.assertEqual(run(data, "pipe").stdout, wanted)
+        self.assertEqual(run(data, "pipe", *words).stdout, wanted)
 
         def check(ran, was_refused):
             if ran.returncode == 0:
@@ -70,7 +113,7 @@ class Memory(unittest.TestCase):
                 self.assertEqual((ran.returncode, ran.stderr), (3, b"minired: out of memory\n"))
                 self.assertEqual(ran.stdout, wanted[: len(ran.stdout)])
 
-        self.assertGreater(self.each_refusal(data, ["pipe"], check), 10)
+        self.assertGreater(self.each_refusal(data, check, PROGRAM, "pipe", *words), 10)
 
     def test_replies_are_a_beginning_of_the_ample_run(self):
         self.beginnings(ASKED, ANSWERED)
@@ -87,7 +130,41 @@ class Memory(unittest.TestCase):
                 self.assertEqual((ran.returncode, ran.stdout), (1, b""))
                 self.assertRegex(ran.stderr, rb"\Aminired: [^\n]+\n\Z")
 
-        self.assertGreater(self.each_refusal(b"", ["pipe", "--now", "x"], check), 10)
+        self.assertGreater(self.each_refusal(b"", check, PROGRAM, "pipe", "--now", "x"), 10)
+
+    def test_replies_on_deadlines_are_too(self):
+        self.beginnings(asked(line for line, _ in DEADLINES), b"".join(reply for _, reply in DEADLINES), "--now", "1000")
+
+    def rehearsed(self, calls):
+        """Makes calls on what HELD leaves. One that is refused changes nothing: those behind it answer what they did from there on."""
+        held = ["start 64", *(call for call, _ in holding(*HELD))]
+        script = "".join(line + "\n" for line in [*held, *calls]).encode()
+        ample = subprocess.run([built("rehearse")], input=script, capture_output=True, timeout=LATE).stdout.splitlines()
+        refusals = set()
+
+        def check(ran, was_refused):
+            answers = ran.stdout.splitlines()
+            if ran.returncode:
+                self.assertEqual((was_refused, answers, ran.stderr), (True, [], b"rehearse: out of memory\n"))
+            elif REFUSAL not in answers:
+                self.assertEqual(answers, ample)
+            else:
+                at = answers.index(REFUSAL)
+                self.assertTrue(was_refused)
+                self.assertEqual(answers[:at], ample[:at])
+                # an effect that lacked memory may have left anything
+                if at >= len(held):
+                    self.assertEqual(answers[at + 1 :], ample[at:-1])
+                    refusals.add(calls[at - len(held)])
+
+        self.assertGreater(self.each_refusal(script, check, built("rehearse")), 10)
+        return refusals
+
+    def test_a_tick_that_lacks_memory_deletes_nothing(self):
+        self.assertEqual(self.rehearsed(TICKED), {"tick"})
+
+    def test_what_is_rebuilt_and_due_without_memory(self):
+        self.assertEqual(self.rehearsed(LOOKED_AT), set())
 
 
 if __name__ == "__main__":

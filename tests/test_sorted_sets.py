@@ -72,7 +72,7 @@ SORTED_SETS = [
     ("ZCOUNT z (1 8", number(4)),
     ("ZCOUNT z -inf +inf", number(6)),
     ("ZCOUNT x 0 1", number(0)),
-    ("ZCOUNT z 0 Inf", NO_BOUND),
+    ("ZCOUNT z 0 Inf", number(6)),
     ("ZCOUNT z (1.0 8.00", number(4)),
     ("ZCOUNT z 0 1.5", NO_BOUND),
     ("ZCOUNT z 0 9007199254740993", NO_BOUND),
@@ -130,6 +130,27 @@ class SortedSets(Answering):
             ("ZRANGEBYSCORE z (1 +inf WITHSCORES", array("b", "2", "c", "3")),
             ("ZRANGE z +inf 1 BYSCORE REV LIMIT 1 -1", array("b", "a")),
         ])
+
+    def test_infinite_bounds_in_any_case(self):
+        for bound in ("inf", "INF", "Inf", "iNf", "inF", "INf"):
+            self.answers([
+                ("ZADD z 1 a 2 b 3 c", number(3)),
+                (f"ZCOUNT z -{bound} {bound}", number(3)),
+                (f"ZCOUNT z (-{bound} (+{bound}", number(3)),
+                (f"ZCOUNT z {bound} +{bound}", number(0)),
+                (f"ZCOUNT z ({bound} -{bound}", number(0)),
+                (f"ZRANGEBYSCORE z (1 {bound}", array("b", "c")),
+                (f"ZRANGEBYSCORE z -{bound} (2", array("a")),
+                (f"ZREVRANGEBYSCORE z +{bound} (1 LIMIT 0 1", array("c")),
+                (f"ZRANGE z ({bound} (-{bound} BYSCORE REV LIMIT 1 2", array("b", "a")),
+                (f"ZRANGE z -{bound} 2 BYSCORE", array("a", "b")),
+                (f"ZREMRANGEBYSCORE z -{bound} (2", number(1)),
+                (f"ZREMRANGEBYSCORE z (2 +{bound}", number(1)),
+                (f"ZADD z {bound} d", INTEGER),
+                (f"ZADD z -{bound} d", INTEGER),
+                (f"ZINCRBY z +{bound} b", INTEGER),
+                ("ZRANGE z 0 -1", array("b")),
+            ])
 
     def test_another_kind_is_refused_and_stays(self):
         rows = [("RPUSH k a", number(1))]

@@ -5,10 +5,25 @@ use mr_data::Given;
 use mr_value::read_i64;
 use std::alloc::Global;
 
-/// A call on the node. Links are named by their places among those opened.
+/// A call.
 #[derive(Drop)]
 pub enum Call {
     Given(Given),
+    Start(Role),
+    OnNode(NodeCall),
+    OnDataset(DatasetCall),
+}
+
+/// What a node is started as.
+#[derive(Clone, Copy, PartialEq, Eq)]
+pub enum Role {
+    Master,
+    Replica,
+}
+
+/// A call on the node. Links are named by their places among those opened.
+#[derive(Drop)]
+pub enum NodeCall {
     Open,
     Feed(usize, Vec<u8>),
     Step(usize),
@@ -16,6 +31,11 @@ pub enum Call {
     Close(usize),
     Tick,
     Shows,
+}
+
+/// A call on the dataset beside the node, or on none.
+#[derive(Drop)]
+pub enum DatasetCall {
     Spell(Vec<u8>),
     Apply(Vec<u8>, Way),
     Ask(Vec<u8>),
@@ -37,29 +57,54 @@ impl Call {
         let name = words.next().unwrap_or("");
         let first = words.next();
         let second = words.next();
-        match (name, first, second) {
-            ("given", Some(now), Some(word)) => given(now, word),
-            ("open", None, None) => Ok(Call::Open),
-            ("feed", Some(link), Some(bytes)) => Ok(Call::Feed(
-                place(link)?,
-                bytes_of(alloc, bytes)?,
-            )),
-            ("step", Some(link), None) => Ok(Call::Step(place(link)?)),
-            ("room", Some(link), None) => Ok(Call::Room(place(link)?)),
-            ("close", Some(link), None) => Ok(Call::Close(place(link)?)),
-            ("tick", None, None) => Ok(Call::Tick),
-            ("shows", None, None) => Ok(Call::Shows),
-            ("spell", Some(bytes), None) => Ok(Call::Spell(bytes_of(alloc, bytes)?)),
-            ("lend", Some(bytes), None) => Ok(Call::Apply(
-                bytes_of(alloc, bytes)?,
-                Way::ByReference,
-            )),
-            ("give", Some(bytes), None) => Ok(Call::Apply(bytes_of(alloc, bytes)?, Way::Moved)),
-            ("ask", Some(bytes), None) => Ok(Call::Ask(bytes_of(alloc, bytes)?)),
-            ("due", None, None) => Ok(Call::Due),
-            ("rebuild", None, None) => Ok(Call::Rebuild),
-            _ => Err(RehearsalFault::Line),
+        match (first, second) {
+            (None, _) => alone(name),
+            (Some(first), None) => with_one(alloc, name, first),
+            (Some(first), Some(second)) => with_two(alloc, name, first, second),
         }
+    }
+}
+
+fn alone(name: &str) -> Result<Call, RehearsalFault> {
+    match name {
+        "master" => Ok(Call::Start(Role::Master)),
+        "replica" => Ok(Call::Start(Role::Replica)),
+        "open" => Ok(Call::OnNode(NodeCall::Open)),
+        "tick" => Ok(Call::OnNode(NodeCall::Tick)),
+        "shows" => Ok(Call::OnNode(NodeCall::Shows)),
+        "due" => Ok(Call::OnDataset(DatasetCall::Due)),
+        "rebuild" => Ok(Call::OnDataset(DatasetCall::Rebuild)),
+        _ => Err(RehearsalFault::Line),
+    }
+}
+
+fn with_one(alloc: Global, name: &str, word: &str) -> Result<Call, RehearsalFault> {
+    match name {
+        "step" => Ok(Call::OnNode(NodeCall::Step(place(word)?))),
+        "room" => Ok(Call::OnNode(NodeCall::Room(place(word)?))),
+        "close" => Ok(Call::OnNode(NodeCall::Close(place(word)?))),
+        _ => Ok(Call::OnDataset(on_bytes(name, bytes_of(alloc, word)?)?)),
+    }
+}
+
+fn on_bytes(name: &str, bytes: Vec<u8>) -> Result<DatasetCall, RehearsalFault> {
+    match name {
+        "spell" => Ok(DatasetCall::Spell(bytes)),
+        "lend" => Ok(DatasetCall::Apply(bytes, Way::ByReference)),
+        "give" => Ok(DatasetCall::Apply(bytes, Way::Moved)),
+        "ask" => Ok(DatasetCall::Ask(bytes)),
+        _ => Err(RehearsalFault::Line),
+    }
+}
+
+fn with_two(alloc: Global, name: &str, first: &str, second: &str) -> Result<Call, RehearsalFault> {
+    match name {
+        "given" => given(first, second),
+        "feed" => {
+            let link = place(first)?;
+            Ok(Call::OnNode(NodeCall::Feed(link, bytes_of(alloc, second)?)))
+        }
+        _ => Err(RehearsalFault::Line),
     }
 }
 

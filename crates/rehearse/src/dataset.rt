@@ -1,5 +1,5 @@
 //! Effects and requests on a dataset alone.
-use crate::call::Way;
+use crate::call::{DatasetCall, Way};
 use crate::fault::RehearsalFault;
 use crate::telling::{tell, tell_bytes, tell_refusal};
 use mr_data::{ApplyFault, Dataset, Effect, Given, decode, encode};
@@ -7,8 +7,25 @@ use mr_plan::{Answer, plan_words};
 use mr_resp::{Scan, next_command, next_request, write_reply};
 use std::alloc::Global;
 
+/// Makes a call, and writes what it answered.
+pub fn make(
+    alloc: Global,
+    held: &mut Dataset,
+    call: DatasetCall,
+    given: Given,
+    out: &mut Vec<u8>,
+) -> Result<(), RehearsalFault> {
+    match call {
+        DatasetCall::Spell(text) => spell(alloc, text.as_slice(), out),
+        DatasetCall::Apply(text, way) => apply(alloc, held, text.as_slice(), way, out),
+        DatasetCall::Ask(text) => ask(alloc, held, text.as_slice(), given, out),
+        DatasetCall::Due => tell_due(alloc, held, given, out),
+        DatasetCall::Rebuild => rebuild(alloc, held, out),
+    }
+}
+
 /// Writes the text of the effect that a command text spells.
-pub fn spell(alloc: Global, text: &[u8], out: &mut Vec<u8>) -> Result<(), RehearsalFault> {
+fn spell(alloc: Global, text: &[u8], out: &mut Vec<u8>) -> Result<(), RehearsalFault> {
     let Scan::Whole { words, used: _ } = next_command(alloc, text)? else {
         return Err(RehearsalFault::Line);
     };
@@ -34,7 +51,7 @@ fn tell_spelled(
 }
 
 /// Applies the effect that a command text spells.
-pub fn apply(
+fn apply(
     alloc: Global,
     held: &mut Dataset,
     text: &[u8],
@@ -65,7 +82,7 @@ fn tell_applied(
 }
 
 /// Writes the reply to a request.
-pub fn ask(
+fn ask(
     alloc: Global,
     held: &Dataset,
     text: &[u8],
@@ -90,7 +107,7 @@ pub fn ask(
 }
 
 /// Writes the first key that is past.
-pub fn tell_due(
+fn tell_due(
     alloc: Global,
     held: &Dataset,
     given: Given,
@@ -106,7 +123,7 @@ pub fn tell_due(
 }
 
 /// Writes the texts of the effects that make the dataset again.
-pub fn rebuild(alloc: Global, held: &Dataset, out: &mut Vec<u8>) -> Result<(), RehearsalFault> {
+fn rebuild(alloc: Global, held: &Dataset, out: &mut Vec<u8>) -> Result<(), RehearsalFault> {
     let text = held.rebuild(alloc)?;
     tell(out, "rebuilt")?;
     tell_bytes(alloc, text.as_slice(), out)

@@ -6,16 +6,20 @@
 //! | Line | Answer |
 //! |---|---|
 //! | `start BACKLOG`, the first one | `started`, or `refused` outside the backlog's limits |
-//! | `given NOW WORD` | `given`: the moment and the random word of the steps from here on |
+//! | `master`, `replica` | `started`: a node anew in that role, with the dataset that stands beside it, which is empty from here on |
+//! | `given NOW WORD` | `given`: the moment and the random word of the calls from here on |
 //! | `open` | `opened` |
 //! | `feed LINK BYTES` | `fed` |
 //! | `step LINK` | `idle`, `closed`, or `done OUTS REPLY EFFECTS`: of the outs `g` for growth, `s` for what is sent and `c` for the link's closing |
 //! | `room LINK` | `room COUNT`, or `gone` |
 //! | `close LINK` | `closed` |
+//! | `tick` | as of a step: `done OUTS - EFFECTS` |
 //! | `shows` | `shows ID OFFSET`, or `nothing` |
 //! | `spell BYTES` | `spelled TEXT`, of the effect that the command text spells, or `no effect` |
 //! | `lend BYTES`, `give BYTES` | `applied`, or `no effect`: applied by reference, or moved in, to a dataset beside the node |
 //! | `ask BYTES` | `replied REPLY`, to the request on that dataset; or `quit` |
+//! | `due` | `due KEY`, the first key of that dataset that is past, or `nothing due` |
+//! | `rebuild` | `rebuilt TEXTS`, of the effects that make that dataset again |
 //!
 //! A call that the node or the dataset refuses is answered `refused: ` and why.
 #![tactic(auto)]
@@ -23,6 +27,7 @@
 mod call;
 mod dataset;
 mod fault;
+mod host;
 mod stage;
 mod telling;
 
@@ -43,7 +48,7 @@ fn play(
 ) -> Result<(), RehearsalFault> {
     for line in lines.lines() {
         let call = Call::read(alloc, line)?;
-        stage.make(alloc, &call, out)?;
+        stage.make(alloc, call, out)?;
         out.push(b'\n')?;
     }
     Ok(())
@@ -54,8 +59,8 @@ fn rehearse(rt: &HostRuntime, script: &str, out: &mut Vec<u8>) -> Result<(), Reh
     let Some((first, rest)) = script.split_once('\n') else {
         return Err(RehearsalFault::Line);
     };
-    let seeds = (RandomState::new(rt)?, RandomState::new(rt)?);
-    let Some(mut stage) = Stage::start(rt.alloc(), seeds, call::backlog_of(first)?)? else {
+    let seed = RandomState::new(rt)?;
+    let Some(mut stage) = Stage::start(rt.alloc(), seed, call::backlog_of(first)?)? else {
         out.extend_from_slice(b"refused\n")?;
         return Ok(());
     };

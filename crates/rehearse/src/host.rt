@@ -1,0 +1,136 @@
+//! A node, and the links that were opened on it.
+use crate::call::NodeCall;
+use crate::fault::RehearsalFault;
+use crate::telling::{tell, tell_outs, tell_refusal};
+use mr_data::{Dataset, Given};
+use mr_links::LinkId;
+use mr_node::{Config, Node, Outs, Step};
+use mr_repl::ReplId;
+use std::alloc::Global;
+
+/// A node, and the links that were opened on it in order.
+#[derive(Drop)]
+pub struct Host {
+    node: Node,
+    links: Vec<LinkId>,
+}
+
+impl Host {
+    /// A node with this dataset, under the id of forty `a`.
+    pub fn start(alloc: Global, held: Dataset, config: Config) -> Result<Host, RehearsalFault> {
+        let node = Node::start(alloc, ReplId::new([0xaa; 20]), held, config)?;
+        Ok(Host {
+            node,
+            links: Vec::new(alloc),
+        })
+    }
+
+    /// Makes a call, and writes what it answered.
+    pub fn make(
+        &mut self,
+        alloc: Global,
+        call: NodeCall,
+        given: Given,
+        out: &mut Vec<u8>,
+    ) -> Result<(), RehearsalFault> {
+        match call {
+            NodeCall::Open => self.open(alloc, out),
+            NodeCall::Feed(link, bytes) => self.feed(alloc, link, bytes.as_slice(), out),
+            NodeCall::Step(link) => self.step(alloc, link, given, out),
+            NodeCall::Room(link) => self.room(alloc, link, out),
+            NodeCall::Close(link) => self.close(link, out),
+            NodeCall::Tick => self.tick(alloc, given, out),
+            NodeCall::Shows => self.shows(alloc, out),
+        }
+    }
+
+    fn link(&self, place: usize) -> Result<LinkId, RehearsalFault> {
+        match self.links.as_slice().get(place) {
+            Some(link) => Ok(*link),
+            None => Err(RehearsalFault::Line),
+        }
+    }
+
+    fn open(&mut self, alloc: Global, out: &mut Vec<u8>) -> Result<(), RehearsalFault> {
+        match self.node.open() {
+            Ok(link) => {
+                self.links.push(link)?;
+                tell(out, "opened")
+            }
+            Err(fault) => tell_refusal(alloc, fault, out),
+        }
+    }
+
+    fn feed(
+        &mut self,
+        alloc: Global,
+        place: usize,
+        bytes: &[u8],
+        out: &mut Vec<u8>,
+    ) -> Result<(), RehearsalFault> {
+        let link = self.link(place)?;
+        match self.node.feed(link, bytes) {
+            Ok(()) => tell(out, "fed"),
+            Err(fault) => tell_refusal(alloc, fault, out),
+        }
+    }
+
+    fn step(
+        &mut self,
+        alloc: Global,
+        place: usize,
+        given: Given,
+        out: &mut Vec<u8>,
+    ) -> Result<(), RehearsalFault> {
+        let link = self.link(place)?;
+        match self.node.step(link, given, ReplId::numbered(1)) {
+            Ok(Step::Idle) => tell(out, "idle"),
+            Ok(Step::Closed) => tell(out, "closed"),
+            Ok(Step::Done(outs)) => self.tell_done(alloc, outs, out),
+            Err(fault) => tell_refusal(alloc, fault, out),
+        }
+    }
+
+    fn tick(
+        &mut self,
+        alloc: Global,
+        given: Given,
+        out: &mut Vec<u8>,
+    ) -> Result<(), RehearsalFault> {
+        match self.node.tick(given) {
+            Ok(outs) => self.tell_done(alloc, outs, out),
+            Err(fault) => tell_refusal(alloc, fault, out),
+        }
+    }
+
+    fn tell_done(
+        &mut self,
+        alloc: Global,
+        outs: Outs,
+        out: &mut Vec<u8>,
+    ) -> Result<(), RehearsalFault> {
+        let told = tell_outs(alloc, &outs, out);
+        self.node.reuse(outs);
+        told
+    }
+
+    fn room(&self, alloc: Global, place: usize, out: &mut Vec<u8>) -> Result<(), RehearsalFault> {
+        match self.node.room(self.link(place)?) {
+            Some(room) => tell(out, format!(in alloc; "room {room}")?.as_str()),
+            None => tell(out, "gone"),
+        }
+    }
+
+    fn close(&mut self, place: usize, out: &mut Vec<u8>) -> Result<(), RehearsalFault> {
+        let link = self.link(place)?;
+        self.node.close(link);
+        tell(out, "closed")
+    }
+
+    fn shows(&self, alloc: Global, out: &mut Vec<u8>) -> Result<(), RehearsalFault> {
+        match self.node.shows() {
+            Some((id, offset)) => tell(out, format!(in alloc; "shows {id} {offset}")?.as_str()),
+            None => tell(out, "nothing"),
+        }
+    }
+}
