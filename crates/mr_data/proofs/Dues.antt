@@ -21,8 +21,8 @@ use Rattle.mr_zset.proofs.Orders.{Above, Ascends, Ascends-in_order, IsPermutatio
 use Rattle.mr_zset.proofs.PairLemmas.{pairs_total, exact_pair}
 use Rattle.mr_entries.specs.Dataset.{Dataset}
 use Rattle.mr_entries.specs.Steps.{deadline_of}
-use Rattle.mr_entries.specs.Expiries.{shown as entered, expiring, expiries}
-use Rattle.mr_entries.specs.declared.expiry.Expiry.{Expiry}
+use Rattle.mr_entries.specs.TimedKeys.{shown as entered, timed, timed_keys}
+use Rattle.mr_entries.specs.declared.timed_key.TimedKey.{TimedKey}
 use Rattle.mr_entries.specs.declared.value.Entry.{Entry}
 use Rattle.mr_data.specs.Dataset.{IsDataset}
 use Rattle.mr_data.specs.declared.due.DueKey.{DueKey}
@@ -35,27 +35,27 @@ Pair = Bytes × ℤ
 abbrev pub past : ℤ → Pair → Bool
 past now p = int_le p.1 now
 
-one_key : (now : ℤ) (k : Bytes) (o : Option Entry) → if_past now k (option_and_then (λ e. e.deadline) o) ≡ filter (past now) (expiring k (deadline_of o))
+one_key : (now : ℤ) (k : Bytes) (o : Option Entry) → if_past now k (option_and_then (λ e. e.deadline) o) ≡ filter (past now) (timed k (deadline_of o))
 one_key now k None = refl
-one_key now k (Some e) = elim e.deadline as (λ (d : Option ℤ). if_past now k d ≡ filter (past now) (expiring k d)) [
+one_key now k (Some e) = elim e.deadline as (λ (d : Option ℤ). if_past now k d ≡ filter (past now) (timed k d)) [
   | None ↦ refl
   | Some d ↦ refl
 ]
 
-each_key : (now : ℤ) (m : Dataset) (ks : List Bytes) → flat_map (λ k. if_past now k (deadline_at m k)) ks ≡ filter (past now) (flat_map (λ k. expiring k (deadline_of (get m k))) ks)
+each_key : (now : ℤ) (m : Dataset) (ks : List Bytes) → flat_map (λ k. if_past now k (deadline_at m k)) ks ≡ filter (past now) (flat_map (λ k. timed k (deadline_of (get m k))) ks)
 each_key now m [] = refl
 each_key now m (k ∷ ks) =
     (λ i. one_key now k (get m k) i ++ each_key now m ks i)
-    ∙ sym (filter-append (past now) (expiring k (deadline_of (get m k))) (flat_map (λ k. expiring k (deadline_of (get m k))) ks))
+    ∙ sym (filter-append (past now) (timed k (deadline_of (get m k))) (flat_map (λ k. timed k (deadline_of (get m k))) ks))
 
--- the past keys are those of all expiries whose deadline is past
-pub due_is : (now : ℤ) (m : Dataset) → due now m ≡ filter (past now) (expiries m)
+-- the past keys are those of all timed keys whose deadline is past
+pub due_is : (now : ℤ) (m : Dataset) → due now m ≡ filter (past now) (timed_keys m)
 due_is now m =
-    let all : List Pair = flat_map (λ k. expiring k (deadline_of (get m k))) (keys m) in
+    let all : List Pair = flat_map (λ k. timed k (deadline_of (get m k))) (keys m) in
     ap (in_order pair_cmp) (each_key now m (keys m))
     ∙ sorted_filter pairs_total exact_pair all (in_order pair_cmp (filter (past now) all)) (past now) (Ascends-in_order pairs_total (filter (past now) all)) (IsPermutation-in_order pair_cmp (filter (past now) all))
 
--- what is behind an expiry that isn't past isn't past either
+-- what is behind a timed key that isn't past isn't past either
 
 not_more : (a b : ℤ) → is_gt (int_cmp a b) ≡ false → a ≤ℤ b
 not_more a b h = elim (int_cmp a b) as (λ (r : Ordering). r ≡ int_cmp a b → is_gt r ≡ false → a ≤ℤ b) [
@@ -90,9 +90,9 @@ Ascends-behind (x ∷ xs) ys h = Ascends-behind xs ys h.1
 abbrev IsWordPair : Pair → Type 0
 IsWordPair p = IsTrue (fits p.0)
 
-word_of_key : (k : Bytes) (o : Option Entry) → ((e : Entry) → o ≡ Some e → IsTrue (fits k)) → AllByRecursion IsWordPair (expiring k (deadline_of o))
+word_of_key : (k : Bytes) (o : Option Entry) → ((e : Entry) → o ≡ Some e → IsTrue (fits k)) → AllByRecursion IsWordPair (timed k (deadline_of o))
 word_of_key k None h = tt
-word_of_key k (Some e) h = elim e.deadline as (λ (d : Option ℤ). AllByRecursion IsWordPair (expiring k d)) [
+word_of_key k (Some e) h = elim e.deadline as (λ (d : Option ℤ). AllByRecursion IsWordPair (timed k d)) [
   | None ↦ tt
   | Some d ↦ (h e refl, tt)
 ]
@@ -105,14 +105,14 @@ in_front : (ps qs : List Pair) → AllByRecursion IsWordPair (ps ++ qs) → AllB
 in_front [] qs h = tt
 in_front (p ∷ ps) qs h = (h.0, in_front ps qs h.1)
 
-words_of_keys : (m : Dataset) → IsDataset m → (ks : List Bytes) → AllByRecursion IsWordPair (flat_map (λ k. expiring k (deadline_of (get m k))) ks)
+words_of_keys : (m : Dataset) → IsDataset m → (ks : List Bytes) → AllByRecursion IsWordPair (flat_map (λ k. timed k (deadline_of (get m k))) ks)
 words_of_keys m kept [] = tt
-words_of_keys m kept (k ∷ ks) = both_lists (expiring k (deadline_of (get m k))) (flat_map (λ k. expiring k (deadline_of (get m k))) ks) (word_of_key k (get m k) (λ e h. (kept.entries k e h).key)) (words_of_keys m kept ks)
+words_of_keys m kept (k ∷ ks) = both_lists (timed k (deadline_of (get m k))) (flat_map (λ k. timed k (deadline_of (get m k))) ks) (word_of_key k (get m k) (λ e h. (kept.entries k e h).key)) (words_of_keys m kept ks)
 
-words_of : (m : Dataset) → IsDataset m → All IsWordPair (expiries m)
+words_of : (m : Dataset) → IsDataset m → All IsWordPair (timed_keys m)
 words_of m kept =
-    let ps : List Pair = flat_map (λ k. expiring k (deadline_of (get m k))) (keys m) in
-    All-permutation IsWordPair ps (expiries m) (IsPermutation-in_order pair_cmp ps) (All-from_recursion IsWordPair ps (words_of_keys m kept (keys m)))
+    let ps : List Pair = flat_map (λ k. timed k (deadline_of (get m k))) (keys m) in
+    All-permutation IsWordPair ps (timed_keys m) (IsPermutation-in_order pair_cmp ps) (All-from_recursion IsWordPair ps (words_of_keys m kept (keys m)))
 
 take-all : (n : ℕ) (ps : List Pair) → length ps ≤ n → take n ps ≡ ps
 take-all zero [] h = refl
@@ -123,12 +123,12 @@ take-all (suc n) (p ∷ ps) h = ap (λ (qs : List Pair). p ∷ qs) (take-all n p
 -- ---- going over an index
 
 -- what was found, and what is still to come
-pub record Taking (now : ℤ) (most : ℕ) (m : Dataset) (found : List DueKey) (rest : List Expiry) : Type 0 where
-  pub all : map shown found ++ map entered rest ≡ expiries m
+pub record Taking (now : ℤ) (most : ℕ) (m : Dataset) (found : List DueKey) (rest : List TimedKey) : Type 0 where
+  pub all : map shown found ++ map entered rest ≡ timed_keys m
   pub past : filter (past now) (map shown found) ≡ map shown found
   pub few : length found ≤ most
 
-module _ {now : ℤ} {most : ℕ} {m : Dataset} {found : List DueKey} {rest : List Expiry} (taking : Taking now most m found rest) where
+module _ {now : ℤ} {most : ℕ} {m : Dataset} {found : List DueKey} {rest : List TimedKey} (taking : Taking now most m found rest) where
   -- what stands in front of what isn't past
   only_found : filter (past now) (map entered rest) ≡ [] → map shown found ≡ take most (due now m)
   only_found none =
@@ -136,12 +136,12 @@ module _ {now : ℤ} {most : ℕ} {m : Dataset} {found : List DueKey} {rest : Li
       ∙ take-all most (map shown found) (omega (arith, taking.few, length-map found shown)))
 
   pub at_end : rest ≡ [] → map shown found ≡ take most (due now m)
-  at_end none = only_found (ap (λ (xs : List Expiry). filter (past now) (map entered xs)) none)
+  at_end none = only_found (ap (λ (xs : List TimedKey). filter (past now) (map entered xs)) none)
 
-  pub at_later : (x : Expiry) (xs : List Expiry) → rest ≡ x ∷ xs → int_le x.deadline now ≡ false → map shown found ≡ take most (due now m)
+  pub at_later : (x : TimedKey) (xs : List TimedKey) → rest ≡ x ∷ xs → int_le x.deadline now ≡ false → map shown found ≡ take most (due now m)
   at_later x xs is out =
-      let up : Ascends pair_cmp (map entered (x ∷ xs)) = Ascends-behind (map shown found) (map entered (x ∷ xs)) (subst (Ascends pair_cmp) (sym taking.all ∙ ap (λ (ys : List Expiry). map shown found ++ map entered ys) is) (Ascends-in_order pairs_total (flat_map (λ k. expiring k (deadline_of (get m k))) (keys m)))) in
-      only_found (ap (λ (ys : List Expiry). filter (past now) (map entered ys)) is
+      let up : Ascends pair_cmp (map entered (x ∷ xs)) = Ascends-behind (map shown found) (map entered (x ∷ xs)) (subst (Ascends pair_cmp) (sym taking.all ∙ ap (λ (ys : List TimedKey). map shown found ++ map entered ys) is) (Ascends-in_order pairs_total (flat_map (λ k. timed k (deadline_of (get m k))) (keys m)))) in
+      only_found (ap (λ (ys : List TimedKey). filter (past now) (map entered ys)) is
       ∙ ap (λ b. cond b (entered x ∷ filter (past now) (map entered xs)) (filter (past now) (map entered xs))) out ∙ none_later (entered x) (map entered xs) now up.0 out)
 
   pub at_full : length found ≡ most → map shown found ≡ take most (due now m)
@@ -149,10 +149,10 @@ module _ {now : ℤ} {most : ℕ} {m : Dataset} {found : List DueKey} {rest : Li
       sym (ap (take most) (due_is now m ∙ ap (filter (past now)) (sym taking.all) ∙ filter-append (past now) (map shown found) (map entered rest) ∙ ap (λ (ps : List Pair). ps ++ filter (past now) (map entered rest)) taking.past)
       ∙ ap (λ (n : ℕ). take n (map shown found ++ filter (past now) (map entered rest))) (sym full ∙ sym (length-map found shown)) ∙ take-append_seam (map shown found) (filter (past now) (map entered rest)))
 
-  pub one_more : (x : Expiry) (xs : List Expiry) (d : DueKey) (more : List DueKey) → rest ≡ x ∷ xs → shown d ≡ entered x → int_le x.deadline now ≡ true → more ≡ found ++ d ∷ [] → (length found ≡ most → ⊥) → Taking now most m more xs
+  pub one_more : (x : TimedKey) (xs : List TimedKey) (d : DueKey) (more : List DueKey) → rest ≡ x ∷ xs → shown d ≡ entered x → int_le x.deadline now ≡ true → more ≡ found ++ d ∷ [] → (length found ≡ most → ⊥) → Taking now most m more xs
   one_more x xs d more is same here pushed room = record {
     all = ap (λ (ds : List DueKey). map shown ds ++ map entered xs) pushed ∙ ap (λ (ps : List Pair). ps ++ map entered xs) (map_push shown found d) ∙ append_assoc (map shown found) (shown d ∷ []) (map entered xs)
-        ∙ ap (λ (p : Pair). map shown found ++ p ∷ map entered xs) same ∙ ap (λ (ys : List Expiry). map shown found ++ map entered ys) (sym is) ∙ taking.all;
+        ∙ ap (λ (p : Pair). map shown found ++ p ∷ map entered xs) same ∙ ap (λ (ys : List TimedKey). map shown found ++ map entered ys) (sym is) ∙ taking.all;
     past = ap (λ (ds : List DueKey). filter (past now) (map shown ds)) pushed ∙ ap (filter (past now)) (map_push shown found d) ∙ filter-append (past now) (map shown found) (shown d ∷ [])
         ∙ (λ i. taking.past i ++ one_past i) ∙ sym (ap (map shown) pushed ∙ map_push shown found d);
     few = subst (λ (ds : List DueKey). length ds ≤ most) (sym pushed) (let size : length (found ++ d ∷ []) ≡ length found + 1 = length-append found (d ∷ []) in omega (arith, taking.few, room));
@@ -163,48 +163,48 @@ module _ {now : ℤ} {most : ℕ} {m : Dataset} {found : List DueKey} {rest : Li
 
   -- the keys of a dataset are words
   pub each_is_word : IsDataset m → All HasWord found
-  each_is_word kept = All-from_recursion HasWord found (words found (in_front (map shown found) (map entered rest) (subst (AllByRecursion IsWordPair) (sym taking.all) (recursion_from_All IsWordPair (expiries m) (words_of m kept)))))
+  each_is_word kept = All-from_recursion HasWord found (words found (in_front (map shown found) (map entered rest) (subst (AllByRecursion IsWordPair) (sym taking.all) (recursion_from_All IsWordPair (timed_keys m) (words_of m kept)))))
     where
       words : (ds : List DueKey) → AllByRecursion IsWordPair (map shown ds) → AllByRecursion HasWord ds
       words [] h = tt
       words (d ∷ ds) h = (h.0, words ds h.1)
 
-pub at_start : (now : ℤ) (most : ℕ) (m : Dataset) (none : List DueKey) (all : List Expiry) → none ≡ [] → map entered all ≡ expiries m → Taking now most m none all
+pub at_start : (now : ℤ) (most : ℕ) (m : Dataset) (none : List DueKey) (all : List TimedKey) → none ≡ [] → map entered all ≡ timed_keys m → Taking now most m none all
 at_start now most m none all is whole = record {
   all = ap (λ (ds : List DueKey). map shown ds ++ map entered all) is ∙ whole;
   past = ap (λ (ds : List DueKey). filter (past now) (map shown ds)) is ∙ sym (ap (map shown) is);
   few = subst (λ (ds : List DueKey). length ds ≤ most) (sym is) (omega arith);
 }
 
--- what is answered of an expiry
+-- what is answered of a timed key
 
-abbrev pub Told : ℤ → Expiry → Option DueKey → Type 0
+abbrev pub Told : ℤ → TimedKey → Option DueKey → Type 0
 Told now x o = MatchOption o (int_le x.deadline now ≡ false) (λ d. (shown d ≡ entered x) × (int_le x.deadline now ≡ true))
 
-pub is_out : (now : ℤ) (x : Expiry) (o : Option DueKey) → Told now x o → ((d : DueKey) → o ≡ Some d → ⊥) → int_le x.deadline now ≡ false
+pub is_out : (now : ℤ) (x : TimedKey) (o : Option DueKey) → Told now x o → ((d : DueKey) → o ≡ Some d → ⊥) → int_le x.deadline now ≡ false
 is_out now x None h none = h
 is_out now x (Some d) h none = absurd (none d refl)
 
-pub is_none : (now : ℤ) (x : Expiry) (o : Option DueKey) → Told now x o → o ≡ None → int_le x.deadline now ≡ false
+pub is_none : (now : ℤ) (x : TimedKey) (o : Option DueKey) → Told now x o → o ≡ None → int_le x.deadline now ≡ false
 is_none now x None h none = h
 is_none now x (Some d) h none = cc
 
-pub is_due : (now : ℤ) (x : Expiry) (o : Option DueKey) (d : DueKey) → Told now x o → o ≡ Some d → (shown d ≡ entered x) × (int_le x.deadline now ≡ true)
+pub is_due : (now : ℤ) (x : TimedKey) (o : Option DueKey) (d : DueKey) → Told now x o → o ≡ Some d → (shown d ≡ entered x) × (int_le x.deadline now ≡ true)
 is_due now x None d h some = cc
 is_due now x (Some e) d h some = (let same : e ≡ d = cc in subst (λ (z : DueKey). (shown z ≡ entered x) × (int_le x.deadline now ≡ true)) same h)
 
 -- ---- the first of an index
 
-some_first : (now : ℤ) (m : Dataset) (x : Expiry) (xs : List Expiry) → map entered (x ∷ xs) ≡ expiries m → due now m ≡ cond (int_le x.deadline now) (entered x ∷ filter (past now) (map entered xs)) (filter (past now) (map entered xs))
+some_first : (now : ℤ) (m : Dataset) (x : TimedKey) (xs : List TimedKey) → map entered (x ∷ xs) ≡ timed_keys m → due now m ≡ cond (int_le x.deadline now) (entered x ∷ filter (past now) (map entered xs)) (filter (past now) (map entered xs))
 some_first now m x xs all = due_is now m ∙ ap (filter (past now)) (sym all)
 
-pub first_past : (now : ℤ) (m : Dataset) (x : Expiry) (xs : List Expiry) → map entered (x ∷ xs) ≡ expiries m → int_le x.deadline now ≡ true → slice_get (due now m) 0 ≡ Some (entered x)
+pub first_past : (now : ℤ) (m : Dataset) (x : TimedKey) (xs : List TimedKey) → map entered (x ∷ xs) ≡ timed_keys m → int_le x.deadline now ≡ true → slice_get (due now m) 0 ≡ Some (entered x)
 first_past now m x xs all here = ap (λ (ps : List Pair). slice_get ps 0) (some_first now m x xs all ∙ ap (λ b. cond b (entered x ∷ filter (past now) (map entered xs)) (filter (past now) (map entered xs))) here)
 
-pub first_later : (now : ℤ) (m : Dataset) (x : Expiry) (xs : List Expiry) → map entered (x ∷ xs) ≡ expiries m → int_le x.deadline now ≡ false → slice_get (due now m) 0 ≡ None
+pub first_later : (now : ℤ) (m : Dataset) (x : TimedKey) (xs : List TimedKey) → map entered (x ∷ xs) ≡ timed_keys m → int_le x.deadline now ≡ false → slice_get (due now m) 0 ≡ None
 first_later now m x xs all out =
-    let up : Ascends pair_cmp (map entered (x ∷ xs)) = subst (Ascends pair_cmp) (sym all) (Ascends-in_order pairs_total (flat_map (λ k. expiring k (deadline_of (get m k))) (keys m))) in
+    let up : Ascends pair_cmp (map entered (x ∷ xs)) = subst (Ascends pair_cmp) (sym all) (Ascends-in_order pairs_total (flat_map (λ k. timed k (deadline_of (get m k))) (keys m))) in
     ap (λ (ps : List Pair). slice_get ps 0) (some_first now m x xs all ∙ ap (λ b. cond b (entered x ∷ filter (past now) (map entered xs)) (filter (past now) (map entered xs))) out ∙ none_later (entered x) (map entered xs) now up.0 out)
 
-pub none_first : (now : ℤ) (m : Dataset) (xs : List Expiry) → xs ≡ [] → map entered xs ≡ expiries m → slice_get (due now m) 0 ≡ None
+pub none_first : (now : ℤ) (m : Dataset) (xs : List TimedKey) → xs ≡ [] → map entered xs ≡ timed_keys m → slice_get (due now m) 0 ≡ None
 none_first now m xs none all = ap (λ (ps : List Pair). slice_get ps 0) (due_is now m ∙ ap (filter (past now)) (sym all ∙ ap (map entered) none))

@@ -2,11 +2,11 @@
 ghost use Rattle.std.specs.Prelude.{◌≡◌, ◌==◌, ◌<◌, ◌^◌, map as each, option_copied};
 ghost use Rattle.std.specs.Option.{option_map, option_and_then};
 ghost use Rattle.std.specs.FinMap as map;
-ghost use Rattle.mr_entries.specs.Expiries.{expiries, shown};
+ghost use Rattle.mr_entries.specs.TimedKeys.{timed_keys, shown};
 
 mod applying;
 
-use mr_entries::{Entries, Entry, Expiry, Value};
+use mr_entries::{Entries, Entry, TimedKey, Value};
 use mr_map::Keys;
 use std::alloc::Global;
 use std::collections::btree_set;
@@ -97,10 +97,10 @@ impl Dataset {
     }
 
     /// The keys that have a deadline with it, in order of deadline and then of bytes, past or not.
-    pub(crate) fn expiries(&self) -> btree_set::Iter<'_, Expiry>
-        ensures all { each shown result ≡ expiries self.now }
+    pub(crate) fn timed_keys(&self) -> btree_set::Iter<'_, TimedKey>
+        ensures all { each shown result ≡ timed_keys self.now }
         ensures kept { IsDataset self.now }
     {
-        self.entries.expiries()
+        self.entries.timed_keys()
     }
 }

@@ -1,10 +1,10 @@
 // The past keys of a dataset.
 ghost use Rattle.std.specs.Prelude.{◌≡◌, IfOk, All, MatchOption, map, take, slice_get, int_le, option_copied, option_map, true, false};
-ghost use Rattle.mr_entries.specs.Expiries.{shown as entered};
+ghost use Rattle.mr_entries.specs.TimedKeys.{shown as entered};
 ghost use Rattle.mr_data.specs.Due.{due, shown, HasWord};
 
 use crate::dataset::Dataset;
-use mr_entries::Expiry;
+use mr_entries::TimedKey;
 use std::alloc::{AllocError, Global};
 
 /// A key with its deadline. They are in order of deadline, and then of the keys' bytes.
@@ -28,11 +28,11 @@ impl Dataset {
         ensures words { IfOk result (λ keys. All HasWord keys.items) }
     {
         let mut keys = Vec::new(alloc);
-        for expiry in self.expiries() {
+        for timed in self.timed_keys() {
             if keys.len() == most {
                 return Ok(keys);
             }
-            let Some(due) = if_past(expiry, now) else {
+            let Some(due) = if_past(timed, now) else {
                 return Ok(keys);
             };
             keys.push(due)?;
@@ -44,21 +44,21 @@ impl Dataset {
     pub fn due(&self, now: i64) -> Option<&[u8]>
         ensures { option_copied result ≡ option_map (λ d. d.0) (slice_get (due now self.now) 0) }
     {
-        let first = self.expiries().next()?;
+        let first = self.timed_keys().next()?;
         let due = if_past(first, now)?;
         Some(due.key)
     }
 }
 
 // A key with its deadline, if that is past.
-fn if_past(expiry: &Expiry, now: i64) -> Option<DueKey<'_>>
-    ensures { MatchOption result (int_le expiry.now.deadline now ≡ false) (λ d. (shown d ≡ entered expiry.now) × (int_le expiry.now.deadline now ≡ true)) }
+fn if_past(timed: &TimedKey, now: i64) -> Option<DueKey<'_>>
+    ensures { MatchOption result (int_le timed.now.deadline now ≡ false) (λ d. (shown d ≡ entered timed.now) × (int_le timed.now.deadline now ≡ true)) }
 {
-    if expiry.deadline > now {
+    if timed.deadline > now {
         return None;
     }
     Some(DueKey {
-        deadline: expiry.deadline,
-        key: expiry.key.as_slice(),
+        deadline: timed.deadline,
+        key: timed.key.as_slice(),
     })
 }

@@ -1,4 +1,4 @@
--- The expiries of an index, as they come.
+-- The timed keys of an index, as they come.
 use Rattle.std.proofs.Common.{◌≡◌, ℤ, List, [], ◌∷◌, ◌++◌, map, Bool, true, false, ◌&&◌, ◌||◌, cond, Option, Some, None, refl, sym, ◌∙◌, ap, subst}
 use Rattle.std.specs.Prelude.{T, is_some}
 use Rattle.std.specs.FinMap.Entries.{below_all}
@@ -20,8 +20,8 @@ use Rattle.mr_zset.proofs.Orders.{IsPermutation-in_order}
 use Rattle.mr_zset.proofs.PairLemmas.{pairs_total, exact_pair}
 use Rattle.mr_entries.specs.Dataset.{Dataset}
 use Rattle.mr_entries.specs.Steps.{deadline_of}
-use Rattle.mr_entries.specs.Expiries.{shown, is_deadline, expiry_cmp, has, IsIndex, expiring, expiries}
-use Rattle.mr_entries.specs.declared.expiry.Expiry.{Expiry}
+use Rattle.mr_entries.specs.TimedKeys.{shown, is_deadline, timed_cmp, has, IsIndex, timed, timed_keys}
+use Rattle.mr_entries.specs.declared.timed_key.TimedKey.{TimedKey}
 use Rattle.mr_entries.specs.declared.value.Entry.{Entry}
 use Rattle.mr_entries.proofs.Maps.{same_key}
 
@@ -88,7 +88,7 @@ strict_in_order (p ∷ ps) h = strict_placed p (in_order pair_cmp ps) (sym (list
 
 module _ (m : Dataset) where
   of_key : Bytes → List Pair
-  of_key k = expiring k (deadline_of (get m k))
+  of_key k = timed k (deadline_of (get m k))
 
   both_or : (a b d : Bool) → ((a && d) || (b && d)) ≡ ((a || b) && d)
   both_or true true true = refl
@@ -111,7 +111,7 @@ module _ (m : Dataset) where
   turn false true = refl
   turn false false = refl
 
-  at_one : (p : Pair) (k : Bytes) (o : Option ℤ) → among p (expiring k o) ≡ (eq_by_cmp bytes_cmp p.0 k && is_deadline p.1 o)
+  at_one : (p : Pair) (k : Bytes) (o : Option ℤ) → among p (timed k o) ≡ (eq_by_cmp bytes_cmp p.0 k && is_deadline p.1 o)
   unfolding among
   at_one p k None = sym (nothing_but (eq_by_cmp bytes_cmp p.0 k))
   at_one p k (Some d) = no_more (is_eq (pair_cmp p (k, d))) ∙ sym (tied_then _ _) ∙ turn (int_eq p.1 d) (eq_by_cmp bytes_cmp p.0 k)
@@ -140,10 +140,10 @@ module _ (m : Dataset) where
     | Some e ↦ refl
   ]
 
-  at_all : (p : Pair) → among p (expiries m) ≡ is_deadline p.1 (deadline_of (get m p.0))
+  at_all : (p : Pair) → among p (timed_keys m) ≡ is_deadline p.1 (deadline_of (get m p.0))
   unfolding among of_key
   at_all p =
-      sym (list_any-IsPermutation (λ q. is_eq (pair_cmp p q)) (flat_map of_key (keys m)) (expiries m) (IsPermutation-in_order pair_cmp (flat_map of_key (keys m))))
+      sym (list_any-IsPermutation (λ q. is_eq (pair_cmp p q)) (flat_map of_key (keys m)) (timed_keys m) (IsPermutation-in_order pair_cmp (flat_map of_key (keys m))))
       ∙ at_keys p (keys m)
       ∙ ap (λ b. b && is_deadline p.1 (deadline_of (get m p.0))) (sym (contains_key-keys m p.0))
       ∙ there p
@@ -154,7 +154,7 @@ module _ (m : Dataset) where
   not_among k [] h = refl
   not_among k (q ∷ ks) h = ap (λ r. is_eq r || list_any (eq_by_cmp bytes_cmp k) ks) h.0 ∙ not_among k ks h.1
 
-  one_apart : (k : Bytes) (o : Option ℤ) (ks : List Bytes) → list_any (eq_by_cmp bytes_cmp k) ks ≡ false → AreApart (flat_map of_key ks) → AreApart (expiring k o ++ flat_map of_key ks)
+  one_apart : (k : Bytes) (o : Option ℤ) (ks : List Bytes) → list_any (eq_by_cmp bytes_cmp k) ks ≡ false → AreApart (flat_map of_key ks) → AreApart (timed k o ++ flat_map of_key ks)
   one_apart k None ks new rest = rest
   one_apart k (Some d) ks new rest = (at_keys (k, d) ks ∙ ap (λ b. b && is_deadline d (deadline_of (get m k))) new, rest)
 
@@ -184,22 +184,22 @@ keys_rise (e ∷ es) h = (let both = both_true (below_all bytes_cmp e.0 es) (is_
 
 -- an index, gone over
 
-strict_shown : (xs : List Expiry) → IsStrictlySortedBy expiry_cmp xs → IsStrictlySortedBy pair_cmp (map shown xs)
+strict_shown : (xs : List TimedKey) → IsStrictlySortedBy timed_cmp xs → IsStrictlySortedBy pair_cmp (map shown xs)
 unfolding IsStrictlySortedBy
 strict_shown [] up = tt
 strict_shown (x ∷ xs) up = (each x xs up.0, strict_shown xs up.1)
   where
-    each : (x : Expiry) (ys : List Expiry) → AllByRecursion (λ y. expiry_cmp x y ≡ Less) ys → Below (shown x) (map shown ys)
+    each : (x : TimedKey) (ys : List TimedKey) → AllByRecursion (λ y. timed_cmp x y ≡ Less) ys → Below (shown x) (map shown ys)
     each x [] h = tt
     each x (y ∷ ys) h = (h.0, each x ys h.1)
 
-any_shown : (p : Pair) (xs : List Expiry) → list_any (λ q. is_eq (pair_cmp p q)) (map shown xs) ≡ list_any (λ x. is_eq (pair_cmp p (shown x))) xs
+any_shown : (p : Pair) (xs : List TimedKey) → list_any (λ q. is_eq (pair_cmp p q)) (map shown xs) ≡ list_any (λ x. is_eq (pair_cmp p (shown x))) xs
 any_shown p [] = refl
 any_shown p (x ∷ xs) = ap (λ b. is_eq (pair_cmp p (shown x)) || b) (any_shown p xs)
 
-pub in_order_of_deadline : (m : Dataset) (s : BTreeSet Expiry) → IsIndex m s → IsStrictlySortedBy expiry_cmp s.keys → map shown s.keys ≡ expiries m
+pub in_order_of_deadline : (m : Dataset) (s : BTreeSet TimedKey) → IsIndex m s → IsStrictlySortedBy timed_cmp s.keys → map shown s.keys ≡ timed_keys m
 unfolding among of_key
 in_order_of_deadline m s all up =
-    btree_set_from_contains pairs_total (record { keys = map shown s.keys }) (record { keys = expiries m }) (strict_shown s.keys up)
+    btree_set_from_contains pairs_total (record { keys = map shown s.keys }) (record { keys = timed_keys m }) (strict_shown s.keys up)
     (strict_in_order (flat_map (of_key m) (keys m)) (are_apart m (keys m) (keys_rise (entries m) (entries_sorted m))))
     (λ p. any_shown p s.keys ∙ all p ∙ sym (at_all m p)) exact_pair

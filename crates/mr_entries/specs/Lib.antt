@@ -5,5 +5,5 @@ pub mod Steps
 pub mod Changes
 pub mod Outcome
 pub mod Cuts
-pub mod Expiries
+pub mod TimedKeys
 pub mod Lends

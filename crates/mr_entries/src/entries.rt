@@ -1,7 +1,7 @@
 // Entries by key, whatever they hold.
 ghost use Rattle.std.specs.Prelude.{◌≡◌, ◌≢◌, ◌<◌, ◌^◌, map as each, option_copied, OnOk, Err};
 ghost use Rattle.std.specs.FinMap as map;
-ghost use Rattle.mr_entries.specs.Expiries.{expiries, shown};
+ghost use Rattle.mr_entries.specs.TimedKeys.{timed_keys, shown};
 ghost use Rattle.mr_entries.specs.Steps.{without_deadline};
 
 mod copying;
@@ -15,9 +15,9 @@ mod sorted_sets;
 mod texts;
 mod whole;
 
-use crate::expiry::Expiry;
 use crate::fault::ApplyFault;
 use crate::keyspace::Keyspace;
+use crate::timed_key::TimedKey;
 use crate::value::{Entry, Value};
 use mr_map::Keys;
 use mr_value::Word;
@@ -81,10 +81,10 @@ impl Entries {
     }
 
     /// The keys that have a deadline with it, in order of deadline and then of bytes.
-    pub fn expiries(&self) -> btree_set::Iter<'_, Expiry>
-        ensures { each shown result ≡ expiries self.now }
+    pub fn timed_keys(&self) -> btree_set::Iter<'_, TimedKey>
+        ensures { each shown result ≡ timed_keys self.now }
     {
-        self.by_key.expiries()
+        self.by_key.timed_keys()
     }
 
     /// Empties entries for which memory ran out.

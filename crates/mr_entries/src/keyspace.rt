@@ -3,12 +3,12 @@ ghost use Rattle.std.specs.Prelude.{◌≡◌, ◌≢◌, ◌<◌, ◌^◌, None
 ghost use Rattle.std.specs.FinMap as map;
 ghost use Rattle.std.specs.Option.{option_copied_mut};
 ghost use Rattle.mr_entries.specs.Changes.{at_key};
-ghost use Rattle.mr_entries.specs.Expiries.{expiries, shown, IsDeadlineOf, Reindexes};
+ghost use Rattle.mr_entries.specs.TimedKeys.{timed_keys, shown, IsDeadlineOf, Reindexes};
 ghost use Rattle.mr_entries.specs.Outcome.{Applies};
 ghost use Rattle.mr_entries.specs.Steps.{deadline_step};
 
-use crate::expiry::Expiry;
 use crate::fault::ApplyFault;
+use crate::timed_key::TimedKey;
 use crate::value::{Entry, Value};
 use mr_map::{KeyedMap, Keys};
 use mr_value::Word;
@@ -23,7 +23,7 @@ pub(crate) struct Keyspace {
     alloc: Global,
     by_key: KeyedMap<Entry>,
     // Exactly the deadlines of the entries.
-    expiries: BTreeSet<Expiry>,
+    timed_keys: BTreeSet<TimedKey>,
 }
 
 impl Model for Keyspace {
@@ -32,7 +32,7 @@ impl Model for Keyspace {
     ghost use Rattle.mr_map.specs.Bytes.{bytes_cmp};
     ghost use Rattle.mr_entries.specs.declared.value.Entry.{Entry as Item};
     ghost use Rattle.mr_entries.specs.contracts.value.Entry as item;
-    ghost use Rattle.mr_entries.specs.Expiries.{IsIndex};
+    ghost use Rattle.mr_entries.specs.TimedKeys.{IsIndex};
 
     ghost Value = { map.FinMap bytes_cmp Item };
 
@@ -40,7 +40,7 @@ impl Model for Keyspace {
 
     ghost view = { λ a. a.by_key };
 
-    ghost invariant = { λ a. IsIndex a.by_key a.expiries };
+    ghost invariant = { λ a. IsIndex a.by_key a.timed_keys };
 }
 
 impl Keyspace {
@@ -51,7 +51,7 @@ impl Keyspace {
         Keyspace {
             alloc,
             by_key: KeyedMap::new(alloc, seed),
-            expiries: BTreeSet::new(alloc),
+            timed_keys: BTreeSet::new(alloc),
         }
     }
 
@@ -115,7 +115,13 @@ impl Keyspace {
             return Ok(());
         }
         let name = key.into_bytes(self.alloc)?.into_vec();
-        reindex(self.alloc, &mut self.expiries, name, place.deadline, entry.deadline)?;
+        reindex(
+            self.alloc,
+            &mut self.timed_keys,
+            name,
+            place.deadline,
+            entry.deadline,
+        )?;
         *place = entry;
         Ok(())
     }
@@ -133,7 +139,10 @@ impl Keyspace {
         };
         let name = Vec::from_slice(self.alloc, key.as_slice())?;
         let _ = self.by_key.insert(key, entry)?;
-        match self.expiries.insert(Expiry { deadline, key: name }) {
+        match self.timed_keys.insert(TimedKey {
+            deadline,
+            key: name,
+        }) {
             Ok(_) => Ok(()),
             Err(refused) => {
                 let _ = self.by_key.remove(refused.value.key.as_slice());
@@ -158,7 +167,13 @@ impl Keyspace {
             return Ok(());
         }
         let name = key.into_bytes(self.alloc)?.into_vec();
-        reindex(self.alloc, &mut self.expiries, name, place.deadline, deadline)?;
+        reindex(
+            self.alloc,
+            &mut self.timed_keys,
+            name,
+            place.deadline,
+            deadline,
+        )?;
         place.deadline = deadline;
         Ok(())
     }
@@ -170,7 +185,10 @@ impl Keyspace {
     {
         let (name, entry) = self.by_key.remove_entry(key)?;
         if let Some(deadline) = entry.deadline {
-            let _ = self.expiries.remove(&Expiry { deadline, key: name });
+            let _ = self.timed_keys.remove(&TimedKey {
+                deadline,
+                key: name,
+            });
         }
         Some(entry)
     }
@@ -180,38 +198,44 @@ impl Keyspace {
         ensures { self.new ≡ map.empty }
     {
         self.by_key.clear();
-        self.expiries.clear();
+        self.timed_keys.clear();
     }
 
     /// The keys that have a deadline with it, in order of deadline and then of bytes.
-    pub(crate) fn expiries(&self) -> btree_set::Iter<'_, Expiry>
-        ensures { each shown result ≡ expiries self.now }
+    pub(crate) fn timed_keys(&self) -> btree_set::Iter<'_, TimedKey>
+        ensures { each shown result ≡ timed_keys self.now }
     {
-        self.expiries.iter()
+        self.timed_keys.iter()
     }
 }
 
 // Makes this the deadline of a key in an index, or none. Where memory runs out nothing has changed.
 fn reindex(
     alloc: Global,
-    expiries: &mut BTreeSet<Expiry>,
+    timed_keys: &mut BTreeSet<TimedKey>,
     key: Vec<u8>,
     before: Option<i64>,
     after: Option<i64>,
 ) -> Result<(), AllocError>
-    requires { IsDeadlineOf key.items before expiries.old }
-    ensures ok { OnOk result (Reindexes key.items after expiries.old expiries.new) }
-    ensures err { OnErr result (expiries.new ≡ expiries.old) }
+    requires { IsDeadlineOf key.items before timed_keys.old }
+    ensures ok { OnOk result (Reindexes key.items after timed_keys.old timed_keys.new) }
+    ensures err { OnErr result (timed_keys.new ≡ timed_keys.old) }
 {
     match (before, after) {
         (None, None) => {}
         (None, Some(after)) => {
-            let _ = expiries.insert(Expiry { deadline: after, key })?;
+            let _ = timed_keys.insert(TimedKey {
+                deadline: after,
+                key,
+            })?;
         }
         (Some(before), None) => {
-            let _ = expiries.remove(&Expiry { deadline: before, key });
+            let _ = timed_keys.remove(&TimedKey {
+                deadline: before,
+                key,
+            });
         }
-        (Some(before), Some(after)) => move_deadline(alloc, expiries, key, before, after)?,
+        (Some(before), Some(after)) => move_deadline(alloc, timed_keys, key, before, after)?,
     }
     Ok(())
 }
@@ -219,20 +243,26 @@ fn reindex(
 // Moves the deadline of a key in an index.
 fn move_deadline(
     alloc: Global,
-    expiries: &mut BTreeSet<Expiry>,
+    timed_keys: &mut BTreeSet<TimedKey>,
     key: Vec<u8>,
     before: i64,
     after: i64,
 ) -> Result<(), AllocError>
-    requires { IsDeadlineOf key.items (Some before) expiries.old }
-    ensures ok { OnOk result (Reindexes key.items (Some after) expiries.old expiries.new) }
-    ensures err { OnErr result (expiries.new ≡ expiries.old) }
+    requires { IsDeadlineOf key.items (Some before) timed_keys.old }
+    ensures ok { OnOk result (Reindexes key.items (Some after) timed_keys.old timed_keys.new) }
+    ensures err { OnErr result (timed_keys.new ≡ timed_keys.old) }
 {
     if before == after {
         return Ok(());
     }
     let name = Vec::from_slice(alloc, key.as_slice())?;
-    let _ = expiries.insert(Expiry { deadline: after, key: name })?;
-    let _ = expiries.remove(&Expiry { deadline: before, key });
+    let _ = timed_keys.insert(TimedKey {
+        deadline: after,
+        key: name,
+    })?;
+    let _ = timed_keys.remove(&TimedKey {
+        deadline: before,
+        key,
+    });
     Ok(())
 }

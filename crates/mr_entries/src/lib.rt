@@ -2,12 +2,12 @@
 #![tactic(auto)]
 
 mod entries;
-mod expiry;
 mod fault;
 mod keyspace;
+mod timed_key;
 mod value;
 
 pub use entries::Entries;
-pub use expiry::Expiry;
 pub use fault::ApplyFault;
+pub use timed_key::TimedKey;
 pub use value::{Entry, Value};

@@ -1,14 +1,14 @@
 use Rattle.std.proofs.Common.{◌≡◌, Bool, true, false, Some, refl, sym, ◌∙◌, ap, subst, to_z, of_z, w64}
 use Rattle.std.specs.Ordering.{int_eq}
 use Rattle.std.proofs.lemmas.Int.{to_z-of_z}
-use Rattle.mr_entries.specs.Expiries.{IsDeadlineOf}
+use Rattle.mr_entries.specs.TimedKeys.{IsDeadlineOf}
 use Rattle.mr_entries.proofs.Index.{unmoved, moves, same_deadline}
 use Rattle.mr_entries.proofs.keyspace.move_deadline.Goals as goal
 
 pub returns-then-before-after-clause-ok : goal.returns-then-before-after-clause-ok
 returns-then-before-after-clause-ok c =
     let k = c.args.key.items in
-    let s = c.args.expiries.now in
+    let s = c.args.timed_keys.now in
     let same : c.args.before ≡ c.args.after = sym (to_z-of_z w64 c.args.before c.ranges.before) ∙ ap (to_z w64) c.if-before-after.true ∙ to_z-of_z w64 c.args.after c.ranges.after in
     unmoved k (Some c.args.after) s (subst (λ d. IsDeadlineOf k (Some d) s) same c.requires)
 
@@ -18,7 +18,7 @@ returns-clause-ok c =
       | true ↦ λ e. absurd (c.if-before-after.false (ap (of_z w64) (same_deadline c.args.before c.args.after e)))
       | false ↦ λ e. refl
     ] refl in
-    moves (record { deadline = c.args.before; key = c.args.key }) (record { deadline = c.args.after; key = c.in_ok-name.name }) c.args.expiries.now c.insert.new.self c.remove.new.self
-        (c.in_ok-name.ensures.items ∙ c.as_slice.ensures.value) apart c.requires
-        (rw (sym (to_z-of_z w64 c.args.after c.ranges.after)) c.in_ok-insert.ensures.updates)
-        (rw (sym (to_z-of_z w64 c.args.before c.ranges.before)) c.remove.ensures.updates)
+    moves (record { deadline = c.args.before; key = c.args.key }) (record { deadline = c.args.after; key = c.in_ok-name.name }) c.args.timed_keys.now c.insert.new.self c.remove.new.self
+    (c.in_ok-name.ensures.items ∙ c.as_slice.ensures.value) apart c.requires
+    (rw (sym (to_z-of_z w64 c.args.after c.ranges.after)) c.in_ok-insert.ensures.updates)
+    (rw (sym (to_z-of_z w64 c.args.before c.ranges.before)) c.remove.ensures.updates)

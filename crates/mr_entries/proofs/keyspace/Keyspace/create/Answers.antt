@@ -8,7 +8,7 @@ invariant_of-self-in_default c =
     let m = c.self.inside.by_key in
     let absent : get m c.args.key ≡ None = ap (λ x. get x c.args.key) c.self.view_is ∙ c.requires in
     let name : c.into_vec-key.result.items ≡ c.args.key = search rules in
-    comes_without m c.args.key c.into_vec-key.result.items c.args.entry c.self.inside.expiries c.self.invariant absent name c.insert.new.self c.in_default.not-Some c.in_ok-insert.ensures.ok
+    comes_without m c.args.key c.into_vec-key.result.items c.args.entry c.self.inside.timed_keys c.self.invariant absent name c.insert.new.self c.in_default.not-Some c.in_ok-insert.ensures.ok
 
 pub invariant_of-self-in-Ok : goal.invariant_of-self-in-Ok
 invariant_of-self-in-Ok c =
@@ -16,8 +16,8 @@ invariant_of-self-in-Ok c =
     let absent : get m c.args.key ≡ None = ap (λ x. get x c.args.key) c.self.view_is ∙ c.requires in
     let name : c.into_vec-key.result.items ≡ c.args.key = search rules in
     let fits : to_z w64 (of_z w64 c.in-Some.deadline) ≡ c.in-Some.deadline = search rules in
-    comes_with m c.args.key c.into_vec-key.result.items c.args.entry c.self.inside.expiries c.self.invariant absent name (record { deadline = c.in-Some.deadline; key = c.in_ok-name.name }) c.insert-3.new.self c.insert-2.new.self
-        (c.in_ok-name.ensures.items ∙ c.as_slice.ensures.value ∙ name) c.in-Some.is (rw (sym fits) c.in-Ok.ensures.updates) c.in_ok-insert-2.ensures.ok
+    comes_with m c.args.key c.into_vec-key.result.items c.args.entry c.self.inside.timed_keys c.self.invariant absent name (record { deadline = c.in-Some.deadline; key = c.in_ok-name.name }) c.insert-3.new.self c.insert-2.new.self
+    (c.in_ok-name.ensures.items ∙ c.as_slice.ensures.value ∙ name) c.in-Some.is (rw (sym fits) c.in-Ok.ensures.updates) c.in_ok-insert-2.ensures.ok
 
 pub invariant_of-self-in-Err : goal.invariant_of-self-in-Err
 invariant_of-self-in-Err c =
@@ -25,9 +25,9 @@ invariant_of-self-in-Err c =
     let absent : get m c.args.key ≡ None = ap (λ x. get x c.args.key) c.self.view_is ∙ c.requires in
     let name : c.into_vec-key.result.items ≡ c.args.key = search rules in
     let back : c.as_slice-in-Err.result.now ≡ c.args.key = c.as_slice-in-Err.ensures.value ∙ ap (λ x. x.key.items) c.in-Err.ensures.value_returned ∙ c.in_ok-name.ensures.items ∙ c.as_slice.ensures.value ∙ name in
-    same_index m c.remove.new.self c.self.inside.expiries c.insert-3.new.self c.self.invariant
-        (came_and_went m c.args.key c.into_vec-key.result.items c.args.entry c.self.inside.expiries c.self.invariant absent name c.as_slice-in-Err.result.now c.remove.new.self back (c.remove.ensures.removed ∙ ap (λ x. remove x c.as_slice-in-Err.result.now) c.in_ok-insert-2.ensures.ok))
-        c.in-Err.ensures.err
+    same_index m c.remove.new.self c.self.inside.timed_keys c.insert-3.new.self c.self.invariant
+    (came_and_went m c.args.key c.into_vec-key.result.items c.args.entry c.self.inside.timed_keys c.self.invariant absent name c.as_slice-in-Err.result.now c.remove.new.self back (c.remove.ensures.removed ∙ ap (λ x. remove x c.as_slice-in-Err.result.now) c.in_ok-insert-2.ensures.ok))
+    c.in-Err.ensures.err
 
 pub returns-in-Err-clause-err : goal.returns-in-Err-clause-err
 returns-in-Err-clause-err c =
@@ -35,5 +35,5 @@ returns-in-Err-clause-err c =
     let absent : get m c.args.key ≡ None = ap (λ x. get x c.args.key) c.self.view_is ∙ c.requires in
     let name : c.into_vec-key.result.items ≡ c.args.key = search rules in
     let back : c.as_slice-in-Err.result.now ≡ c.args.key = c.as_slice-in-Err.ensures.value ∙ ap (λ x. x.key.items) c.in-Err.ensures.value_returned ∙ c.in_ok-name.ensures.items ∙ c.as_slice.ensures.value ∙ name in
-    came_and_went m c.args.key c.into_vec-key.result.items c.args.entry c.self.inside.expiries c.self.invariant absent name c.as_slice-in-Err.result.now c.remove.new.self back (c.remove.ensures.removed ∙ ap (λ x. remove x c.as_slice-in-Err.result.now) c.in_ok-insert-2.ensures.ok)
+    came_and_went m c.args.key c.into_vec-key.result.items c.args.entry c.self.inside.timed_keys c.self.invariant absent name c.as_slice-in-Err.result.now c.remove.new.self back (c.remove.ensures.removed ∙ ap (λ x. remove x c.as_slice-in-Err.result.now) c.in_ok-insert-2.ensures.ok)
     ∙ c.self.view_is

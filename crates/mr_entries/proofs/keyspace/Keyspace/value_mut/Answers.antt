@@ -5,4 +5,4 @@ use Rattle.mr_entries.proofs.keyspace.Keyspace.value_mut.Goals as goal
 pub invariant_of-self-lent : goal.invariant_of-self-lent
 invariant_of-self-lent c w =
     let e = c.in-Some.entry.now in
-    IsIndex-value c.self.inside.by_key c.args.key.now e (record { value = w; deadline = e.deadline }) c.self.inside.expiries c.self.invariant c.in-Some.ensures.value refl
+    IsIndex-value c.self.inside.by_key c.args.key.now e (record { value = w; deadline = e.deadline }) c.self.inside.timed_keys c.self.invariant c.in-Some.ensures.value refl

@@ -10,10 +10,10 @@ use Rattle.mr_zset.specs.Order.{in_order}
 use Rattle.mr_zset.specs.Pairs.{pair_cmp}
 use Rattle.mr_entries.specs.Dataset.{Dataset}
 use Rattle.mr_entries.specs.Steps.{deadline_of}
-use Rattle.mr_entries.specs.declared.expiry.Expiry.{Expiry}
+use Rattle.mr_entries.specs.declared.timed_key.TimedKey.{TimedKey}
 
--- an expiry, as a key with its deadline
-abbrev pub shown : Expiry → Bytes × ℤ
+-- a timed key, as a key with its deadline
+abbrev pub shown : TimedKey → Bytes × ℤ
 shown x = (x.key.items, x.deadline)
 
 -- this deadline, and no other or none
@@ -21,30 +21,30 @@ abbrev pub is_deadline : ℤ → Option ℤ → Bool
 is_deadline d None = false
 is_deadline d (Some e) = int_eq d e
 
-abbrev pub expiry_cmp : Expiry → Expiry → Ordering
-expiry_cmp x y = pair_cmp (shown x) (shown y)
+abbrev pub timed_cmp : TimedKey → TimedKey → Ordering
+timed_cmp x y = pair_cmp (shown x) (shown y)
 
 -- whether an index has this key with this deadline
-abbrev pub has : BTreeSet Expiry → Bytes × ℤ → Bool
+abbrev pub has : BTreeSet TimedKey → Bytes × ℤ → Bool
 has s p = contains_by (λ x. pair_cmp p (shown x)) s
 
 -- the index has exactly the entries' deadlines
-abbrev pub IsIndex : Dataset → BTreeSet Expiry → Type 0
+abbrev pub IsIndex : Dataset → BTreeSet TimedKey → Type 0
 IsIndex m s = (p : Bytes × ℤ) → has s p ≡ is_deadline p.1 (deadline_of (get m p.0))
 
 -- of this key an index has this deadline alone, or none
-abbrev pub IsDeadlineOf : Bytes → Option ℤ → BTreeSet Expiry → Type 0
+abbrev pub IsDeadlineOf : Bytes → Option ℤ → BTreeSet TimedKey → Type 0
 IsDeadlineOf k d s = (p : Bytes × ℤ) → p.0 ≡ k → has s p ≡ is_deadline p.1 d
 
 -- of this key the second index has this deadline alone, or none; of others it has what the first has
-abbrev pub Reindexes : Bytes → Option ℤ → BTreeSet Expiry → BTreeSet Expiry → Type 0
+abbrev pub Reindexes : Bytes → Option ℤ → BTreeSet TimedKey → BTreeSet TimedKey → Type 0
 Reindexes k d s n = (p : Bytes × ℤ) → has n p ≡ (if eq_by_cmp bytes_cmp p.0 k then is_deadline p.1 d else has s p)
 
 -- a key with its deadline, if it has one
-abbrev pub expiring : Bytes → Option ℤ → List (Bytes × ℤ)
-expiring k None = []
-expiring k (Some d) = (k, d) ∷ []
+abbrev pub timed : Bytes → Option ℤ → List (Bytes × ℤ)
+timed k None = []
+timed k (Some d) = (k, d) ∷ []
 
 -- the keys that have a deadline with it, in order of deadline and then of key
-abbrev pub expiries : Dataset → List (Bytes × ℤ)
-expiries m = in_order pair_cmp (flat_map (λ k. expiring k (deadline_of (get m k))) (keys m))
+abbrev pub timed_keys : Dataset → List (Bytes × ℤ)
+timed_keys m = in_order pair_cmp (flat_map (λ k. timed k (deadline_of (get m k))) (keys m))
