@@ -4,8 +4,8 @@ import re
 from dataclasses import dataclass
 from enum import Enum
 
-# a function's line, as `fn mr_glob::pattern::past: no proof: ..`
-LINE = re.compile(r"^fn (\S+?): (proved|not proved|no proof|could not tell)\b(.*)")
+# the line of a function, or of a type's or an impl's laws, as `fn mr_glob::pattern::past: no proof: ..`
+LINE = re.compile(r"^(?:fn|struct|enum|trait|impl) (\S+?): (proved|not proved|no proof|could not tell)\b(.*)")
 GOAL = re.compile(r"`search` did not prove (`[^`]*`)")
 # what a function's line says where a part of its proof is missing, or where the function isn't treated
 WANTING = re.compile(r"not cover|expected a measure|expected an invariant|cannot be proved yet|expected a proof")
@@ -31,7 +31,7 @@ class Strength(Enum):
 
 @dataclass
 class Reason:
-    """Why a function is refused, or with no function, why a file is."""
+    """Why a function is refused, or a type's laws; with no name, why something outside of functions is."""
 
     function: str
     text: str
@@ -46,9 +46,8 @@ class Answer:
         self.name, self.sources, self.texts, self.only = crate.name, sources, texts, only
         self.status, self.lines = status, said.rstrip("\n").split("\n")
         self.last = self.lines[-1]
-        self.reached = status in (0, 1) and self.last.startswith(LAST)
+        self.reached = status in (0, 1) and self.last.startswith(LAST) and not crate.kit.is_stale(said)
         self.names_no_function = bool(NO_FUNCTION.search(said))
-        self.is_stale = crate.kit.is_stale(said)
         self.unread = next((it[:200] for it in self.lines if crate.kit.cannot_read(it, texts)), "")
         self.functions = {it.name: it for it in sources.everywhere()}
         self.reasons, self.errors, self.unclear = [], [], []
@@ -58,9 +57,7 @@ class Answer:
     def read(self, line):
         note, of_function, error = NOTE.match(line), LINE.match(line), ERROR.match(line)
         if note:
-            name = self.function_at(note[1], int(note[2]) - 1)
-            if name:
-                self.reasons.append(Reason(name, note[3], Strength.GOAL))
+            self.reasons.append(Reason(self.function_at(note[1], int(note[2]) - 1), note[3], Strength.GOAL))
         elif of_function and of_function[1].startswith(f"{self.name}::"):
             self.read_function(self.owner_of(of_function[1][len(self.name) + 2 :]), of_function[2], of_function[3], line)
         elif error:
@@ -85,11 +82,9 @@ class Answer:
             self.unclear.append(line)
 
     def function_at(self, path, row):
-        """The function that has this row of a file."""
-        if path not in self.sources.texts:
-            return None
-        functions = self.sources.functions(path, self.texts.get(path))
-        return next((it.name for it in functions if it.holds(row)), None)
+        """The function that has this row of a file, or no name."""
+        functions = self.sources.functions(path, self.texts.get(path)) if path in self.sources.texts else []
+        return next((it.name for it in functions if it.holds(row)), "")
 
     def owner_of(self, name):
         """The function in which a closure stands, as `a::T::f` for `a::fn::T::f::map+FnMut::call_mut`; any other name as it is."""
@@ -107,12 +102,10 @@ class Answer:
         cycle = name.rpartition("::")[2]
         return [it.name for it in self.functions.values() if it.cycle == cycle] or [name]
 
-    def is_strange(self):
+    def why_unclear(self):
         """Why this check of several edits tells nothing of any of them, or an empty text."""
         if not self.reached:
             return f"it ends in {self.last!r}"
-        if self.is_stale:
-            return "the kept work of a library could not be used"
         beyond = next((f"{it.function}: {it.text}" for it in self.reasons if it.function not in self.only), "")
         return self.unread or next(iter(self.unclear), "") or beyond
 

@@ -16,6 +16,7 @@ import difflib
 import os
 import re
 import shutil
+import signal
 import subprocess
 import sys
 import tempfile
@@ -24,6 +25,8 @@ import time
 from dataclasses import dataclass, field
 
 ROOT = os.path.dirname(os.path.dirname(os.path.abspath(__file__)))
+# how a lemma or an answer cites the theorem of a function
+THEOREM = re.compile(r"\bproofs\.[\w.+-]+\.Met\b")
 sys.path.insert(0, os.path.join(ROOT, "tools"))
 
 from kit import Kit, NoKit
@@ -128,15 +131,17 @@ def batches(edits, alone=False):
 
 
 def verdict_in_batch(edit, answer):
-    """What a check of several edits tells of one of them, or None where it doesn't: nothing but that it is refused."""
-    reasons = [it for it in answer.reasons if it.function in edit.touched]
+    """What a check of several edits tells of one of them, or None where it doesn't: nothing but that a goal of its own is open.
+
+    A name that is gone from its proof may be gone for another edit's sake."""
+    reasons = [it for it in answer.reasons if it.function in edit.touched and it.strength is Strength.GOAL]
     return refused(edit, reasons) if reasons else None
 
 
 def verdict_alone(edit, answer):
     """What a check with this edit alone tells: this is final."""
     if not answer.reached:
-        return Verdict(False, f"BAD EDIT {edit.name}: refused by the compiler, or not read, so no contract was tried: {answer.first_error()}")
+        return Verdict(False, f"BAD EDIT {edit.name}: it did not reach the prover, or the prover couldn't tell, so no contract was tried: {answer.first_error()}")
     if answer.unread:
         return Verdict(False, f"BAD EDIT {edit.name}: the prover cannot read the edited text: {answer.unread}")
     # with the rest of the crate as it was proved, whatever is refused now is refused for an edit of unknown reach
@@ -197,8 +202,9 @@ class Trial:
     def try_batch(self, batch, kept):
         """Sets the verdicts for which one check of these edits tells, and returns what is still to be tried."""
         answer = self.check(batch, set().union(*[it.touched for it in batch]), kept)
-        if answer.is_strange():
-            self.notes.append(f"{self.crate.name}: a batch of {len(batch)} doesn't tell, so its halves are tried: {answer.is_strange()[:160]}")
+        why = answer.why_unclear()
+        if why:
+            self.notes.append(f"{self.crate.name}: a batch of {len(batch)} doesn't tell, so its halves are tried: {why[:160]}")
             return [batch[: len(batch) // 2], batch[len(batch) // 2 :]]
         for edit in batch:
             edit.verdict = verdict_in_batch(edit, answer)
@@ -233,6 +239,9 @@ class Trial:
                     it.write(text)
             words = [*self.crate.check(), "--incremental", kept, *[word for name in sorted(only) for word in ("--only", name)]]
             status, said, processor = timed(words, room)
+            if status == -signal.SIGKILL:
+                self.notes.append(f"{self.crate.name}: a check was killed, most likely for want of memory: once more")
+                status, said, processor = timed(words, room)
         self.checks, self.processor = self.checks + 1, self.processor + processor
         return Answer(self.crate, self.sources, status, said, texts, only)
 
@@ -283,14 +292,15 @@ def trials(kit, options):
         edits, worse = read_edits(kit, crate, os.path.join(options.edits or ROOT, "crates", crate.name, "must-fail"), sources)
         bad += worse
         if edits:
-            found.append(Trial(crate, edits, sources, options.alone))
+            # a proof that cites another function's theorem may be spoilt by an edit of that function
+            found.append(Trial(crate, edits, sources, options.alone or sources.is_stated(THEOREM)))
     return found, bad
 
 
-def prove_below(trial):
-    """Returns whether the crates below are proved, and proves them first in a folder in which no `rt ci` has just run."""
+def stands(trial, after_ci):
+    """Whether the crates below are proved: by the `rt ci` that has just run here, or else by what is kept, and now where it isn't."""
     for below in trial.crate.below:
-        if not below.is_built_by_ci() and not below.is_proved() and below.prove(1, sys.stderr):
+        if not (below.is_built_by_ci() if after_ci else below.is_proved() or not below.prove(1, sys.stderr)):
             print(f"{trial.crate.name}: its library {below.name} is not proved", flush=True)
             return False
     return True
@@ -325,23 +335,30 @@ def main(words):
         return 1
     found, bad = trials(kit, options)
     if options.plan:
-        for trial in found:
-            for group in batches(trial.edits, options.alone):
-                print(trial.crate.name, len(group), *[f"{it.name.split('/')[1]}={','.join(sorted(it.touched or ['?']))}" for it in group])
-        print(*[it.text for it in bad], sep="\n")
-        return 1 if bad else 0
-    if not all(map(prove_below, found)):
+        return plan(found, bad, options.alone)
+    if not all(stands(it, bool(options.proved)) for it in found):
         print("0 passed, 1 failed")
         return 1
     run_all(found, kit, options.at_once)
     return tell(found, bad)
 
 
+def plan(found, bad, alone):
+    """Prints the batches and what each edit touches, and returns the exit status."""
+    for trial in found:
+        for group in batches(trial.edits, alone):
+            print(trial.crate.name, len(group), *[f"{it.name.split('/')[1]}={','.join(sorted(it.touched or ['?']))}" for it in group])
+    for verdict in bad:
+        print(verdict.text)
+    return 1 if bad else 0
+
+
 def tell(found, bad):
-    """Prints the sum of all verdicts, and returns the exit status."""
+    """Prints what failed and the sum of all verdicts, and returns the exit status."""
     verdicts = [edit.verdict for trial in found for edit in trial.edits] + bad
     passed, weak = sum(it.passes for it in verdicts), sum(it.is_weak for it in verdicts)
-    print(*[it.text for it in verdicts if not it.passes], sep="\n")
+    for verdict in (it for it in verdicts if not it.passes):
+        print(verdict.text)
     print(f"{sum(it.processor for it in found) / 60:.0f} minutes of processor")
     print(f"{weak} of the edits are refused only by the names in a proof file, or by no goal of a contract")
     print(f"{passed} passed, {len(verdicts) - passed} failed")

@@ -37,11 +37,12 @@ def part(name, words, folder, passed, **environment):
         print(f"{name}: {error}")
         end(passed, 1)
     count = None
-    for line in ran.stdout:
-        count = COUNT.match(line)
-        print(f"{name}: {line}" if count else line, end="", flush=True)
+    with ran:
+        for line in ran.stdout:
+            count = COUNT.match(line)
+            print(f"{name}: {line}" if count else line, end="", flush=True)
     well, failed = (int(it) for it in count.groups()) if count else (0, 1)
-    if ran.wait() and not failed:
+    if ran.returncode and not failed:
         failed = 1
     if failed:
         end(passed + well, failed)

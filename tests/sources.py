@@ -145,7 +145,7 @@ class Sources:
         return users
 
     def is_stated(self, word):
-        """Whether a file of specs/ or proofs/ has the word."""
+        """Whether a file of specs/ or proofs/ has what the pattern `word` says."""
         for part in ("specs", "proofs"):
             for at, _, names in os.walk(os.path.join(self.folder, part)):
                 for name in names:

@@ -9,7 +9,7 @@ import unittest
 
 import tiny
 from answers import Answer, Strength
-from edits import Kit, Trial, batches, read_edits
+from edits import THEOREM, Kit, Trial, batches, read_edits, verdict_alone, verdict_in_batch
 from sources import Sources
 
 HERE = os.path.dirname(os.path.abspath(__file__))
@@ -165,7 +165,7 @@ class Reading(WithTheTinyCrate):
         said = "./proofs/Sums.antt:4:12: error: `one_more`: expected type `1 + 1 ≡ 3`, but this has type `1 + 1 ≡ 1 + 1`\nlogic=not-proved\n"
         answer = self.answer(said, only={"limit"})
         self.assertEqual((answer.reasons, [it.path for it in answer.errors]), ([], ["proofs/Sums.antt"]))
-        self.assertIn("one_more", answer.is_strange())
+        self.assertIn("one_more", answer.why_unclear())
 
     def test_what_makes_a_check_of_several_edits_tell_nothing(self):
         for said, status in (
@@ -174,11 +174,31 @@ class Reading(WithTheTinyCrate):
             ("rattle: error: `tiny` has no function `steps::upp`: help: write the name\n", 2),
             ("fn tiny::limit: no proof: `search` did not prove `returns`\nonly=1 proved=0\n", 1),
         ):
-            self.assertTrue(self.answer(said, status, only={"steps::up"}).is_strange(), said)
+            self.assertTrue(self.answer(said, status, only={"steps::up"}).why_unclear(), said)
 
     def test_an_own_reason_of_each_function_that_was_asked_for_tells(self):
         said = "fn tiny::limit: no proof: `search` did not prove `returns`\nonly=2 proved=1\n"
-        self.assertEqual(self.answer(said, only={"limit", "third"}).is_strange(), "")
+        self.assertEqual(self.answer(said, only={"limit", "third"}).why_unclear(), "")
+
+
+class InABatch(WithTheTinyCrate):
+    """What one check tells of each of several edits."""
+
+    edits = {"up": tiny.UP_BY_TWO, "third": tiny.TWO_IN_OTHER_WORDS}
+
+    def test_only_an_open_goal_of_its_own_settles_an_edit(self):
+        said = "./proofs/third/Answers.antt:3:9: error: `returns`: `met` was not admitted\nfn tiny::steps::up: no proof: `search` did not prove `returns`\nonly=2 proved=0\n"
+        answer = self.answer(said, only={"third", "steps::up"})
+        verdicts = {it.name: verdict_in_batch(it, answer) for it in self.found}
+        self.assertIsNone(verdicts["tiny/third.edit"])
+        self.assertTrue(verdicts["tiny/up.edit"].passes)
+        alone = verdict_alone(next(it for it in self.found if it.name == "tiny/third.edit"), answer)
+        self.assertTrue(alone.passes and alone.is_weak)
+
+    def test_where_a_proof_cites_a_theorem_each_edit_is_tried_alone(self):
+        self.assertFalse(self.sources.is_stated(THEOREM))
+        tiny.write(self.folder, {"proofs/third/Answers.antt": "use Rattle.tiny.proofs.steps.up.Met.{met}\n"})
+        self.assertTrue(self.sources.is_stated(THEOREM))
 
 
 class Scripted(Trial):
@@ -223,7 +243,7 @@ class Trying(WithTheTinyCrate):
     def test_one_that_does_not_compile_is_found_by_halves(self):
         trial, verdicts = self.run_script(breaks=["b_up"])
         self.assertEqual(trial.asked[:5], [["a_limit", "b_up", "c_third", "d_level"], ["a_limit", "b_up"], ["c_third", "d_level"], ["a_limit"], ["b_up"]])
-        self.assertTrue(verdicts["b_up"].text.startswith("BAD EDIT tiny/b_up.edit: refused by the compiler"))
+        self.assertTrue(verdicts["b_up"].text.startswith("BAD EDIT tiny/b_up.edit: it did not reach the prover"))
         self.assertEqual([name for name, it in verdicts.items() if not it.passes], ["b_up"])
 
     def test_one_that_changes_nothing_is_tried_alone_and_fails(self):
