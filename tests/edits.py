@@ -20,7 +20,6 @@ import signal
 import subprocess
 import sys
 import tempfile
-import threading
 import time
 from dataclasses import dataclass, field
 
@@ -246,8 +245,7 @@ class Trial:
         return Answer(self.crate, self.sources, status, said, texts, only)
 
     def text_of(self, path):
-        with open(os.path.join(self.crate.folder, path), encoding="utf-8") as it:
-            return it.read()
+        return read(os.path.join(self.crate.folder, path))
 
 
 def timed(words, folder):
@@ -261,13 +259,12 @@ def timed(words, folder):
 
 
 def read_edits(kit, crate, folder, sources):
-    """The edits of a crate that can be made, from this folder, and verdicts on the others."""
-    edits, bad = [], []
-    for name in sorted(os.listdir(folder) if os.path.isdir(folder) else []):
-        label, file = f"{crate.name}/{name}", os.path.join(folder, name)
-        if not name.endswith(".edit"):
-            bad += [Verdict(False, f"BAD EDIT {label}: an edit's name ends in .edit (or .md, if it is only to be read)")] * (not name.endswith(".md"))
-            continue
+    """The edits of a crate that can be made, from this folder's must-fail/, and verdicts on the others."""
+    files, others = kit.edits_in(folder)
+    edits = []
+    bad = [Verdict(False, f"BAD EDIT {crate.name}/{os.path.basename(it)}: an edit's name ends in .edit (or .md, if it is only to be read)") for it in others]
+    for file in files:
+        label = f"{crate.name}/{os.path.basename(file)}"
         texts, why = kit.read_edit(file, crate.folder)
         if why:
             bad.append(Verdict(False, f"BAD EDIT {label}: {why}"))
@@ -289,7 +286,7 @@ def trials(kit, options):
         if options.crates and crate.name not in options.crates:
             continue
         sources = Sources(crate.folder)
-        edits, worse = read_edits(kit, crate, os.path.join(options.edits or ROOT, "crates", crate.name, "must-fail"), sources)
+        edits, worse = read_edits(kit, crate, os.path.join(options.edits or ROOT, "crates", crate.name), sources)
         bad += worse
         if edits:
             # a proof that cites another function's theorem may be spoilt by an edit of that function
@@ -309,7 +306,7 @@ def stands(trial, after_ci):
 def run_all(found, kit, at_once):
     """Runs the trials side by side, those with most to do first, and prints what each found."""
     tasks = [Task(it.crate.name, [], len(it.edits) * it.crate.lines(), it.crate.memory(), lambda jobs, it=it: it.run() or it) for it in found]
-    for _, trial in in_lanes(tasks, at_once or kit.processors(), 0.85 * kit.memory()):
+    for _, trial in in_lanes(tasks, at_once or kit.lanes(), kit.memory()):
         for edit in trial.edits:
             print(edit.verdict.text)
         print(*trial.notes, sep="\n", flush=True)

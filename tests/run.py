@@ -18,7 +18,7 @@ from kit import Kit, NoKit
 
 COUNT = re.compile(r"(\d+) passed, (\d+) failed\s*\Z")
 # what a check is likely to take at most, in bytes
-OF_A_CHECK = 4 << 30
+OF_A_CHECK = 3 << 30
 # what a clone of the repository doesn't have, and the edits
 NOT_COPIED = (".git", "out", "__pycache__", "*.pyc", "must-fail")
 
@@ -56,7 +56,7 @@ def crates_at_once():
     except NoKit as error:
         print(f"minired's tests: {error}")
         end(0, 1)
-    return os.environ.get("RT_JOBS") or str(max(1, min(kit.processors(), int(kit.memory()) // OF_A_CHECK)))
+    return max(1, min(kit.lanes(), kit.memory() // OF_A_CHECK))
 
 
 def copied(to):
@@ -94,7 +94,7 @@ def batched():
     """The same, with the edits in batches: in a copy without them, rt ci proves each crate from nothing; over these crates the edits are tried."""
     with tempfile.TemporaryDirectory(prefix="minired-gate-") as room:
         copy = copied(room)
-        passed = part("rt ci", ["rt", "ci"], copy, 0, RT_JOBS=crates_at_once())
+        passed = part("rt ci", ["rt", "ci"], copy, 0, RT_JOBS=str(crates_at_once()))
         words = [sys.executable, os.path.join(ROOT, "tests", "edits.py"), "--proved", copy]
         return tables_in(copy, part("edits", words, ROOT, passed))
 

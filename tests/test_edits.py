@@ -33,7 +33,7 @@ class WithTheTinyCrate(unittest.TestCase):
         self.folder = os.path.join(room.name, "crates", "tiny")
         self.sources = Sources(self.folder)
         self.crate = next(it for it in KIT.crates(room.name) if it.name == "tiny")
-        self.found, self.bad = read_edits(KIT, self.crate, os.path.join(self.folder, "must-fail"), self.sources)
+        self.found, self.bad = read_edits(KIT, self.crate, self.folder, self.sources)
 
     def touched(self):
         return {it.name.removeprefix("tiny/").removesuffix(".edit"): it.touched for it in self.found}
@@ -108,8 +108,8 @@ class Reach(WithTheTinyCrate):
 
     def test_an_edit_that_cannot_be_made_is_a_bad_one(self):
         tiny.write(self.folder, {"must-fail/lost.edit": tiny.edit_text("src/steps.rt", "n + 7", "n + 8"), "must-fail/lost.txt": ""})
-        _, bad = read_edits(KIT, self.crate, os.path.join(self.folder, "must-fail"), self.sources)
-        self.assertEqual([it.text.split(":")[0] for it in bad], ["BAD EDIT tiny/lost.edit", "BAD EDIT tiny/lost.txt"])
+        _, bad = read_edits(KIT, self.crate, self.folder, self.sources)
+        self.assertEqual({it.text.split(":")[0] for it in bad}, {"BAD EDIT tiny/lost.edit", "BAD EDIT tiny/lost.txt"})
 
 
 class Grouping(WithTheTinyCrate):

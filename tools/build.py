@@ -55,7 +55,7 @@ class Build:
 
     def __init__(self, kit, log):
         self.kit, self.log = kit, log
-        self.lanes = int(os.environ.get("RT_JOBS") or kit.processors())
+        self.lanes = kit.lanes()
 
     def task(self, crate, waiting):
         after = [it.name for it in crate.below if it.name in waiting]
@@ -78,7 +78,7 @@ class Build:
         progress = Progress(len(crates), len(crates) - len(waiting) - 1)
         say(progress.begins(self.lanes))
         tasks = [self.task(it, waiting) for it in waiting.values()]
-        for task, outcome in in_lanes(tasks, self.lanes, 0.85 * self.kit.memory(), MOST):
+        for task, outcome in in_lanes(tasks, self.lanes, self.kit.memory(), MOST):
             print(f"== {task.name}\n{outcome.said}", end="", file=self.log, flush=True)
             if not outcome:
                 self.failed(task.name, outcome.said)

@@ -8,6 +8,7 @@ import importlib.util
 import os
 import shutil
 import sys
+import types
 
 
 class NoKit(Exception):
@@ -50,16 +51,25 @@ class Kit:
         return list(known.values())
 
     def processors(self):
-        """How many processors there are to use, under the limit of a container too."""
+        """How many processors there are to use, under the quota of a container too."""
         return self.rt.processors()
 
+    def lanes(self):
+        """How many crates to work on at a time: RT_JOBS, or as many as there are processors."""
+        number = os.environ.get("RT_JOBS", "")
+        return int(number) if number.isdigit() and int(number) else self.processors()
+
     def memory(self):
-        """How many bytes of memory are free, under the limit of a container too."""
-        return self.rt.free()
+        """How many bytes of memory to use: of those that are free, under the limit of a container too, all but a reserve."""
+        return int(0.85 * self.rt.free())
 
     def lock(self, crates):
         """Keeps any other rt out of these crates' folders until the files that it returns are closed."""
         return self.rt.rtlib.lock([it.inner for it in crates])
+
+    def edits_in(self, folder):
+        """The files of must-fail edits in a crate's folder, and the files beside them that are none."""
+        return self.rt.edits_of(types.SimpleNamespace(folder=folder))
 
     def read_edit(self, file, folder):
         """The texts of the files that an edit changes, by their path below the crate's folder; or None, and why it can't be applied."""
@@ -103,10 +113,6 @@ class Crate:
         """Proves the crate over the work that it keeps, and builds its library. It writes to `log`, and returns the exit status, which is negative where a signal ended it."""
         self.inner.out = log
         return self.inner.build_rlib(["--jobs", str(jobs)], anew=False)
-
-    def edits(self):
-        """The files of its must-fail edits, and the files beside them that are none."""
-        return self.kit.rt.edits_of(self.inner)
 
     def parts(self):
         """The names of the folders that hold its text."""
