@@ -82,7 +82,7 @@ def tables():
 
 def tables_in(folder, passed):
     """Plays the tables of the repository in this folder on the programs that are built there."""
-    return part("tables", [sys.executable, os.path.join(folder, "tests", "run.py"), "--tables"], folder, passed)
+    return part("tables", [sys.executable, "-u", os.path.join(folder, "tests", "run.py"), "--tables"], folder, passed)
 
 
 def everything():
@@ -95,7 +95,7 @@ def batched():
     with tempfile.TemporaryDirectory(prefix="minired-gate-") as room:
         copy = copied(room)
         passed = part("rt ci", ["rt", "ci"], copy, 0, RT_JOBS=str(crates_at_once()))
-        words = [sys.executable, os.path.join(ROOT, "tests", "edits.py"), "--proved", copy]
+        words = [sys.executable, "-u", os.path.join(ROOT, "tests", "edits.py"), "--proved", copy]
         return tables_in(copy, part("edits", words, ROOT, passed))
 
 

@@ -8,6 +8,7 @@ import subprocess
 import sys
 import tempfile
 import time
+from dataclasses import dataclass
 
 from kit import Kit, NoKit
 from lanes import Task, in_lanes
@@ -28,6 +29,17 @@ def say(text):
 def length_of(seconds):
     """A length of time as it is told: in seconds, and from one minute on in minutes."""
     return f"{seconds:.0f} s" if seconds < 60 else f"{seconds // 60:.0f} min"
+
+
+@dataclass
+class Outcome:
+    """How the proof of a crate ended, and what the prover said. It counts as true where the crate is proved."""
+
+    well: bool
+    said: str
+
+    def __bool__(self):
+        return self.well
 
 
 class Progress:
@@ -72,7 +84,7 @@ class Build:
             return Outcome(status == 0, said.read())
 
     def libraries(self, crates):
-        """Proves the libraries that the program stands on, and returns whether all went well."""
+        """Proves the libraries that the program stands on, and returns how far the build is then, or None where one isn't proved."""
         held = self.kit.lock(crates)
         waiting = {it.name: it for it in crates if it.is_library() and not it.is_proved()}
         progress = Progress(len(crates), len(crates) - len(waiting) - 1)
@@ -104,16 +116,6 @@ class Build:
     def failed(self, name, said):
         print(last_lines(said), file=sys.stderr)
         say(f"the build failed at {name}: the lines above are the last of it, and all are in {LOG}")
-
-
-class Outcome:
-    """How the proof of a crate ended: true where it went well."""
-
-    def __init__(self, well, said):
-        self.well, self.said = well, said
-
-    def __bool__(self):
-        return self.well
 
 
 def main():
