@@ -103,7 +103,7 @@ class Lines(unittest.TestCase):
         self.assertEqual([length_of(it) for it in (0, 59.4, 60, 119, 3661)], ["0 s", "59 s", "1 min", "1 min", "61 min"])
 
     def test_the_last_lines_of_a_log(self):
-        self.assertEqual(last_lines("one\ntwo\nthree\n", 2), "two\nthree")
+        self.assertEqual(last_lines("one\ntwo\nstatements std: modules loaded=21 checked=0\nthree\n", 2), "two\nthree")
 
 
 class OfATinyProgram(unittest.TestCase):
@@ -112,8 +112,8 @@ class OfATinyProgram(unittest.TestCase):
     CRATES = {
         "crates.txt": "low:\nhigh: low\nminired: high\n",
         "HANDLES": tiny.HANDLES,
-        "crates/low/src/lib.rt": "//! One number.\n#![tactic(auto)]\nghost use Rattle.std.specs.Prelude.{◌≡◌};\n\npub fn one() -> u8\n    ensures { result ≡ 1 }\n{\n    1\n}\n",
-        "crates/high/src/lib.rt": "//! Another number.\n#![tactic(auto)]\nghost use Rattle.std.specs.Prelude.{◌≡◌};\n\npub fn two() -> u8\n    ensures { result ≡ 2 }\n{\n    low::one() + 1\n}\n",
+        "crates/low/src/lib.rt": "//! One number.\n#![tactic(auto)]\n\nghost use Rattle.std.specs.Prelude.{◌≡◌};\n\npub fn one() -> u8\n    ensures { result ≡ 1 }\n{\n    1\n}\n",
+        "crates/high/src/lib.rt": "//! Another number.\n#![tactic(auto)]\n\nghost use Rattle.std.specs.Prelude.{◌≡◌};\n\npub fn two() -> u8\n    ensures { result ≡ 2 }\n{\n    low::one() + 1\n}\n",
         "crates/minired/src/main.rt": "//! A program that ends at once.\n#![tactic(auto)]\n\nfn main() {\n    let _two = high::two();\n}\n",
     }
 
@@ -152,7 +152,7 @@ class OfATinyProgram(unittest.TestCase):
         tiny.write(self.root, {"crates/low/src/lib.rt": self.CRATES["crates/low/src/lib.rt"].replace("    1\n", "    3\n")})
         status, lines = self.build()
         self.assertEqual(status, 1)
-        self.assertIn("fn low::one: no proof: expected answers in ./proofs/one/Answers.antt; `search` did not prove `returns`", "\n".join(lines))
+        self.assertIn("fn low::one: no proof: expected answers in ./proofs/one/Answers.antt; `search` did not prove `returns`", lines)
         log = os.path.join(self.root, "out", "build.log")
         self.assertEqual(lines[-1], f"minired: the build failed at low: the lines above are the last of it, and all are in {log}")
         self.assertTrue(os.path.isfile(log))

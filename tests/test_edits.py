@@ -138,7 +138,8 @@ class Reading(WithTheTinyCrate):
 
     def test_a_note_belongs_to_the_function_on_its_line_of_the_edited_text(self):
         text = "// a line more\n" + tiny.CRATE["src/lib.rt"]
-        said = "note: src/lib.rt:20:5: it is not proved that what the function ensures holds when it returns (`returns`)\nonly=1 proved=0\n"
+        row = text[: text.index("    LIMIT\n")].count("\n") + 1
+        said = f"note: src/lib.rt:{row}:5: it is not proved that what the function ensures holds when it returns (`returns`)\nonly=1 proved=0\n"
         self.assertEqual([it.function for it in self.answer(said, texts={"src/lib.rt": text}).reasons], ["limit"])
 
     def test_a_closure_belongs_to_its_function(self):

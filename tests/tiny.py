@@ -9,6 +9,7 @@ CRATE = {
     "src/lib.rt": """\
 //! A few functions, each of which an edit changes.
 #![tactic(auto)]
+
 ghost use Rattle.std.specs.Prelude.{◌≡◌, ◌+◌};
 
 mod level;

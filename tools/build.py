@@ -17,7 +17,7 @@ ROOT = os.path.dirname(os.path.dirname(os.path.abspath(__file__)))
 PROGRAM = "minired"
 LOG = os.path.join(ROOT, "out", "build.log")
 # how many lines of a failed proof are shown; the log has all
-SHOWN = 20
+SHOWN = 30
 # how many processors one crate may use where others wait for it
 MOST = 4
 
@@ -59,7 +59,9 @@ class Progress:
 
 
 def last_lines(text, count=SHOWN):
-    return "\n".join(text.rstrip("\n").split("\n")[-count:])
+    """The last lines of what the prover said, but for its counts of what it read of each library."""
+    lines = [it for it in text.rstrip("\n").split("\n") if not it.startswith("statements ")]
+    return "\n".join(lines[-count:])
 
 
 class Build:
