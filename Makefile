@@ -1,12 +1,21 @@
-.PHONY: build test bench
+.PHONY: build test test-all test-batched bench
+
+# The gate that `make test` runs: test-all, or test-batched.
+GATE = test-all
 
 # Proves and builds the program, where its sources are newer.
 build:
 	./minired </dev/null
 
-# Every proof and test of the crates, and then the tests of the built program.
-test:
+test: $(GATE)
+
+# Every proof and test of the crates and each edit by itself, by `rt ci`, and then the tests of the built program.
+test-all:
 	python3 tests/run.py
+
+# The same, with the edits of different functions of a crate tried in one check.
+test-batched:
+	python3 tests/run.py --batched
 
 # Processor time a request and peak memory, beside redis-server where it is installed. RUNS="SETEX tick" chooses runs by words of their names.
 bench:

@@ -1,0 +1,162 @@
+"""The first build: the order in which crates are proved, the lines that it writes, and builds of a tiny program."""
+
+import os
+import re
+import shutil
+import signal
+import subprocess
+import sys
+import tempfile
+import threading
+import time
+import unittest
+
+import tiny
+from program import ROOT
+
+sys.path.insert(0, os.path.join(ROOT, "tools"))
+
+from build import Progress, last_lines, length_of
+from lanes import Task, chains, in_lanes, share
+
+# each crate of a small repository, with those that it stands on and its work
+CRATES = [("sea", [], 1), ("map", [], 2), ("value", ["map"], 3), ("glob", [], 4), ("effect", ["value", "sea"], 6), ("node", ["effect", "glob"], 5)]
+LONGEST = 300
+
+
+class Lanes(unittest.TestCase):
+    """Tasks side by side."""
+
+    def setUp(self):
+        self.begun, self.jobs, self.running, self.most, self.lock = [], {}, 0, 0, threading.Lock()
+
+    def tasks(self, memory=1, failing=()):
+        def run(name, jobs):
+            with self.lock:
+                self.begun.append(name)
+                self.jobs[name] = jobs
+                self.running += 1
+                self.most = max(self.most, self.running)
+            time.sleep(0.02)
+            with self.lock:
+                self.running -= 1
+            return name not in failing
+
+        return [Task(name, after, work, memory, lambda jobs, name=name: run(name, jobs)) for name, after, work in CRATES]
+
+    def test_a_chain_counts_the_work_of_all_behind(self):
+        self.assertEqual(chains(self.tasks()), {"node": 5, "effect": 11, "glob": 9, "value": 14, "map": 16, "sea": 12})
+
+    def test_one_at_a_time_the_longest_chain_comes_first(self):
+        ended = [task.name for task, _ in in_lanes(self.tasks(), 1, 9)]
+        self.assertEqual(ended, ["map", "value", "sea", "effect", "glob", "node"])
+
+    def test_no_crate_begins_before_those_below_it_have_ended(self):
+        ended = [task.name for task, _ in in_lanes(self.tasks(), 4, 9)]
+        for name, after, _ in CRATES:
+            self.assertTrue(all(ended.index(it) < ended.index(name) for it in after))
+        self.assertEqual(set(self.begun[:3]), {"map", "sea", "glob"})
+        self.assertEqual(self.most, 3)
+
+    def test_no_more_run_than_there_are_lanes_or_memory_for(self):
+        list(in_lanes(self.tasks(), 2, 9))
+        self.assertEqual(self.most, 2)
+        self.most = 0
+        list(in_lanes(self.tasks(memory=4), 4, 9))
+        self.assertEqual(self.most, 2)
+
+    def test_one_runs_where_none_has_memory_enough(self):
+        self.assertEqual(len(list(in_lanes(self.tasks(memory=20), 4, 9))), 6)
+        self.assertEqual(self.most, 1)
+
+    def test_what_stands_on_a_failed_crate_is_not_run(self):
+        ended = {task.name: value for task, value in in_lanes(self.tasks(failing=["value"]), 2, 9)}
+        self.assertEqual(ended, {"map": True, "value": False, "sea": True, "glob": True})
+
+    def test_idle_processors_are_shared_among_those_that_are_ready(self):
+        self.assertEqual([share(4, 1, 4), share(4, 3, 4), share(4, 1, 2), share(1, 3, 4)], [4, 1, 2, 1])
+        list(in_lanes(self.tasks(), 4, 90, most=4))
+        self.assertEqual((self.jobs["map"], self.jobs["node"]), (1, 4))
+
+    def test_an_error_in_a_task_comes_out(self):
+        def fails(_):
+            raise SystemExit(2)
+
+        with self.assertRaises(SystemExit):
+            list(in_lanes([Task("map", [], 1, 1, fails)], 1, 1))
+
+
+class Lines(unittest.TestCase):
+    """What is said on standard error."""
+
+    def test_each_crate_has_a_line(self):
+        moments = iter([100.0, 141.6, 352.0])
+        progress = Progress(25, 8, lambda: next(moments))
+        self.assertEqual(progress.begins(4), "building: 25 crates, 8 of them proved already; up to 4 are proved at a time")
+        self.assertEqual(progress.after("mr_effect"), "proved mr_effect, 9 of 25 crates, 42 s")
+        self.assertEqual(progress.after("mr_data"), "proved mr_data, 10 of 25 crates, 4 min")
+
+    def test_a_build_from_nothing_says_no_count(self):
+        self.assertEqual(Progress(25, 0).begins(2), "building: 25 crates; up to 2 are proved at a time")
+
+    def test_times(self):
+        self.assertEqual([length_of(it) for it in (0, 59.4, 60, 119, 3661)], ["0 s", "59 s", "1 min", "1 min", "61 min"])
+
+    def test_the_last_lines_of_a_log(self):
+        self.assertEqual(last_lines("one\ntwo\nstatements std: modules loaded=21 checked=0\nthree\n", 2), "two\nthree")
+
+
+class OfATinyProgram(unittest.TestCase):
+    """Builds of a program that stands on two crates."""
+
+    CRATES = {
+        "crates.txt": "low:\nhigh: low\nminired: high\n",
+        "HANDLES": tiny.HANDLES,
+        "crates/low/src/lib.rt": "//! One number.\n#![tactic(auto)]\n\nghost use Rattle.std.specs.Prelude.{◌≡◌};\n\npub fn one() -> u8\n    ensures { result ≡ 1 }\n{\n    1\n}\n",
+        "crates/high/src/lib.rt": "//! Another number.\n#![tactic(auto)]\n\nghost use Rattle.std.specs.Prelude.{◌≡◌};\n\npub fn two() -> u8\n    ensures { result ≡ 2 }\n{\n    low::one() + 1\n}\n",
+        "crates/minired/src/main.rt": "//! A program that ends at once.\n#![tactic(auto)]\n\nfn main() {\n    let _two = high::two();\n}\n",
+    }
+
+    def setUp(self):
+        room = tempfile.TemporaryDirectory()
+        self.addCleanup(room.cleanup)
+        self.root = room.name
+        tiny.write(self.root, self.CRATES)
+        shutil.copy(os.path.join(ROOT, "minired"), self.root)
+        shutil.copytree(os.path.join(ROOT, "tools"), os.path.join(self.root, "tools"), ignore=shutil.ignore_patterns("__pycache__"))
+
+    def start(self):
+        how = {"stdin": subprocess.DEVNULL, "stdout": subprocess.PIPE, "stderr": subprocess.PIPE, "text": True}
+        return subprocess.Popen([os.path.join(self.root, "minired")], start_new_session=True, **how)
+
+    def build(self):
+        started = self.start()
+        out, err = started.communicate(timeout=LONGEST)
+        self.assertEqual(out, "")
+        return started.returncode, re.sub(r"\d+ (s|min)$", "TIME", err, flags=re.M).split("\n")[:-1]
+
+    def test_each_crate_is_told_and_an_interrupted_build_goes_on(self):
+        started = self.start()
+        seen = [started.stderr.readline().rstrip() for _ in range(2)]
+        os.killpg(started.pid, signal.SIGTERM)
+        started.communicate()
+        self.assertRegex(seen[0], r"^minired: building: 3 crates; up to \d+ are proved at a time$")
+        self.assertRegex(seen[1], r"^minired: proved low, 1 of 3 crates, \d+ (s|min)$")
+        status, lines = self.build()
+        self.assertEqual(status, 0, lines)
+        self.assertRegex(lines[0], r"^minired: building: 3 crates, [12] of them proved already; up to \d+ are proved at a time$")
+        self.assertEqual(lines[-1], "minired: proved minired, 3 of 3 crates, TIME")
+        self.assertEqual(self.build(), (0, []))
+
+    def test_a_failed_build_shows_the_last_lines_of_its_log(self):
+        tiny.write(self.root, {"crates/low/src/lib.rt": self.CRATES["crates/low/src/lib.rt"].replace("    1\n", "    3\n")})
+        status, lines = self.build()
+        self.assertEqual(status, 1)
+        self.assertIn("fn low::one: no proof: expected answers in ./proofs/one/Answers.antt; `search` did not prove `returns`", lines)
+        log = os.path.join(self.root, "out", "build.log")
+        self.assertEqual(lines[-1], f"minired: the build failed at low: the lines above are the last of it, and all are in {log}")
+        self.assertTrue(os.path.isfile(log))
+
+
+if __name__ == "__main__":
+    unittest.main()

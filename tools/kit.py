@@ -1,0 +1,123 @@
+"""What this project uses of the Rattle kit's own Python, all in one place.
+
+The kit's command `rt` is a Python script beside a module `rtlib`. Both are the kit's own: a later kit may name things otherwise,
+and then this file is to be brought up to it, and no other."""
+
+import importlib.machinery
+import importlib.util
+import os
+import shutil
+import sys
+import types
+
+
+class NoKit(Exception):
+    """The command rt of the Rattle kit is not on PATH, or isn't the script that is known here."""
+
+
+def _load():
+    path = shutil.which("rt")
+    if not path:
+        raise NoKit("put the command rt of the Rattle kit on PATH")
+    loader = importlib.machinery.SourceFileLoader("rt_of_the_kit", os.path.realpath(path))
+    made = importlib.util.module_from_spec(importlib.util.spec_from_loader(loader.name, loader))
+    writes, sys.dont_write_bytecode = sys.dont_write_bytecode, True
+    try:
+        loader.exec_module(made)
+        # where such a name is missing, the script is another kit's
+        (made.need, made.processors, made.free, made.edits_of, made.read_edit, made.unread, made.rtlib.Crate)
+    except (OSError, SyntaxError, AttributeError) as error:
+        raise NoKit(f"the command rt of this Rattle kit isn't the one that tools/kit.py knows ({error})")
+    finally:
+        sys.dont_write_bytecode = writes
+    # as rt does before it judges anything: no crate of ours has C code
+    os.environ.pop(made.rtlib.ALLOW_C, None)
+    return made
+
+
+class Kit:
+    """The kit whose command rt is on PATH. Make it in the main thread: it sets a handler of signals."""
+
+    def __init__(self):
+        self.rt = _load()
+        # words that begin a command, so that it ends when we do, however that comes
+        self.guard = self.rt.rtlib.guarded()
+
+    def crates(self, root):
+        """The crates of a repository, or of one crate's folder and those below it, lowest first."""
+        known = {}
+        for inner in self.rt.rtlib.crates_below(os.path.realpath(root)):
+            known[inner.name] = Crate(self, inner, [known[it.name] for it in inner.below()])
+        return list(known.values())
+
+    def processors(self):
+        """How many processors there are to use, under the quota of a container too."""
+        return self.rt.processors()
+
+    def lanes(self):
+        """How many crates to work on at a time: RT_JOBS, or as many as there are processors."""
+        number = os.environ.get("RT_JOBS", "")
+        return int(number) if number.isdigit() and int(number) else self.processors()
+
+    def memory(self):
+        """How many bytes of memory to use: of those that are free, under the limit of a container too, all but a reserve."""
+        return int(0.85 * self.rt.free())
+
+    def lock(self, crates):
+        """Keeps any other rt out of these crates' folders until the files that it returns are closed."""
+        return self.rt.rtlib.lock([it.inner for it in crates])
+
+    def edits_in(self, folder):
+        """The files of must-fail edits in a crate's folder, and the files beside them that are none."""
+        return self.rt.edits_of(types.SimpleNamespace(folder=folder))
+
+    def read_edit(self, file, folder):
+        """The texts of the files that an edit changes, by their path below the crate's folder; or None, and why it can't be applied."""
+        return self.rt.read_edit(file, folder)
+
+    def cannot_read(self, line, changed):
+        """Whether this line of a check says that the prover couldn't read a text, rather than refuse what it says."""
+        return self.rt.unread(line, changed)
+
+    def is_stale(self, said):
+        """Whether a check says that the kept work of a library could not be used."""
+        return bool(self.rt.rtlib.STALE.search(said))
+
+
+class Crate:
+    """A crate of the repository, with the crates below it."""
+
+    def __init__(self, kit, inner, below):
+        self.kit, self.inner, self.below = kit, inner, below
+        self.name, self.folder = inner.name, inner.folder
+
+    def lines(self):
+        return self.inner.count(rb"\n")
+
+    def memory(self):
+        """How many bytes of memory a check is likely to take at most."""
+        return self.kit.rt.need(self.inner)
+
+    def is_library(self):
+        return self.inner.makes_rlib()
+
+    def is_proved(self):
+        """Whether its library is built from the sources as they are."""
+        return self.inner.is_built()
+
+    def is_built_by_ci(self):
+        """Whether `rt ci` has built its library in this folder: it leaves no stamp, for nothing may take that library later."""
+        return os.path.isdir(self.inner.rlib) and not os.path.exists(os.path.join(os.path.dirname(self.inner.rlib), "stamp"))
+
+    def prove(self, jobs, log):
+        """Proves the crate over the work that it keeps, and builds its library. It writes to `log`, and returns the exit status, which is negative where a signal ended it."""
+        self.inner.out = log
+        return self.inner.build_rlib(["--jobs", str(jobs)], anew=False)
+
+    def parts(self):
+        """The names of the folders that hold its text."""
+        return [it for it in self.kit.rt.rtlib.PARTS if os.path.isdir(os.path.join(self.folder, it))]
+
+    def check(self):
+        """The command that checks a copy of the crate, in the copy's folder, at one job."""
+        return [*self.kit.guard, self.kit.rt.rtlib.RATTLE, "check", *self.inner.words(["--jobs", "1"], keeps=False)]
