@@ -34,9 +34,11 @@ def built(name):
     program = os.path.join(ROOT, "crates", name, "out", name)
     sources = glob.glob(os.path.join(ROOT, "crates", "*", "src", "**", "*.rt"), recursive=True)
     if not os.path.exists(program) or os.path.getmtime(program) < max(map(os.path.getmtime, sources)):
-        how = {"cwd": os.path.join(ROOT, "crates", name), "stdin": subprocess.DEVNULL, "capture_output": True}
-        if subprocess.run(["rt", "run"], **how).returncode:
-            sys.exit(f"minired's tests: the program {name} cannot be built")
+        folder = os.path.join(ROOT, "crates", name)
+        # rt runs what it has built, on the input that stands beside its sources
+        with open(os.path.join(folder, "stdin"), "rb") as usual:
+            if subprocess.run(["rt", "run"], cwd=folder, stdin=usual, capture_output=True).returncode:
+                sys.exit(f"minired's tests: the program {name} cannot be built")
         os.utime(program)
     return program
 

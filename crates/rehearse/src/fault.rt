@@ -1,6 +1,6 @@
 //! Why a rehearsal ends.
 use std::alloc::{AllocError, AllocFailed};
-use std::io;
+use std::io::{self, ErrorKind};
 use thiserror::Error;
 
 /// Why a rehearsal ends before its last line.
@@ -28,7 +28,10 @@ impl<T: Drop> From<AllocFailed<T>> for RehearsalFault {
 }
 
 impl From<io::Error> for RehearsalFault {
-    fn from(_: io::Error) -> RehearsalFault {
-        RehearsalFault::Stream
+    fn from(error: io::Error) -> RehearsalFault {
+        match error.kind() {
+            ErrorKind::OutOfMemory => RehearsalFault::Memory,
+            _ => RehearsalFault::Stream,
+        }
     }
 }
