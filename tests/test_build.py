@@ -125,12 +125,12 @@ class OfATinyProgram(unittest.TestCase):
         shutil.copy(os.path.join(ROOT, "minired"), self.root)
         shutil.copytree(os.path.join(ROOT, "tools"), os.path.join(self.root, "tools"), ignore=shutil.ignore_patterns("__pycache__"))
 
-    def start(self):
-        how = {"stdin": subprocess.DEVNULL, "stdout": subprocess.PIPE, "stderr": subprocess.PIPE, "text": True}
+    def start(self, **how):
+        how = {"stdin": subprocess.DEVNULL, "stdout": subprocess.PIPE, "stderr": subprocess.PIPE, "text": True, **how}
         return subprocess.Popen([os.path.join(self.root, "minired")], start_new_session=True, **how)
 
-    def build(self):
-        started = self.start()
+    def build(self, **how):
+        started = self.start(**how)
         out, err = started.communicate(timeout=LONGEST)
         self.assertEqual(out, "")
         return started.returncode, re.sub(r"\d+ (s|min)$", "TIME", err, flags=re.M).split("\n")[:-1]
@@ -147,6 +147,13 @@ class OfATinyProgram(unittest.TestCase):
         self.assertRegex(lines[0], r"^minired: building: 3 crates, [12] of them proved already; up to \d+ are proved at a time$")
         self.assertEqual(lines[-1], "minired: proved minired, 3 of 3 crates, TIME")
         self.assertEqual(self.build(), (0, []))
+
+    def test_without_the_kit_nothing_is_built(self):
+        tools = os.path.join(self.root, "bin")
+        os.mkdir(tools)
+        os.symlink(sys.executable, os.path.join(tools, "python3"))
+        status, lines = self.build(env={"PATH": f"{tools}:/usr/bin:/bin"})
+        self.assertEqual((status, lines), (1, ["minired: cannot build the program: put the command rt of the Rattle kit on PATH"]))
 
     def test_a_failed_build_shows_the_last_lines_of_its_log(self):
         tiny.write(self.root, {"crates/low/src/lib.rt": self.CRATES["crates/low/src/lib.rt"].replace("    1\n", "    3\n")})
