@@ -1,6 +1,7 @@
 // The items between two places.
-ghost use Rattle.std.specs.Prelude.{◌≡◌, ◌≤◌, length, slice_range};
+ghost use Rattle.std.specs.Prelude.{◌≡◌, ◌-◌, ◌<◌, ◌≤◌, length, slice_range};
 ghost use Rattle.std.specs.Iterator.{YieldsFirstRef, YieldsLastRef, item_count};
+ghost use Rattle.mr_order.specs.Runs.{IsIn};
 
 use crate::places::Places;
 use std::marker::Model;
@@ -42,6 +43,37 @@ impl<'a, T: Ord + Drop> Iter<'a, T> {
     }
 }
 
+// The items at hand from a place on, of which there is one at least.
+fn ahead<'a, T: Ord + Drop>(places: &'a Places<T>, run: &'a [T], at: usize) -> &'a [T]
+    requires within { at < length places.now }
+    requires run { IsIn places.now run.now at }
+    ensures some { 0 < length result.now }
+    ensures run { IsIn places.now result.now at }
+{
+    if run.is_empty() {
+        places.run_from(at)
+    } else {
+        run
+    }
+}
+
+// The items at hand in front of a place, of which there is one at least.
+fn behind<'a, T: Ord + Drop>(places: &'a Places<T>, run: &'a [T], at: usize) -> &'a [T]
+    requires some { 0 < at }
+    requires within { at ≤ length places.now }
+    requires fits { length run.now ≤ at }
+    requires run { IsIn places.now run.now (at - length run.now) }
+    ensures some { 0 < length result.now }
+    ensures fits { length result.now ≤ at }
+    ensures run { IsIn places.now result.now (at - length result.now) }
+{
+    if run.is_empty() {
+        places.run_to(at)
+    } else {
+        run
+    }
+}
+
 impl<'a, T: Ord + Drop> Iterator for Iter<'a, T> {
     type Item = &'a T;
 
@@ -53,10 +85,8 @@ impl<'a, T: Ord + Drop> Iterator for Iter<'a, T> {
         if self.from == self.to {
             return None;
         }
-        if self.front.is_empty() {
-            self.front = self.places.run_from(self.from);
-        }
-        let (first, rest) = self.front.split_first()?;
+        let run = ahead(self.places, self.front, self.from);
+        let (first, rest) = run.split_first()?;
         self.front = rest;
         self.from += 1;
         Some(first)
@@ -70,10 +100,8 @@ impl<'a, T: Ord + Drop> DoubleEndedIterator for Iter<'a, T> {
         if self.from == self.to {
             return None;
         }
-        if self.back.is_empty() {
-            self.back = self.places.run_to(self.to);
-        }
-        let (last, rest) = self.back.split_last()?;
+        let run = behind(self.places, self.back, self.to);
+        let (last, rest) = run.split_last()?;
         self.back = rest;
         self.to -= 1;
         Some(last)

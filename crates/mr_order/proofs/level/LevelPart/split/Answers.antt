@@ -15,16 +15,18 @@ pub returns-clause-kept : goal.returns-clause-kept
 returns-clause-kept g c =
     let f = g.P.Part.items in
     let xs = c.args.self.now.parts.items in
+    let long : c.len-half.result ≡ length xs = omega (arith, c.len-half.ensures, c.args.self.now.parts.ok.0) in
     let total = c.total-len.ensures ∙ ap (λ l. length (flat_map f l)) (c.deref.ensures.value ∙ c.in_ok-parts.ensures.tail) in
-    let both = halves f g.P.Part.is_kept xs c.args.self.now.len (c.len-half.result / 2) c.total-len.result c.requires.kept c.requires.full (ap (λ n. n / 2) (c.len-half.ensures)) total in
+    let both = halves f g.P.Part.is_kept xs c.args.self.now.len (c.len-half.result / 2) c.total-len.result c.requires.kept c.requires.full (ap (λ n. n / 2) long) total in
     subst (λ l. IsLevel f g.P.Part.is_kept l (c.args.self.now.len - c.total-len.result)) (sym c.in_ok-parts.ensures.items) both.head
 
 pub returns-clause-head : goal.returns-clause-head
 returns-clause-head g c =
     let f = g.P.Part.items in
     let xs = c.args.self.now.parts.items in
+    let long : c.len-half.result ≡ length xs = omega (arith, c.len-half.ensures, c.args.self.now.parts.ok.0) in
     let total = c.total-len.ensures ∙ ap (λ l. length (flat_map f l)) (c.deref.ensures.value ∙ c.in_ok-parts.ensures.tail) in
-    let both = halves f g.P.Part.is_kept xs c.args.self.now.len (c.len-half.result / 2) c.total-len.result c.requires.kept c.requires.full (ap (λ n. n / 2) (c.len-half.ensures)) total in (
+    let both = halves f g.P.Part.is_kept xs c.args.self.now.len (c.len-half.result / 2) c.total-len.result c.requires.kept c.requires.full (ap (λ n. n / 2) long) total in (
       record {
         kept = subst (λ l. IsLevel f g.P.Part.is_kept l (c.args.self.now.len - c.total-len.result)) (sym c.in_ok-parts.ensures.items) both.head;
         some = subst (λ l. 0 < length (flat_map f l)) (sym c.in_ok-parts.ensures.items) both.head_some;
@@ -36,8 +38,9 @@ pub returns-clause-tail : goal.returns-clause-tail
 returns-clause-tail g c =
     let f = g.P.Part.items in
     let xs = c.args.self.now.parts.items in
+    let long : c.len-half.result ≡ length xs = omega (arith, c.len-half.ensures, c.args.self.now.parts.ok.0) in
     let total = c.total-len.ensures ∙ ap (λ l. length (flat_map f l)) (c.deref.ensures.value ∙ c.in_ok-parts.ensures.tail) in
-    let both = halves f g.P.Part.is_kept xs c.args.self.now.len (c.len-half.result / 2) c.total-len.result c.requires.kept c.requires.full (ap (λ n. n / 2) (c.len-half.ensures)) total in (
+    let both = halves f g.P.Part.is_kept xs c.args.self.now.len (c.len-half.result / 2) c.total-len.result c.requires.kept c.requires.full (ap (λ n. n / 2) long) total in (
       record {
         kept = subst (λ l. IsLevel f g.P.Part.is_kept l c.total-len.result) (sym c.in_ok-parts.ensures.tail) both.tail;
         some = subst (λ l. 0 < length (flat_map f l)) (sym c.in_ok-parts.ensures.tail) both.tail_some;
