@@ -35,7 +35,7 @@ impl<P: Part> Part for Level<P> {
     ghost fits = { λ l next. nat_le (length l.parts.items + length next.parts.items) 32 && nat_le (l.len + next.len) (2 ^ 62) };
 
     fn one(alloc: Global, item: P::Item) -> Result<Self, AllocError> {
-        let mut parts = Vec::new(alloc);
+        let mut parts = Vec::with_capacity(alloc, 1)?;
         let part = P::one(alloc, item)?;
         parts.push(part)?;
         Ok(Level { parts, len: 1 })

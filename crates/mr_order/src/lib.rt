@@ -16,6 +16,8 @@ mod places;
 mod query;
 mod seek;
 mod shrink;
+#[cfg(test)]
+mod tests;
 
 pub use iter::Iter;
 pub use ordered::Ordered;

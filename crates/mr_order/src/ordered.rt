@@ -5,7 +5,7 @@ ghost use Rattle.std.specs.BTreeSet.{insert_key};
 ghost use Rattle.std.specs.List.{insert, remove};
 ghost use Rattle.std.specs.List.Sorted.{IsPartitionPoint, IsStrictlySortedBy};
 ghost use Rattle.std.specs.Ordering.{is_le};
-ghost use Rattle.mr_order.specs.Standing.{IsPlaceOf};
+ghost use Rattle.mr_order.specs.Standing.{IsPlaceOf, StandsBefore};
 
 use crate::iter::Iter;
 use crate::places::Places;
@@ -127,10 +127,9 @@ impl<T: Ord + Drop> Ordered<T> {
         }
     }
 
-    /// Puts an item where it stands at a place, which has to be its place in order. Where memory runs out, all is as it was.
+    /// Puts an item where it stands at a place, which a search for it has answered. Where memory runs out, all is as it was.
     pub fn insert_at(&mut self, at: usize, item: T) -> Result<(), AllocError>
-        requires within { at ≤ length self.old }
-        requires ordered { IsStrictlySortedBy T.cmp (insert self.old at item) }
+        requires { StandsBefore (T.cmp item) self.old at }
         ensures ok { OnOk result (self.new ≡ insert self.old at item) }
         ensures err { OnErr result (self.new ≡ self.old) }
     {
