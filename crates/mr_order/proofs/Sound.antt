@@ -1,7 +1,7 @@
 -- What holds of each part holds after an edit of the list of parts.
-use Rattle.std.proofs.Common.{◌≡◌, ℕ, suc, List, ◌∷◌, length, take, drop}
+use Rattle.std.proofs.Common.{ℕ, suc, List, ◌∷◌, take, drop}
 use Rattle.std.specs.List.{All, insert, remove}
-use Rattle.std.proofs.lemmas.List.Elements.{All-append, All-cons, All-take, All-drop, All-same}
+use Rattle.std.proofs.lemmas.List.Elements.{All-append, All-cons, All-take, All-drop}
 
 module _ {X : Type 0} (P : X → Type 0) where
   pub all_insert : (xs : List X) (i : ℕ) (y : X) → P y → All P xs → All P (insert xs i y)

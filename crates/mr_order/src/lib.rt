@@ -16,8 +16,6 @@ mod places;
 mod query;
 mod seek;
 mod shrink;
-#[cfg(test)]
-mod tests;
 
 pub use iter::Iter;
 pub use ordered::Ordered;

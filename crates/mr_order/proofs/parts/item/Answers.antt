@@ -1,4 +1,3 @@
-use Rattle.std.proofs.Common.{◌≡◌, ℕ, suc, ◌+◌, ◌-◌, ◌/◌, ◌<◌, ◌≤◌, ◌^◌, ◌++◌, length, get_or, take, set, add-zero, refl, sym, subst, ap, ap₂, ◌∙◌, arith, length-append}
 use Rattle.mr_order.proofs.Flat.{flat_item}
 use Rattle.mr_order.proofs.parts.item.Goals as goal
 

@@ -1,5 +1,4 @@
-use Rattle.std.proofs.Common.{◌≡◌, ℕ, suc, ◌+◌, ◌-◌, ◌/◌, ◌<◌, ◌≤◌, ◌^◌, ◌++◌, length, get_or, take, set, add-zero, refl, sym, subst, ap, ap₂, ◌∙◌, arith, length-append}
-use Rattle.std.specs.List.{flat_map}
+use Rattle.std.proofs.Common.{ℕ, ◌+◌, ◌-◌, length, subst, arith}
 use Rattle.mr_order.specs.Runs.{IsIn}
 use Rattle.mr_order.proofs.Narrow.{in_flat, in_in}
 use Rattle.mr_order.proofs.parts.run_to.Goals as goal

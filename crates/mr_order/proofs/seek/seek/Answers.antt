@@ -1,4 +1,4 @@
-use Rattle.std.proofs.Common.{◌≡◌, ℕ, suc, ◌+◌, ◌-◌, ◌/◌, ◌<◌, ◌≤◌, ◌^◌, ◌++◌, length, get_or, take, set, add-zero, refl, sym, subst, ap, ap₂, ◌∙◌, arith, length-append}
+use Rattle.std.proofs.Common.{ℕ, ◌+◌, ◌-◌, ◌/◌, ◌<◌, length, refl, sym, ap, ◌∙◌, arith}
 use Rattle.mr_order.proofs.Narrow.{equal_at, narrowed_left, narrowed_right}
 use Rattle.mr_order.proofs.seek.seek.Goals as goal
 

@@ -1,4 +1,4 @@
-use Rattle.std.proofs.Common.{◌≡◌, ℕ, suc, ◌+◌, ◌-◌, ◌/◌, ◌<◌, ◌≤◌, ◌^◌, ◌++◌, length, get_or, take, set, add-zero, refl, sym, subst, ap, ap₂, ◌∙◌, arith, length-append}
+use Rattle.std.proofs.Common.{◌-◌, ◌≤◌, length, sym, subst, ◌∙◌, arith}
 use Rattle.mr_order.specs.Runs.{IsIn}
 use Rattle.mr_order.proofs.Coming.{last_of}
 use Rattle.mr_order.proofs.iter.IterDoubleEndedIterator.next_back.Goals as goal

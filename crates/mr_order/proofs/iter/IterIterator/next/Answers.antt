@@ -1,4 +1,4 @@
-use Rattle.std.proofs.Common.{◌≡◌, ℕ, suc, ◌+◌, ◌-◌, ◌/◌, ◌<◌, ◌≤◌, ◌^◌, ◌++◌, length, get_or, take, set, add-zero, refl, sym, subst, ap, ap₂, ◌∙◌, arith, length-append}
+use Rattle.std.proofs.Common.{sym, subst, ◌∙◌, arith}
 use Rattle.mr_order.specs.Runs.{IsIn}
 use Rattle.mr_order.proofs.Coming.{first_of, rest_of}
 use Rattle.mr_order.proofs.iter.IterIterator.next.Goals as goal

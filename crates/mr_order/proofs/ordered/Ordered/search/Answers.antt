@@ -1,4 +1,3 @@
-use Rattle.std.proofs.Common.{◌≡◌, ℕ, suc, ◌+◌, ◌-◌, ◌/◌, ◌<◌, ◌≤◌, ◌^◌, ◌++◌, length, get_or, take, set, add-zero, refl, sym, subst, ap, ap₂, ◌∙◌, arith, length-append}
 use Rattle.mr_order.proofs.Kept.{divided}
 use Rattle.mr_order.proofs.ordered.Ordered.search.Goals as goal
 

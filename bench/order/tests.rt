@@ -1,12 +1,14 @@
 // At concrete items: cuts and joins on all levels, searches and walks.
 use crate::{Ordered, Steps};
+use std::alloc::Global;
+use std::process::Abort;
 use std::test::Fail;
 
 // Each number below it is a multiple of 7 modulo it.
 const PRIME: u64 = 20_011;
 
-fn shuffled(rt: &HostRuntime) -> Result<Ordered<u64>, Fail> {
-    let mut items = Ordered::new(rt.alloc());
+fn shuffled(rt: &impl Abort, alloc: Global) -> Result<Ordered<u64>, Fail> {
+    let mut items = Ordered::new(alloc);
     for n in 0..PRIME {
         assert!(rt; items.insert(n * 7 % PRIME)?);
     }
@@ -15,7 +17,7 @@ fn shuffled(rt: &HostRuntime) -> Result<Ordered<u64>, Fail> {
 
 #[test]
 fn numbers_stand_at_their_places(rt: HostRuntime) -> Result<(), Fail> {
-    let mut items = shuffled(&rt)?;
+    let mut items = shuffled(&rt, rt.alloc())?;
     assert!(rt; !items.insert(7)?);
     assert_eq!(rt; items.len(), 20_011);
     let mut steps = Steps { count: 0 };
@@ -28,7 +30,7 @@ fn numbers_stand_at_their_places(rt: HostRuntime) -> Result<(), Fail> {
 
 #[test]
 fn numbers_leave_in_order(rt: HostRuntime) -> Result<(), Fail> {
-    let mut items = shuffled(&rt)?;
+    let mut items = shuffled(&rt, rt.alloc())?;
     for n in 0..10_000 {
         assert_eq!(rt; items.pop_first(), Some(n));
         assert_eq!(rt; items.pop_last(), Some(PRIME - 1 - n));
@@ -41,13 +43,13 @@ fn numbers_leave_in_order(rt: HostRuntime) -> Result<(), Fail> {
 
 #[test]
 fn numbers_come_in_order(rt: HostRuntime) -> Result<(), Fail> {
-    let items = shuffled(&rt)?;
+    let items = shuffled(&rt, rt.alloc())?;
     let mut all = items.iter();
     for n in 0..10_000 {
         assert_eq!(rt; all.next().copied(), Some(n));
         assert_eq!(rt; all.next_back().copied(), Some(PRIME - 1 - n));
     }
-    assert_eq!(rt; all.count(), 11);
+    assert_eq!(rt; all.next().copied(), Some(10_000));
     Ok(())
 }
 
