@@ -1,0 +1,6 @@
+pub mod Coming
+pub mod Flat
+pub mod Kept
+pub mod Levels
+pub mod Narrow
+pub mod Sound

@@ -1,0 +1,84 @@
+// A chunk: items in one vector.
+ghost use Rattle.std.specs.Prelude.{◌+◌, ◌≤◌, length, nat_le};
+
+use crate::part::Part;
+use crate::query::{Query, Steps};
+use crate::seek::seek;
+use std::alloc::{AllocError, Global};
+
+// A chunk has no more items.
+const CHUNK: usize = 256;
+
+impl<T: Ord + Drop> Part for Vec<T> {
+    type Item = T;
+
+    ghost items = { λ c. c.items };
+
+    ghost is_kept = { λ c. length c.items ≤ 256 };
+
+    ghost is_full = { λ c. nat_le 256 (length c.items) };
+
+    ghost fits = { λ c next. nat_le (length c.items + length next.items) 256 };
+
+    fn one(alloc: Global, item: T) -> Result<Self, AllocError> {
+        let mut chunk = Vec::new(alloc);
+        chunk.push(item)?;
+        Ok(chunk)
+    }
+
+    fn len(&self) -> usize {
+        Vec::len(self)
+    }
+
+    fn is_full(&self) -> bool {
+        CHUNK <= Vec::len(self)
+    }
+
+    fn fits(&self, next: &Self) -> bool {
+        Vec::len(self) + Vec::len(next) <= CHUNK
+    }
+
+    fn item(&self, at: usize) -> &T {
+        &self[at]
+    }
+
+    fn insert(&mut self, at: usize, item: T) -> Result<(), AllocError> {
+        Vec::insert(self, at, item)?;
+        Ok(())
+    }
+
+    fn remove(&mut self, at: usize) -> T {
+        Vec::remove(self, at)
+    }
+
+    fn split(&mut self) -> Result<Self, AllocError> {
+        let half = Vec::len(self) / 2;
+        self.split_off(half)
+    }
+
+    fn join(&mut self, next: Self) -> Result<(), Self> {
+        let mut next = next;
+        match self.append(&mut next) {
+            Ok(()) => Ok(()),
+            Err(_) => Err(next),
+        }
+    }
+
+    fn search<Q: Query<T>>(
+        &self,
+        query: Q,
+        low: usize,
+        high: usize,
+        steps: &mut Steps,
+    ) -> Result<usize, usize> {
+        seek(self, query, low, high, steps)
+    }
+
+    fn run_from(&self, at: usize) -> &[T] {
+        &self[at..]
+    }
+
+    fn run_to(&self, at: usize) -> &[T] {
+        &self[..at]
+    }
+}

@@ -1,0 +1,111 @@
+// A part of smaller parts.
+ghost use Rattle.std.specs.Prelude.{◌&&◌, ◌+◌, ◌^◌, length, nat_le};
+ghost use Rattle.std.specs.List.{flat_map};
+ghost use Rattle.mr_order.specs.Parts.{IsLevel};
+
+use crate::grow::insert_into;
+use crate::part::Part;
+use crate::parts::{item, run_from, run_to, search, total};
+use crate::query::{Query, Steps};
+use crate::shrink::remove_from;
+use std::alloc::{AllocError, Global};
+
+// A level has no more parts.
+const WIDTH: usize = 32;
+
+/// No list has more items.
+pub(crate) const MOST: usize = 1 << 62;
+
+/// Smaller parts, one behind the other, and how many items they have together.
+#[derive(Drop)]
+pub(crate) struct Level<P> {
+    parts: Vec<P>,
+    len: usize,
+}
+
+impl<P: Part> Part for Level<P> {
+    type Item = P::Item;
+
+    ghost items = { λ l. flat_map P.items l.parts.items };
+
+    ghost is_kept = { λ l. IsLevel P.items P.is_kept l.parts.items l.len };
+
+    ghost is_full = { λ l. nat_le 32 (length l.parts.items) };
+
+    ghost fits = { λ l next. nat_le (length l.parts.items + length next.parts.items) 32 && nat_le (l.len + next.len) (2 ^ 62) };
+
+    fn one(alloc: Global, item: P::Item) -> Result<Self, AllocError> {
+        let mut parts = Vec::with_capacity(alloc, 1)?;
+        let part = P::one(alloc, item)?;
+        parts.push(part)?;
+        Ok(Level { parts, len: 1 })
+    }
+
+    fn len(&self) -> usize {
+        self.len
+    }
+
+    fn is_full(&self) -> bool {
+        WIDTH <= self.parts.len()
+    }
+
+    fn fits(&self, next: &Self) -> bool {
+        self.parts.len() + next.parts.len() <= WIDTH && self.len + next.len <= MOST
+    }
+
+    fn item(&self, at: usize) -> &P::Item {
+        item(&self.parts, at)
+    }
+
+    fn insert(&mut self, at: usize, item: P::Item) -> Result<(), AllocError> {
+        if self.len == MOST {
+            return Err(AllocError);
+        }
+        insert_into(&mut self.parts, self.len, at, item)?;
+        self.len += 1;
+        Ok(())
+    }
+
+    fn remove(&mut self, at: usize) -> P::Item {
+        let item = remove_from(&mut self.parts, at);
+        self.len -= 1;
+        item
+    }
+
+    fn split(&mut self) -> Result<Self, AllocError> {
+        let half = self.parts.len() / 2;
+        let parts = self.parts.split_off(half)?;
+        let len = total(&parts);
+        self.len -= len;
+        Ok(Level { parts, len })
+    }
+
+    fn join(&mut self, next: Self) -> Result<(), Self> {
+        let Level { mut parts, len } = next;
+        match self.parts.append(&mut parts) {
+            Ok(()) => {
+                self.len += len;
+                Ok(())
+            }
+            Err(_) => Err(Level { parts, len }),
+        }
+    }
+
+    fn search<Q: Query<P::Item>>(
+        &self,
+        query: Q,
+        low: usize,
+        high: usize,
+        steps: &mut Steps,
+    ) -> Result<usize, usize> {
+        search(&self.parts, query, low, high, steps)
+    }
+
+    fn run_from(&self, at: usize) -> &[P::Item] {
+        run_from(&self.parts, at)
+    }
+
+    fn run_to(&self, at: usize) -> &[P::Item] {
+        run_to(&self.parts, at)
+    }
+}

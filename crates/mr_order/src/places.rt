@@ -1,0 +1,146 @@
+// A list of items with places.
+ghost use Rattle.std.specs.Prelude.{◌≡◌, ◌==◌, ◌+◌, ◌-◌, ◌<◌, ◌≤◌, ◌^◌, ℕ, [], OnErr, OnOk, length, slice_index_or, slice_range};
+ghost use Rattle.std.specs.List.{insert, remove};
+ghost use Rattle.mr_order.specs.Runs.{IsIn};
+ghost use Rattle.mr_order.specs.Standing.{IsDivided, IsPlaceOf};
+
+use crate::grow::insert_into;
+use crate::iter::Iter;
+use crate::level::{Level, MOST};
+use crate::part::Part;
+use crate::parts;
+use crate::query::{Query, Steps};
+use crate::shrink::remove_from;
+use std::alloc::{AllocError, Global};
+use std::marker::Model;
+
+// Two levels of chunks, some hundred thousand items.
+type Block<T> = Level<Level<Vec<T>>>;
+
+/// A list of items. An item is found by its place, put in and taken without a walk over all items.
+#[derive(Drop)]
+pub struct Places<T: Ord + Drop> {
+    parts: Vec<Block<T>>,
+    len: usize,
+}
+
+impl<T: Ord + Drop> Model for Places<T> {
+    ghost use Rattle.std.specs.Prelude.{List};
+    ghost use Rattle.std.specs.List.{flat_map};
+    ghost use Rattle.mr_order.specs.Blocks.{block_items, IsBlock};
+    ghost use Rattle.mr_order.specs.Parts.{AreCounted};
+
+    ghost Value = { List T };
+
+    ghost view = { λ p. flat_map block_items p.parts.items };
+
+    ghost invariant = { λ p. AreCounted block_items IsBlock p.parts.items p.len };
+}
+
+impl<T: Ord + Drop> Places<T> {
+    /// An empty list. It takes no memory.
+    pub fn new(alloc: Global) -> Self
+        ensures { result ≡ [] }
+    {
+        Places {
+            parts: Vec::new(alloc),
+            len: 0,
+        }
+    }
+
+    /// How many items there are.
+    pub fn len(&self) -> usize
+        ensures len { result ≡ length self.now }
+        ensures small { result ≤ 2 ^ 62 }
+    {
+        self.len
+    }
+
+    /// Whether there is no item.
+    pub fn is_empty(&self) -> bool
+        ensures { result ≡ (length self.now == 0) }
+    {
+        self.len() == 0
+    }
+
+    /// The item at a place, counted from 0.
+    pub fn item(&self, at: usize) -> &T
+        requires { at < length self.now }
+        ensures { result.now ≡ slice_index_or self.now at result.now }
+    {
+        parts::item(&self.parts, at)
+    }
+
+    /// Puts an item where it stands at a place. Where memory runs out, the list is as it was.
+    pub fn insert(&mut self, at: usize, item: T) -> Result<(), AllocError>
+        requires { at ≤ length self.old }
+        ensures ok { OnOk result (self.new ≡ insert self.old at item) }
+        ensures err { OnErr result (self.new ≡ self.old) }
+    {
+        if self.len == MOST {
+            return Err(AllocError);
+        }
+        insert_into(&mut self.parts, self.len, at, item)?;
+        self.len += 1;
+        Ok(())
+    }
+
+    /// Takes the item from a place.
+    pub fn remove(&mut self, at: usize) -> T
+        requires { at < length self.old }
+        ensures removed { self.new ≡ remove self.old at }
+        ensures value { result ≡ slice_index_or self.old at result }
+    {
+        let item = remove_from(&mut self.parts, at);
+        self.len -= 1;
+        item
+    }
+
+    /// Takes all items.
+    pub fn clear(&mut self)
+        ensures { self.new ≡ [] }
+    {
+        self.parts.clear();
+        self.len = 0;
+    }
+
+    /// The place of the item to which a query is equal, or else the place where it would stand, in a list that the query
+    /// divides. It is compared with at most as many items as the list's length has binary digits.
+    pub fn search<Q: Query<T>>(&self, query: Q, steps: &mut Steps) -> Result<usize, usize>
+        requires { IsDivided (Q.compare query) self.now }
+        ensures place { IsPlaceOf (Q.compare query) self.now result }
+        ensures steps { (digits : ℕ) → length self.now < 2 ^ digits → steps.new.count ≤ steps.old.count + digits }
+        ensures rising { steps.old.count ≤ steps.new.count }
+    {
+        parts::search(&self.parts, query, 0, self.len, steps)
+    }
+
+    /// The items from one place to another, the second left out.
+    pub fn range(&self, from: usize, to: usize) -> Iter<'_, T>
+        requires ordered { from ≤ to }
+        requires within { to ≤ length self.now }
+        ensures { result ≡ slice_range self.now from to }
+    {
+        Iter::new(self, from, to)
+    }
+
+    // Some items from a place on.
+    pub(crate) fn run_from(&self, at: usize) -> &[T]
+        requires { at < length self.now }
+        ensures some { 0 < length result.now }
+        ensures run { IsIn self.now result.now at }
+    {
+        parts::run_from(&self.parts, at)
+    }
+
+    // Some items in front of a place.
+    pub(crate) fn run_to(&self, at: usize) -> &[T]
+        requires some { 0 < at }
+        requires within { at ≤ length self.now }
+        ensures some { 0 < length result.now }
+        ensures fits { length result.now ≤ at }
+        ensures run { IsIn self.now result.now (at - length result.now) }
+    {
+        parts::run_to(&self.parts, at)
+    }
+}
