@@ -3,11 +3,13 @@ use Rattle.std.proofs.Common.{ℕ, List, [], ◌++◌, ◌≡◌, ◌≢◌, ◌
 use Rattle.std.proofs.lemmas.List.Elements.{All-append}
 use Rattle.std.proofs.lemmas.Bool.Decides.{eqb_tells}
 use Rattle.mr_history.specs.Language.{Language, Laws}
-use Rattle.mr_history.specs.Language.Ask.{Hello}
+use Rattle.mr_history.specs.Language.Request.{Handshake}
+use Rattle.mr_history.specs.Changes.{SetAt, Same}
 use Rattle.mr_history.specs.History.{Book, History, Front, Agree, Grows, texts, fold}
-use Rattle.mr_history.specs.World.{Phase, Follow, Node, Link, World}
-use Rattle.mr_history.specs.World.Phase.{Greet}
-use Rattle.mr_history.specs.Moves.{SetAt, Same, at_phase, EndsAs, hears, told, told_if}
+use Rattle.mr_history.specs.Node.{Phase, Follow, Node, at_phase, EndsAs}
+use Rattle.mr_history.specs.Node.Phase.{Greet}
+use Rattle.mr_history.specs.World.{Link, World, hears, told, told_if}
+use Rattle.mr_history.specs.World.Caller.{Peer}
 use Rattle.mr_history.specs.Invariant.{NodeOk, AtTip, Flow, Talk, LinkOk, Inv}
 use Rattle.mr_history.specs.Invariant.Talk.{greeting, greeted, asking, asking_for, refused, answered_full, answered_cont, loading, streaming}
 use Rattle.mr_history.proofs.Histories.{append_nil, texts_append}
@@ -17,9 +19,9 @@ use Rattle.mr_history.proofs.NodeMoves.{set_good}
 use Rattle.mr_history.proofs.LinkMoves.{loose_keeps}
 use Rattle.mr_history.proofs.Advance.{advanced}
 
-pub dial_keeps : {L : Language} (w v : World L) (n s l : ℕ) (a : Node L) (h : List ℕ) → L.asks h Hello → Inv w → w.node n ≡ Some a → a.master ≡ false → a.follow ≡ None → w.link l ≡ None
+pub dial_keeps : {L : Language} (w v : World L) (n s l : ℕ) (a : Node L) (h : List ℕ) → L.asks h Handshake → Inv w → w.node n ≡ Some a → a.master ≡ false → a.follow ≡ None → w.link l ≡ None
     → SetAt w.node v.node n (at_phase a l (Greet 0))
-    → SetAt w.link v.link l (record { from = Some n; to = s; serving = true; streams = false;
+    → SetAt w.link v.link l (record { caller = Peer n; to = s; serving = true; streams = false;
         ask = record { left = h; taken = 0 }; tell = record { left = []; taken = 0 } })
     → Same w.book v.book → Inv v
 dial_keeps {L} w v n s l a h hh inv e em ef el sn sl sb =
@@ -34,7 +36,7 @@ dial_keeps {L} w v n s l a h hh inv e em ef el sn sl sb =
     b : Node L
     b = at_phase a l (Greet 0)
     k : Link
-    k = record { from = Some n; to = s; serving = true; streams = false; ask = record { left = h; taken = 0 }; tell = record { left = []; taken = 0 } }
+    k = record { caller = Peer n; to = s; serving = true; streams = false; ask = record { left = h; taken = 0 }; tell = record { left = []; taken = 0 } }
     u : World L
     u = record w { link = v.link }
     keeps : Keeps L u.book v.book
@@ -45,39 +47,39 @@ dial_keeps {L} w v n s l a h hh inv e em ef el sn sl sb =
       (λ m. refl) sl (λ m. refl)
     ok : a.up ≡ true → NodeOk v.book b
     ok x = let o = inv.nodes n a e x in node_keeps w.book v.book b keeps (record {
-      start = o.start; pre = o.pre; suf = o.suf; front = o.front; folds = o.folds; before = o.before; ring = o.ring; tip = o.tip;
+      start = o.start; pre = o.pre; suf = o.suf; front = o.front; folds = o.folds; before = o.before; backlog = o.backlog; tip = o.tip;
       alone = λ y. true_false a.master y em; second = o.second })
 
 -- The book of a master's effects.
-pub record Extends (L : Language) (old new : Book L) (i : L.Id) (es : List L.Effect) (h : History L) : Type 0 where
+pub record BookExtends (L : Language) (old new : Book L) (i : L.Id) (es : List L.Effect) (h : History L) : Type 0 where
   pub was : old i ≡ Some h
   pub is : new i ≡ Some (record h { effects = h.effects ++ es })
   pub others : (j : L.Id) → j ≢ i → new j ≡ old j
 
-pub extends_grows : (L : Language) (laws : Laws L) (b c : Book L) (i : L.Id) (es : List L.Effect) (h : History L) → Extends L b c i es h → Grows L b c
+pub extends_grows : (L : Language) (laws : Laws L) (b c : Book L) (i : L.Id) (es : List L.Effect) (h : History L) → BookExtends L b c i es h → Grows L b c
 extends_grows L laws b c i es h x j st xs e = id_or L laws j i
     (λ q.
       let r = history_is L b i (record { start = st; effects = xs }) h (ap (λ z. b z) (sym q) ∙ e) x.was in
       (es, ap (λ z. c z) q ∙ (x.is ∙ ap (λ z. Some z) (record_is L h.start st (h.effects ++ es) (xs ++ es) (sym r.0) (ap (λ z. z ++ es) (sym r.1))))))
     (λ q. ([], x.others j q ∙ (e ∙ ap (λ z. Some (record { start = st; effects = z })) (sym (append_nil xs)))))
   where
-    record_is : (L : Language) (s t : L.Data) (xs ys : List L.Effect) → s ≡ t → xs ≡ ys
+    record_is : (L : Language) (s t : L.Dataset) (xs ys : List L.Effect) → s ≡ t → xs ≡ ys
         → let h : History L = record { start = s; effects = xs } in let g : History L = record { start = t; effects = ys } in h ≡ g
     record_is L s t xs ys p q = cc
 
 -- a front of the id itself, and of another
-pub front_here : (L : Language) (b c : Book L) (i j : L.Id) (o : ℕ) (es : List L.Effect) (h : History L) (st : L.Data) (pre suf : List L.Effect) → Extends L b c i es h → j ≡ i
+pub front_here : (L : Language) (b c : Book L) (i j : L.Id) (o : ℕ) (es : List L.Effect) (h : History L) (st : L.Dataset) (pre suf : List L.Effect) → BookExtends L b c i es h → j ≡ i
     → Front L b j o st pre suf → Front L c j o st pre (suf ++ es)
 front_here L b c i j o es h st pre suf x q f =
     let r = history_is L b i (record { start = st; effects = pre ++ suf }) h (ap (λ z. b z) (sym q) ∙ f.found) x.was in
     record { found = ap (λ z. c z) q ∙ (x.is ∙ ap (λ z. Some z) (record_is L h.start st (h.effects ++ es) (pre ++ (suf ++ es)) (sym r.0) (ap (λ z. z ++ es) (sym r.1) ∙ append_assoc pre suf es)));
       place = f.place }
   where
-    record_is : (L : Language) (s t : L.Data) (xs ys : List L.Effect) → s ≡ t → xs ≡ ys
+    record_is : (L : Language) (s t : L.Dataset) (xs ys : List L.Effect) → s ≡ t → xs ≡ ys
         → let h : History L = record { start = s; effects = xs } in let g : History L = record { start = t; effects = ys } in h ≡ g
     record_is L s t xs ys p q = cc
 
-pub front_there : (L : Language) (b c : Book L) (i j : L.Id) (o : ℕ) (es : List L.Effect) (h : History L) (st : L.Data) (pre suf : List L.Effect) → Extends L b c i es h → j ≢ i
+pub front_there : (L : Language) (b c : Book L) (i j : L.Id) (o : ℕ) (es : List L.Effect) (h : History L) (st : L.Dataset) (pre suf : List L.Effect) → BookExtends L b c i es h → j ≢ i
     → Front L b j o st pre suf → Front L c j o st pre suf
 front_there L b c i j o es h st pre suf x q f = record { found = x.others j q ∙ f.found; place = f.place }
 
@@ -103,12 +105,12 @@ hears_is n k e =
     to : k.to == n ≡ true → k.to ≡ n
     to h = elim (eqb_tells k.to n) [ inl x ↦ x.1 | inr x ↦ true_false (k.to == n) h x.0 ]
 
-pub extend_keeps : {L : Language} (laws : Laws L) (w v : World L) (n : ℕ) (a : Node L) (es : List L.Effect) (m : L.Data) (ring : List ℕ) (h : History L) → Inv w
-    → w.node n ≡ Some a → a.up ≡ true → a.master ≡ true → All L.IsGood es → fold L es a.held ≡ Some m → EndsAs a.ring (texts L es) ring
-    → SetAt w.node v.node n (record a { held = m; offset = a.offset + length (texts L es); ring = ring })
+pub extend_keeps : {L : Language} (laws : Laws L) (w v : World L) (n : ℕ) (a : Node L) (es : List L.Effect) (m : L.Dataset) (backlog : List ℕ) (h : History L) → Inv w
+    → w.node n ≡ Some a → a.up ≡ true → a.master ≡ true → All L.IsGood es → fold L es a.held ≡ Some m → EndsAs a.backlog (texts L es) backlog
+    → SetAt w.node v.node n (record a { held = m; offset = a.offset + length (texts L es); backlog = backlog })
     → ((l : ℕ) (k : Link) → w.link l ≡ Some k → v.link l ≡ Some (told_if (hears n k) k (texts L es)))
     → w.book a.id ≡ Some h → SetAt w.book v.book a.id (record h { effects = h.effects ++ es }) → Inv v
-extend_keeps {L} laws w v n a es m ring h inv ea ua ma gd fx rx sn sl was sb = record {
+extend_keeps {L} laws w v n a es m backlog h inv ea ua ma gd fx rx sn sl was sb = record {
     good = set_good L laws w.book v.book a.id _ (All-append L.IsGood h.effects es (inv.good a.id h was) gd) sb inv.good;
     nodes = λ j c e u. one_or j n
       (λ q. subst (λ x. NodeOk v.book x) (is_b j c q e) self)
@@ -123,8 +125,8 @@ extend_keeps {L} laws w v n a es m ring h inv ea ua ma gd fx rx sn sl was sb = r
   }
   where
     b : Node L
-    b = record a { held = m; offset = a.offset + length (texts L es); ring = ring }
-    ext : Extends L w.book v.book a.id es h
+    b = record a { held = m; offset = a.offset + length (texts L es); backlog = backlog }
+    ext : BookExtends L w.book v.book a.id es h
     ext = record { was = was; is = sb.0; others = sb.1 }
     grows : Grows L w.book v.book
     grows = extends_grows L laws w.book v.book a.id es h ext
@@ -135,10 +137,10 @@ extend_keeps {L} laws w v n a es m ring h inv ea ua ma gd fx rx sn sl was sb = r
     seconds : (c : Node L) → NodeOk w.book c → (i : L.Id) (o : ℕ) → c.second ≡ Some (i, o) → Agree L v.book i c.id (o - 1)
     seconds c oc i o e = agree_grows L w.book v.book i c.id (o - 1) grows (oc.second i o e)
     self : NodeOk v.book b
-    self = advanced v.book a m ring ok.start ok.pre es [] ok.before
+    self = advanced v.book a m backlog ok.start ok.pre es [] ok.before
       (subst (λ z. Front L v.book a.id a.offset ok.start ok.pre z) (ap (λ z. z ++ es) old.tip_now ∙ sym (append_nil es))
         (front_here L w.book v.book a.id a.id a.offset es h ok.start ok.pre ok.suf ext refl ok.front))
-      ok.folds ok.ring fx rx (λ x. refl) ok.alone (seconds a ok)
+      ok.folds ok.backlog fx rx (λ x. refl) ok.alone (seconds a ok)
     is_b : (j : ℕ) (c : Node L) → j ≡ n → v.node j ≡ Some c → b ≡ c
     is_b j c q e = some_is b c (sym sn.0 ∙ (ap (λ x. v.node x) (sym q) ∙ e))
     before : (j : ℕ) (c : Node L) → j ≢ n → v.node j ≡ Some c → w.node j ≡ Some c
@@ -153,11 +155,11 @@ extend_keeps {L} laws w v n a es m ring h inv ea ua ma gd fx rx sn sl was sb = r
       id_or L laws c.id a.id
         (λ i. record { start = oc.start; pre = oc.pre; suf = oc.suf ++ es;
           front = front_here L w.book v.book a.id c.id c.offset es h oc.start oc.pre oc.suf ext i oc.front;
-          folds = oc.folds; before = oc.before; ring = oc.ring;
+          folds = oc.folds; before = oc.before; backlog = oc.backlog;
           tip = λ x. absurd (q (inv.masters j n c a e ea u ua x ma i)); alone = oc.alone; second = seconds c oc })
         (λ i. record { start = oc.start; pre = oc.pre; suf = oc.suf;
           front = front_there L w.book v.book a.id c.id c.offset es h oc.start oc.pre oc.suf ext i oc.front;
-          folds = oc.folds; before = oc.before; ring = oc.ring; tip = oc.tip; alone = oc.alone; second = seconds c oc })
+          folds = oc.folds; before = oc.before; backlog = oc.backlog; tip = oc.tip; alone = oc.alone; second = seconds c oc })
     -- a link that doesn't hear this
     tip_there : (k : Link) (i : L.Id) (post : List L.Effect) → i ≢ a.id → AtTip w k i post → AtTip v k i post
     tip_there k i post ne t s e u o = one_or k.to n

@@ -2,15 +2,17 @@
 use Rattle.std.proofs.Common.{ℕ, List, [], ◌∷◌, ◌++◌, ◌≡◌, ◌≢◌, ◌+◌, ◌-◌, ◌⊎◌, None, Some, Bool, true, false, cond, length, refl, sym, ◌∙◌, ap, subst, inl, inr, arith}
 use Rattle.std.proofs.lemmas.List.{append_cancel_left}
 use Rattle.std.proofs.lemmas.List.Elements.{All-head}
-use Rattle.mr_history.specs.Language.{Language, Laws, Say}
-use Rattle.mr_history.specs.Language.Say.{Full, Continue, Plain, Refusal}
-use Rattle.mr_history.specs.Language.Ask.{Hello, Psync}
+use Rattle.mr_history.specs.Language.{Language, Laws, Line}
+use Rattle.mr_history.specs.Language.Line.{FullResync, Continue, Plain, Refusal}
+use Rattle.mr_history.specs.Language.Request.{Handshake, Psync}
+use Rattle.mr_history.specs.Changes.{SetAt, Same}
 use Rattle.mr_history.specs.History.{Book, IsAt, Front, Agree, texts, fold}
-use Rattle.mr_history.specs.World.{Phase, Follow, Node, Link, World}
-use Rattle.mr_history.specs.World.Phase.{Greet, Asked, Loading, Stream}
-use Rattle.mr_history.specs.Moves.{SetAt, Same, Follows, heard, at_phase, continued, EndsAs}
+use Rattle.mr_history.specs.Node.{Phase, Follow, Node, at_phase, continued, EndsAs}
+use Rattle.mr_history.specs.Node.Phase.{Greet, Asked, Loading, Stream}
+use Rattle.mr_history.specs.World.{Link, World}
 use Rattle.mr_history.specs.Invariant.{IsGoodBook, NodeOk, AtTip, Flow, Talk, Inv}
 use Rattle.mr_history.specs.Invariant.Talk.{greeting, greeted, asking, asking_for, refused, answered_full, answered_cont, loading, streaming}
+use Rattle.mr_history.proofs.Moves.{Follows, heard}
 use Rattle.mr_history.proofs.Histories.{append_nil, all_back}
 use Rattle.mr_history.proofs.Fronts.{Keeps, some_is, at_grows, front_keeps, keeps_grows, front_same}
 use Rattle.mr_history.proofs.Keeping.{same_keeps, same_tells, flow_keeps, follower_change, none_some}
@@ -21,18 +23,18 @@ nothing [] rest f g = absurd (f refl)
 nothing (x ∷ t) rest f g = absurd (cc)
 
 -- no line is read where none is left
-no_line : {P : Type 0} (L : Language) (laws : Laws L) (t rest : List ℕ) (a : Say L.Id) (xs : List ℕ) → L.says t a → xs ≡ t ++ rest → xs ≡ [] → P
+no_line : {P : Type 0} (L : Language) (laws : Laws L) (t rest : List ℕ) (a : Line L.Id) (xs : List ℕ) → L.says t a → xs ≡ t ++ rest → xs ≡ [] → P
 no_line {P} L laws t rest a xs h e n = nothing {P = P} t rest (laws.says_some t a h) (sym e ∙ n)
 
 -- what is read of a line and more is that line
-read_line : (L : Language) (laws : Laws L) (s t more rest : List ℕ) (a b : Say L.Id) → L.says s a → L.says t b → s ++ more ≡ t ++ rest → (rest ≡ more) × (b ≡ a)
+read_line : (L : Language) (laws : Laws L) (s t more rest : List ℕ) (a b : Line L.Id) → L.says s a → L.says t b → s ++ more ≡ t ++ rest → (rest ≡ more) × (b ≡ a)
 read_line L laws s t more rest a b x y e =
     let h = laws.says_cut s t a b more rest x y e in
     (append_cancel_left t rest more (sym e ∙ ap (λ z. z ++ more) h.0), sym h.1)
 
 replica_ok : {L : Language} (book : Book L) (a : Node L) (f g : Follow L.Id) → a.follow ≡ Some f → NodeOk book a → NodeOk book (record a { follow = Some g })
 replica_ok {L} book a f g e o = record {
-    start = o.start; pre = o.pre; suf = o.suf; front = o.front; folds = o.folds; before = o.before; ring = o.ring; tip = o.tip;
+    start = o.start; pre = o.pre; suf = o.suf; front = o.front; folds = o.folds; before = o.before; backlog = o.backlog; tip = o.tip;
     alone = λ x. none_some a.follow f (o.alone x) e; second = o.second }
 
 -- the next line of the handshake
@@ -56,10 +58,10 @@ next_line {L} laws w v n l j a q k t rest bytes inv fo say el sn sl sb then =
     go (loading i o m b e y at f) = absurd (cc)
     go (streaming b e y f) = absurd (cc)
 
-pub go_on_keeps : {L : Language} (laws : Laws L) (w v : World L) (n l j : ℕ) (a : Node L) (k : Link) (t rest h : List ℕ) → L.asks h Hello → Inv w → Follows w n a l (Greet j) k → L.says t Plain → k.tell.left ≡ t ++ rest
+pub go_on_keeps : {L : Language} (laws : Laws L) (w v : World L) (n l j : ℕ) (a : Node L) (k : Link) (t rest h : List ℕ) → L.asks h Handshake → Inv w → Follows w n a l (Greet j) k → L.says t Plain → k.tell.left ≡ t ++ rest
     → SetAt w.node v.node n (at_phase a l (Greet (j + 1))) → SetAt w.link v.link l (heard k rest h) → Same w.book v.book → Inv v
 go_on_keeps {L} laws w v n l j a k t rest h hh inv fo say el sn sl sb =
-    next_line laws w v n l j a (Greet (j + 1)) k t rest h inv fo say el sn sl sb (λ x y z. greeting (j + 1) refl x (subst (λ u. L.asks u Hello) (sym y) hh) z)
+    next_line laws w v n l j a (Greet (j + 1)) k t rest h inv fo say el sn sl sb (λ x y z. greeting (j + 1) refl x (subst (λ u. L.asks u Handshake) (sym y) hh) z)
 
 pub ask_all_keeps : {L : Language} (laws : Laws L) (w v : World L) (n l j : ℕ) (a : Node L) (k : Link) (t rest h : List ℕ) → L.asks h (Psync None) → Inv w → Follows w n a l (Greet j) k → L.says t Plain → k.tell.left ≡ t ++ rest
     → SetAt w.node v.node n (at_phase a l Asked) → SetAt w.link v.link l (heard k rest h) → Same w.book v.book → Inv v
@@ -71,7 +73,7 @@ pub ask_on_keeps : {L : Language} (laws : Laws L) (w v : World L) (n l j : ℕ) 
 ask_on_keeps {L} laws w v n l j a k t rest h hh inv fo say el sn sl sb =
     next_line laws w v n l j a Asked k t rest h inv fo say el sn sl sb (λ x y z. asking_for refl x (subst (λ u. L.asks u (Psync (Some (a.id, a.offset + 1)))) (sym y) hh) z)
 
-pub take_full_keeps : {L : Language} (laws : Laws L) (w v : World L) (n l : ℕ) (i : L.Id) (o : ℕ) (a : Node L) (k : Link) (t rest : List ℕ) → Inv w → Follows w n a l Asked k → L.says t (Full i o) → k.tell.left ≡ t ++ rest
+pub take_full_keeps : {L : Language} (laws : Laws L) (w v : World L) (n l : ℕ) (i : L.Id) (o : ℕ) (a : Node L) (k : Link) (t rest : List ℕ) → Inv w → Follows w n a l Asked k → L.says t (FullResync i o) → k.tell.left ≡ t ++ rest
     → SetAt w.node v.node n (at_phase a l (Loading i o)) → SetAt w.link v.link l (heard k rest []) → Same w.book v.book → Inv v
 take_full_keeps {L} laws w v n l i o a k t rest inv fo say el sn sl sb =
     follower_change w v n l a (at_phase a l (Loading i o)) Asked (Loading i o) k (heard k rest []) inv fo sn sl sb refl refl refl refl
@@ -83,22 +85,22 @@ take_full_keeps {L} laws w v n l i o a k t rest inv fo say el sn sl sb =
     go : ((j : L.Id) (post : List L.Effect) → AtTip w k j post → AtTip v (heard k rest []) j post) → Talk w a Asked k → Talk v (at_phase a l (Loading i o)) (Loading i o) (heard k rest [])
     go tips (greeting m e x y z) = absurd (cc)
     go tips (greeted m s e x y z h) = absurd (cc)
-    go tips (asking e x y z) = no_line L laws t rest (Full i o) k.tell.left say el z
-    go tips (asking_for e x y z) = no_line L laws t rest (Full i o) k.tell.left say el z
-    go tips (refused s e x y z h) = absurd (let r = (read_line L laws s t [] rest Refusal (Full i o) h say (append_nil s ∙ (sym z ∙ el))).1 in cc)
+    go tips (asking e x y z) = no_line L laws t rest (FullResync i o) k.tell.left say el z
+    go tips (asking_for e x y z) = no_line L laws t rest (FullResync i o) k.tell.left say el z
+    go tips (refused s e x y z h) = absurd (let r = (read_line L laws s t [] rest Refusal (FullResync i o) h say (append_nil s ∙ (sym z ∙ el))).1 in cc)
     go tips (answered_full i' o' m b e y at f) =
-        let r = read_line L laws m.line t (m.text ++ b) rest (Full i' o') (Full i o) m.says say (sym y ∙ el) in
+        let r = read_line L laws m.line t (m.text ++ b) rest (FullResync i' o') (FullResync i o) m.says say (sym y ∙ el) in
         let s = r.1 in
         loading i' o' (record { text = m.text; held = m.held; loads = m.loads }) b (full_is i o i' o' s) r.0 (at_grows L w.book v.book i' o' m.held (keeps_grows L w.book v.book keeps) at) (flow_keeps w v k (heard k rest []) i' o' b keeps refl tips f)
       where
-        full_is : (i : L.Id) (o : ℕ) (i' : L.Id) (o' : ℕ) → Full i o ≡ Full i' o' → Loading i o ≡ Loading i' o'
+        full_is : (i : L.Id) (o : ℕ) (i' : L.Id) (o' : ℕ) → FullResync i o ≡ FullResync i' o' → Loading i o ≡ Loading i' o'
         full_is i o i' o' e = cc
-    go tips (answered_cont j b e y g f) = absurd (let r = (read_line L laws j.line t b rest (Continue j.id) (Full i o) j.says say (sym y ∙ el)).1 in cc)
+    go tips (answered_cont j b e y g f) = absurd (let r = (read_line L laws j.line t b rest (Continue j.id) (FullResync i o) j.says say (sym y ∙ el)).1 in cc)
     go tips (loading i o m b e y at f) = absurd (cc)
     go tips (streaming b e y f) = absurd (cc)
 
-pub load_keeps : {L : Language} (laws : Laws L) (w v : World L) (n l : ℕ) (i : L.Id) (o : ℕ) (a : Node L) (m : L.Data) (k : Link) (t rest : List ℕ) → Inv w → Follows w n a l (Loading i o) k → L.loads t m → k.tell.left ≡ t ++ rest
-    → SetAt w.node v.node n (at_phase (record a { id = i; offset = o; second = None; ring = []; held = m; offers = true }) l Stream)
+pub load_keeps : {L : Language} (laws : Laws L) (w v : World L) (n l : ℕ) (i : L.Id) (o : ℕ) (a : Node L) (m : L.Dataset) (k : Link) (t rest : List ℕ) → Inv w → Follows w n a l (Loading i o) k → L.loads t m → k.tell.left ≡ t ++ rest
+    → SetAt w.node v.node n (at_phase (record a { id = i; offset = o; second = None; backlog = []; held = m; offers = true }) l Stream)
     → SetAt w.link v.link l (heard k rest []) → Same w.book v.book → Inv v
 load_keeps {L} laws w v n l i o a m k t rest inv fo ld el sn sl sb =
     follower_change w v n l a b (Loading i o) Stream k (heard k rest []) inv fo sn sl sb refl refl refl refl
@@ -108,10 +110,10 @@ load_keeps {L} laws w v n l i o a m k t rest inv fo ld el sn sl sb =
     keeps : Keeps L w.book v.book
     keeps = same_keeps L w.book v.book sb
     b : Node L
-    b = at_phase (record a { id = i; offset = o; second = None; ring = []; held = m; offers = true }) l Stream
+    b = at_phase (record a { id = i; offset = o; second = None; backlog = []; held = m; offers = true }) l Stream
     loaded : NodeOk w.book a → IsAt L w.book i o m → NodeOk w.book b
     loaded ok h = record {
-      start = h.start; pre = h.pre; suf = h.suf; front = h.front; folds = h.folds; before = texts L h.pre; ring = sym (append_nil (texts L h.pre));
+      start = h.start; pre = h.pre; suf = h.suf; front = h.front; folds = h.folds; before = texts L h.pre; backlog = sym (append_nil (texts L h.pre));
       tip = λ x. none_some a.follow _ (ok.alone x) fo.follow; alone = λ x. none_some a.follow _ (ok.alone x) fo.follow;
       second = λ j p x. none_some None (j, p) refl x }
     loading_is : (i : L.Id) (o : ℕ) (i' : L.Id) (o' : ℕ) → Loading i o ≡ Loading i' o' → (i ≡ i') × (o ≡ o')
@@ -175,8 +177,8 @@ take_cont_keeps {L} laws w v n l i a k t rest inv fo say el sn sl sb =
     eo = chosen (λ x. x.offset) (L.same a.id i) a _ a.offset refl refl
     eh : b.held ≡ a.held
     eh = chosen (λ x. x.held) (L.same a.id i) a _ a.held refl refl
-    er : b.ring ≡ a.ring
-    er = chosen (λ x. x.ring) (L.same a.id i) a _ a.ring refl refl
+    er : b.backlog ≡ a.backlog
+    er = chosen (λ x. x.backlog) (L.same a.id i) a _ a.backlog refl refl
     em : b.master ≡ a.master
     em = chosen (λ x. x.master) (L.same a.id i) a _ a.master refl refl
     gone_on : NodeOk w.book a → Agree L w.book a.id i a.offset → NodeOk w.book b
@@ -186,7 +188,7 @@ take_cont_keeps {L} laws w v n l i a k t rest inv fo say el sn sl sb =
           start = g.start; pre = g.pre; suf = g.other;
           front = subst (λ x. Front L w.book x b.offset g.start g.pre g.other) (sym ei) (subst (λ x. Front L w.book i x g.start g.pre g.other) (sym eo) g.two);
           folds = ap (λ x. fold L x g.start) same.1 ∙ (ap (λ x. fold L ok.pre x) same.0 ∙ (ok.folds ∙ ap (λ x. Some x) (sym eh)));
-          before = ok.before; ring = ap (λ x. texts L x) same.1 ∙ (ok.ring ∙ ap (λ x. ok.before ++ x) (sym er));
+          before = ok.before; backlog = ap (λ x. texts L x) same.1 ∙ (ok.backlog ∙ ap (λ x. ok.before ++ x) (sym er));
           tip = λ x. none_some a.follow _ (ok.alone (sym em ∙ x)) fo.follow;
           alone = λ x. none_some a.follow _ (ok.alone (sym em ∙ x)) fo.follow;
           second = λ j o x. seconds ok g j o (continued_second laws a i j o x);
@@ -205,7 +207,7 @@ take_cont_keeps {L} laws w v n l i a k t rest inv fo say el sn sl sb =
     read (asking e x y z) = no_line L laws t rest (Continue i) k.tell.left say el z
     read (asking_for e x y z) = no_line L laws t rest (Continue i) k.tell.left say el z
     read (refused s e x y z h) = absurd (let r = (read_line L laws s t [] rest Refusal (Continue i) h say (append_nil s ∙ (sym z ∙ el))).1 in cc)
-    read (answered_full i' o' m b e y at f) = absurd (let r = (read_line L laws m.line t (m.text ++ b) rest (Full i' o') (Continue i) m.says say (sym y ∙ el)).1 in cc)
+    read (answered_full i' o' m b e y at f) = absurd (let r = (read_line L laws m.line t (m.text ++ b) rest (FullResync i' o') (Continue i) m.says say (sym y ∙ el)).1 in cc)
     read (answered_cont j b e y g f) =
         let r = read_line L laws j.line t b rest (Continue j.id) (Continue i) j.says say (sym y ∙ el) in
         let q = cont_is i j.id r.1 in
@@ -215,7 +217,7 @@ take_cont_keeps {L} laws w v n l i a k t rest inv fo say el sn sl sb =
 
 -- the stream begins with e, and rest is the rest of it
 pub record Ahead {L : Language} (w : World L) (k : Link) (a : Node L) (e : L.Effect) (rest : List ℕ) : Type 0 where
-  pub start : L.Data
+  pub start : L.Dataset
   pub pre : List L.Effect
   pub mid : List L.Effect
   pub post : List L.Effect
@@ -239,11 +241,11 @@ stream_on {L} laws w k a e rest bytes good ge f q = go f.mid f.front (sym q ∙ 
           rest_is = append_cancel_left (L.text e) rest (texts L mid) (h ∙ ap (λ z. L.text z ++ texts L mid) (sym same));
           tip = f.tip; streams = f.streams }
 
-pub follow_keeps : {L : Language} (laws : Laws L) (w v : World L) (n l : ℕ) (a : Node L) (e : L.Effect) (m : L.Data) (k : Link) (rest ring : List ℕ) → Inv w → Follows w n a l Stream k → k.tell.left ≡ L.text e ++ rest
-    → L.IsGood e → L.apply e a.held ≡ Some m → EndsAs a.ring (L.text e) ring
-    → SetAt w.node v.node n (record a { held = m; offset = a.offset + length (L.text e); ring = ring })
+pub follow_keeps : {L : Language} (laws : Laws L) (w v : World L) (n l : ℕ) (a : Node L) (e : L.Effect) (m : L.Dataset) (k : Link) (rest backlog : List ℕ) → Inv w → Follows w n a l Stream k → k.tell.left ≡ L.text e ++ rest
+    → L.IsGood e → L.apply e a.held ≡ Some m → EndsAs a.backlog (L.text e) backlog
+    → SetAt w.node v.node n (record a { held = m; offset = a.offset + length (L.text e); backlog = backlog })
     → SetAt w.link v.link l (heard k rest []) → Same w.book v.book → Inv v
-follow_keeps {L} laws w v n l a e m k rest ring inv fo el ge ea er sn sl sb =
+follow_keeps {L} laws w v n l a e m k rest backlog inv fo el ge ea er sn sl sb =
     follower_change w v n l a b Stream Stream k (heard k rest []) inv fo sn sl sb refl refl fo.follow refl
       (λ ok y. applied ok (read y))
       (λ ok tips y. told (tips k (heard k rest []) refl refl) (read y))
@@ -251,16 +253,16 @@ follow_keeps {L} laws w v n l a e m k rest ring inv fo el ge ea er sn sl sb =
     keeps : Keeps L w.book v.book
     keeps = same_keeps L w.book v.book sb
     b : Node L
-    b = record a { held = m; offset = a.offset + length (L.text e); ring = ring }
+    b = record a { held = m; offset = a.offset + length (L.text e); backlog = backlog }
     one : length (texts L (e ∷ [])) ≡ length (L.text e)
     one = ap (λ z. length z) (texts_one L e)
     applied : NodeOk w.book a → Ahead w k a e rest → NodeOk w.book b
     applied ok r =
         let same = front_same L laws w.book a.id a.offset _ _ _ _ _ _ r.front ok.front in
-        subst (λ z. NodeOk w.book (record a { held = m; offset = a.offset + z; ring = ring })) one
-          (advanced w.book a m ring r.start r.pre (e ∷ []) (r.mid ++ r.post) ok.before r.front
-            (ap (λ x. fold L x r.start) same.1 ∙ (ap (λ x. fold L ok.pre x) same.0 ∙ ok.folds)) (ap (λ x. texts L x) same.1 ∙ ok.ring)
-            (fold_one L e a.held m ea) (er.0, ap (λ z. a.ring ++ z) (texts_one L e) ∙ er.1)
+        subst (λ z. NodeOk w.book (record a { held = m; offset = a.offset + z; backlog = backlog })) one
+          (advanced w.book a m backlog r.start r.pre (e ∷ []) (r.mid ++ r.post) ok.before r.front
+            (ap (λ x. fold L x r.start) same.1 ∙ (ap (λ x. fold L ok.pre x) same.0 ∙ ok.folds)) (ap (λ x. texts L x) same.1 ∙ ok.backlog)
+            (fold_one L e a.held m ea) (er.0, ap (λ z. a.backlog ++ z) (texts_one L e) ∙ er.1)
             (λ x. none_some a.follow _ (ok.alone x) fo.follow) (λ x. none_some a.follow _ (ok.alone x) fo.follow) ok.second)
     told : ((j : L.Id) (post : List L.Effect) → AtTip w k j post → AtTip v (heard k rest []) j post) → Ahead w k a e rest → Talk v b Stream (heard k rest [])
     told tips r = streaming rest refl refl

@@ -32,12 +32,12 @@ pub length_cons : (L : Language) (e : L.Effect) (es : List L.Effect) → length 
 length_cons L e es = length-append (L.text e) (texts L es)
 
 -- what fold gives over two lists
-fold_step : (L : Language) (o : Option L.Data) (f g : L.Data → Option L.Data) (r : Option L.Data) (n : L.Data)
-    → ((k : L.Data) → f k ≡ Some n → g k ≡ r) → then_fold o f ≡ Some n → then_fold o g ≡ r
+fold_step : (L : Language) (o : Option L.Dataset) (f g : L.Dataset → Option L.Dataset) (r : Option L.Dataset) (n : L.Dataset)
+    → ((k : L.Dataset) → f k ≡ Some n → g k ≡ r) → then_fold o f ≡ Some n → then_fold o g ≡ r
 fold_step L None f g r n ih e = absurd (cc)
 fold_step L (Some k) f g r n ih e = ih k e
 
-pub fold_append : (L : Language) (xs ys : List L.Effect) (m n : L.Data) → fold L xs m ≡ Some n → fold L (xs ++ ys) m ≡ fold L ys n
+pub fold_append : (L : Language) (xs ys : List L.Effect) (m n : L.Dataset) → fold L xs m ≡ Some n → fold L (xs ++ ys) m ≡ fold L ys n
 fold_append L [] ys m n h = ap (λ o. then_fold o (fold L ys)) h
 fold_append L (x ∷ xs) ys m n h = fold_step L (L.apply x m) (fold L xs) (fold L (xs ++ ys)) (fold L ys n) n (λ k e. fold_append L xs ys k n e) h
 

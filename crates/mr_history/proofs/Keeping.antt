@@ -2,12 +2,15 @@
 use Rattle.std.proofs.Common.{ℕ, List, [], ◌++◌, ◌≡◌, ◌≢◌, ◌+◌, ◌-◌, Option, None, Some, Bool, true, false, refl, sym, ◌∙◌, ap, subst, inl, inr, ◌⊎◌}
 use Rattle.std.proofs.lemmas.Bool.Decides.{eqb_tells}
 use Rattle.mr_history.specs.Language.{Language, Laws}
-use Rattle.mr_history.specs.Language.Ask.{Hello, Psync}
+use Rattle.mr_history.specs.Language.Request.{Handshake, Psync}
+use Rattle.mr_history.specs.Changes.{SetAt, Same}
 use Rattle.mr_history.specs.History.{Book, Agree}
-use Rattle.mr_history.specs.World.{Phase, Follow, Node, Link, World}
-use Rattle.mr_history.specs.Moves.{SetAt, Same, Follows}
+use Rattle.mr_history.specs.Node.{Phase, Follow, Node}
+use Rattle.mr_history.specs.World.{Link, World}
+use Rattle.mr_history.specs.World.Caller.{Peer}
 use Rattle.mr_history.specs.Invariant.{IsGoodBook, NodeOk, AtTip, Flow, Talk, LinkOk, Inv}
 use Rattle.mr_history.specs.Invariant.Talk.{greeting, greeted, asking, asking_for, refused, answered_full, answered_cont, loading, streaming}
+use Rattle.mr_history.proofs.Moves.{Follows}
 use Rattle.mr_history.proofs.Fronts.{Keeps, some_is, at_grows, agree_grows, front_keeps, keeps_grows}
 
 pub same_keeps : (L : Language) (b c : Book L) → Same b c → Keeps L b c
@@ -20,7 +23,7 @@ pub node_keeps : {L : Language} (b c : Book L) (a : Node L) → Keeps L b c → 
 node_keeps {L} b c a k o = record {
     start = o.start; pre = o.pre; suf = o.suf;
     front = front_keeps L b c a.id a.offset o.start o.pre o.suf k o.front;
-    folds = o.folds; before = o.before; ring = o.ring; tip = o.tip; alone = o.alone;
+    folds = o.folds; before = o.before; backlog = o.backlog; tip = o.tip; alone = o.alone;
     second = λ i p e. agree_grows L b c i a.id (p - 1) (keeps_grows L b c k) (o.second i p e);
   }
 
@@ -36,7 +39,7 @@ flow_keeps {L} w v k k' i o bytes keeps es tips f = record {
 pub talk_keeps : {L : Language} (w v : World L) (a b : Node L) (p : Phase L.Id) (k k' : Link) → Keeps L w.book v.book
     → b.id ≡ a.id → b.offset ≡ a.offset → k'.streams ≡ k.streams → k'.ask.left ≡ k.ask.left → k'.tell.left ≡ k.tell.left
     → ((i : L.Id) (post : List L.Effect) → AtTip w k i post → AtTip v k' i post) → Talk w a p k → Talk v b p k'
-talk_keeps {L} w v a b p k k' keeps ei eo es ea et tips (greeting n e s x y) = greeting n e (es ∙ s) (subst (λ z. L.asks z Hello) (sym ea) x) (et ∙ y)
+talk_keeps {L} w v a b p k k' keeps ei eo es ea et tips (greeting n e s x y) = greeting n e (es ∙ s) (subst (λ z. L.asks z Handshake) (sym ea) x) (et ∙ y)
 talk_keeps {L} w v a b p k k' keeps ei eo es ea et tips (greeted n t e s x y z) = greeted n t e (es ∙ s) (ea ∙ x) (et ∙ y) z
 talk_keeps {L} w v a b p k k' keeps ei eo es ea et tips (asking e s x y) = asking e (es ∙ s) (subst (λ z. L.asks z (Psync None)) (sym ea) x) (et ∙ y)
 talk_keeps {L} w v a b p k k' keeps ei eo es ea et tips (asking_for e s x y) =
@@ -119,6 +122,9 @@ node_change {L} w v n b inv sn sl keeps good self rank tips mine = record {
     kept : (m : ℕ) (a : Node L) (f : Follow L.Id) → LinkOk w m a f → LinkOk v m a f
     kept m a f o = record { link = o.link; found = sl f.link ∙ o.found; mine = o.mine; talk = tip_if f.link o.link a f.phase o.found o.talk }
 
+peer_is : (m n : ℕ) → Peer m ≡ Peer n → m ≡ n
+peer_is m n e = cc
+
 pub true_false : {P : Type 0} (b : Bool) → b ≡ true → b ≡ false → P
 true_false b x y = absurd (cc)
 
@@ -128,7 +134,7 @@ none_some o x p q = absurd (cc)
 -- A change at link l alone.
 pub link_change : {L : Language} (w v : World L) (l : ℕ) (k' : Link) → Inv w → Same w.node v.node → SetAt w.link v.link l k' → Same w.book v.book
     → ((m : ℕ) (c : Node L) (p : Phase L.Id) (k : Link) → w.node m ≡ Some c → c.up ≡ true → c.follow ≡ Some (record { link = l; phase = p })
-        → w.link l ≡ Some k → k.from ≡ Some m → Talk w c p k → (k'.from ≡ Some m) × Talk v c p k')
+        → w.link l ≡ Some k → k.caller ≡ Peer m → Talk w c p k → (k'.caller ≡ Peer m) × Talk v c p k')
     → Inv v
 link_change {L} w v l k' inv sn sl sb at = record {
     good = same_good L w.book v.book sb inv.good;
@@ -156,7 +162,7 @@ link_change {L} w v l k' inv sn sl sb at = record {
 -- A change at a replica and at the link that it follows.
 pub follower_change : {L : Language} (w v : World L) (n l : ℕ) (a b : Node L) (p q : Phase L.Id) (k k' : Link) → Inv w → Follows w n a l p k
     → SetAt w.node v.node n b → SetAt w.link v.link l k' → Same w.book v.book
-    → b.master ≡ a.master → b.up ≡ a.up → b.follow ≡ Some (record { link = l; phase = q }) → k'.from ≡ k.from
+    → b.master ≡ a.master → b.up ≡ a.up → b.follow ≡ Some (record { link = l; phase = q }) → k'.caller ≡ k.caller
     → (NodeOk w.book a → Talk w a p k → NodeOk w.book b)
     → (NodeOk w.book a → ((x y : Link) → y.to ≡ x.to → y.serving ≡ x.serving → (i : L.Id) (post : List L.Effect) → AtTip w x i post → AtTip v y i post)
         → Talk w a p k → Talk v b q k')
@@ -180,11 +186,11 @@ follower_change {L} w v n l a b p q k k' inv fo sn sl sb em eu ef efrom self tal
     keeps = same_keeps L w.book v.book sb
     ok : NodeOk w.book a
     ok = inv.nodes n a fo.node fo.up
-    its : (k.from ≡ Some n) × Talk w a p k
+    its : (k.caller ≡ Peer n) × Talk w a p k
     its =
         let o = inv.links n a (record { link = l; phase = p }) fo.node fo.up fo.follow in
         let e = some_is o.link k (sym o.found ∙ fo.link) in
-        (ap (λ x. x.from) (sym e) ∙ o.mine, subst (λ x. Talk w a p x) e o.talk)
+        (ap (λ x. x.caller) (sym e) ∙ o.mine, subst (λ x. Talk w a p x) e o.talk)
     replica : {P : Type 0} → a.master ≡ true → P
     replica {P} x = none_some {P = P} a.follow (record { link = l; phase = p }) (ok.alone x) fo.follow
     is_b : (m : ℕ) (c : Node L) → m ≡ n → v.node m ≡ Some c → b ≡ c
@@ -201,13 +207,13 @@ follower_change {L} w v n l a b p q k k' inv fo sn sl sb em eu ef efrom self tal
     mine m c f h e g =
         let i = follow_is m c f h e g in
         let t = talk ok tip its.1 in
-        record { link = k'; found = ap (λ z. v.link z.link) (sym i) ∙ sl.0; mine = efrom ∙ (its.0 ∙ ap (λ z. Some z) (sym h));
+        record { link = k'; found = ap (λ z. v.link z.link) (sym i) ∙ sl.0; mine = efrom ∙ (its.0 ∙ ap (λ z. Peer z) (sym h));
           talk = subst (λ z. Talk v z f.phase k') (is_b m c h e) (subst (λ z. Talk v b z.phase k') i t) }
     theirs : (m : ℕ) (c : Node L) (f : Follow L.Id) → m ≢ n → v.node m ≡ Some c → c.up ≡ true → c.follow ≡ Some f → LinkOk v m c f
     theirs m c f h e u g =
         let o = inv.links m c f (was m c h e) u g in
         let other = λ (x : f.link ≡ l).
           let same = some_is o.link k (sym o.found ∙ (ap (λ z. w.link z) x ∙ fo.link)) in
-          h (some_is m n (sym o.mine ∙ (ap (λ z. z.from) same ∙ its.0))) in
+          h (peer_is m n (sym o.mine ∙ (ap (λ z. z.caller) same ∙ its.0))) in
         record { link = o.link; found = sl.1 f.link other ∙ o.found; mine = o.mine;
           talk = talk_keeps w v c c f.phase o.link o.link keeps refl refl refl refl refl (tip o.link o.link refl refl) o.talk }

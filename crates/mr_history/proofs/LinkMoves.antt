@@ -1,15 +1,17 @@
 -- The moves that change a link and no node keep the invariant.
 use Rattle.std.proofs.Common.{ℕ, List, [], ◌∷◌, ◌++◌, ◌≡◌, ◌+◌, Option, None, Some, Bool, true, false, refl, sym, ◌∙◌, ap, subst}
 use Rattle.std.proofs.lemmas.List.{append_cancel_left}
-use Rattle.mr_history.specs.Language.{Language, Laws, Ask}
-use Rattle.mr_history.specs.Language.Say.{Full, Continue, Plain, Refusal}
-use Rattle.mr_history.specs.Language.Ask.{Hello, Psync, Ack, Command, Promote, Obey, Blank, Quit}
+use Rattle.mr_history.specs.Language.{Language, Laws, Request}
+use Rattle.mr_history.specs.Language.Line.{FullResync, Continue, Plain, Refusal}
+use Rattle.mr_history.specs.Language.Request.{Handshake, Psync, Ack, Command, ReplicaOfNoOne, ReplicaOf, Empty, Quit}
+use Rattle.mr_history.specs.Changes.{SetAt, Same}
 use Rattle.mr_history.specs.History.{Front}
-use Rattle.mr_history.specs.World.{Phase, Node, Link, World}
-use Rattle.mr_history.specs.World.Phase.{Asked}
-use Rattle.mr_history.specs.Moves.{SetAt, Same, Serves, Continues, tail, used, shut}
+use Rattle.mr_history.specs.Node.{Phase, Node, Continues, tail}
+use Rattle.mr_history.specs.Node.Phase.{Asked}
+use Rattle.mr_history.specs.World.{Link, World, shut}
 use Rattle.mr_history.specs.Invariant.{NodeOk, AtTip, Flow, Talk, Inv}
 use Rattle.mr_history.specs.Invariant.Talk.{greeting, greeted, asking, asking_for, refused, answered_full, answered_cont, loading, streaming}
+use Rattle.mr_history.proofs.Moves.{Serves, used}
 use Rattle.mr_history.proofs.Histories.{append_nil}
 use Rattle.mr_history.proofs.Fronts.{Keeps, some_is, at_grows, agree_grows, front_keeps, keeps_grows, Continuing, continues}
 use Rattle.mr_history.proofs.Keeping.{same_keeps, same_good, node_keeps, flow_keeps, talk_keeps, link_change, true_false}
@@ -43,7 +45,7 @@ pub carry_keeps : {L : Language} (w v : World L) (l x y : ℕ) (k : Link) → In
 carry_keeps {L} w v l x y k inv e sn sl sb =
     link_change w v l k' inv sn sl sb (λ m c p z ec uc fc ez fz t.
       let i = some_is z k (sym ez ∙ e) in
-      (ap (λ z. z.from) (sym i) ∙ fz,
+      (ap (λ z. z.caller) (sym i) ∙ fz,
        talk_keeps w v c c p k k' (same_keeps L w.book v.book sb) refl refl refl refl refl
          (same_tip w v k k' sn refl (λ o. o))
          (subst (λ z. Talk w c p z) i t)))
@@ -58,33 +60,33 @@ loose_keeps {L} w v l k inv free sn sl sb =
     link_change w v l k inv sn sl sb (λ m c p z ec uc fc ez fz t. absurd (free m c p ec uc fc))
 
 -- what is read of a text that is there whole is that text
-pub whole_ask : (L : Language) (laws : Laws L) (s t rest : List ℕ) (a b : Ask L.Id) → L.asks s a → L.asks t b → s ≡ t ++ rest → (rest ≡ []) × (a ≡ b)
+pub whole_ask : (L : Language) (laws : Laws L) (s t rest : List ℕ) (a b : Request L.Id) → L.asks s a → L.asks t b → s ≡ t ++ rest → (rest ≡ []) × (a ≡ b)
 whole_ask L laws s t rest a b x y e =
     let h = laws.asks_cut s t a b [] rest x y (append_nil s ∙ e) in
     (append_cancel_left t rest [] (sym e ∙ (h.0 ∙ sym (append_nil t))), h.1)
 
 -- the stages in which the server may read a request that isn't answered yet
-pub stage_left : {P : Type 0} (L : Language) (laws : Laws L) (t rest : List ℕ) (a : Ask L.Id) (xs : List ℕ) → L.asks t a → xs ≡ t ++ rest → xs ≡ [] → P
+pub stage_left : {P : Type 0} (L : Language) (laws : Laws L) (t rest : List ℕ) (a : Request L.Id) (xs : List ℕ) → L.asks t a → xs ≡ t ++ rest → xs ≡ [] → P
 stage_left L laws t rest a xs h e n = absurd (nothing t rest (laws.asks_some t a h) (sym e ∙ n))
   where
     nothing : (t rest : List ℕ) → (t ≡ [] → ⊥) → t ++ rest ≡ [] → ⊥
     nothing [] rest f g = f refl
     nothing (x ∷ t) rest f g = cc
 
-pub greet_keeps : {L : Language} (laws : Laws L) (w v : World L) (l : ℕ) (k : Link) (s : Node L) (t rest r : List ℕ) → Inv w → Serves w s l k → k.streams ≡ false → L.asks t Hello → L.says r Plain
+pub greet_keeps : {L : Language} (laws : Laws L) (w v : World L) (l : ℕ) (k : Link) (s : Node L) (t rest r : List ℕ) → Inv w → Serves w s l k → k.streams ≡ false → L.asks t Handshake → L.says r Plain
     → k.ask.left ≡ t ++ rest → Same w.node v.node → SetAt w.link v.link l (used k rest r) → Same w.book v.book → Inv v
 greet_keeps {L} laws w v l k s t rest r inv se st ask say el sn sl sb =
     link_change w v l (used k rest r) inv sn sl sb (λ m c p x ec uc fc ex fx y.
       let i = some_is x k (sym ex ∙ se.link) in
-      (ap (λ z. z.from) (sym i) ∙ fx, go c p (subst (λ z. Talk w c p z) i y)))
+      (ap (λ z. z.caller) (sym i) ∙ fx, go c p (subst (λ z. Talk w c p z) i y)))
   where
     go : (c : Node L) (p : Phase L.Id) → Talk w c p k → Talk v c p (used k rest r)
     go c p (greeting n e x y z) =
-        greeted n r e x (whole_ask L laws k.ask.left t rest Hello Hello y ask el).0 (ap (λ q. q ++ r) z) say
-    go c p (greeted n q e x y z g) = stage_left L laws t rest Hello k.ask.left ask el y
-    go c p (asking e x y z) = absurd (let h = (whole_ask L laws k.ask.left t rest (Psync None) Hello y ask el).1 in cc)
-    go c p (asking_for e x y z) = absurd (let q = Some (c.id, c.offset + 1) in let h = (whole_ask L laws k.ask.left t rest (Psync q) Hello y ask el).1 in cc)
-    go c p (refused q e x y z g) = stage_left L laws t rest Hello k.ask.left ask el y
+        greeted n r e x (whole_ask L laws k.ask.left t rest Handshake Handshake y ask el).0 (ap (λ q. q ++ r) z) say
+    go c p (greeted n q e x y z g) = stage_left L laws t rest Handshake k.ask.left ask el y
+    go c p (asking e x y z) = absurd (let h = (whole_ask L laws k.ask.left t rest (Psync None) Handshake y ask el).1 in cc)
+    go c p (asking_for e x y z) = absurd (let q = Some (c.id, c.offset + 1) in let h = (whole_ask L laws k.ask.left t rest (Psync q) Handshake y ask el).1 in cc)
+    go c p (refused q e x y z g) = stage_left L laws t rest Handshake k.ask.left ask el y
     go c p (answered_full i o m bytes e y at f) = true_false k.streams f.streams st
     go c p (answered_cont i bytes e y g f) = true_false k.streams f.streams st
     go c p (loading i o m bytes e y at f) = true_false k.streams f.streams st
@@ -95,10 +97,10 @@ pub refuse_keeps : {L : Language} (laws : Laws L) (w v : World L) (l : ℕ) (k :
 refuse_keeps {L} laws w v l k s q t rest r inv se st ask say el sn sl sb =
     link_change w v l (used k rest r) inv sn sl sb (λ m c p x ec uc fc ex fx y.
       let i = some_is x k (sym ex ∙ se.link) in
-      (ap (λ z. z.from) (sym i) ∙ fx, go c p (subst (λ z. Talk w c p z) i y)))
+      (ap (λ z. z.caller) (sym i) ∙ fx, go c p (subst (λ z. Talk w c p z) i y)))
   where
     go : (c : Node L) (p : Phase L.Id) → Talk w c p k → Talk v c p (used k rest r)
-    go c p (greeting n e x y z) = absurd (let h = (whole_ask L laws k.ask.left t rest Hello (Psync q) y ask el).1 in cc)
+    go c p (greeting n e x y z) = absurd (let h = (whole_ask L laws k.ask.left t rest Handshake (Psync q) y ask el).1 in cc)
     go c p (greeted n z e x y u g) = stage_left L laws t rest (Psync q) k.ask.left ask el y
     go c p (asking e x y z) =
         refused r e x (whole_ask L laws k.ask.left t rest (Psync None) (Psync q) y ask el).0 (ap (λ u. u ++ r) z) say
@@ -110,14 +112,14 @@ refuse_keeps {L} laws w v l k s q t rest r inv se st ask say el sn sl sb =
     go c p (loading i o m bytes e y at f) = true_false k.streams f.streams st
     go c p (streaming bytes e y f) = true_false k.streams f.streams st
 
-of_psync : {I : Type 0} → Ask I → Option (I × ℕ)
+of_psync : {I : Type 0} → Request I → Option (I × ℕ)
 of_psync (Psync q) = q
-of_psync Hello = None
+of_psync Handshake = None
 of_psync Ack = None
 of_psync Command = None
-of_psync Promote = None
-of_psync (Obey t) = None
-of_psync Blank = None
+of_psync ReplicaOfNoOne = None
+of_psync (ReplicaOf t) = None
+of_psync Empty = None
 of_psync Quit = None
 
 psync_is : {I : Type 0} (a b : I × ℕ) → Psync (Some a) ≡ Psync (Some b) → a ≡ b
@@ -127,13 +129,13 @@ psync_is a b e = some_is a b (ap of_psync e)
 serves_is : {L : Language} (w v : World L) (l : ℕ) (k : Link) (s x : Node L) → Serves w s l k → Same w.node v.node → v.node k.to ≡ Some x → s ≡ x
 serves_is w v l k s x se sn e = some_is s x (sym se.node ∙ (sym (sn k.to) ∙ e))
 
-pub answer_full_keeps : {L : Language} (laws : Laws L) (w v : World L) (l : ℕ) (k : Link) (s : Node L) (q : Option (L.Id × ℕ)) (t rest x y : List ℕ) → L.loads x s.held → L.says y (Full s.id s.offset) → Inv w → Serves w s l k → k.streams ≡ false → s.master ≡ true → L.asks t (Psync q)
+pub answer_full_keeps : {L : Language} (laws : Laws L) (w v : World L) (l : ℕ) (k : Link) (s : Node L) (q : Option (L.Id × ℕ)) (t rest x y : List ℕ) → L.loads x s.held → L.says y (FullResync s.id s.offset) → Inv w → Serves w s l k → k.streams ≡ false → s.master ≡ true → L.asks t (Psync q)
     → k.ask.left ≡ t ++ rest → Same w.node v.node
     → SetAt w.link v.link l (record (used k rest (y ++ x)) { streams = true }) → Same w.book v.book → Inv v
 answer_full_keeps {L} laws w v l k s q t rest snap line ld ls inv se st ms ask el sn sl sb =
     link_change w v l k' inv sn sl sb (λ m c p x ec uc fc ex fx y.
       let i = some_is x k (sym ex ∙ se.link) in
-      (ap (λ z. z.from) (sym i) ∙ fx, go c p (subst (λ z. Talk w c p z) i y)))
+      (ap (λ z. z.caller) (sym i) ∙ fx, go c p (subst (λ z. Talk w c p z) i y)))
   where
     k' : Link
     k' = record (used k rest (line ++ snap)) { streams = true }
@@ -146,7 +148,7 @@ answer_full_keeps {L} laws w v l k s q t rest snap line ld ls inv se st ms ask e
         (record { start = ok.start; pre = ok.pre; mid = []; post = ok.suf; front = ok.front; bytes_are = refl; streams = refl;
           tip = λ x e u o. let i = serves_is w v l k s x se sn e in (sym (ap (λ z. z.master) i) ∙ ms, sym (ap (λ z. z.id) i), ok.tip ms) })
     go : (c : Node L) (p : Phase L.Id) → Talk w c p k → Talk v c p k'
-    go c p (greeting n e x y z) = absurd (let h = (whole_ask L laws k.ask.left t rest Hello (Psync q) y ask el).1 in cc)
+    go c p (greeting n e x y z) = absurd (let h = (whole_ask L laws k.ask.left t rest Handshake (Psync q) y ask el).1 in cc)
     go c p (greeted n z e x y u g) = stage_left L laws t rest (Psync q) k.ask.left ask el y
     go c p (asking e x y z) = answered c p e z
     go c p (asking_for e x y z) = answered c p e z
@@ -162,7 +164,7 @@ pub answer_cont_keeps : {L : Language} (laws : Laws L) (w v : World L) (l : ℕ)
 answer_cont_keeps {L} laws w v l i o k s t rest line ls inv se st ms ask el co sn sl sb =
     link_change w v l k' inv sn sl sb (λ m c p x ec uc fc ex fx y.
       let j = some_is x k (sym ex ∙ se.link) in
-      (ap (λ z. z.from) (sym j) ∙ fx, go c p (inv.nodes m c ec uc) (subst (λ z. Talk w c p z) j y)))
+      (ap (λ z. z.caller) (sym j) ∙ fx, go c p (inv.nodes m c ec uc) (subst (λ z. Talk w c p z) j y)))
   where
     q : Option (L.Id × ℕ)
     q = Some (i, o)
@@ -181,7 +183,7 @@ answer_cont_keeps {L} laws w v l i o k s t rest line ls inv se st ms ask el co s
           bytes_are = g.bytes_are; streams = refl;
           tip = λ x e u o. let j = serves_is w v l k s x se sn e in (sym (ap (λ z. z.master) j) ∙ ms, sym (ap (λ z. z.id) j), refl) })
     go : (c : Node L) (p : Phase L.Id) → NodeOk w.book c → Talk w c p k → Talk v c p k'
-    go c p oc (greeting n e x y z) = absurd (let h = (whole_ask L laws k.ask.left t rest Hello (Psync q) y ask el).1 in cc)
+    go c p oc (greeting n e x y z) = absurd (let h = (whole_ask L laws k.ask.left t rest Handshake (Psync q) y ask el).1 in cc)
     go c p oc (greeted n z e x y u g) = stage_left L laws t rest (Psync q) k.ask.left ask el y
     go c p oc (asking e x y z) = absurd (let h = (whole_ask L laws k.ask.left t rest (Psync None) (Psync q) y ask el).1 in cc)
     go c p oc (asking_for e x y z) =
@@ -202,7 +204,7 @@ pub noted_keeps : {L : Language} (w v : World L) (l : ℕ) (k : Link) (bytes : L
 noted_keeps {L} w v l k b inv se st sn sl sb =
     link_change w v l k' inv sn sl sb (λ m c p x ec uc fc ex fx y.
       let i = some_is x k (sym ex ∙ se) in
-      (ap (λ z. z.from) (sym i) ∙ fx, go c p (subst (λ z. Talk w c p z) i y)))
+      (ap (λ z. z.caller) (sym i) ∙ fx, go c p (subst (λ z. Talk w c p z) i y)))
   where
     k' : Link
     k' = record k { ask = record k.ask { left = b } }

@@ -2,9 +2,10 @@
 use Rattle.std.proofs.Common.{ℕ, List, [], ◌++◌, ◌≡◌, ◌≢◌, ◌+◌, ◌-◌, None, Some, Bool, true, false, refl, sym, ◌∙◌, ap, subst, arith, All}
 use Rattle.std.proofs.lemmas.List.Elements.{All-nil}
 use Rattle.mr_history.specs.Language.{Language, Laws}
+use Rattle.mr_history.specs.Changes.{SetAt, Same}
 use Rattle.mr_history.specs.History.{Book, History, Front, Agree, texts, fold}
-use Rattle.mr_history.specs.World.{Node, Link, World}
-use Rattle.mr_history.specs.Moves.{SetAt, Same}
+use Rattle.mr_history.specs.Node.{Node}
+use Rattle.mr_history.specs.World.{Link, World}
 use Rattle.mr_history.specs.Invariant.{IsGoodBook, NodeOk, Inv}
 use Rattle.mr_history.proofs.Histories.{append_nil, all_front}
 use Rattle.mr_history.proofs.Fronts.{Keeps, some_is, front_same, front_keeps}
@@ -20,7 +21,7 @@ stop_keeps {L} w v n b inv e sn sl sb =
       (λ f u. true_false b.up u e)
 
 pub leave_keeps : {L : Language} (w v : World L) (n : ℕ) (a : Node L) (offers : Bool) (h : List ℕ) → Inv w → w.node n ≡ Some a
-    → SetAt w.node v.node n (record a { follow = None; offers = offers; target = h }) → Same w.link v.link → Same w.book v.book → Inv v
+    → SetAt w.node v.node n (record a { follow = None; offers = offers; upstream = h }) → Same w.link v.link → Same w.book v.book → Inv v
 leave_keeps {L} w v n a offers h inv e sn sl sb =
     node_change w v n b inv sn sl (same_keeps L w.book v.book sb) (same_good L w.book v.book sb inv.good)
       (λ u. node_keeps w.book v.book b (same_keeps L w.book v.book sb) (ok u))
@@ -29,10 +30,10 @@ leave_keeps {L} w v n a offers h inv e sn sl sb =
       (λ f u x. none_some None f refl x)
   where
     b : Node L
-    b = record a { follow = None; offers = offers; target = h }
+    b = record a { follow = None; offers = offers; upstream = h }
     ok : a.up ≡ true → NodeOk w.book b
     ok u = let o = inv.nodes n a e u in record {
-      start = o.start; pre = o.pre; suf = o.suf; front = o.front; folds = o.folds; before = o.before; ring = o.ring; tip = o.tip; alone = λ x. refl; second = o.second }
+      start = o.start; pre = o.pre; suf = o.suf; front = o.front; folds = o.folds; before = o.before; backlog = o.backlog; tip = o.tip; alone = λ x. refl; second = o.second }
 
 -- what was never drawn names no node, and isn't in the book before
 pub fresh_id : {L : Language} (w : World L) (i : L.Id) (m : ℕ) (c : Node L) → Inv w → w.book i ≡ None → w.node m ≡ Some c → c.up ≡ true → i ≢ c.id
@@ -50,7 +51,7 @@ set_good L laws b c i h a s g j x e = id_or L laws j i
     (λ q. subst (λ z. All L.IsGood z.effects) (some_is h x (sym s.0 ∙ (ap (λ z. c z) (sym q) ∙ e))) a)
     (λ q. g j x (sym (s.1 j q) ∙ e))
 
-pub draw_keeps : {L : Language} (laws : Laws L) (w v : World L) (n : ℕ) (b : Node L) → Inv w → w.book b.id ≡ None → b.offset ≡ 0 → b.second ≡ None → b.ring ≡ [] → b.follow ≡ None
+pub draw_keeps : {L : Language} (laws : Laws L) (w v : World L) (n : ℕ) (b : Node L) → Inv w → w.book b.id ≡ None → b.offset ≡ 0 → b.second ≡ None → b.backlog ≡ [] → b.follow ≡ None
     → ((l : ℕ) (k : Link) → w.link l ≡ Some k → k.to ≡ n → k.serving ≡ false)
     → SetAt w.node v.node n b → Same w.link v.link → SetAt w.book v.book b.id (record { start = b.held; effects = [] }) → Inv v
 draw_keeps {L} laws w v n b inv fresh eo es er ef shut sn sl sb =
@@ -59,14 +60,14 @@ draw_keeps {L} laws w v n b inv fresh eo es er ef shut sn sl sb =
       (λ u. record {
         start = b.held; pre = []; suf = [];
         front = record { found = sb.0; place = sym eo };
-        folds = refl; before = []; ring = sym er; tip = λ x. refl; alone = λ x. ef;
+        folds = refl; before = []; backlog = sym er; tip = λ x. refl; alone = λ x. ef;
         second = λ i o x. none_some b.second (i, o) es x;
       })
       (λ u x m c q ec uc xc. fresh_id w b.id m c inv fresh ec uc)
       (λ l k i post x y s o. true_false k.serving o (shut l k x y))
       (λ f u x. none_some b.follow f ef x)
 
-pub promote_keeps : {L : Language} (laws : Laws L) (w v : World L) (n : ℕ) (i : L.Id) (a : Node L) (start : L.Data) (pre suf : List L.Effect) → Inv w
+pub promote_keeps : {L : Language} (laws : Laws L) (w v : World L) (n : ℕ) (i : L.Id) (a : Node L) (start : L.Dataset) (pre suf : List L.Effect) → Inv w
     → w.node n ≡ Some a → a.up ≡ true → a.master ≡ false → a.follow ≡ None → w.book i ≡ None
     → SetAt w.node v.node n (record a { master = true; id = i; second = Some (a.id, a.offset + 1) })
     → Same w.link v.link → Front L w.book a.id a.offset start pre suf → SetAt w.book v.book i (record { start = start; effects = pre }) → Inv v
@@ -92,7 +93,7 @@ promote_keeps {L} laws w v n i a start pre suf inv e u em ef fresh sn sl fr sb =
     ok = record {
       start = start; pre = pre; suf = []; front = new_front;
       folds = ap (λ x. fold L x start) same.1 ∙ (ap (λ x. fold L old.pre x) same.0 ∙ old.folds);
-      before = old.before; ring = ap (λ x. texts L x) same.1 ∙ old.ring;
+      before = old.before; backlog = ap (λ x. texts L x) same.1 ∙ old.backlog;
       tip = λ x. refl; alone = λ x. ef;
       second = λ j o x.
         let p = some_is (a.id, a.offset + 1) (j, o) x in
@@ -103,7 +104,7 @@ promote_keeps {L} laws w v n i a start pre suf inv e u em ef fresh sn sl fr sb =
 
 pub demote_keeps : {L : Language} (w v : World L) (n : ℕ) (a : Node L) (h : List ℕ) → Inv w → w.node n ≡ Some a → a.follow ≡ None
     → ((l : ℕ) (k : Link) → w.link l ≡ Some k → k.to ≡ n → k.serving ≡ true → k.streams ≡ false)
-    → SetAt w.node v.node n (record a { master = false; offers = true; target = h }) → Same w.link v.link → Same w.book v.book → Inv v
+    → SetAt w.node v.node n (record a { master = false; offers = true; upstream = h }) → Same w.link v.link → Same w.book v.book → Inv v
 demote_keeps {L} w v n a h inv e ef shut sn sl sb =
     node_change w v n b inv sn sl (same_keeps L w.book v.book sb) (same_good L w.book v.book sb inv.good)
       (λ u. node_keeps w.book v.book b (same_keeps L w.book v.book sb) (ok u))
@@ -112,8 +113,8 @@ demote_keeps {L} w v n a h inv e ef shut sn sl sb =
       (λ f u x. none_some a.follow f ef x)
   where
     b : Node L
-    b = record a { master = false; offers = true; target = h }
+    b = record a { master = false; offers = true; upstream = h }
     ok : a.up ≡ true → NodeOk w.book b
     ok u = let o = inv.nodes n a e u in record {
-      start = o.start; pre = o.pre; suf = o.suf; front = o.front; folds = o.folds; before = o.before; ring = o.ring;
+      start = o.start; pre = o.pre; suf = o.suf; front = o.front; folds = o.folds; before = o.before; backlog = o.backlog;
       tip = λ x. true_false false x refl; alone = λ x. true_false false x refl; second = o.second }

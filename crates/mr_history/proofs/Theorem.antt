@@ -1,18 +1,23 @@
 -- The invariant holds at every moment, and what follows from it.
 use Rattle.std.proofs.Common.{ℕ, List, [], ◌∷◌, ◌++◌, ◌≡◌, None, Some, length, refl, sym, ◌∙◌, ap, subst, append_assoc}
 use Rattle.std.proofs.lemmas.List.Elements.{All-head}
+use Rattle.std.proofs.lemmas.List.{take_all}
 use Rattle.mr_history.specs.Language.{Language, Laws}
-use Rattle.mr_history.specs.Language.Say.{Full, Continue}
+use Rattle.mr_history.specs.Language.Line.{FullResync, Continue}
+use Rattle.mr_history.specs.Changes.{Same}
 use Rattle.mr_history.specs.History.{Book, IsAt, Front, Grows, texts}
-use Rattle.mr_history.specs.World.{Phase, Node, World, Shows}
-use Rattle.mr_history.specs.World.Phase.{Stream}
-use Rattle.mr_history.specs.Moves.{Same, Move}
-use Rattle.mr_history.specs.Moves.Move.{still, stop, leave, close, carry, loose, draw, extend, promote, demote, dial, greet, refuse, answer_full, answer_cont, noted, go_on, ask_all, ask_on, take_full, take_cont, load, follow}
-use Rattle.mr_history.specs.Runs.{nowhere, Chain, Reaches, IsTrueToHistory, CaughtUp}
-use Rattle.mr_history.specs.Runs.Reaches.{by_moves}
-use Rattle.mr_history.specs.Runs.Usable.{a_line, a_snapshot, an_effect}
-use Rattle.mr_history.specs.Invariant.{AtTip, Talk, Inv}
+use Rattle.mr_history.specs.Node.{Phase, Node}
+use Rattle.mr_history.specs.Node.Phase.{Stream}
+use Rattle.mr_history.specs.World.{World, Shows}
+use Rattle.mr_history.specs.FollowerRows.{Usable}
+use Rattle.mr_history.specs.Runs.{nowhere, CaughtUp}
+use Rattle.mr_history.specs.Promises.{IsLevel}
+use Rattle.mr_history.specs.FollowerRows.Usable.{a_snapshot, an_effect, an_answer}
+use Rattle.mr_history.specs.Invariant.{AtTip, Talk, Inv, NodeOk}
 use Rattle.mr_history.specs.Invariant.Talk.{greeting, greeted, asking, asking_for, refused, answered_full, answered_cont, loading, streaming}
+use Rattle.mr_history.proofs.Moves.{Move, Chain, Reaches}
+use Rattle.mr_history.proofs.Moves.Move.{still, stop, leave, close, carry, loose, draw, extend, promote, demote, dial, greet, refuse, answer_full, answer_cont, noted, go_on, ask_all, ask_on, take_full, take_cont, load, follow}
+use Rattle.mr_history.proofs.Moves.Reaches.{by_moves}
 use Rattle.mr_history.proofs.Histories.{append_nil, all_back}
 use Rattle.mr_history.proofs.Fronts.{Keeps, some_is, at_grows, at_unique, keeps_grows, history_is}
 use Rattle.mr_history.proofs.Keeping.{same_keeps, same_good, node_keeps, talk_keeps, true_false, none_some}
@@ -42,7 +47,7 @@ move_keeps laws w v inv (close f sn sl sb) = close_keeps w v f inv sn sl sb
 move_keeps laws w v inv (carry l x y k e sn sl sb) = carry_keeps w v l x y k inv e sn sl sb
 move_keeps laws w v inv (loose l k f sn sl sb) = loose_keeps w v l k inv f sn sl sb
 move_keeps laws w v inv (draw n b x1 x2 x3 x4 x5 x6 sn sl sb) = draw_keeps laws w v n b inv x1 x2 x3 x4 x5 x6 sn sl sb
-move_keeps laws w v inv (extend n a es m ring h x1 x2 x3 x0 x4 x5 sn sl x6 sb) = extend_keeps laws w v n a es m ring h inv x1 x2 x3 x0 x4 x5 sn sl x6 sb
+move_keeps laws w v inv (extend n a es m backlog h x1 x2 x3 x0 x4 x5 sn sl x6 sb) = extend_keeps laws w v n a es m backlog h inv x1 x2 x3 x0 x4 x5 sn sl x6 sb
 move_keeps laws w v inv (promote n i a st pre suf x1 x2 x3 x4 x5 sn sl x6 sb) = promote_keeps laws w v n i a st pre suf inv x1 x2 x3 x4 x5 sn sl x6 sb
 move_keeps laws w v inv (demote n a h x1 x2 x3 sn sl sb) = demote_keeps w v n a h inv x1 x2 x3 sn sl sb
 move_keeps laws w v inv (dial n s l a h h0 x1 x2 x3 x4 sn sl sb) = dial_keeps w v n s l a h h0 inv x1 x2 x3 x4 sn sl sb
@@ -57,7 +62,7 @@ move_keeps laws w v inv (ask_on n l j a k t rest h h0 x1 x2 x3 sn sl sb) = ask_o
 move_keeps laws w v inv (take_full n l i o a k t rest x1 x2 x3 sn sl sb) = take_full_keeps laws w v n l i o a k t rest inv x1 x2 x3 sn sl sb
 move_keeps laws w v inv (take_cont n l i a k t rest x1 x2 x3 sn sl sb) = take_cont_keeps laws w v n l i a k t rest inv x1 x2 x3 sn sl sb
 move_keeps laws w v inv (load n l i o a m k t rest x1 x2 x3 sn sl sb) = load_keeps laws w v n l i o a m k t rest inv x1 x2 x3 sn sl sb
-move_keeps laws w v inv (follow n l a e m k rest ring x1 x2 x0 x3 x4 sn sl sb) = follow_keeps laws w v n l a e m k rest ring inv x1 x2 x0 x3 x4 sn sl sb
+move_keeps laws w v inv (follow n l a e m k rest backlog x1 x2 x0 x3 x4 sn sl sb) = follow_keeps laws w v n l a e m k rest backlog inv x1 x2 x0 x3 x4 sn sl sb
 
 same_grows : {L : Language} (w v : World L) → Same w.book v.book → Grows L w.book v.book
 same_grows {L} w v sb = keeps_grows L w.book v.book (same_keeps L w.book v.book sb)
@@ -65,7 +70,7 @@ same_grows {L} w v sb = keeps_grows L w.book v.book (same_keeps L w.book v.book 
 -- the book only grows
 pub move_grows : {L : Language} (laws : Laws L) (w v : World L) → Move w v → Grows L w.book v.book
 move_grows {L} laws w v (draw n b x1 x2 x3 x4 x5 x6 sn sl sb) = keeps_grows L w.book v.book (set_keeps L laws w.book v.book b.id _ x1 sb)
-move_grows {L} laws w v (extend n a es m ring h x1 x2 x3 x0 x4 x5 sn sl x6 sb) = extends_grows L laws w.book v.book a.id es h (record { was = x6; is = sb.0; others = sb.1 })
+move_grows {L} laws w v (extend n a es m backlog h x1 x2 x3 x0 x4 x5 sn sl x6 sb) = extends_grows L laws w.book v.book a.id es h (record { was = x6; is = sb.0; others = sb.1 })
 move_grows {L} laws w v (promote n i a st pre suf x1 x2 x3 x4 x5 sn sl x6 sb) = keeps_grows L w.book v.book (set_keeps L laws w.book v.book i _ x5 sb)
 move_grows laws w v (still sn sl sb) = same_grows w v sb
 move_grows laws w v (stop n a e sn sl sb) = same_grows w v sb
@@ -86,7 +91,7 @@ move_grows laws w v (ask_on n l j a k t rest h h0 x1 x2 x3 sn sl sb) = same_grow
 move_grows laws w v (take_full n l i o a k t rest x1 x2 x3 sn sl sb) = same_grows w v sb
 move_grows laws w v (take_cont n l i a k t rest x1 x2 x3 sn sl sb) = same_grows w v sb
 move_grows laws w v (load n l i o a m k t rest x1 x2 x3 sn sl sb) = same_grows w v sb
-move_grows laws w v (follow n l a e m k rest ring x1 x2 x0 x3 x4 sn sl sb) = same_grows w v sb
+move_grows laws w v (follow n l a e m k rest backlog x1 x2 x0 x3 x4 sn sl sb) = same_grows w v sb
 
 pub grows_on : (L : Language) (b c d : Book L) → Grows L b c → Grows L c d → Grows L b d
 grows_on L b c d g h i st es e =
@@ -110,42 +115,47 @@ nowhere_ok L = record {
     masters = λ n m a b e. none_some None a refl e;
     links = λ n a f e. none_some None a refl e }
 
-pub inv_true : {L : Language} (w : World L) → Inv w → IsTrueToHistory w
+pub inv_true : {L : Language} (w : World L) → Inv w → (n : ℕ) (i : L.Id) (o : ℕ) (m : L.Dataset) → Shows w n i o m → IsAt L w.book i o m
 inv_true {L} w inv n i o m s =
     let k = inv.nodes n s.node s.found s.up in
     subst (λ x. IsAt L w.book x o m) s.id (subst (λ x. IsAt L w.book s.node.id x m) s.offset (subst (λ x. IsAt L w.book s.node.id s.node.offset x) s.held
       (record { start = k.start; pre = k.pre; suf = k.suf; front = k.front; folds = k.folds })))
 
--- the headline, between a moment and a later one
-pub one_dataset : {L : Language} (laws : Laws L) (w v : World L) → Inv w → Reaches w v → (n m : ℕ) (i : L.Id) (o : ℕ) (x y : L.Data) → Shows w n i o x → Shows v m i o y → x ≡ y
-one_dataset {L} laws w v inv r n m i o x y s t =
-    let k = reach_keeps laws w v inv r in
-    at_unique L laws v.book i o x y (at_grows L w.book v.book i o x k.1 (inv_true w inv n i o x s)) (inv_true v k.0 m i o y t)
-
--- caught up
-pub caught_up : {L : Language} (laws : Laws L) (w : World L) (n l : ℕ) (a s : Node L) → Inv w → CaughtUp w n l a s → (a.id ≡ s.id) × (a.offset ≡ s.offset)
-caught_up {L} laws w n l a s inv c =
-    let o = inv.links n a (record { link = l; phase = c.phase }) c.replica c.replica_up c.follows in
+-- a replica that is caught up stands where its master does
+pub caught_up : {L : Language} (laws : Laws L) (w : World L) (l : ℕ) (a s : Node L) → Inv w → CaughtUp w l a s → IsLevel a s
+caught_up {L} laws w l a s inv c =
+    let o = inv.links c.n a (record { link = l; phase = c.phase }) c.replica_found c.replica_up c.follow in
     let i = some_is o.link c.link (sym o.found ∙ c.found) in
-    go c.phase refl (subst (λ x. Talk w a c.phase x) i o.talk)
+    let r = go c.phase refl (subst (λ x. Talk w a c.phase x) i o.talk) in
+    record { id = r.0; offset = r.1; held = same_held r.0 r.1 }
   where
-    level : (mid : List L.Effect) (st : L.Data) (pre post : List L.Effect) → Front L w.book a.id a.offset st pre (mid ++ post) → AtTip w c.link a.id post
+    ok : NodeOk w.book a
+    ok = inv.nodes c.n a c.replica_found c.replica_up
+    master_ok : NodeOk w.book s
+    master_ok = inv.nodes c.link.to s c.master_found c.master_up
+    same_held : a.id ≡ s.id → a.offset ≡ s.offset → a.held ≡ s.held
+    same_held ei eo = at_unique L laws w.book s.id s.offset a.held s.held
+        (subst (λ x. IsAt L w.book x s.offset a.held) ei (subst (λ x. IsAt L w.book a.id x a.held) eo
+          (record { start = ok.start; pre = ok.pre; suf = ok.suf; front = ok.front; folds = ok.folds })))
+        (record { start = master_ok.start; pre = master_ok.pre; suf = master_ok.suf; front = master_ok.front; folds = master_ok.folds })
+    nothing : Usable L c.phase c.link.tell.left → ⊥
+    nothing u = c.nothing_left (subst (λ z. Usable L c.phase z) (sym (take_all c.link.tell.taken c.link.tell.left c.all_taken)) u)
+    level : (mid : List L.Effect) (st : L.Dataset) (pre post : List L.Effect) → Front L w.book a.id a.offset st pre (mid ++ post) → AtTip w c.link a.id post
         → c.link.tell.left ≡ texts L mid → Stream ≡ c.phase → (a.id ≡ s.id) × (a.offset ≡ s.offset)
     level [] st pre post f tip e q =
-        let r = tip s c.server c.server_up c.serving in
-        let k = inv.nodes c.link.to s c.server c.server_up in
-        let h = history_is L w.book s.id _ _ (ap (λ z. w.book z) r.1 ∙ f.found) k.front.found in
-        let p : pre ≡ k.pre = sym (append_nil pre) ∙ (ap (λ z. pre ++ z) (sym r.2) ∙ (h.1 ∙ (ap (λ z. k.pre ++ z) (k.tip r.0) ∙ append_nil k.pre))) in
-        (sym r.1, sym f.place ∙ (ap (λ z. length (texts L z)) p ∙ k.front.place))
-    level (x ∷ mid) st pre post f tip e q = absurd (c.used (an_effect x (texts L mid)
-        (All-head L.IsGood x (mid ++ post) (all_back L.IsGood pre ((x ∷ mid) ++ post) (inv.good a.id _ f.found))) (sym q) e))
+        let r = tip s c.master_found c.master_up c.serving in
+        let h = history_is L w.book s.id _ _ (ap (λ z. w.book z) r.1 ∙ f.found) master_ok.front.found in
+        let p : pre ≡ master_ok.pre = sym (append_nil pre) ∙ (ap (λ z. pre ++ z) (sym r.2) ∙ (h.1 ∙ (ap (λ z. master_ok.pre ++ z) (master_ok.tip r.0) ∙ append_nil master_ok.pre))) in
+        (sym r.1, sym f.place ∙ (ap (λ z. length (texts L z)) p ∙ master_ok.front.place))
+    level (x ∷ mid) st pre post f tip e q = absurd (nothing (an_effect x (texts L mid) (sym q)
+        (All-head L.IsGood x (mid ++ post) (all_back L.IsGood pre ((x ∷ mid) ++ post) (inv.good a.id _ f.found))) e))
     go : (p : Phase L.Id) → p ≡ c.phase → Talk w a p c.link → (a.id ≡ s.id) × (a.offset ≡ s.offset)
     go p q (greeting x e st y z) = true_false c.link.streams c.streams st
     go p q (greeted x t e st y z h) = true_false c.link.streams c.streams st
     go p q (asking e st y z) = true_false c.link.streams c.streams st
     go p q (asking_for e st y z) = true_false c.link.streams c.streams st
     go p q (refused t e st y z h) = true_false c.link.streams c.streams st
-    go p q (answered_full i o d bytes e y at f) = absurd (c.used (a_line d.line _ (Full i o) d.says y (sym q ∙ e)))
-    go p q (answered_cont i bytes e y g f) = absurd (c.used (a_line i.line _ (Continue i.id) i.says y (sym q ∙ e)))
-    go p q (loading i o d bytes e y at f) = absurd (c.used (a_snapshot i o d.text _ d.held (sym q ∙ e) d.loads y))
+    go p q (answered_full i o d bytes e y at f) = absurd (nothing (an_answer d.line _ (FullResync i o) (sym q ∙ e) d.says y))
+    go p q (answered_cont i bytes e y g f) = absurd (nothing (an_answer i.line _ (Continue i.id) (sym q ∙ e) i.says y))
+    go p q (loading i o d bytes e y at f) = absurd (nothing (a_snapshot i o d.text _ d.held (sym q ∙ e) d.loads y))
     go p q (streaming bytes e y f) = level f.mid f.start f.pre f.post f.front f.tip (y ∙ f.bytes_are) (sym e ∙ q)

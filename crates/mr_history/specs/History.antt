@@ -1,7 +1,8 @@
--- Histories, the book of them, and the dataset of an id at an offset.
+-- The history of a replication id, the book of histories, and the dataset of an id at an offset.
 use Rattle.std.specs.Prelude.{ℕ, List, [], ◌∷◌, ◌++◌, ◌≡◌, Option, None, Some, length}
 use Rattle.std.specs.List.{flat_map}
 use Rattle.mr_history.specs.Language.{Language}
+use Rattle.mr_history.specs.Changes.{SetAt, Same}
 
 -- the texts of effects, one after another
 abbrev pub texts : (L : Language) → List L.Effect → List ℕ
@@ -12,27 +13,27 @@ then_fold None f = None
 then_fold (Some a) f = f a
 
 -- effects applied one after another, undefined where one of them is
-abbrev pub fold : (L : Language) → List L.Effect → L.Data → Option L.Data
+abbrev pub fold : (L : Language) → List L.Effect → L.Dataset → Option L.Dataset
 fold L [] m = Some m
 fold L (e ∷ es) m = then_fold (L.apply e m) (fold L es)
 
--- A history: the map that its id began with, and the effects since. Its first byte has the number 1.
+-- The dataset that an id began with, and the effects since. The first byte of their texts has the number 1.
 pub record History (L : Language) : Type 0 where
-  pub start : L.Data
+  pub start : L.Dataset
   pub effects : List L.Effect
 
 -- each id that was drawn, with its history
 abbrev pub Book : Language → Type 0
 Book L = L.Id → Option (History L)
 
--- The history of i is pre and then suf, and pre has o bytes.
-pub record Front (L : Language) (book : Book L) (i : L.Id) (o : ℕ) (start : L.Data) (pre suf : List L.Effect) : Type 0 where
+-- The history of i is pre and then suf, and the texts of pre have o bytes.
+pub record Front (L : Language) (book : Book L) (i : L.Id) (o : ℕ) (start : L.Dataset) (pre suf : List L.Effect) : Type 0 where
   pub found : book i ≡ Some (record { start = start; effects = pre ++ suf })
   pub place : length (texts L pre) ≡ o
 
--- at(book(i), o) is defined and is m
-pub record IsAt (L : Language) (book : Book L) (i : L.Id) (o : ℕ) (m : L.Data) : Type 0 where
-  pub start : L.Data
+-- The effects of i whose texts end at or before o come to m: o is an end of one of them, or 0, and each applies.
+pub record IsAt (L : Language) (book : Book L) (i : L.Id) (o : ℕ) (m : L.Dataset) : Type 0 where
+  pub start : L.Dataset
   pub pre : List L.Effect
   pub suf : List L.Effect
   pub front : Front L book i o start pre suf
@@ -40,7 +41,7 @@ pub record IsAt (L : Language) (book : Book L) (i : L.Id) (o : ℕ) (m : L.Data)
 
 -- The histories of i and j are one up to o.
 pub record Agree (L : Language) (book : Book L) (i j : L.Id) (o : ℕ) : Type 0 where
-  pub start : L.Data
+  pub start : L.Dataset
   pub pre : List L.Effect
   pub suf : List L.Effect
   pub other : List L.Effect
@@ -49,5 +50,25 @@ pub record Agree (L : Language) (book : Book L) (i j : L.Id) (o : ℕ) : Type 0 
 
 -- Each id keeps its history, which may have grown at its end.
 abbrev pub Grows : (L : Language) → Book L → Book L → Type 0
-Grows L old new = (i : L.Id) (start : L.Data) (es : List L.Effect) → old i ≡ Some (record { start = start; effects = es })
+Grows L old new = (i : L.Id) (start : L.Dataset) (es : List L.Effect) → old i ≡ Some (record { start = start; effects = es })
     → (more : List L.Effect) × (new i ≡ Some (record { start = start; effects = es ++ more }))
+
+-- a new id, which begins with this dataset
+pub record Draws (L : Language) (old new : Book L) (i : L.Id) (m : L.Dataset) : Type 0 where
+  pub new_id : old i ≡ None
+  pub book : SetAt old new i (record { start = m; effects = [] })
+
+-- effects at the end of an id's history
+pub record Extends (L : Language) (old new : Book L) (i : L.Id) (es : List L.Effect) : Type 0 where
+  pub history : History L
+  pub found : old i ≡ Some history
+  pub book : SetAt old new i (record history { effects = history.effects ++ es })
+
+-- a new id, whose history is that of another cut at an offset
+pub record Branches (L : Language) (old new : Book L) (i : L.Id) (from : L.Id) (o : ℕ) : Type 0 where
+  pub new_id : old i ≡ None
+  pub start : L.Dataset
+  pub pre : List L.Effect
+  pub suf : List L.Effect
+  pub front : Front L old from o start pre suf
+  pub book : SetAt old new i (record { start = start; effects = pre })

@@ -1,22 +1,45 @@
+-- What holds at every moment of a run.
 use Rattle.std.specs.Prelude.{ℕ, List, [], ◌++◌, ◌≡◌, ◌+◌, ◌-◌, None, Some, true, false, All}
-use Rattle.mr_history.specs.Language.{Language, FullAnswer, ContAnswer, Snapshot}
-use Rattle.mr_history.specs.Language.Say.{Plain, Refusal}
-use Rattle.mr_history.specs.Language.Ask.{Hello, Psync}
+use Rattle.mr_history.specs.Language.{Language}
+use Rattle.mr_history.specs.Language.Line.{Plain, Refusal, FullResync, Continue}
+use Rattle.mr_history.specs.Language.Request.{Handshake, Psync}
 use Rattle.mr_history.specs.History.{Book, History, IsAt, Front, Agree, texts, fold}
-use Rattle.mr_history.specs.World.{Phase, Follow, Node, Link, World}
-use Rattle.mr_history.specs.World.Phase.{Greet, Asked, Loading, Stream}
+use Rattle.mr_history.specs.Node.{Phase, Follow, Node}
+use Rattle.mr_history.specs.Node.Phase.{Greet, Asked, Loading, Stream}
+use Rattle.mr_history.specs.World.{Link, World}
+use Rattle.mr_history.specs.World.Caller.{Peer}
+
+-- one snapshot, and what it loads
+pub record Snapshot (L : Language) : Type 0 where
+  pub text : List ℕ
+  pub held : L.Dataset
+  pub loads : L.loads text held
+
+-- a whole answer FULLRESYNC: its line and its snapshot
+pub record FullAnswer (L : Language) (i : L.Id) (o : ℕ) : Type 0 where
+  pub line : List ℕ
+  pub says : L.says line (FullResync i o)
+  pub text : List ℕ
+  pub held : L.Dataset
+  pub loads : L.loads text held
+
+-- the line of an answer CONTINUE
+pub record ContinueAnswer (L : Language) : Type 0 where
+  pub id : L.Id
+  pub line : List ℕ
+  pub says : L.says line (Continue id)
 
 -- What holds of a node that isn't stopped.
 pub record NodeOk {L : Language} (book : Book L) (a : Node L) : Type 0 where
-  pub start : L.Data
+  pub start : L.Dataset
   pub pre : List L.Effect
   pub suf : List L.Effect
   pub front : Front L book a.id a.offset start pre suf
   -- its dataset is the history of its id up to its offset
   pub folds : fold L pre start ≡ Some a.held
-  -- its ring is the last bytes of that
+  -- its backlog is the last bytes of that
   pub before : List ℕ
-  pub ring : texts L pre ≡ before ++ a.ring
+  pub backlog : texts L pre ≡ before ++ a.backlog
   -- a master stands at the end of its id's history, and follows nobody
   pub tip : a.master ≡ true → suf ≡ []
   pub alone : a.master ≡ true → a.follow ≡ None
@@ -29,7 +52,7 @@ AtTip {L} w k i post = (s : Node L) → w.node k.to ≡ Some s → s.up ≡ true
 
 -- These bytes on the link are the stream of i from o.
 pub record Flow {L : Language} (w : World L) (k : Link) (i : L.Id) (o : ℕ) (bytes : List ℕ) : Type 0 where
-  pub start : L.Data
+  pub start : L.Dataset
   pub pre : List L.Effect
   pub mid : List L.Effect
   pub post : List L.Effect
@@ -40,14 +63,14 @@ pub record Flow {L : Language} (w : World L) (k : Link) (i : L.Id) (o : ℕ) (by
 
 -- What was sent on a follower's link and not used, by the stages of the handshake.
 pub data Talk {L : Language} (w : World L) (a : Node L) (p : Phase L.Id) (k : Link) : Type 0 where
-  greeting : (n : ℕ) → p ≡ Greet n → k.streams ≡ false → L.asks k.ask.left Hello → k.tell.left ≡ [] → Talk w a p k
+  greeting : (n : ℕ) → p ≡ Greet n → k.streams ≡ false → L.asks k.ask.left Handshake → k.tell.left ≡ [] → Talk w a p k
   greeted : (n : ℕ) (t : List ℕ) → p ≡ Greet n → k.streams ≡ false → k.ask.left ≡ [] → k.tell.left ≡ t → L.says t Plain → Talk w a p k
   asking : p ≡ Asked → k.streams ≡ false → L.asks k.ask.left (Psync None) → k.tell.left ≡ [] → Talk w a p k
   asking_for : p ≡ Asked → k.streams ≡ false → L.asks k.ask.left (Psync (Some (a.id, a.offset + 1))) → k.tell.left ≡ [] → Talk w a p k
   refused : (t : List ℕ) → p ≡ Asked → k.streams ≡ false → k.ask.left ≡ [] → k.tell.left ≡ t → L.says t Refusal → Talk w a p k
   answered_full : (i : L.Id) (o : ℕ) (m : FullAnswer L i o) (bytes : List ℕ) → p ≡ Asked → k.tell.left ≡ m.line ++ (m.text ++ bytes)
     → IsAt L w.book i o m.held → Flow w k i o bytes → Talk w a p k
-  answered_cont : (m : ContAnswer L) (bytes : List ℕ) → p ≡ Asked → k.tell.left ≡ m.line ++ bytes
+  answered_cont : (m : ContinueAnswer L) (bytes : List ℕ) → p ≡ Asked → k.tell.left ≡ m.line ++ bytes
     → Agree L w.book a.id m.id a.offset → Flow w k m.id a.offset bytes → Talk w a p k
   loading : (i : L.Id) (o : ℕ) (m : Snapshot L) (bytes : List ℕ) → p ≡ Loading i o → k.tell.left ≡ m.text ++ bytes
     → IsAt L w.book i o m.held → Flow w k i o bytes → Talk w a p k
@@ -57,7 +80,7 @@ pub data Talk {L : Language} (w : World L) (a : Node L) (p : Phase L.Id) (k : Li
 pub record LinkOk {L : Language} (w : World L) (n : ℕ) (a : Node L) (f : Follow L.Id) : Type 0 where
   pub link : Link
   pub found : w.link f.link ≡ Some link
-  pub mine : link.from ≡ Some n
+  pub mine : link.caller ≡ Peer n
   pub talk : Talk w a f.phase link
 
 -- Each effect of a history is good.

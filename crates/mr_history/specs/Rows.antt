@@ -1,268 +1,193 @@
--- Events, and the row of each: what it changes, and nothing else.
-use Rattle.std.specs.Prelude.{ℕ, List, [], ◌∷◌, ◌++◌, ◌+◌, ◌-◌, ◌<◌, ◌≡◌, ◌≢◌, ◌⊎◌, Option, None, Some, Bool, true, false, length, take, drop, cond, slice_get, ◌==◌, All}
-use Rattle.mr_history.specs.Language.{Language, Ask}
-use Rattle.mr_history.specs.Language.Say.{Full, Continue, Plain, Refusal}
-use Rattle.mr_history.specs.Language.Ask.{Hello, Psync, Ack, Command, Promote, Obey, Blank, Quit}
-use Rattle.mr_history.specs.History.{History, Front, texts, fold}
-use Rattle.mr_history.specs.World.{Phase, Node, Way, Link, World}
-use Rattle.mr_history.specs.World.Phase.{Greet, Asked, Loading, Stream}
-use Rattle.mr_history.specs.Moves.{SetAt, Same, EndsAs, Continues, tail, hears, told, told_if, shut, at_phase, continued}
+-- The row of each event: what it changes, and nothing else. An event that a world refuses has no row.
+use Rattle.std.specs.Prelude.{ℕ, List, [], ◌++◌, ◌+◌, ◌≤◌, ◌≡◌, ◌≢◌, ◌⊎◌, Option, None, Some, Bool, true, false, length, ◌==◌}
+use Rattle.mr_history.specs.Language.{Language}
+use Rattle.mr_history.specs.Language.Request.{Handshake}
+use Rattle.mr_history.specs.Changes.{SetAt, Same}
+use Rattle.mr_history.specs.History.{Draws, texts}
+use Rattle.mr_history.specs.Node.{Phase, Node, at_phase}
+use Rattle.mr_history.specs.Node.Phase.{Greet, Stream}
+use Rattle.mr_history.specs.World.{Caller, Link, Way, World, hears, no_bytes, shut, told_if}
+use Rattle.mr_history.specs.World.Caller.{Client, Peer}
+use Rattle.mr_history.specs.Event.{Side, Event}
+use Rattle.mr_history.specs.Event.Side.{Server, Dialler}
+use Rattle.mr_history.specs.Changing.{Still, LinkBecomes, NodeBecomes, Stops, Unless, Grown}
+use Rattle.mr_history.specs.ServerRows.{ServerRow}
+use Rattle.mr_history.specs.FollowerRows.{FollowerRow}
 
-pub data Side : Type 0 where
-  Server : Side
-  Dialler : Side
-
-pub data Event (I : Type 0) : Type 0 where
-  Start : I → Bool → Event I                    -- the id; whether a master
-  Client : ℕ → Event I
-  Sends : ℕ → List ℕ → Event I                  -- a client sends more
-  Deliver : ℕ → Side → ℕ → Event I
-  Step : ℕ → Side → ℕ × ℕ → I → Event I         -- link, side, Given, fresh id
-  Tick : ℕ → ℕ × ℕ → Event I
-  Break : ℕ → Side → Event I
-  Dial : ℕ → ℕ → Event I
-  Restart : ℕ → List ℕ → I → Event I            -- the file as it is found, the id
-
-abbrev pub fresh_node : (L : Language) → L.Id → Bool → L.Data → Node L
+-- a node that starts under a drawn id
+abbrev pub fresh_node : (L : Language) → L.Id → Bool → L.Dataset → Node L
 fresh_node L i master m = record {
-    up = true; master = master; id = i; offset = 0; second = None; ring = []; held = m; offers = master; follow = None; born = master; target = [] }
+    up = true; master = master; id = i; offset = 0; second = None; backlog = []; held = m; offers = master; follow = None; upstream = [];
+    starts_as_master = master }
 
-pub record Still {L : Language} (w v : World L) : Type 0 where
-  pub nodes : Same w.node v.node
-  pub links : Same w.link v.link
-  pub book : Same w.book v.book
+-- a link before its first step
+abbrev pub fresh_link : Caller → ℕ → List ℕ → Link
+fresh_link caller to bytes = record {
+    caller = caller; to = to; serving = true; streams = false; ask = record { left = bytes; taken = 0 }; tell = no_bytes }
 
--- The bytes taken and not used begin with t, which is used.
-pub record Reads (old : Way) (t : List ℕ) (new : Way) : Type 0 where
-  pub rest : List ℕ
-  pub begins : take old.taken old.left ≡ t ++ rest
-  pub new_is : new ≡ record { left = drop (length t) old.left; taken = old.taken - length t }
-
--- the server used a request, and says bytes
-abbrev pub answered : Link → Way → List ℕ → Link
-answered k way bytes = record k { ask = way; tell = record k.tell { left = k.tell.left ++ bytes } }
-
--- the follower used a text, and says bytes
-abbrev pub asked : Link → Way → List ℕ → Link
-asked k way bytes = record k { ask = record k.ask { left = k.ask.left ++ bytes }; tell = way }
-
--- requests that get a reply alone
-abbrev pub IsQuiet : {L : Language} → Node L → Ask L.Id → Type 0
-IsQuiet s Command = s.master ≡ false
-IsQuiet s Promote = s.master ≡ true
-IsQuiet s (Obey h) = (s.master ≡ false) × (s.target ≡ h)
-IsQuiet s Hello = ⊥
-IsQuiet s (Psync q) = ⊥
-IsQuiet s Ack = Unit {0}
-IsQuiet s Blank = ⊥
-IsQuiet s Quit = ⊥
-
--- A step at the server's end.
-pub data ServerRow {L : Language} (w v : World L) (l : ℕ) (k : Link) (s : Node L) (fresh : L.Id) : Type 0 where
-  waits : ((t rest : List ℕ) (a : Ask L.Id) → L.asks t a → take k.ask.taken k.ask.left ≡ t ++ rest → ⊥) → Still w v → ServerRow w v l k s fresh
-  stops : (b : Node L) → b.up ≡ false → SetAt w.node v.node k.to b → Same w.link v.link → Same w.book v.book → ServerRow w v l k s fresh
-  -- after CONTINUE or FULLRESYNC
-  notes : (t : List ℕ) (way : Way) → k.streams ≡ true → L.asks t Ack → Reads k.ask t way
-    → Same w.node v.node → SetAt w.link v.link l (record k { ask = way }) → Same w.book v.book → ServerRow w v l k s fresh
-  shuts : k.streams ≡ true → Same w.node v.node → SetAt w.link v.link l (shut true k) → Same w.book v.book → ServerRow w v l k s fresh
-  -- before
-  faults : (r : List ℕ) → k.streams ≡ false → L.doomed (take k.ask.taken k.ask.left) → Same w.node v.node → SetAt w.link v.link l (shut true (told k r)) → Same w.book v.book → ServerRow w v l k s fresh
-  greets : (t r : List ℕ) (way : Way) → k.streams ≡ false → L.asks t Hello → L.says r Plain → Reads k.ask t way
-    → Same w.node v.node → SetAt w.link v.link l (answered k way r) → Same w.book v.book → ServerRow w v l k s fresh
-  refuses : (t r : List ℕ) (way : Way) (q : Option (L.Id × ℕ)) → k.streams ≡ false → L.asks t (Psync q) → s.master ≡ false → L.says r Refusal → Reads k.ask t way
-    → Same w.node v.node → SetAt w.link v.link l (answered k way r) → Same w.book v.book → ServerRow w v l k s fresh
-  sends_all : (t x y : List ℕ) (way : Way) (q : Option (L.Id × ℕ)) → L.loads x s.held → L.says y (Full s.id s.offset) → k.streams ≡ false → L.asks t (Psync q) → s.master ≡ true
-    → ((i : L.Id) (o : ℕ) → q ≡ Some (i, o) → Continues s i o → ⊥) → Reads k.ask t way
-    → Same w.node v.node → SetAt w.link v.link l (record (answered k way (y ++ x)) { streams = true }) → Same w.book v.book → ServerRow w v l k s fresh
-  goes_on : (t y : List ℕ) (way : Way) (i : L.Id) (o : ℕ) → L.says y (Continue s.id) → k.streams ≡ false → L.asks t (Psync (Some (i, o))) → s.master ≡ true → Continues s i o → Reads k.ask t way
-    → Same w.node v.node → SetAt w.link v.link l (record (answered k way (y ++ tail s o)) { streams = true }) → Same w.book v.book → ServerRow w v l k s fresh
-  replies : (t r : List ℕ) (way : Way) (a : Ask L.Id) → k.streams ≡ false → L.asks t a → IsQuiet s a → Reads k.ask t way
-    → Same w.node v.node → SetAt w.link v.link l (answered k way r) → Same w.book v.book → ServerRow w v l k s fresh
-  -- a command whose effects would pass the offset limit
-  passes_limit : (t r : List ℕ) (way : Way) → k.streams ≡ false → L.asks t Command → s.master ≡ true → Reads k.ask t way
-    → Same w.node v.node → SetAt w.link v.link l (answered k way r) → Same w.book v.book → ServerRow w v l k s fresh
-  -- an empty request, before or after
-  skips : (t : List ℕ) (way : Way) → L.asks t Blank → Reads k.ask t way
-    → Same w.node v.node → SetAt w.link v.link l (record k { ask = way }) → Same w.book v.book → ServerRow w v l k s fresh
-  quits : (t r : List ℕ) (way : Way) → k.streams ≡ false → L.asks t Quit → Reads k.ask t way
-    → Same w.node v.node → SetAt w.link v.link l (shut true (answered k way r)) → Same w.book v.book → ServerRow w v l k s fresh
-  -- any good effects that fold
-  commands : (t r : List ℕ) (way : Way) (es : List L.Effect) (m : L.Data) (ring : List ℕ) (h : History L) → k.streams ≡ false → L.asks t Command → s.master ≡ true → Reads k.ask t way
-    → All L.IsGood es → fold L es s.held ≡ Some m → EndsAs s.ring (texts L es) ring
-    → SetAt w.node v.node k.to (record s { held = m; offset = s.offset + length (texts L es); ring = ring })
-    → ((j : ℕ) → j ≢ l → w.link j ≡ None → v.link j ≡ None)
-    → ((j : ℕ) (x : Link) → j ≢ l → w.link j ≡ Some x → v.link j ≡ Some (told_if (hears k.to x) x (texts L es)))
-    → v.link l ≡ Some (answered k way r)
-    → w.book s.id ≡ Some h → SetAt w.book v.book s.id (record h { effects = h.effects ++ es }) → ServerRow w v l k s fresh
-  promotes : (t r : List ℕ) (way : Way) (start : L.Data) (pre suf : List L.Effect) → k.streams ≡ false → L.asks t Promote → s.master ≡ false → w.book fresh ≡ None → Reads k.ask t way
-    → SetAt w.node v.node k.to (record s { follow = None; master = true; id = fresh; second = Some (s.id, s.offset + 1) })
-    → SetAt w.link v.link l (answered k way r)
-    → Front L w.book s.id s.offset start pre suf → SetAt w.book v.book fresh (record { start = start; effects = pre }) → ServerRow w v l k s fresh
-  obeys : (t r h : List ℕ) (way : Way) → k.streams ≡ false → L.asks t (Obey h) → s.master ≡ true → Reads k.ask t way
-    → SetAt w.node v.node k.to (record s { master = false; offers = true; target = h })
-    → ((j : ℕ) → j ≢ l → w.link j ≡ None → v.link j ≡ None)
-    → ((j : ℕ) (x : Link) → j ≢ l → w.link j ≡ Some x → v.link j ≡ Some (shut (hears k.to x) x))
-    → v.link l ≡ Some (answered k way r) → Same w.book v.book → ServerRow w v l k s fresh
-  turns : (t r h : List ℕ) (way : Way) → k.streams ≡ false → L.asks t (Obey h) → s.master ≡ false → s.target ≢ h → Reads k.ask t way
-    → SetAt w.node v.node k.to (record s { follow = None; target = h }) → SetAt w.link v.link l (answered k way r) → Same w.book v.book → ServerRow w v l k s fresh
-
-abbrev pub wanted : {L : Language} → Node L → Option (L.Id × ℕ)
-wanted a = cond a.offers (Some (a.id, a.offset + 1)) None
-
--- A step at a replica's end.
-pub data FollowerRow {L : Language} (w v : World L) (n l : ℕ) (a : Node L) (p : Phase L.Id) (k : Link) : Type 0 where
-  waits : Still w v → FollowerRow w v n l a p k
-  stops : (b : Node L) → b.up ≡ false → SetAt w.node v.node n b → Same w.link v.link → Same w.book v.book → FollowerRow w v n l a p k
-  -- a bad line, or a refusal by the peer
-  leaves : SetAt w.node v.node n (record a { follow = None }) → Same w.link v.link → Same w.book v.book → FollowerRow w v n l a p k
-  -- a snapshot or a stream that can't be decoded or applied: it has nothing to continue
-  spoils : SetAt w.node v.node n (record a { follow = None; offers = false }) → Same w.link v.link → Same w.book v.book → FollowerRow w v n l a p k
-  goes_on : (t h : List ℕ) (way : Way) (j : ℕ) → L.asks h Hello → p ≡ Greet j → j < 2 → L.says t Plain → Reads k.tell t way
-    → SetAt w.node v.node n (at_phase a l (Greet (j + 1))) → SetAt w.link v.link l (asked k way h) → Same w.book v.book → FollowerRow w v n l a p k
-  asks : (t h : List ℕ) (way : Way) → L.asks h (Psync (wanted a)) → p ≡ Greet 2 → L.says t Plain → Reads k.tell t way
-    → SetAt w.node v.node n (at_phase a l Asked) → SetAt w.link v.link l (asked k way h) → Same w.book v.book → FollowerRow w v n l a p k
-  hears_full : (t : List ℕ) (way : Way) (i : L.Id) (o : ℕ) → p ≡ Asked → L.says t (Full i o) → Reads k.tell t way
-    → SetAt w.node v.node n (at_phase a l (Loading i o)) → SetAt w.link v.link l (asked k way []) → Same w.book v.book → FollowerRow w v n l a p k
-  hears_cont : (t : List ℕ) (way : Way) (i : L.Id) → p ≡ Asked → L.says t (Continue i) → Reads k.tell t way
-    → SetAt w.node v.node n (at_phase (continued a i) l Stream) → SetAt w.link v.link l (asked k way []) → Same w.book v.book → FollowerRow w v n l a p k
-  loads : (t : List ℕ) (way : Way) (i : L.Id) (o : ℕ) (m : L.Data) → p ≡ Loading i o → L.loads t m → Reads k.tell t way
-    → SetAt w.node v.node n (at_phase (record a { id = i; offset = o; second = None; ring = []; held = m; offers = true }) l Stream)
-    → SetAt w.link v.link l (asked k way []) → Same w.book v.book → FollowerRow w v n l a p k
-  applies : (e : L.Effect) (way : Way) (m : L.Data) (ring : List ℕ) → p ≡ Stream → Reads k.tell (L.text e) way → L.IsGood e → L.apply e a.held ≡ Some m → EndsAs a.ring (L.text e) ring
-    → SetAt w.node v.node n (record a { held = m; offset = a.offset + length (L.text e); ring = ring })
-    → SetAt w.link v.link l (asked k way []) → Same w.book v.book → FollowerRow w v n l a p k
-
+-- A new node, to which no link leads yet.
 pub record StartRow {L : Language} (w : World L) (i : L.Id) (master : Bool) (v : World L) : Type 0 where
   pub node : ℕ
   pub new_node : w.node node ≡ None
   pub unnamed : (l : ℕ) (k : Link) → w.link l ≡ Some k → k.to ≢ node
-  pub new_id : w.book i ≡ None
   pub nodes : SetAt w.node v.node node (fresh_node L i master L.empty)
   pub links : Same w.link v.link
-  pub book : SetAt w.book v.book i (record { start = L.empty; effects = [] })
+  pub book : Draws L w.book v.book i L.empty
 
-pub record RestartRow {L : Language} (w : World L) (n : ℕ) (kept : List ℕ) (i : L.Id) (v : World L) : Type 0 where
+-- The node's ends close, and it starts anew, in the role that it started in, from what its file is read as, under a drawn id.
+pub record RestartRow {L : Language} (w : World L) (n : ℕ) (file : List ℕ) (i : L.Id) (v : World L) : Type 0 where
   pub old : Node L
   pub found : w.node n ≡ Some old
-  pub new_id : w.book i ≡ None
-  pub nodes : SetAt w.node v.node n (fresh_node L i old.born (L.load kept))
+  pub held : L.Dataset
+  pub restored : L.restores file held
+  pub nodes : SetAt w.node v.node n (fresh_node L i old.starts_as_master held)
   pub no_links : (l : ℕ) → w.link l ≡ None → v.link l ≡ None
   pub links : (l : ℕ) (k : Link) → w.link l ≡ Some k → v.link l ≡ Some (shut (k.to == n) k)
-  pub book : SetAt w.book v.book i (record { start = L.load kept; effects = [] })
+  pub book : Draws L w.book v.book i held
+
+-- A client's link is there, or the node stops for want of names for links.
+pub data Opens {L : Language} (w v : World L) (n : ℕ) (a : Node L) : Type 0 where
+  opens : (l : ℕ) → w.link l ≡ None → LinkBecomes w v l (fresh_link (Client true) n []) → Opens w v n a
+  stops : Stops w v n a → Opens w v n a
 
 pub record ClientRow {L : Language} (w : World L) (n : ℕ) (v : World L) : Type 0 where
+  pub node : Node L
+  pub found : w.node n ≡ Some node
+  pub does : Unless w v node (Opens w v n node)
+
+-- A link from the node n to the node s is there, with the first line of the handshake.
+pub record Connects {L : Language} (w v : World L) (n s : ℕ) (a : Node L) : Type 0 where
   pub link : ℕ
   pub new_link : w.link link ≡ None
-  pub nodes : Same w.node v.node
-  pub links : SetAt w.link v.link link (record { from = None; to = n; serving = true; streams = false; ask = record { left = []; taken = 0 }; tell = record { left = []; taken = 0 } })
+  pub request : List ℕ
+  pub asks : L.asks request Handshake
+  pub nodes : SetAt w.node v.node n (at_phase a link (Greet 0))
+  pub links : SetAt w.link v.link link (fresh_link (Peer n) s request)
   pub book : Same w.book v.book
 
-pub record SendsRow {L : Language} (w : World L) (l : ℕ) (bytes : List ℕ) (v : World L) : Type 0 where
-  pub link : Link
-  pub found : w.link l ≡ Some link
-  pub client : link.from ≡ None
-  pub nodes : Same w.node v.node
-  pub links : SetAt w.link v.link l (record link { ask = record link.ask { left = link.ask.left ++ bytes } })
-  pub book : Same w.book v.book
+pub data Dials {L : Language} (w v : World L) (n s : ℕ) (a : Node L) : Type 0 where
+  connects : Connects w v n s a → Dials w v n s a
+  stops : Stops w v n a → Dials w v n s a
 
-abbrev pub delivered : Side → Link → ℕ → Link
-delivered Server k n = record k { ask = record k.ask { taken = k.ask.taken + n } }
-delivered Dialler k n = record k { tell = record k.tell { taken = k.tell.taken + n } }
-
-pub record DeliverRow {L : Language} (w : World L) (l : ℕ) (side : Side) (n : ℕ) (v : World L) : Type 0 where
-  pub link : Link
-  pub found : w.link l ≡ Some link
-  pub nodes : Same w.node v.node
-  pub links : SetAt w.link v.link l (delivered side link n)
-  pub book : Same w.book v.book
-
-pub record StepServerRow {L : Language} (w : World L) (l : ℕ) (fresh : L.Id) (v : World L) : Type 0 where
-  pub link : Link
-  pub node : Node L
-  pub link_is : w.link l ≡ Some link
-  pub node_is : w.node link.to ≡ Some node
-  pub serving : link.serving ≡ true
-  pub act : ((node.up ≡ true) × ServerRow w v l link node fresh) ⊎ ((node.up ≡ false) × Still w v)
-
-pub record StepDiallerRow {L : Language} (w : World L) (l : ℕ) (v : World L) : Type 0 where
-  pub n : ℕ
-  pub phase : Phase L.Id
-  pub link : Link
-  pub node : Node L
-  pub link_is : w.link l ≡ Some link
-  pub node_is : w.node n ≡ Some node
-  pub follow : node.follow ≡ Some (record { link = l; phase = phase })
-  pub act : ((node.up ≡ true) × FollowerRow w v n l node phase link) ⊎ ((node.up ≡ false) × Still w v)
-
--- A tick at a running node.
-pub data TickRow {L : Language} (w v : World L) (n : ℕ) (a : Node L) : Type 0 where
-  rests : Still w v → TickRow w v n a
-  stops : (b : Node L) → b.up ≡ false → SetAt w.node v.node n b → Same w.link v.link → Same w.book v.book → TickRow w v n a
-  extends : (es : List L.Effect) (m : L.Data) (ring : List ℕ) (h : History L) → a.master ≡ true → All L.IsGood es → fold L es a.held ≡ Some m → EndsAs a.ring (texts L es) ring
-    → SetAt w.node v.node n (record a { held = m; offset = a.offset + length (texts L es); ring = ring })
-    → ((l : ℕ) → w.link l ≡ None → v.link l ≡ None)
-    → ((l : ℕ) (k : Link) → w.link l ≡ Some k → v.link l ≡ Some (told_if (hears n k) k (texts L es)))
-    → w.book a.id ≡ Some h → SetAt w.book v.book a.id (record h { effects = h.effects ++ es }) → TickRow w v n a
-  acknowledges : (l : ℕ) (k : Link) (bytes : List ℕ) → a.follow ≡ Some (record { link = l; phase = Stream }) → w.link l ≡ Some k
-    → Same w.node v.node → SetAt w.link v.link l (record k { ask = record k.ask { left = k.ask.left ++ bytes } }) → Same w.book v.book → TickRow w v n a
-
-pub record TickedRow {L : Language} (w : World L) (n : ℕ) (v : World L) : Type 0 where
-  pub node : Node L
-  pub node_is : w.node n ≡ Some node
-  pub act : ((node.up ≡ true) × TickRow w v n node) ⊎ ((node.up ≡ false) × Still w v)
-
-pub record BreakServerRow {L : Language} (w : World L) (l : ℕ) (v : World L) : Type 0 where
-  pub link : Link
-  pub link_is : w.link l ≡ Some link
-  pub nodes : Same w.node v.node
-  pub links : SetAt w.link v.link l (shut true link)
-  pub book : Same w.book v.book
-
-pub record BreakDiallerRow {L : Language} (w : World L) (l : ℕ) (v : World L) : Type 0 where
-  pub n : ℕ
-  pub phase : Phase L.Id
-  pub node : Node L
-  pub node_is : w.node n ≡ Some node
-  pub follow : node.follow ≡ Some (record { link = l; phase = phase })
-  pub nodes : SetAt w.node v.node n (record node { follow = None })
-  pub links : Same w.link v.link
-  pub book : Same w.book v.book
-
+-- A replica without a link to a master dials any node, itself too. Where either has stopped nothing changes.
 pub record DialRow {L : Language} (w : World L) (n s : ℕ) (v : World L) : Type 0 where
   pub node : Node L
-  pub link : ℕ
-  pub node_is : w.node n ≡ Some node
+  pub found : w.node n ≡ Some node
   pub replica : node.master ≡ false
   pub waiting : node.follow ≡ None
-  pub new_link : w.link link ≡ None
-  pub hello : List ℕ
-  pub hello_asks : L.asks hello Hello
-  pub nodes : SetAt w.node v.node n (at_phase node link (Greet 0))
-  pub links : SetAt w.link v.link link (record { from = Some n; to = s; serving = true; streams = false;
-    ask = record { left = hello; taken = 0 }; tell = record { left = []; taken = 0 } })
-  pub book : Same w.book v.book
+  pub server : Node L
+  pub server_found : w.node s ≡ Some server
+  pub does : Unless w v node (Unless w v server (Dials w v n s node))
 
--- The row of each event.
-abbrev pub Row : {L : Language} → World L → Event L.Id → World L → Type 0
-Row w (Start i master) v = StartRow w i master v
-Row w (Client n) v = ClientRow w n v
-Row w (Sends l bytes) v = SendsRow w l bytes v
-Row w (Deliver l side n) v = DeliverRow w l side n v
-Row w (Step l Server given fresh) v = StepServerRow w l fresh v
-Row w (Step l Dialler given fresh) v = StepDiallerRow w l v
-Row w (Tick n given) v = TickedRow w n v
-Row w (Break l Server) v = BreakServerRow w l v
-Row w (Break l Dialler) v = BreakDiallerRow w l v
-Row w (Dial n s) v = DialRow w n s v ⊎ Still w v
-Row w (Restart n kept i) v = RestartRow w n kept i v
+-- A client whose end is open sends more.
+pub record CommandRow {L : Language} (w : World L) (l : ℕ) (bytes : List ℕ) (v : World L) : Type 0 where
+  pub link : Link
+  pub found : w.link l ≡ Some link
+  pub client : link.caller ≡ Client true
+  pub becomes : LinkBecomes w v l (record link { ask = record link.ask { left = link.ask.left ++ bytes } })
 
--- The moments of a run: one event between neighbours, each by its row.
-abbrev pub Moments : {L : Language} → World L → List (Event L.Id) → List (World L) → Type 0
-Moments w [] [] = Unit {0}
-Moments w (e ∷ es) (v ∷ vs) = Row w e v × Moments v es vs
-Moments w [] (v ∷ vs) = ⊥
-Moments w (e ∷ es) [] = ⊥
+-- so many more bytes are taken, of those that were sent
+abbrev pub more : ℕ → Way → Way
+more n way = record way { taken = way.taken + n }
 
--- the worlds of a run, the one before it included
-abbrev pub at_moment : {L : Language} → World L → List (World L) → ℕ → Option (World L)
-at_moment w vs k = slice_get (w ∷ vs) k
+-- an end of the link is there and open
+pub record ServerEnd {L : Language} (w : World L) (l : ℕ) : Type 0 where
+  pub link : Link
+  pub found : w.link l ≡ Some link
+  pub serving : link.serving ≡ true
+  pub node : Node L
+  pub node_found : w.node link.to ≡ Some node
+
+pub record ReplicaEnd {L : Language} (w : World L) (l : ℕ) : Type 0 where
+  pub link : Link
+  pub found : w.link l ≡ Some link
+  pub n : ℕ
+  pub node : Node L
+  pub node_found : w.node n ≡ Some node
+  pub phase : Phase L.Id
+  pub follow : node.follow ≡ Some (record { link = l; phase = phase })
+
+pub record ClientEnd {L : Language} (w : World L) (l : ℕ) : Type 0 where
+  pub link : Link
+  pub found : w.link l ≡ Some link
+  pub client : link.caller ≡ Client true
+
+pub record DeliverToServer {L : Language} (w : World L) (l n : ℕ) (v : World L) : Type 0 where
+  pub at : ServerEnd w l
+  pub sent : at.link.ask.taken + n ≤ length at.link.ask.left
+  pub does : Unless w v at.node (LinkBecomes w v l (record at.link { ask = more n at.link.ask }))
+
+pub record DeliverToReplica {L : Language} (w : World L) (l n : ℕ) (v : World L) : Type 0 where
+  pub at : ReplicaEnd w l
+  pub sent : at.link.tell.taken + n ≤ length at.link.tell.left
+  pub does : Unless w v at.node (LinkBecomes w v l (record at.link { tell = more n at.link.tell }))
+
+pub record DeliverToClient {L : Language} (w : World L) (l n : ℕ) (v : World L) : Type 0 where
+  pub at : ClientEnd w l
+  pub sent : at.link.tell.taken + n ≤ length at.link.tell.left
+  pub becomes : LinkBecomes w v l (record at.link { tell = more n at.link.tell })
+
+pub record StepOfServer {L : Language} (w : World L) (l : ℕ) (given : L.Given) (fresh : L.Id) (v : World L) : Type 0 where
+  pub at : ServerEnd w l
+  pub does : Unless w v at.node (ServerRow w v l at.link at.node given fresh)
+
+pub record StepOfReplica {L : Language} (w : World L) (l : ℕ) (v : World L) : Type 0 where
+  pub at : ReplicaEnd w l
+  pub does : Unless w v at.node (FollowerRow w v at.n l at.node at.phase at.link)
+
+-- The end closes: nothing is read there any more.
+pub record BreakOfServer {L : Language} (w : World L) (l : ℕ) (v : World L) : Type 0 where
+  pub at : ServerEnd w l
+  pub does : Unless w v at.node (LinkBecomes w v l (shut true at.link))
+
+pub record BreakOfReplica {L : Language} (w : World L) (l : ℕ) (v : World L) : Type 0 where
+  pub at : ReplicaEnd w l
+  pub does : Unless w v at.node (NodeBecomes w v at.n (record at.node { follow = None }))
+
+pub record BreakOfClient {L : Language} (w : World L) (l : ℕ) (v : World L) : Type 0 where
+  pub at : ClientEnd w l
+  pub becomes : LinkBecomes w v l (record at.link { caller = Client false })
+
+-- A master's tick: what is due is applied, and sent to every replica in its stream phase.
+pub record Beats {L : Language} (w v : World L) (n : ℕ) (a : Node L) (given : L.Given) : Type 0 where
+  pub master : a.master ≡ true
+  pub effects : List L.Effect
+  pub due : L.due a.held given effects
+  pub grown : Grown w v n a effects
+  pub no_links : (l : ℕ) → w.link l ≡ None → v.link l ≡ None
+  pub links : (l : ℕ) (k : Link) → w.link l ≡ Some k → v.link l ≡ Some (told_if (hears n k) k (texts L effects))
+
+-- A replica's tick in its stream phase: it may acknowledge, by bytes that no claim speaks of.
+pub record Acknowledges {L : Language} (w v : World L) (a : Node L) : Type 0 where
+  pub replica : a.master ≡ false
+  pub l : ℕ
+  pub follow : a.follow ≡ Some (record { link = l; phase = Stream })
+  pub link : Link
+  pub found : w.link l ≡ Some link
+  pub bytes : List ℕ
+  pub becomes : LinkBecomes w v l (record link { ask = record link.ask { left = link.ask.left ++ bytes } })
+
+pub data Ticks {L : Language} (w v : World L) (n : ℕ) (a : Node L) (given : L.Given) : Type 0 where
+  beats : Beats w v n a given → Ticks w v n a given
+  acknowledges : Acknowledges w v a → Ticks w v n a given
+  rests : a.master ≡ false → Still w v → Ticks w v n a given
+  stops : Stops w v n a → Ticks w v n a given
+
+pub record TickRow {L : Language} (w : World L) (n : ℕ) (given : L.Given) (v : World L) : Type 0 where
+  pub node : Node L
+  pub found : w.node n ≡ Some node
+  pub does : Unless w v node (Ticks w v n node given)
+
+abbrev pub Row : {L : Language} → World L → Event L → World L → Type 0
+Row w (Event.Start i master) v = StartRow w i master v
+Row w (Event.Restart n file i) v = RestartRow w n file i v
+Row w (Event.Client n) v = ClientRow w n v
+Row w (Event.Dial n s) v = DialRow w n s v
+Row w (Event.Command l bytes) v = CommandRow w l bytes v
+Row w (Event.Deliver l Server n) v = DeliverToServer w l n v
+Row w (Event.Deliver l Dialler n) v = DeliverToReplica w l n v ⊎ DeliverToClient w l n v
+Row w (Event.Step l Server given fresh) v = StepOfServer w l given fresh v
+Row w (Event.Step l Dialler given fresh) v = StepOfReplica w l v
+Row w (Event.Tick n given) v = TickRow w n given v
+Row w (Event.Break l Server) v = BreakOfServer w l v
+Row w (Event.Break l Dialler) v = BreakOfReplica w l v ⊎ BreakOfClient w l v

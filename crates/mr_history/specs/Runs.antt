@@ -1,44 +1,41 @@
--- Runs, and what holds at their moments.
-use Rattle.std.specs.Prelude.{ℕ, List, [], ◌∷◌, ◌++◌, ◌≡◌, None, Some, true}
-use Rattle.mr_history.specs.Language.{Language, Say}
-use Rattle.mr_history.specs.History.{IsAt}
-use Rattle.mr_history.specs.World.{Phase, Node, Link, World, Shows}
-use Rattle.mr_history.specs.World.Phase.{Asked, Loading, Stream}
-use Rattle.mr_history.specs.Moves.{Move}
+-- Runs, their moments, and what may be seen at them.
+use Rattle.std.specs.Prelude.{ℕ, List, [], ◌∷◌, ◌≡◌, ◌≤◌, Option, None, Some, true, length, slice_get}
+use Rattle.mr_history.specs.Language.{Language}
+use Rattle.mr_history.specs.Node.{Phase, Node}
+use Rattle.mr_history.specs.World.{Link, World, unread}
+use Rattle.mr_history.specs.Event.{Event}
+use Rattle.mr_history.specs.FollowerRows.{Usable}
+use Rattle.mr_history.specs.Rows.{Row}
 
 -- the world before the first event
 abbrev pub nowhere : (L : Language) → World L
 nowhere L = record { node = λ n. None; link = λ l. None; book = λ i. None }
 
--- a few moves, one after another
-abbrev pub Chain : {L : Language} → World L → List (World L) → World L → Type 0
-Chain w [] v = Move w v
-Chain w (u ∷ us) v = Move w u × Chain u us v
+-- the worlds after each event, one by its row after the other
+abbrev pub Moments : {L : Language} → World L → List (Event L) → List (World L) → Type 0
+Moments w [] [] = Unit {0}
+Moments w (e ∷ es) (v ∷ vs) = Row w e v × Moments v es vs
+Moments w [] (v ∷ vs) = ⊥
+Moments w (e ∷ es) [] = ⊥
 
--- v comes from w by moves
-pub data Reaches {L : Language} (w : World L) (v : World L) : Type 0 where
-  by_moves : (us : List (World L)) → Chain w us v → Reaches w v
+-- Of the moments of a run of these events, the world before it counted as 0, v is the one of this number.
+pub record IsMoment {L : Language} (events : List (Event L)) (moments : List (World L)) (number : ℕ) (v : World L) : Type 0 where
+  pub run : Moments (nowhere L) events moments
+  pub there : slice_get (nowhere L ∷ moments) number ≡ Some v
 
--- Every node that shows (i, o) holds the history of i up to o.
-abbrev pub IsTrueToHistory : {L : Language} → World L → Type 0
-IsTrueToHistory {L} w = (n : ℕ) (i : L.Id) (o : ℕ) (m : L.Data) → Shows w n i o m → IsAt L w.book i o m
-
--- bytes that begin with something that a replica in this phase uses
-pub data Usable (L : Language) (p : Phase L.Id) (bytes : List ℕ) : Type 0 where
-  a_line : (t rest : List ℕ) (s : Say L.Id) → L.says t s → bytes ≡ t ++ rest → (p ≡ Asked) → Usable L p bytes
-  a_snapshot : (i : L.Id) (o : ℕ) (t rest : List ℕ) (m : L.Data) → p ≡ Loading i o → L.loads t m → bytes ≡ t ++ rest → Usable L p bytes
-  an_effect : (e : L.Effect) (rest : List ℕ) → L.IsGood e → p ≡ Stream → bytes ≡ L.text e ++ rest → Usable L p bytes
-
--- A link of two running nodes on which PSYNC was answered, all was taken, and nothing is left that can be used.
-pub record CaughtUp {L : Language} (w : World L) (n l : ℕ) (a s : Node L) : Type 0 where
+-- A link of two running nodes on which PSYNC was answered, both of whose ends are open. All that was sent was taken, and nothing
+-- is unread that the replica uses.
+pub record CaughtUp {L : Language} (w : World L) (l : ℕ) (replica master : Node L) : Type 0 where
   pub link : Link
-  pub phase : Phase L.Id
   pub found : w.link l ≡ Some link
-  pub replica : w.node n ≡ Some a
-  pub replica_up : a.up ≡ true
-  pub follows : a.follow ≡ Some (record { link = l; phase = phase })
-  pub server : w.node link.to ≡ Some s
-  pub server_up : s.up ≡ true
+  pub n : ℕ
+  pub replica_found : w.node n ≡ Some replica
+  pub replica_up : replica.up ≡ true
+  pub phase : Phase L.Id
+  pub follow : replica.follow ≡ Some (record { link = l; phase = phase })
+  pub master_found : w.node link.to ≡ Some master
+  pub master_up : master.up ≡ true
   pub serving : link.serving ≡ true
   pub streams : link.streams ≡ true
-  pub used : Usable L phase link.tell.left → ⊥
+  pub all_taken : length link.tell.left ≤ link.tell.taken
+  pub nothing_left : Usable L phase (unread link.tell) → ⊥
