@@ -38,18 +38,18 @@ replica_ok {L} book a f g e o = record {
     alone = λ x. none_some a.follow f (o.alone x) e; second = o.second }
 
 -- the next line of the handshake
-next_line : {L : Language} (laws : Laws L) (w v : World L) (n l j : ℕ) (a : Node L) (q : Phase L.Id) (k : Link) (t rest bytes : List ℕ) → Inv w → Follows w n a l (Greet j) k → L.says t Plain → k.tell.left ≡ t ++ rest
+next_line : {L : Language} (laws : Laws L) (w v : World L) (n l j : ℕ) (said : Line L.Id) (a : Node L) (q : Phase L.Id) (k : Link) (t rest bytes : List ℕ) → Inv w → Follows w n a l (Greet j) k → L.says t said → k.tell.left ≡ t ++ rest
     → SetAt w.node v.node n (at_phase a l q) → SetAt w.link v.link l (heard k rest bytes) → Same w.book v.book
     → (k.streams ≡ false → (heard k rest bytes).ask.left ≡ bytes → rest ≡ [] → Talk v (at_phase a l q) q (heard k rest bytes)) → Inv v
-next_line {L} laws w v n l j a q k t rest bytes inv fo say el sn sl sb then =
+next_line {L} laws w v n l j said a q k t rest bytes inv fo say el sn sl sb then =
     follower_change w v n l a (at_phase a l q) (Greet j) q k (heard k rest bytes) inv fo sn sl sb refl refl refl refl
       (λ o y. replica_ok w.book a _ _ fo.follow o)
       (λ o tips y. go y)
   where
     go : Talk w a (Greet j) k → Talk v (at_phase a l q) q (heard k rest bytes)
-    go (greeting m e x y z) = no_line L laws t rest Plain k.tell.left say el z
+    go (greeting m e x y z) = no_line L laws t rest said k.tell.left say el z
     go (greeted m s e x y z h) =
-        then x (ap (λ u. u ++ bytes) y) (read_line L laws s t [] rest Plain Plain h say (append_nil s ∙ (sym z ∙ el))).0
+        then x (ap (λ u. u ++ bytes) y) (read_line L laws s t [] rest Plain said h say (append_nil s ∙ (sym z ∙ el))).0
     go (asking e x y z) = absurd (cc)
     go (asking_for e x y z) = absurd (cc)
     go (refused s e x y z h) = absurd (cc)
@@ -58,20 +58,20 @@ next_line {L} laws w v n l j a q k t rest bytes inv fo say el sn sl sb then =
     go (loading i o m b e y at f) = absurd (cc)
     go (streaming b e y f) = absurd (cc)
 
-pub go_on_keeps : {L : Language} (laws : Laws L) (w v : World L) (n l j : ℕ) (a : Node L) (k : Link) (t rest h : List ℕ) → L.asks h Handshake → Inv w → Follows w n a l (Greet j) k → L.says t Plain → k.tell.left ≡ t ++ rest
+pub go_on_keeps : {L : Language} (laws : Laws L) (w v : World L) (n l j : ℕ) (said : Line L.Id) (a : Node L) (k : Link) (t rest h : List ℕ) → L.asks h Handshake → Inv w → Follows w n a l (Greet j) k → L.says t said → k.tell.left ≡ t ++ rest
     → SetAt w.node v.node n (at_phase a l (Greet (j + 1))) → SetAt w.link v.link l (heard k rest h) → Same w.book v.book → Inv v
-go_on_keeps {L} laws w v n l j a k t rest h hh inv fo say el sn sl sb =
-    next_line laws w v n l j a (Greet (j + 1)) k t rest h inv fo say el sn sl sb (λ x y z. greeting (j + 1) refl x (subst (λ u. L.asks u Handshake) (sym y) hh) z)
+go_on_keeps {L} laws w v n l j said a k t rest h hh inv fo say el sn sl sb =
+    next_line laws w v n l j said a (Greet (j + 1)) k t rest h inv fo say el sn sl sb (λ x y z. greeting (j + 1) refl x (subst (λ u. L.asks u Handshake) (sym y) hh) z)
 
-pub ask_all_keeps : {L : Language} (laws : Laws L) (w v : World L) (n l j : ℕ) (a : Node L) (k : Link) (t rest h : List ℕ) → L.asks h (Psync None) → Inv w → Follows w n a l (Greet j) k → L.says t Plain → k.tell.left ≡ t ++ rest
+pub ask_all_keeps : {L : Language} (laws : Laws L) (w v : World L) (n l j : ℕ) (said : Line L.Id) (a : Node L) (k : Link) (t rest h : List ℕ) → L.asks h (Psync None) → Inv w → Follows w n a l (Greet j) k → L.says t said → k.tell.left ≡ t ++ rest
     → SetAt w.node v.node n (at_phase a l Asked) → SetAt w.link v.link l (heard k rest h) → Same w.book v.book → Inv v
-ask_all_keeps {L} laws w v n l j a k t rest h hh inv fo say el sn sl sb =
-    next_line laws w v n l j a Asked k t rest h inv fo say el sn sl sb (λ x y z. asking refl x (subst (λ u. L.asks u (Psync None)) (sym y) hh) z)
+ask_all_keeps {L} laws w v n l j said a k t rest h hh inv fo say el sn sl sb =
+    next_line laws w v n l j said a Asked k t rest h inv fo say el sn sl sb (λ x y z. asking refl x (subst (λ u. L.asks u (Psync None)) (sym y) hh) z)
 
-pub ask_on_keeps : {L : Language} (laws : Laws L) (w v : World L) (n l j : ℕ) (a : Node L) (k : Link) (t rest h : List ℕ) → L.asks h (Psync (Some (a.id, a.offset + 1))) → Inv w → Follows w n a l (Greet j) k → L.says t Plain → k.tell.left ≡ t ++ rest
+pub ask_on_keeps : {L : Language} (laws : Laws L) (w v : World L) (n l j : ℕ) (said : Line L.Id) (a : Node L) (k : Link) (t rest h : List ℕ) → L.asks h (Psync (Some (a.id, a.offset + 1))) → Inv w → Follows w n a l (Greet j) k → L.says t said → k.tell.left ≡ t ++ rest
     → SetAt w.node v.node n (at_phase a l Asked) → SetAt w.link v.link l (heard k rest h) → Same w.book v.book → Inv v
-ask_on_keeps {L} laws w v n l j a k t rest h hh inv fo say el sn sl sb =
-    next_line laws w v n l j a Asked k t rest h inv fo say el sn sl sb (λ x y z. asking_for refl x (subst (λ u. L.asks u (Psync (Some (a.id, a.offset + 1)))) (sym y) hh) z)
+ask_on_keeps {L} laws w v n l j said a k t rest h hh inv fo say el sn sl sb =
+    next_line laws w v n l j said a Asked k t rest h inv fo say el sn sl sb (λ x y z. asking_for refl x (subst (λ u. L.asks u (Psync (Some (a.id, a.offset + 1)))) (sym y) hh) z)
 
 pub take_full_keeps : {L : Language} (laws : Laws L) (w v : World L) (n l : ℕ) (i : L.Id) (o : ℕ) (a : Node L) (k : Link) (t rest : List ℕ) → Inv w → Follows w n a l Asked k → L.says t (FullResync i o) → k.tell.left ≡ t ++ rest
     → SetAt w.node v.node n (at_phase a l (Loading i o)) → SetAt w.link v.link l (heard k rest []) → Same w.book v.book → Inv v

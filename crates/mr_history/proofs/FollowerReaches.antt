@@ -24,11 +24,11 @@ follower_reaches {L} laws w v n l a p k ek ea ef u row = go row
     last : (r : HearsLastReply w v n l a p k) → (b : Bool) → a.offers ≡ b → Reaches w v
     last r true q =
         then_counts w v l (heard k r.hears.left.left r.request) (asked k r.hears.left r.request) r.becomes.links refl
-          (ask_on n l 2 a k r.hears.text r.hears.left.left r.request (subst (λ z. L.asks r.request (Psync (cond z (Some (a.id, a.offset + 1)) None))) q r.asks)
+          (ask_on n l 2 r.line a k r.hears.text r.hears.left.left r.request (subst (λ z. L.asks r.request (Psync (cond z (Some (a.id, a.offset + 1)) None))) q r.asks)
             (at (Greet 2) r.phase) r.hears.says (reads_left k.tell r.hears.left r.hears.text r.hears.reads) r.becomes.nodes (put_before w.link v.link l _ _ r.becomes.links) r.becomes.book)
     last r false q =
         then_counts w v l (heard k r.hears.left.left r.request) (asked k r.hears.left r.request) r.becomes.links refl
-          (ask_all n l 2 a k r.hears.text r.hears.left.left r.request (subst (λ z. L.asks r.request (Psync (cond z (Some (a.id, a.offset + 1)) None))) q r.asks)
+          (ask_all n l 2 r.line a k r.hears.text r.hears.left.left r.request (subst (λ z. L.asks r.request (Psync (cond z (Some (a.id, a.offset + 1)) None))) q r.asks)
             (at (Greet 2) r.phase) r.hears.says (reads_left k.tell r.hears.left r.hears.text r.hears.reads) r.becomes.nodes (put_before w.link v.link l _ _ r.becomes.links) r.becomes.book)
     go : FollowerRow w v n l a p k → Reaches w v
     go (FollowerRow.idles r) = one w v (still r.still.nodes r.still.links r.still.book)
@@ -36,7 +36,7 @@ follower_reaches {L} laws w v n l a p k ek ea ef u row = go row
     go (FollowerRow.leaves r) = left r
     go (FollowerRow.hears_reply r) =
         then_counts w v l (heard k r.hears.left.left r.request) (asked k r.hears.left r.request) r.becomes.links refl
-          (go_on n l r.number a k r.hears.text r.hears.left.left r.request r.asks (at (Greet r.number) r.phase) r.hears.says
+          (go_on n l r.number r.line a k r.hears.text r.hears.left.left r.request r.asks (at (Greet r.number) r.phase) r.hears.says
             (reads_left k.tell r.hears.left r.hears.text r.hears.reads) r.becomes.nodes (put_before w.link v.link l _ _ r.becomes.links) r.becomes.book)
     go (FollowerRow.hears_last_reply r) = last r a.offers refl
     go (FollowerRow.hears_full_resync r) =

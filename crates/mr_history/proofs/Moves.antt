@@ -1,6 +1,6 @@
 -- The moves of a world. Each event's row is a few of these, one after another; the invariant is proved of each.
 use Rattle.std.specs.Prelude.{ℕ, List, [], ◌∷◌, ◌++◌, ◌+◌, ◌-◌, ◌≤◌, ◌≡◌, ◌≢◌, ◌⊎◌, Option, None, Some, Bool, true, false, length, drop, cond, ◌==◌, ◌&&◌, All}
-use Rattle.mr_history.specs.Language.{Language}
+use Rattle.mr_history.specs.Language.{Language, Line}
 use Rattle.mr_history.specs.Language.Line.{FullResync, Continue, Plain, Refusal}
 use Rattle.mr_history.specs.Language.Request.{Handshake, Psync}
 use Rattle.mr_history.specs.Changes.{SetAt, Same}
@@ -90,11 +90,11 @@ pub data Move {L : Language} (w v : World L) : Type 0 where
   noted : (l : ℕ) (k : Link) (bytes : List ℕ) → w.link l ≡ Some k → k.streams ≡ true → Same w.node v.node
     → SetAt w.link v.link l (record k { ask = record k.ask { left = bytes } }) → Same w.book v.book → Move w v
   -- a replica reads a line before the answer, and sends the next one
-  go_on : (n l j : ℕ) (a : Node L) (k : Link) (t rest h : List ℕ) → L.asks h Handshake → Follows w n a l (Greet j) k → L.says t Plain → k.tell.left ≡ t ++ rest
+  go_on : (n l j : ℕ) (said : Line L.Id) (a : Node L) (k : Link) (t rest h : List ℕ) → L.asks h Handshake → Follows w n a l (Greet j) k → L.says t said → k.tell.left ≡ t ++ rest
     → SetAt w.node v.node n (at_phase a l (Greet (j + 1))) → SetAt w.link v.link l (heard k rest h) → Same w.book v.book → Move w v
-  ask_all : (n l j : ℕ) (a : Node L) (k : Link) (t rest h : List ℕ) → L.asks h (Psync None) → Follows w n a l (Greet j) k → L.says t Plain → k.tell.left ≡ t ++ rest
+  ask_all : (n l j : ℕ) (said : Line L.Id) (a : Node L) (k : Link) (t rest h : List ℕ) → L.asks h (Psync None) → Follows w n a l (Greet j) k → L.says t said → k.tell.left ≡ t ++ rest
     → SetAt w.node v.node n (at_phase a l Asked) → SetAt w.link v.link l (heard k rest h) → Same w.book v.book → Move w v
-  ask_on : (n l j : ℕ) (a : Node L) (k : Link) (t rest h : List ℕ) → L.asks h (Psync (Some (a.id, a.offset + 1))) → Follows w n a l (Greet j) k → L.says t Plain → k.tell.left ≡ t ++ rest
+  ask_on : (n l j : ℕ) (said : Line L.Id) (a : Node L) (k : Link) (t rest h : List ℕ) → L.asks h (Psync (Some (a.id, a.offset + 1))) → Follows w n a l (Greet j) k → L.says t said → k.tell.left ≡ t ++ rest
     → SetAt w.node v.node n (at_phase a l Asked) → SetAt w.link v.link l (heard k rest h) → Same w.book v.book → Move w v
   -- a replica reads the answer
   take_full : (n l : ℕ) (i : L.Id) (o : ℕ) (a : Node L) (k : Link) (t rest : List ℕ) → Follows w n a l Asked k → L.says t (FullResync i o) → k.tell.left ≡ t ++ rest

@@ -1,7 +1,7 @@
 -- What a step at a replica's end of the link to its master may do, one row for each.
-use Rattle.std.specs.Prelude.{ℕ, List, [], ◌++◌, ◌+◌, ◌<◌, ◌≤◌, ◌≡◌, None, Some, true, false, length}
+use Rattle.std.specs.Prelude.{ℕ, List, [], ◌++◌, ◌+◌, ◌<◌, ◌≤◌, ◌≡◌, ◌≢◌, None, Some, true, false, length}
 use Rattle.mr_history.specs.Language.{Language, Line}
-use Rattle.mr_history.specs.Language.Line.{FullResync, Continue, Plain}
+use Rattle.mr_history.specs.Language.Line.{FullResync, Continue, Refusal}
 use Rattle.mr_history.specs.Language.Request.{Handshake, Psync}
 use Rattle.mr_history.specs.Changes.{SetAt, Same}
 use Rattle.mr_history.specs.Node.{Phase, Node, EndsAs, at_phase, continued, wanted}
@@ -44,21 +44,25 @@ pub data Leaves {L : Language} (w v : World L) (n : ℕ) (a : Node L) : Type 0 w
   at_a_line : NodeBecomes w v n (record a { follow = None }) → Leaves w v n a
   at_the_stream : NodeBecomes w v n (record a { follow = None; offers = false }) → Leaves w v n a
 
--- A line before the answer, and the next one but the last is sent.
+-- Any line that begins with + answers a line of the handshake, and the next one is sent; this is where that is not the last.
 pub record HearsReply {L : Language} (w v : World L) (n l : ℕ) (a : Node L) (p : Phase L.Id) (k : Link) : Type 0 where
   pub number : ℕ
   pub phase : p ≡ Greet number
   pub not_last : number < 2
-  pub hears : Hears L k Plain
+  pub line : Line L.Id
+  pub plus : line ≢ Refusal
+  pub hears : Hears L k line
   pub request : List ℕ
   pub asks : L.asks request Handshake
   pub becomes : FollowerBecomes w v n l (at_phase a l (Greet (number + 1))) (asked k hears.left request)
 
--- The line before the answer, and the last one is sent: PSYNC with the node's id and the byte after its last, or with neither
+-- .. and this is where it is: PSYNC with the node's id and the byte after its last, or with neither
 -- where it has nothing to continue.
 pub record HearsLastReply {L : Language} (w v : World L) (n l : ℕ) (a : Node L) (p : Phase L.Id) (k : Link) : Type 0 where
   pub phase : p ≡ Greet 2
-  pub hears : Hears L k Plain
+  pub line : Line L.Id
+  pub plus : line ≢ Refusal
+  pub hears : Hears L k line
   pub request : List ℕ
   pub asks : L.asks request (Psync (wanted a))
   pub becomes : FollowerBecomes w v n l (at_phase a l Asked) (asked k hears.left request)
