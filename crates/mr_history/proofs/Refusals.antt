@@ -24,9 +24,9 @@ use Rattle.mr_history.proofs.Keeping.{one_or, true_false, none_some}
 abbrev Booked : {L : Language} → World L → World L → Type 0
 Booked w v = BookChange w v
 
-unless_stays : {L : Language} (w v : World L) (a : Node L) (Act : Type 0) → (a.up ≡ true → Act → Booked w v) → Unless w v a Act → Booked w v
-unless_stays w v a Act f (Unless.acts u x) = f u x
-unless_stays w v a Act f (Unless.stopped u s) = BookChange.stays s.book
+unless_stays : {L : Language} (w v : World L) (a : Node L) (Act : Type 0) → Unless w v a Act → (a.up ≡ true → Act → Booked w v) → Booked w v
+unless_stays w v a Act (Unless.acts u x) f = f u x
+unless_stays w v a Act (Unless.stopped u s) f = BookChange.stays s.book
 
 server_books : {L : Language} (w v : World L) (l : ℕ) (k : Link) (s : Node L) (given : L.Given) (fresh : L.Id) → w.node k.to ≡ Some s → s.up ≡ true
     → ServerRow w v l k s given fresh → Booked w v
@@ -77,25 +77,24 @@ ticking_books w v n a given e u (Ticks.acknowledges r) = BookChange.stays r.beco
 ticking_books w v n a given e u (Ticks.rests m s) = BookChange.stays s.book
 ticking_books w v n a given e u (Ticks.stops r) = BookChange.stays r.becomes.book
 
-either : {A B P : Type 0} → (A → P) → (B → P) → A ⊎ B → P
-either f g (inl x) = f x
-either f g (inr x) = g x
+either : {A B P : Type 0} → A ⊎ B → (A → P) → (B → P) → P
+either (inl x) f g = f x
+either (inr x) f g = g x
 
 pub book_changes : {L : Language} → BookChangesByThreeWays L
 book_changes {L} w v (Event.Start i master) r = BookChange.draws r.node _ r.nodes.0 refl r.book
 book_changes {L} w v (Event.Restart n file i) r = BookChange.draws n _ r.nodes.0 refl r.book
-book_changes {L} w v (Event.Client n) r = unless_stays w v r.node (Opens w v n r.node) (λ u x. opening_books w v n r.node x) r.does
-book_changes {L} w v (Event.Dial n s) r =
-    unless_stays w v r.node (Unless w v r.server (Dials w v n s r.node)) (λ u x. unless_stays w v r.server (Dials w v n s r.node) (λ u' y. dialling_books w v n s r.node y) x) r.does
+book_changes {L} w v (Event.Client n) r = unless_stays w v r.node _ r.does (λ u x. opening_books w v n r.node x)
+book_changes {L} w v (Event.Dial n s) r = unless_stays w v r.node _ r.does (λ u x. unless_stays w v r.server _ x (λ u' y. dialling_books w v n s r.node y))
 book_changes {L} w v (Event.Command l bytes) r = BookChange.stays r.becomes.book
-book_changes {L} w v (Event.Deliver l Server n) r = unless_stays w v r.at.node _ (λ u x. BookChange.stays x.book) r.does
-book_changes {L} w v (Event.Deliver l Dialler n) r = either (λ x. unless_stays w v x.at.node _ (λ u y. BookChange.stays y.book) x.does) (λ x. BookChange.stays x.becomes.book) r
+book_changes {L} w v (Event.Deliver l Server n) r = unless_stays w v r.at.node _ r.does (λ u x. BookChange.stays x.book)
+book_changes {L} w v (Event.Deliver l Dialler n) r = either r (λ x. unless_stays w v x.at.node _ x.does (λ u y. BookChange.stays y.book)) (λ x. BookChange.stays x.becomes.book)
 book_changes {L} w v (Event.Step l Server given fresh) r =
-    unless_stays w v r.at.node _ (λ u x. server_books w v l r.at.link r.at.node given fresh r.at.node_found u x) r.does
-book_changes {L} w v (Event.Step l Dialler given fresh) r = unless_stays w v r.at.node _ (λ u x. follower_books w v r.at.n l r.at.node r.at.phase r.at.link x) r.does
-book_changes {L} w v (Event.Tick n given) r = unless_stays w v r.node _ (λ u x. ticking_books w v n r.node given r.found u x) r.does
-book_changes {L} w v (Event.Break l Server) r = unless_stays w v r.at.node _ (λ u x. BookChange.stays x.book) r.does
-book_changes {L} w v (Event.Break l Dialler) r = either (λ x. unless_stays w v x.at.node _ (λ u y. BookChange.stays y.book) x.does) (λ x. BookChange.stays x.becomes.book) r
+    unless_stays w v r.at.node _ r.does (λ u x. server_books w v l r.at.link r.at.node given fresh r.at.node_found u x)
+book_changes {L} w v (Event.Step l Dialler given fresh) r = unless_stays w v r.at.node _ r.does (λ u x. follower_books w v r.at.n l r.at.node r.at.phase r.at.link x)
+book_changes {L} w v (Event.Tick n given) r = unless_stays w v r.node _ r.does (λ u x. ticking_books w v n r.node given r.found u x)
+book_changes {L} w v (Event.Break l Server) r = unless_stays w v r.at.node _ r.does (λ u x. BookChange.stays x.book)
+book_changes {L} w v (Event.Break l Dialler) r = either r (λ x. unless_stays w v x.at.node _ x.does (λ u y. BookChange.stays y.book)) (λ x. BookChange.stays x.becomes.book)
 
 pub restarts : {L : Language} → RestartsUnderNewIds L
 restarts {L} w v n file i r b e =
@@ -157,9 +156,9 @@ masters_take_new_ids {L} w v e row n a b ea ma eb ub mb = go e row
     at_follower m l c p k ec (FollowerRow.hears_continue r) = as_it_was m _ c r.becomes.nodes ec (continues_master c r.id)
     at_follower m l c p k ec (FollowerRow.loads r) = as_it_was m _ c r.becomes.nodes ec refl
     at_follower m l c p k ec (FollowerRow.applies r) = as_it_was m _ c r.becomes.nodes ec refl
-    unless : (c : Node L) (Act : Type 0) → (Act → w.book b.id ≡ None) → Unless w v c Act → w.book b.id ≡ None
-    unless c Act f (Unless.acts u x) = f x
-    unless c Act f (Unless.stopped u s) = same s.nodes
+    unless : (c : Node L) (Act : Type 0) → Unless w v c Act → (Act → w.book b.id ≡ None) → w.book b.id ≡ None
+    unless c Act (Unless.acts u x) f = f x
+    unless c Act (Unless.stopped u s) f = same s.nodes
     opens : (m : ℕ) (c : Node L) → Opens w v m c → w.book b.id ≡ None
     opens m c (Opens.opens l new r) = same r.nodes
     opens m c (Opens.stops r) = stopped m c r
@@ -174,18 +173,16 @@ masters_take_new_ids {L} w v e row n a b ea ma eb ub mb = go e row
     go : (e : Event L) → Row w e v → w.book b.id ≡ None
     go (Event.Start i master) r = drawn r.node _ r.nodes r.book.new_id
     go (Event.Restart m file i) r = drawn m _ r.nodes r.book.new_id
-    go (Event.Client m) r = unless r.node (Opens w v m r.node) (λ x. opens m r.node x) r.does
-    go (Event.Dial m s) r =
-        unless r.node (Unless w v r.server (Dials w v m s r.node)) (λ x. unless r.server (Dials w v m s r.node) (λ y. dials m s r.node r.found y) x) r.does
+    go (Event.Client m) r = unless r.node _ r.does (λ x. opens m r.node x)
+    go (Event.Dial m s) r = unless r.node _ r.does (λ x. unless r.server _ x (λ y. dials m s r.node r.found y))
     go (Event.Command l bytes) r = same r.becomes.nodes
-    go (Event.Deliver l Server m) r = unless r.at.node _ (λ x. same x.nodes) r.does
-    go (Event.Deliver l Dialler m) r = either (λ x. unless x.at.node _ (λ y. same y.nodes) x.does) (λ x. same x.becomes.nodes) r
-    go (Event.Step l Server given fresh) r = unless r.at.node _ (λ x. at_server l r.at.link r.at.node given fresh r.at.node_found x) r.does
-    go (Event.Step l Dialler given fresh) r = unless r.at.node _ (λ x. at_follower r.at.n l r.at.node r.at.phase r.at.link r.at.node_found x) r.does
-    go (Event.Tick m given) r = unless r.node _ (λ x. ticks m r.node given r.found x) r.does
-    go (Event.Break l Server) r = unless r.at.node _ (λ x. same x.nodes) r.does
-    go (Event.Break l Dialler) r =
-        either (λ x. unless x.at.node _ (λ y. as_it_was x.at.n _ x.at.node y.nodes x.at.node_found refl) x.does) (λ x. same x.becomes.nodes) r
+    go (Event.Deliver l Server m) r = unless r.at.node _ r.does (λ x. same x.nodes)
+    go (Event.Deliver l Dialler m) r = either r (λ x. unless x.at.node _ x.does (λ y. same y.nodes)) (λ x. same x.becomes.nodes)
+    go (Event.Step l Server given fresh) r = unless r.at.node _ r.does (λ x. at_server l r.at.link r.at.node given fresh r.at.node_found x)
+    go (Event.Step l Dialler given fresh) r = unless r.at.node _ r.does (λ x. at_follower r.at.n l r.at.node r.at.phase r.at.link r.at.node_found x)
+    go (Event.Tick m given) r = unless r.node _ r.does (λ x. ticks m r.node given r.found x)
+    go (Event.Break l Server) r = unless r.at.node _ r.does (λ x. same x.nodes)
+    go (Event.Break l Dialler) r = either r (λ x. unless x.at.node _ x.does (λ y. as_it_was x.at.n _ x.at.node y.nodes x.at.node_found refl)) (λ x. same x.becomes.nodes)
 
 -- parts
 
@@ -241,9 +238,7 @@ answers {L} w v l k k' s given fresh ek row st ek' st' = go row
 pub asks_from_where_it_stands : {L : Language} → AsksFromWhereItStands L
 asks_from_where_it_stands {L} w v n l a b k k' ea row offers eb ub ek' ek = go row
   where
-    Asks : Type 0
-    Asks = (k' ≡ k) ⊎ ((request : List ℕ) × L.asks request (Psync (Some (a.id, a.offset + 1))) × (k'.ask.left ≡ k.ask.left ++ request))
-    number_is : (j : ℕ) → Greet 2 ≡ Greet j → 2 ≡ j
+    number_is : (j : ℕ) → ◌≡◌ {A = Phase L.Id} (Greet 2) (Greet j) → 2 ≡ j
     number_is j e = cc
     go : FollowerRow w v n l a (Greet 2) k → (k' ≡ k) ⊎ ((request : List ℕ) × L.asks request (Psync (Some (a.id, a.offset + 1))) × (k'.ask.left ≡ k.ask.left ++ request))
     go (FollowerRow.idles r) = inl (some_is k' k (sym ek' ∙ (r.still.links l ∙ ek)))
@@ -253,7 +248,7 @@ asks_from_where_it_stands {L} w v n l a b k k' ea row offers eb ub ek' ek = go r
     go (FollowerRow.hears_reply r) = absurd (let e = number_is r.number r.phase in omega (arith, r.not_last, e))
     go (FollowerRow.hears_last_reply r) =
         let i = some_is k' _ (sym ek' ∙ r.becomes.links.0) in
-        inr (r.request, (subst (λ z. L.asks r.request (Psync (cond z (Some (a.id, a.offset + 1)) None))) offers r.asks, ap (λ z. z.ask.left) i))
+        inr (r.request, subst (λ z. L.asks r.request (Psync (cond z (Some (a.id, a.offset + 1)) None))) offers r.asks, ap (λ z. z.ask.left) i)
     go (FollowerRow.hears_full_resync r) = let e = r.phase in absurd (cc)
     go (FollowerRow.hears_continue r) = let e = r.phase in absurd (cc)
     go (FollowerRow.loads r) = let e = r.phase in absurd (cc)

@@ -7,7 +7,7 @@ use Rattle.mr_resp.specs.Spelling.{line_end}
 use Rattle.mr_repl.specs.ReplId.{IsId, digits_of}
 use Rattle.mr_history.specs.Language.{Line}
 use Rattle.mr_history.specs.Language.Line.{FullResync, Continue, Plain, Refusal}
-use Rattle.mr_language.specs.Lines.{IsLine, IsFullResync, IsContinue, BeginsPlus, IsPlain, Means, Says, full_resync, continue, greatest}
+use Rattle.mr_language.specs.Lines.{IsLine, IsFullResync, IsContinue, BeginsPlus, IsPlain, Means, Says, full_resync_text, continue_text, greatest}
 use Rattle.mr_language.proofs.Lists.{same_length, same_before}
 use Rattle.mr_language.proofs.Ids.{one_id, forty}
 
@@ -16,11 +16,11 @@ third [] = 0
 third (a ∷ []) = 0
 third (a ∷ (b ∷ rest)) = b
 
-apart : (i j : List ℕ) (o : ℕ) → full_resync i o ≡ continue j → ⊥
+apart : (i j : List ℕ) (o : ℕ) → full_resync_text i o ≡ continue_text j → ⊥
 unfolding third
 apart i j o e = let h : 70 ≡ 67 = ap third e in omega (arith, h)
 
-same_answer : (i j : List ℕ) (o p : ℕ) → IsId i → IsId j → o ≤ greatest → p ≤ greatest → full_resync i o ≡ full_resync j p → (i ≡ j) × (o ≡ p)
+same_answer : (i j : List ℕ) (o p : ℕ) → IsId i → IsId j → o ≤ greatest → p ≤ greatest → full_resync_text i o ≡ full_resync_text j p → (i ≡ j) × (o ≡ p)
 same_answer i j o p g h l m e =
     let both = append_cancel_left (codes "+FULLRESYNC ") (digits_of i ++ (32 ∷ decimal o)) (digits_of j ++ (32 ∷ decimal p)) e in
     let ids = same_length (digits_of i) (digits_of j) (32 ∷ decimal o) (32 ∷ decimal p) (forty i g ∙ sym (forty j h)) both in
@@ -28,13 +28,13 @@ same_answer i j o p g h l m e =
     let numbers : decimal o ≡ decimal p = cc in
     (one_id i j g h ids, decimal_injective o p (omega (arith, l)) (omega (arith, m)) numbers)
 
-same_continue : (i j : List ℕ) → IsId i → IsId j → continue i ≡ continue j → i ≡ j
+same_continue : (i j : List ℕ) → IsId i → IsId j → continue_text i ≡ continue_text j → i ≡ j
 same_continue i j g h e = one_id i j g h (append_cancel_left (codes "+CONTINUE ") (digits_of i) (digits_of j) e)
 
-plus_first : (i : List ℕ) (o : ℕ) (f : List ℕ) → f ≡ full_resync i o → BeginsPlus f
+plus_first : (i : List ℕ) (o : ℕ) (f : List ℕ) → f ≡ full_resync_text i o → BeginsPlus f
 plus_first i o f e = subst BeginsPlus (sym e) refl
 
-plus_continue : (i : List ℕ) (f : List ℕ) → f ≡ continue i → BeginsPlus f
+plus_continue : (i : List ℕ) (f : List ℕ) → f ≡ continue_text i → BeginsPlus f
 plus_continue i f e = subst BeginsPlus (sym e) refl
 
 one_meaning : (f : List ℕ) (a b : Line (List ℕ)) → Means f a → Means f b → a ≡ b

@@ -52,7 +52,7 @@ same_commands c d x y p q e =
 
 pub loads_cut : (s t : List ℕ) (m n : Dataset) (x y : List ℕ) → IsSnapshot s m → IsSnapshot t n → s ++ x ≡ t ++ y → (s ≡ t) × (m ≡ n)
 loads_cut s t m n x y p q e =
-    let c = same_commands p.commands q.commands x y p.small q.small (ap (λ z. z ++ x) (sym p.is) ∙ (e ∙ ap (λ z. z ++ y) q.is)) in
+    let c = same_commands p.commands q.commands x y (omega (arith, p.small)) (omega (arith, q.small)) (ap (λ z. z ++ x) (sym p.is) ∙ (e ∙ ap (λ z. z ++ y) q.is)) in
     (p.is ∙ (ap (λ z. snapshot_text z) c ∙ sym q.is), made_is_one q.commands m n (subst (λ z. Makes z m) c p.made) q.made)
 
 pub loads_some : (t : List ℕ) (m : Dataset) → IsSnapshot t m → t ≢ []

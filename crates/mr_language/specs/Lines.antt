@@ -21,20 +21,20 @@ pub record IsLine (text front : List ℕ) : Type 0 where
   pub no_feed : All (λ b. b ≢ 10) front
   pub short : length front ≤ most
 
-abbrev pub full_resync : List ℕ → ℕ → List ℕ
-full_resync id offset = codes "+FULLRESYNC " ++ (digits_of id ++ 32 ∷ decimal offset)
+abbrev pub full_resync_text : List ℕ → ℕ → List ℕ
+full_resync_text id offset = codes "+FULLRESYNC " ++ (digits_of id ++ 32 ∷ decimal offset)
 
-abbrev pub continue : List ℕ → List ℕ
-continue id = codes "+CONTINUE " ++ digits_of id
+abbrev pub continue_text : List ℕ → List ℕ
+continue_text id = codes "+CONTINUE " ++ digits_of id
 
 pub record IsFullResync (front : List ℕ) (id : List ℕ) (offset : ℕ) : Type 0 where
   pub is_id : IsId id
   pub limited : offset ≤ greatest
-  pub spelled : front ≡ full_resync id offset
+  pub spelled : front ≡ full_resync_text id offset
 
 pub record IsContinue (front : List ℕ) (id : List ℕ) : Type 0 where
   pub is_id : IsId id
-  pub spelled : front ≡ continue id
+  pub spelled : front ≡ continue_text id
 
 abbrev pub BeginsPlus : List ℕ → Type 0
 BeginsPlus [] = ⊥
