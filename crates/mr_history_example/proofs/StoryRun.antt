@@ -24,10 +24,10 @@ some_is x y e = cc
 none_some : {A P : Type 0} (o : Option A) (x : A) → o ≡ None → o ≡ Some x → P
 none_some o x p q = absurd (cc)
 
-plain_is_no_refusal : Plain {I = ℕ} ≢ Refusal
+plain_is_no_refusal : let plain : Line ℕ = Plain in let refusal : Line ℕ = Refusal in plain ≢ refusal
 plain_is_no_refusal e = cc
 
-nothing_asked : (s : Node tiny) (i o : ℕ) → None ≡ Some (i, o) → Continues s i o → ⊥
+nothing_asked : (s : Node tiny) (i o : ℕ) → (let none : Option (ℕ × ℕ) = None in none ≡ Some (i, o)) → Continues s i o → ⊥
 nothing_asked s i o e c = cc
 
 no_links : (l : ℕ) → links {A = Link} None None None None l ≡ None

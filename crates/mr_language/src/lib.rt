@@ -11,17 +11,3 @@
 #![tactic(auto)]
 
 pub mod laws;
-
-ghost use Rattle.mr_language.specs.Minired.{minired};
-ghost use Rattle.mr_language.proofs.MiniredLaws.{minired_laws};
-
-use mr_history::Replicated;
-
-/// What minired's replicas hold, and how they write to one another.
-pub struct Minired;
-
-impl Replicated for Minired {
-    ghost language = { minired };
-
-    ghost laws = { minired_laws };
-}
