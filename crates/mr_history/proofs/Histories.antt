@@ -42,33 +42,33 @@ fold_append L [] ys m n h = ap (λ o. then_fold o (fold L ys)) h
 fold_append L (x ∷ xs) ys m n h = fold_step L (L.apply x m) (fold L xs) (fold L (xs ++ ys)) (fold L ys n) n (λ k e. fold_append L xs ys k n e) h
 
 -- of two fronts of one list the one with fewer bytes is a front of the other
-pub shorter : (L : Language) (laws : Laws L) (pre suf pre' suf' : List L.Effect) → pre ++ suf ≡ pre' ++ suf' → length (texts L pre) ≤ length (texts L pre')
-    → (mid : List L.Effect) × (pre' ≡ pre ++ mid) × (suf ≡ mid ++ suf')
-shorter L laws [] suf pre' suf' e h = (pre', refl, e)
-shorter L laws (x ∷ pre) suf [] suf' e h =
-    absurd (let p = effect_length L laws x in let q = length_cons L x pre in omega arith)
-shorter L laws (x ∷ pre) suf (y ∷ pre') suf' e h =
+pub shorter : (L : Language) (laws : Laws L) (earlier later earlier' later' : List L.Effect) → earlier ++ later ≡ earlier' ++ later' → length (texts L earlier) ≤ length (texts L earlier')
+    → (mid : List L.Effect) × (earlier' ≡ earlier ++ mid) × (later ≡ mid ++ later')
+shorter L laws [] later earlier' later' e h = (earlier', refl, e)
+shorter L laws (x ∷ earlier) later [] later' e h =
+    absurd (let p = effect_length L laws x in let q = length_cons L x earlier in omega arith)
+shorter L laws (x ∷ earlier) later (y ∷ earlier') later' e h =
     let same : x ≡ y = cc in
-    let rest : pre ++ suf ≡ pre' ++ suf' = cc in
-    let p = length_cons L x pre in
-    let q = length_cons L y pre' in
+    let rest : earlier ++ later ≡ earlier' ++ later' = cc in
+    let p = length_cons L x earlier in
+    let q = length_cons L y earlier' in
     let r = ap (λ z. length (L.text z)) same in
-    let s = shorter L laws pre suf pre' suf' rest (omega arith) in
+    let s = shorter L laws earlier later earlier' later' rest (omega arith) in
     (s.0, cc, s.2)
 
 -- two fronts of one list with as many bytes are one
-pub same_front : (L : Language) (laws : Laws L) (pre suf pre' suf' : List L.Effect) → pre ++ suf ≡ pre' ++ suf' → length (texts L pre) ≡ length (texts L pre')
-    → (pre ≡ pre') × (suf ≡ suf')
-same_front L laws [] suf [] suf' e h = (refl, e)
-same_front L laws [] suf (y ∷ pre') suf' e h =
-    absurd (let p = effect_length L laws y in let q = length_cons L y pre' in omega arith)
-same_front L laws (x ∷ pre) suf [] suf' e h =
-    absurd (let p = effect_length L laws x in let q = length_cons L x pre in omega arith)
-same_front L laws (x ∷ pre) suf (y ∷ pre') suf' e h =
+pub same_front : (L : Language) (laws : Laws L) (earlier later earlier' later' : List L.Effect) → earlier ++ later ≡ earlier' ++ later' → length (texts L earlier) ≡ length (texts L earlier')
+    → (earlier ≡ earlier') × (later ≡ later')
+same_front L laws [] later [] later' e h = (refl, e)
+same_front L laws [] later (y ∷ earlier') later' e h =
+    absurd (let p = effect_length L laws y in let q = length_cons L y earlier' in omega arith)
+same_front L laws (x ∷ earlier) later [] later' e h =
+    absurd (let p = effect_length L laws x in let q = length_cons L x earlier in omega arith)
+same_front L laws (x ∷ earlier) later (y ∷ earlier') later' e h =
     let same : x ≡ y = cc in
-    let rest : pre ++ suf ≡ pre' ++ suf' = cc in
-    let p = length_cons L x pre in
-    let q = length_cons L y pre' in
+    let rest : earlier ++ later ≡ earlier' ++ later' = cc in
+    let p = length_cons L x earlier in
+    let q = length_cons L y earlier' in
     let r = ap (λ z. length (L.text z)) same in
-    let s = same_front L laws pre suf pre' suf' rest (omega arith) in
+    let s = same_front L laws earlier later earlier' later' rest (omega arith) in
     (cc, s.1)

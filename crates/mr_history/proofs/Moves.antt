@@ -43,73 +43,79 @@ pub data Move {L : Language} (w v : World L) : Type 0 where
   close : (f : ℕ → Link → Bool) → Same w.node v.node → ((l : ℕ) (k : Link) → w.link l ≡ Some k → v.link l ≡ Some (shut (f l k) k)) → Same w.book v.book → Move w v
   -- bytes are delivered
   carry : (l x y : ℕ) (k : Link) → w.link l ≡ Some k → Same w.node v.node
-    → SetAt w.link v.link l (record k { ask = record k.ask { taken = x }; tell = record k.tell { taken = y } }) → Same w.book v.book → Move w v
+      → SetAt w.link v.link l (record k { ask = record k.ask { taken = x }; tell = record k.tell { taken = y } }) → Same w.book v.book → Move w v
   -- anything on a link that no running node follows, as a client's
   loose : (l : ℕ) (k : Link) → ((n : ℕ) (a : Node L) (p : Phase L.Id) → w.node n ≡ Some a → a.up ≡ true → a.follow ≡ Some (record { link = l; phase = p }) → ⊥)
-    → Same w.node v.node → SetAt w.link v.link l k → Same w.book v.book → Move w v
+      → Same w.node v.node → SetAt w.link v.link l k → Same w.book v.book → Move w v
   -- a node starts, or starts anew, under a new id
   draw : (n : ℕ) (b : Node L) → w.book b.id ≡ None → b.offset ≡ 0 → b.second ≡ None → b.backlog ≡ [] → b.follow ≡ None
-    → ((l : ℕ) (k : Link) → w.link l ≡ Some k → k.to ≡ n → k.serving ≡ false)
-    → SetAt w.node v.node n b → Same w.link v.link → SetAt w.book v.book b.id (record { start = b.held; effects = [] }) → Move w v
+      → ((l : ℕ) (k : Link) → w.link l ≡ Some k → k.to ≡ n → k.serving ≡ false)
+      → SetAt w.node v.node n b → Same w.link v.link → SetAt w.book v.book b.id (record { start = b.held; effects = [] }) → Move w v
   -- a master applies effects
   extend : (n : ℕ) (a : Node L) (es : List L.Effect) (m : L.Dataset) (backlog : List ℕ) (h : History L)
-    → w.node n ≡ Some a → a.up ≡ true → a.master ≡ true → All L.IsGood es → fold L es a.held ≡ Some m → EndsAs a.backlog (texts L es) backlog
-    → SetAt w.node v.node n (record a { held = m; offset = a.offset + length (texts L es); backlog = backlog })
-    → ((l : ℕ) (k : Link) → w.link l ≡ Some k → v.link l ≡ Some (told_if (hears n k) k (texts L es)))
-    → w.book a.id ≡ Some h → SetAt w.book v.book a.id (record h { effects = h.effects ++ es }) → Move w v
+      → w.node n ≡ Some a → a.up ≡ true → a.master ≡ true → All L.IsGood es → fold L es a.held ≡ Some m → EndsAs a.backlog (texts L es) backlog
+      → SetAt w.node v.node n (record a { held = m; offset = a.offset + length (texts L es); backlog = backlog })
+      → ((l : ℕ) (k : Link) → w.link l ≡ Some k → v.link l ≡ Some (told_if (hears n k) k (texts L es)))
+      → w.book a.id ≡ Some h → SetAt w.book v.book a.id (record h { effects = h.effects ++ es }) → Move w v
   -- REPLICAOF NO ONE on a replica that has left its master
-  promote : (n : ℕ) (i : L.Id) (a : Node L) (start : L.Dataset) (pre suf : List L.Effect)
-    → w.node n ≡ Some a → a.up ≡ true → a.master ≡ false → a.follow ≡ None → w.book i ≡ None
-    → SetAt w.node v.node n (record a { master = true; id = i; second = Some (a.id, a.offset + 1) })
-    → Same w.link v.link
-    → Front L w.book a.id a.offset start pre suf → SetAt w.book v.book i (record { start = start; effects = pre }) → Move w v
+  promote : (n : ℕ) (i : L.Id) (a : Node L) (start : L.Dataset) (earlier later : List L.Effect)
+      → w.node n ≡ Some a → a.up ≡ true → a.master ≡ false → a.follow ≡ None → w.book i ≡ None
+      → SetAt w.node v.node n (record a { master = true; id = i; second = Some (a.id, a.offset + 1) })
+      → Same w.link v.link
+      → Front L w.book a.id a.offset start earlier later → SetAt w.book v.book i (record { start = start; effects = earlier }) → Move w v
   -- REPLICAOF on a master that has closed its replicas' links
   demote : (n : ℕ) (a : Node L) (h : List ℕ) → w.node n ≡ Some a → a.follow ≡ None
-    → ((l : ℕ) (k : Link) → w.link l ≡ Some k → k.to ≡ n → k.serving ≡ true → k.streams ≡ false)
-    → SetAt w.node v.node n (record a { master = false; offers = true; upstream = h }) → Same w.link v.link → Same w.book v.book → Move w v
+      → ((l : ℕ) (k : Link) → w.link l ≡ Some k → k.to ≡ n → k.serving ≡ true → k.streams ≡ false)
+      → SetAt w.node v.node n (record a { master = false; offers = true; upstream = h }) → Same w.link v.link → Same w.book v.book → Move w v
   dial : (n s l : ℕ) (a : Node L) (h : List ℕ) → L.asks h Handshake → w.node n ≡ Some a → a.master ≡ false → a.follow ≡ None → w.link l ≡ None
-    → SetAt w.node v.node n (at_phase a l (Greet 0))
-    → SetAt w.link v.link l (record { caller = Peer n; to = s; serving = true; streams = false;
-        ask = record { left = h; taken = 0 }; tell = record { left = []; taken = 0 } })
-    → Same w.book v.book → Move w v
+      → SetAt w.node v.node n (at_phase a l (Greet 0))
+      → SetAt w.link v.link l (record {
+        caller = Peer n;
+        to = s;
+        serving = true;
+        streams = false;
+        ask = record { left = h; taken = 0 };
+        tell = record { left = []; taken = 0 };
+      })
+      → Same w.book v.book → Move w v
   -- the server reads a line of the handshake
   greet : (l : ℕ) (k : Link) (s : Node L) (t rest r : List ℕ) → Serves w s l k → k.streams ≡ false → L.asks t Handshake → L.says r Plain
-    → k.ask.left ≡ t ++ rest → Same w.node v.node → SetAt w.link v.link l (used k rest r) → Same w.book v.book → Move w v
+      → k.ask.left ≡ t ++ rest → Same w.node v.node → SetAt w.link v.link l (used k rest r) → Same w.book v.book → Move w v
   -- a replica is asked for its stream
   refuse : (l : ℕ) (k : Link) (s : Node L) (q : Option (L.Id × ℕ)) (t rest r : List ℕ) → Serves w s l k → k.streams ≡ false → L.asks t (Psync q) → L.says r Refusal
-    → k.ask.left ≡ t ++ rest → Same w.node v.node → SetAt w.link v.link l (used k rest r) → Same w.book v.book → Move w v
+      → k.ask.left ≡ t ++ rest → Same w.node v.node → SetAt w.link v.link l (used k rest r) → Same w.book v.book → Move w v
   -- a master answers by a snapshot
   answer_full : (l : ℕ) (k : Link) (s : Node L) (q : Option (L.Id × ℕ)) (t rest x y : List ℕ) → L.loads x s.held → L.says y (FullResync s.id s.offset) → Serves w s l k → k.streams ≡ false → s.master ≡ true → L.asks t (Psync q)
-    → k.ask.left ≡ t ++ rest → Same w.node v.node
-    → SetAt w.link v.link l (record (used k rest (y ++ x)) { streams = true }) → Same w.book v.book → Move w v
+      → k.ask.left ≡ t ++ rest → Same w.node v.node
+      → SetAt w.link v.link l (record (used k rest (y ++ x)) { streams = true }) → Same w.book v.book → Move w v
   -- a master continues
   answer_cont : (l : ℕ) (i : L.Id) (o : ℕ) (k : Link) (s : Node L) (t rest y : List ℕ) → L.says y (Continue s.id) → Serves w s l k → k.streams ≡ false → s.master ≡ true → L.asks t (Psync (Some (i, o)))
-    → k.ask.left ≡ t ++ rest → Continues s i o → Same w.node v.node
-    → SetAt w.link v.link l (record (used k rest (y ++ tail s o)) { streams = true }) → Same w.book v.book → Move w v
+      → k.ask.left ≡ t ++ rest → Continues s i o → Same w.node v.node
+      → SetAt w.link v.link l (record (used k rest (y ++ tail s o)) { streams = true }) → Same w.book v.book → Move w v
   -- the server reads on a link that it streams to, or the follower of such a link says something
   noted : (l : ℕ) (k : Link) (bytes : List ℕ) → w.link l ≡ Some k → k.streams ≡ true → Same w.node v.node
-    → SetAt w.link v.link l (record k { ask = record k.ask { left = bytes } }) → Same w.book v.book → Move w v
+      → SetAt w.link v.link l (record k { ask = record k.ask { left = bytes } }) → Same w.book v.book → Move w v
   -- a replica reads a line before the answer, and sends the next one
   go_on : (n l j : ℕ) (said : Line L.Id) (a : Node L) (k : Link) (t rest h : List ℕ) → L.asks h Handshake → Follows w n a l (Greet j) k → L.says t said → k.tell.left ≡ t ++ rest
-    → SetAt w.node v.node n (at_phase a l (Greet (j + 1))) → SetAt w.link v.link l (heard k rest h) → Same w.book v.book → Move w v
+      → SetAt w.node v.node n (at_phase a l (Greet (j + 1))) → SetAt w.link v.link l (heard k rest h) → Same w.book v.book → Move w v
   ask_all : (n l j : ℕ) (said : Line L.Id) (a : Node L) (k : Link) (t rest h : List ℕ) → L.asks h (Psync None) → Follows w n a l (Greet j) k → L.says t said → k.tell.left ≡ t ++ rest
-    → SetAt w.node v.node n (at_phase a l Asked) → SetAt w.link v.link l (heard k rest h) → Same w.book v.book → Move w v
+      → SetAt w.node v.node n (at_phase a l Asked) → SetAt w.link v.link l (heard k rest h) → Same w.book v.book → Move w v
   ask_on : (n l j : ℕ) (said : Line L.Id) (a : Node L) (k : Link) (t rest h : List ℕ) → L.asks h (Psync (Some (a.id, a.offset + 1))) → Follows w n a l (Greet j) k → L.says t said → k.tell.left ≡ t ++ rest
-    → SetAt w.node v.node n (at_phase a l Asked) → SetAt w.link v.link l (heard k rest h) → Same w.book v.book → Move w v
+      → SetAt w.node v.node n (at_phase a l Asked) → SetAt w.link v.link l (heard k rest h) → Same w.book v.book → Move w v
   -- a replica reads the answer
   take_full : (n l : ℕ) (i : L.Id) (o : ℕ) (a : Node L) (k : Link) (t rest : List ℕ) → Follows w n a l Asked k → L.says t (FullResync i o) → k.tell.left ≡ t ++ rest
-    → SetAt w.node v.node n (at_phase a l (Loading i o)) → SetAt w.link v.link l (heard k rest []) → Same w.book v.book → Move w v
+      → SetAt w.node v.node n (at_phase a l (Loading i o)) → SetAt w.link v.link l (heard k rest []) → Same w.book v.book → Move w v
   take_cont : (n l : ℕ) (i : L.Id) (a : Node L) (k : Link) (t rest : List ℕ) → Follows w n a l Asked k → L.says t (Continue i) → k.tell.left ≡ t ++ rest
-    → SetAt w.node v.node n (at_phase (continued a i) l Stream) → SetAt w.link v.link l (heard k rest []) → Same w.book v.book → Move w v
+      → SetAt w.node v.node n (at_phase (continued a i) l Stream) → SetAt w.link v.link l (heard k rest []) → Same w.book v.book → Move w v
   -- a replica reads the whole snapshot
   load : (n l : ℕ) (i : L.Id) (o : ℕ) (a : Node L) (m : L.Dataset) (k : Link) (t rest : List ℕ) → Follows w n a l (Loading i o) k → L.loads t m → k.tell.left ≡ t ++ rest
-    → SetAt w.node v.node n (at_phase (record a { id = i; offset = o; second = None; backlog = []; held = m; offers = true }) l Stream)
-    → SetAt w.link v.link l (heard k rest []) → Same w.book v.book → Move w v
+      → SetAt w.node v.node n (at_phase (record a { id = i; offset = o; second = None; backlog = []; held = m; offers = true }) l Stream)
+      → SetAt w.link v.link l (heard k rest []) → Same w.book v.book → Move w v
   -- a replica reads one effect
   follow : (n l : ℕ) (a : Node L) (e : L.Effect) (m : L.Dataset) (k : Link) (rest backlog : List ℕ) → Follows w n a l Stream k → k.tell.left ≡ L.text e ++ rest
-    → L.IsGood e → L.apply e a.held ≡ Some m → EndsAs a.backlog (L.text e) backlog
-    → SetAt w.node v.node n (record a { held = m; offset = a.offset + length (L.text e); backlog = backlog })
-    → SetAt w.link v.link l (heard k rest []) → Same w.book v.book → Move w v
+      → L.IsGood e → L.apply e a.held ≡ Some m → EndsAs a.backlog (L.text e) backlog
+      → SetAt w.node v.node n (record a { held = m; offset = a.offset + length (L.text e); backlog = backlog })
+      → SetAt w.link v.link l (heard k rest []) → Same w.book v.book → Move w v
 
 -- a few moves, one after another
 abbrev pub Chain : {L : Language} → World L → List (World L) → World L → Type 0

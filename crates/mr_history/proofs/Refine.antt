@@ -16,7 +16,7 @@ use Rattle.mr_history.specs.Event.Side.{Server, Dialler}
 use Rattle.mr_history.specs.Changing.{Still, Reads}
 use Rattle.mr_history.specs.ServerRows.{answered, IsQuiet, ServerRow}
 use Rattle.mr_history.specs.FollowerRows.{asked, FollowerRow}
-use Rattle.mr_history.specs.Invariant.{Talk, Inv}
+use Rattle.mr_history.specs.Invariant.{Talk, Invariant}
 use Rattle.mr_history.specs.Invariant.Talk.{greeting, greeted, asking, asking_for, refused, answered_full, answered_cont, loading, streaming}
 use Rattle.mr_history.proofs.Moves.{Move, Follows, Serves, used, heard, Reaches}
 use Rattle.mr_history.proofs.Moves.Move.{still, stop, leave, close, carry, loose, draw, extend, promote, demote, dial, greet, refuse, answer_full, answer_cont, noted, go_on, ask_all, ask_on, take_full, take_cont, load, follow}
@@ -52,9 +52,9 @@ put_over f g n x y s = (s.0, λ m h. s.1 m h ∙ sym (put_there f n x m h))
 pub reads_left : (old new : Way) (t : List ℕ) → Reads old t new → old.left ≡ t ++ new.left
 reads_left old new t r =
     let whole : old.left ≡ t ++ (r.rest ++ drop old.taken old.left) =
-        sym (take-append-drop old.taken old.left) ∙ (ap (λ z. z ++ drop old.taken old.left) r.begins ∙ append_assoc t r.rest (drop old.taken old.left)) in
+    sym (take-append-drop old.taken old.left) ∙ (ap (λ z. z ++ drop old.taken old.left) r.begins ∙ append_assoc t r.rest (drop old.taken old.left)) in
     let rest : new.left ≡ r.rest ++ drop old.taken old.left =
-        ap (λ z. z.left) r.new_is ∙ (ap (λ z. drop (length t) z) whole ∙ drop-append_seam t (r.rest ++ drop old.taken old.left)) in
+    ap (λ z. z.left) r.new_is ∙ (ap (λ z. drop (length t) z) whole ∙ drop-append_seam t (r.rest ++ drop old.taken old.left)) in
     whole ∙ ap (λ z. t ++ z) (sym rest)
 
 pub take_none : (n : ℕ) → let none : List ℕ = [] in take n none ≡ none
@@ -66,9 +66,11 @@ pub then_counts : {L : Language} (w v : World L) (l : ℕ) (mid fin : Link) → 
     → fin ≡ record mid { ask = record mid.ask { taken = fin.ask.taken }; tell = record mid.tell { taken = fin.tell.taken } }
     → Move w (record v { link = put v.link l mid }) → Reaches w v
 then_counts {L} w v l mid fin sl e m =
-    by_moves (record v { link = put v.link l mid } ∷ [])
-      (m, carry l fin.ask.taken fin.tell.taken mid (put_here v.link l mid) (λ n. refl)
-        (subst (λ z. SetAt (put v.link l mid) v.link l z) e (put_after w.link v.link l mid fin sl)) (λ i. refl))
+    by_moves (record v { link = put v.link l mid } ∷ []) (
+      m,
+      carry l fin.ask.taken fin.tell.taken mid (put_here v.link l mid) (λ n. refl)
+          (subst (λ z. SetAt (put v.link l mid) v.link l z) e (put_after w.link v.link l mid fin sl)) (λ i. refl),
+    )
 
 pub one : {L : Language} (w v : World L) → Move w v → Reaches w v
 one w v m = by_moves [] m
@@ -107,20 +109,21 @@ not_asking {L} laws xs t rest a h ne e (inr x) =
 abbrev pub Free : {L : Language} → World L → ℕ → Type 0
 Free {L} w l = (n : ℕ) (a : Node L) (p : Phase L.Id) → w.node n ≡ Some a → a.up ≡ true → a.follow ≡ Some (record { link = l; phase = p }) → ⊥
 
-pub free_by : {L : Language} (laws : Laws L) (w : World L) (l : ℕ) (k : Link) → Inv w → w.link l ≡ Some k → k.streams ≡ false → (Asking L k.ask.left → ⊥) → Free w l
+pub free_by : {L : Language} (laws : Laws L) (w : World L) (l : ℕ) (k : Link) → Invariant w → w.link l ≡ Some k → k.streams ≡ false → (Asking L k.ask.left → ⊥) → Free w l
 free_by {L} laws w l k inv e st h n c p ec uc fc =
     let o = inv.links n c (record { link = l; phase = p }) ec uc fc in
     let i = some_is o.link k (sym o.found ∙ e) in
     h (asked_of laws w c p k st (subst (λ z. Talk w c p z) i o.talk))
 
-pub free_ask : {L : Language} (laws : Laws L) (w : World L) (l : ℕ) (k : Link) (t : List ℕ) (a : Request L.Id) (way : Way) → Inv w → w.link l ≡ Some k → k.streams ≡ false → L.asks t a → IsElse a → Reads k.ask t way → Free w l
+pub free_ask : {L : Language} (laws : Laws L) (w : World L) (l : ℕ) (k : Link) (t : List ℕ) (a : Request L.Id) (way : Way) → Invariant w → w.link l ≡ Some k → k.streams ≡ false → L.asks t a → IsElse a → Reads k.ask t way → Free w l
 free_ask {L} laws w l k t a way inv e st h ne r = free_by laws w l k inv e st (not_asking laws k.ask.left t way.left a h ne (reads_left k.ask way t r))
 
-pub free_doomed : {L : Language} (laws : Laws L) (w : World L) (l : ℕ) (k : Link) → Inv w → w.link l ≡ Some k → k.streams ≡ false → L.doomed (take k.ask.taken k.ask.left) → Free w l
+pub free_doomed : {L : Language} (laws : Laws L) (w : World L) (l : ℕ) (k : Link) → Invariant w → w.link l ≡ Some k → k.streams ≡ false → L.doomed (take k.ask.taken k.ask.left) → Free w l
 free_doomed {L} laws w l k inv e st d = free_by laws w l k inv e st go
   where
     all : take k.ask.taken k.ask.left ++ drop k.ask.taken k.ask.left ≡ k.ask.left
     all = take-append-drop k.ask.taken k.ask.left
+
     go : Asking L k.ask.left → ⊥
     go (inl x) = laws.doomed_some (subst (λ z. L.doomed z) (none k.ask.taken k.ask.left x) d)
       where
@@ -154,18 +157,19 @@ pub shut_one : {L : Language} (w v : World L) (l : ℕ) (k : Link) → w.link l 
     → (j : ℕ) (x : Link) → w.link j ≡ Some x → v.link j ≡ Some (shut (j == l) x)
 shut_one w v l k e s j x q = one_or j l
     (λ h.
-      let same : k ≡ x = some_is k x (sym e ∙ (ap (λ z. w.link z) (sym h) ∙ q)) in
-      let yes_is : j == l ≡ true = ap (λ z. z == l) h ∙ same_eqb l in
-      ap (λ z. v.link z) h ∙ (s.0 ∙ (ap (λ z. Some (shut true z)) same ∙ ap (λ z. Some (shut z x)) (sym yes_is))))
+    let same : k ≡ x = some_is k x (sym e ∙ (ap (λ z. w.link z) (sym h) ∙ q)) in
+    let yes_is : j == l ≡ true = ap (λ z. z == l) h ∙ same_eqb l in
+    ap (λ z. v.link z) h ∙ (s.0 ∙ (ap (λ z. Some (shut true z)) same ∙ ap (λ z. Some (shut z x)) (sym yes_is))))
     (λ h.
-      let no_is : j == l ≡ false = elim (eqb_tells j l) [ inl y ↦ absurd (h y.1) | inr y ↦ y.0 ] in
-      s.1 j h ∙ (q ∙ ap (λ z. Some (shut z x)) (sym no_is)))
+    let no_is : j == l ≡ false = elim (eqb_tells j l) [ inl y ↦ absurd (h y.1) | inr y ↦ y.0 ] in
+    s.1 j h ∙ (q ∙ ap (λ z. Some (shut z x)) (sym no_is)))
 
 pub silent_after : (n : ℕ) (z y : Link) → shut (hears n z) z ≡ y → y.to ≡ n → y.serving ≡ true → y.streams ≡ false
 silent_after n z y e et eo = go (hears n z) refl z.streams refl
   where
     open_is : (shut (hears n z) z).serving ≡ true
     open_is = ap (λ x. x.serving) e ∙ eo
+
     go : (b : Bool) → hears n z ≡ b → (c : Bool) → z.streams ≡ c → y.streams ≡ false
     go true h c q = true_false false (ap (λ x. cond x false z.serving) (sym h) ∙ open_is) refl
     go false h false q = sym (ap (λ x. x.streams) e) ∙ q

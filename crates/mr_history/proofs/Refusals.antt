@@ -1,20 +1,20 @@
 -- What no row does.
-use Rattle.std.proofs.Common.{ℕ, List, [], ◌++◌, ◌≡◌, ◌≢◌, ◌+◌, ◌⊎◌, Option, None, Some, Bool, true, false, refl, sym, ◌∙◌, ap, subst, inl, inr, arith}
+use Rattle.std.proofs.Common.{ℕ, List, [], ◌++◌, ◌≡◌, ◌≢◌, ◌+◌, ◌⊎◌, Option, None, Some, Bool, true, false, refl, sym, ◌∙◌, ap, subst, inl, inr, arith, ◌<◌, length, append_assoc}
 use Rattle.std.specs.Prelude.{cond}
-use Rattle.mr_history.specs.Language.{Language}
+use Rattle.mr_history.specs.Language.{Language, Laws}
 use Rattle.mr_history.specs.Language.Request.{Psync}
 use Rattle.mr_history.specs.Changes.{SetAt, Same}
-use Rattle.mr_history.specs.Node.{Phase, Follow, Node, at_phase, continued}
+use Rattle.mr_history.specs.Node.{Phase, Follow, Node, continued, tail}
 use Rattle.mr_history.specs.Node.Phase.{Greet, Asked, Loading, Stream}
 use Rattle.mr_history.specs.World.{Caller, Link, World, shut, unread, no_bytes}
 use Rattle.mr_history.specs.Event.{Event}
 use Rattle.mr_history.specs.Event.Side.{Server, Dialler}
 use Rattle.mr_history.specs.Changing.{Still, LinkBecomes, NodeBecomes, Stops, Unless}
-use Rattle.mr_history.specs.ServerRows.{ServerRow}
-use Rattle.mr_history.specs.FollowerRows.{Usable, Leaves, FollowerRow}
+use Rattle.mr_history.specs.ServerRows.{Uses, ServerRow}
+use Rattle.mr_history.specs.FollowerRows.{Usable, BadAnswer, BadStream, Leaves, FollowerRow}
 use Rattle.mr_history.specs.FollowerRows.Usable.{a_reply, an_answer, a_snapshot, an_effect}
 use Rattle.mr_history.specs.Rows.{fresh_node, RestartRow, Opens, ClientRow, Dials, DialRow, Ticks, Row, BreakOfReplica}
-use Rattle.mr_history.specs.EachEvent.{BookChange, BookChangesByThreeWays, MastersTakeNewIds, StartsAnew, RestartsUnderNewIds, ShowsTheSame, PartsChangeNothing, Answer, Answered, AnswersAreOfOneMoment, AsksFromWhereItStands, DialledLinksAreEmpty}
+use Rattle.mr_history.specs.EachEvent.{BookChange, BookChangesByThreeWays, MastersTakeNewIds, StartsAnew, RestartsUnderNewIds, ShowsTheSame, PartsChangeNothing, Answer, Answered, AnswersAreOfOneMoment, AsksFromWhereItStands, StreamsAreFollowed, DialledLinksAreEmpty}
 use Rattle.mr_history.proofs.Histories.{append_nil}
 use Rattle.mr_history.proofs.Fronts.{some_is}
 use Rattle.mr_history.proofs.Keeping.{one_or, true_false, none_some}
@@ -48,14 +48,14 @@ server_books w v l k s given fresh e u (ServerRow.promotes r) = BookChange.branc
 server_books w v l k s given fresh e u (ServerRow.demotes r) = BookChange.stays r.book
 server_books w v l k s given fresh e u (ServerRow.turns r) = BookChange.stays r.book
 
-leaving_books : {L : Language} (w v : World L) (n : ℕ) (a : Node L) → Leaves w v n a → Booked w v
-leaving_books w v n a (Leaves.at_a_line b) = BookChange.stays b.book
-leaving_books w v n a (Leaves.at_the_stream b) = BookChange.stays b.book
+leaving_books : {L : Language} (w v : World L) (n : ℕ) (a : Node L) (p : Phase L.Id) (k : Link) → Leaves w v n a p k → Booked w v
+leaving_books w v n a p k (Leaves.at_an_answer c b) = BookChange.stays b.book
+leaving_books w v n a p k (Leaves.at_the_stream c b) = BookChange.stays b.book
 
 follower_books : {L : Language} (w v : World L) (n l : ℕ) (a : Node L) (p : Phase L.Id) (k : Link) → FollowerRow w v n l a p k → Booked w v
 follower_books w v n l a p k (FollowerRow.idles r) = BookChange.stays r.still.book
 follower_books w v n l a p k (FollowerRow.stops r) = BookChange.stays r.becomes.book
-follower_books w v n l a p k (FollowerRow.leaves r) = leaving_books w v n a r
+follower_books w v n l a p k (FollowerRow.leaves r) = leaving_books w v n a p k r
 follower_books w v n l a p k (FollowerRow.hears_reply r) = BookChange.stays r.becomes.book
 follower_books w v n l a p k (FollowerRow.hears_last_reply r) = BookChange.stays r.becomes.book
 follower_books w v n l a p k (FollowerRow.hears_full_resync r) = BookChange.stays r.becomes.book
@@ -115,18 +115,23 @@ masters_take_new_ids {L} w v e row n a b ea ma eb ub mb = go e row
   where
     same : Same w.node v.node → w.book b.id ≡ None
     same s = let i = some_is b a (sym eb ∙ (s n ∙ ea)) in true_false b.master mb (ap (λ z. z.master) i ∙ ma)
+
     changed : (m : ℕ) (x : Node L) → SetAt w.node v.node m x → (n ≡ m → x ≡ b → w.book b.id ≡ None) → w.book b.id ≡ None
     changed m x s f = one_or n m
-      (λ h. f h (some_is x b (sym s.0 ∙ (ap (λ z. v.node z) (sym h) ∙ eb))))
-      (λ h. let i = some_is b a (sym eb ∙ (s.1 n h ∙ ea)) in true_false b.master mb (ap (λ z. z.master) i ∙ ma))
+        (λ h. f h (some_is x b (sym s.0 ∙ (ap (λ z. v.node z) (sym h) ∙ eb))))
+        (λ h. let i = some_is b a (sym eb ∙ (s.1 n h ∙ ea)) in true_false b.master mb (ap (λ z. z.master) i ∙ ma))
+
     stopped : (m : ℕ) (x : Node L) → Stops w v m x → w.book b.id ≡ None
     stopped m x r = changed m r.wreck r.becomes.nodes (λ h q. true_false b.up ub (ap (λ z. z.up) (sym q) ∙ r.down))
+
     as_it_was : (m : ℕ) (x old : Node L) → SetAt w.node v.node m x → w.node m ≡ Some old → x.master ≡ old.master → w.book b.id ≡ None
     as_it_was m x old s eo em = changed m x s (λ h q.
-      let i = some_is old a (sym eo ∙ (ap (λ z. w.node z) (sym h) ∙ ea)) in
-      true_false b.master mb (ap (λ z. z.master) (sym q) ∙ (em ∙ (ap (λ z. z.master) i ∙ ma))))
+        let i = some_is old a (sym eo ∙ (ap (λ z. w.node z) (sym h) ∙ ea)) in
+        true_false b.master mb (ap (λ z. z.master) (sym q) ∙ (em ∙ (ap (λ z. z.master) i ∙ ma))))
+
     drawn : (m : ℕ) (x : Node L) → SetAt w.node v.node m x → w.book x.id ≡ None → w.book b.id ≡ None
     drawn m x s new = changed m x s (λ h q. subst (λ z. w.book z.id ≡ None) q new)
+
     at_server : (l : ℕ) (k : Link) (s : Node L) (given : L.Given) (fresh : L.Id) → w.node k.to ≡ Some s → ServerRow w v l k s given fresh → w.book b.id ≡ None
     at_server l k s given fresh es (ServerRow.idles r) = same r.still.nodes
     at_server l k s given fresh es (ServerRow.stops r) = stopped k.to s r
@@ -145,31 +150,37 @@ masters_take_new_ids {L} w v e row n a b ea ma eb ub mb = go e row
     at_server l k s given fresh es (ServerRow.promotes r) = drawn k.to _ r.nodes r.book.new_id
     at_server l k s given fresh es (ServerRow.demotes r) = changed k.to _ r.nodes (λ h q. true_false b.master mb (ap (λ z. z.master) (sym q)))
     at_server l k s given fresh es (ServerRow.turns r) = as_it_was k.to _ s r.nodes es refl
+
     at_follower : (m l : ℕ) (c : Node L) (p : Phase L.Id) (k : Link) → w.node m ≡ Some c → FollowerRow w v m l c p k → w.book b.id ≡ None
     at_follower m l c p k ec (FollowerRow.idles r) = same r.still.nodes
     at_follower m l c p k ec (FollowerRow.stops r) = stopped m c r
-    at_follower m l c p k ec (FollowerRow.leaves (Leaves.at_a_line r)) = as_it_was m _ c r.nodes ec refl
-    at_follower m l c p k ec (FollowerRow.leaves (Leaves.at_the_stream r)) = as_it_was m _ c r.nodes ec refl
+    at_follower m l c p k ec (FollowerRow.leaves (Leaves.at_an_answer x r)) = as_it_was m _ c r.nodes ec refl
+    at_follower m l c p k ec (FollowerRow.leaves (Leaves.at_the_stream x r)) = as_it_was m _ c r.nodes ec refl
     at_follower m l c p k ec (FollowerRow.hears_reply r) = as_it_was m _ c r.becomes.nodes ec refl
     at_follower m l c p k ec (FollowerRow.hears_last_reply r) = as_it_was m _ c r.becomes.nodes ec refl
     at_follower m l c p k ec (FollowerRow.hears_full_resync r) = as_it_was m _ c r.becomes.nodes ec refl
     at_follower m l c p k ec (FollowerRow.hears_continue r) = as_it_was m _ c r.becomes.nodes ec (continues_master c r.id)
     at_follower m l c p k ec (FollowerRow.loads r) = as_it_was m _ c r.becomes.nodes ec refl
     at_follower m l c p k ec (FollowerRow.applies r) = as_it_was m _ c r.becomes.nodes ec refl
+
     unless : (c : Node L) (Act : Type 0) → Unless w v c Act → (Act → w.book b.id ≡ None) → w.book b.id ≡ None
     unless c Act (Unless.acts u x) f = f x
     unless c Act (Unless.stopped u s) f = same s.nodes
+
     opens : (m : ℕ) (c : Node L) → Opens w v m c → w.book b.id ≡ None
     opens m c (Opens.opens l new r) = same r.nodes
     opens m c (Opens.stops r) = stopped m c r
+
     dials : (m s : ℕ) (c : Node L) → w.node m ≡ Some c → Dials w v m s c → w.book b.id ≡ None
     dials m s c ec (Dials.connects r) = as_it_was m _ c r.nodes ec refl
     dials m s c ec (Dials.stops r) = stopped m c r
+
     ticks : (m : ℕ) (c : Node L) (given : L.Given) → w.node m ≡ Some c → Ticks w v m c given → w.book b.id ≡ None
     ticks m c given ec (Ticks.beats r) = as_it_was m _ c r.grown.nodes ec refl
     ticks m c given ec (Ticks.acknowledges r) = same r.becomes.nodes
     ticks m c given ec (Ticks.rests x s) = same s.nodes
     ticks m c given ec (Ticks.stops r) = stopped m c r
+
     go : (e : Event L) → Row w e v → w.book b.id ≡ None
     go (Event.Start i master) r = drawn r.node _ r.nodes r.book.new_id
     go (Event.Restart m file i) r = drawn m _ r.nodes r.book.new_id
@@ -191,12 +202,13 @@ parts_change_nothing {L} w v n l a b p k ea row nothing eb ub = go row
   where
     is : (x : Node L) → SetAt w.node v.node n x → x ≡ b
     is x s = some_is x b (sym s.0 ∙ eb)
+
     go : FollowerRow w v n l a p k → ShowsTheSame a b
     go (FollowerRow.idles r) =
         let i = some_is b a (sym eb ∙ (r.still.nodes n ∙ ea)) in record { id = ap (λ z. z.id) i; offset = ap (λ z. z.offset) i; held = ap (λ z. z.held) i }
     go (FollowerRow.stops r) = true_false b.up ub (ap (λ z. z.up) (sym (is r.wreck r.becomes.nodes)) ∙ r.down)
-    go (FollowerRow.leaves (Leaves.at_a_line r)) = subst (λ z. ShowsTheSame a z) (is _ r.nodes) (record { id = refl; offset = refl; held = refl })
-    go (FollowerRow.leaves (Leaves.at_the_stream r)) = subst (λ z. ShowsTheSame a z) (is _ r.nodes) (record { id = refl; offset = refl; held = refl })
+    go (FollowerRow.leaves (Leaves.at_an_answer x r)) = subst (λ z. ShowsTheSame a z) (is _ r.nodes) (record { id = refl; offset = refl; held = refl })
+    go (FollowerRow.leaves (Leaves.at_the_stream x r)) = subst (λ z. ShowsTheSame a z) (is _ r.nodes) (record { id = refl; offset = refl; held = refl })
     go (FollowerRow.hears_reply r) = absurd (nothing (a_reply r.number r.hears.text r.hears.reads.rest _ r.phase r.hears.says r.hears.reads.begins))
     go (FollowerRow.hears_last_reply r) = absurd (nothing (a_reply 2 r.hears.text r.hears.reads.rest _ r.phase r.hears.says r.hears.reads.begins))
     go (FollowerRow.hears_full_resync r) = absurd (nothing (an_answer r.hears.text r.hears.reads.rest _ r.phase r.hears.says r.hears.reads.begins))
@@ -211,8 +223,11 @@ answers {L} w v l k k' s given fresh ek row st ek' st' = go row
   where
     no : (x : Link) → v.link l ≡ Some x → x.streams ≡ k.streams → Answered w v s k k'
     no x e es = let i = some_is k' x (sym ek' ∙ e) in true_false k'.streams st' (ap (λ z. z.streams) i ∙ (es ∙ st))
-    joins : (bytes : List ℕ) (x : Link) → s.master ≡ true → Same w.node v.node → v.link l ≡ Some x → x.tell.left ≡ k.tell.left ++ bytes → Answer s bytes → Answered w v s k k'
-    joins bytes x m sn e et ans = let i = some_is k' x (sym ek' ∙ e) in record { master = m; nodes = sn; bytes = bytes; sent = ap (λ z. z.tell.left) i ∙ et; answer = ans }
+
+    joins : (query : Option (L.Id × ℕ)) (bytes : List ℕ) (x : Link) → s.master ≡ true → Uses L k (Psync query) → Same w.node v.node → v.link l ≡ Some x → x.tell.left ≡ k.tell.left ++ bytes
+        → Answer s query bytes → Answered w v s k k'
+    joins query bytes x m u sn e et ans = let i = some_is k' x (sym ek' ∙ e) in record { master = m; nodes = sn; query = query; uses = u; bytes = bytes; sent = ap (λ z. z.tell.left) i ∙ et; answer = ans }
+
     go : ServerRow w v l k s given fresh → Answered w v s k k'
     go (ServerRow.idles r) = no k (r.still.links l ∙ ek) refl
     go (ServerRow.stops r) = no k (r.becomes.links l ∙ ek) refl
@@ -223,8 +238,8 @@ answers {L} w v l k k' s given fresh ek row st ek' st' = go row
     go (ServerRow.greets r) = no _ r.becomes.links.0 refl
     go (ServerRow.refuses r) = no _ r.becomes.links.0 refl
     go (ServerRow.resynchronizes r) =
-        joins (r.line ++ r.snapshot) _ r.master r.becomes.nodes r.becomes.links.0 refl (Answer.resynchronizes r.line r.snapshot r.says r.loads refl)
-    go (ServerRow.goes_on r) = joins _ _ r.master r.becomes.nodes r.becomes.links.0 refl (Answer.continues r.id r.from r.line r.continues r.says refl)
+        joins r.query (r.line ++ r.snapshot) _ r.master r.uses r.becomes.nodes r.becomes.links.0 refl (Answer.resynchronizes r.line r.snapshot r.apart r.says r.loads refl)
+    go (ServerRow.goes_on r) = joins (Some (r.id, r.from)) (r.line ++ tail s r.from) _ r.master r.uses r.becomes.nodes r.becomes.links.0 refl (Answer.continues r.id r.from r.line refl r.continues r.says refl)
     go (ServerRow.replies r) = no _ r.becomes.links.0 refl
     go (ServerRow.passes_limit r) = no _ r.becomes.links.0 refl
     go (ServerRow.runs r) = no _ r.link refl
@@ -240,11 +255,12 @@ asks_from_where_it_stands {L} w v n l a b k k' ea row offers eb ub ek' ek = go r
   where
     number_is : (j : ℕ) → ◌≡◌ {A = Phase L.Id} (Greet 2) (Greet j) → 2 ≡ j
     number_is j e = cc
+
     go : FollowerRow w v n l a (Greet 2) k → (k' ≡ k) ⊎ ((request : List ℕ) × L.asks request (Psync (Some (a.id, a.offset + 1))) × (k'.ask.left ≡ k.ask.left ++ request))
     go (FollowerRow.idles r) = inl (some_is k' k (sym ek' ∙ (r.still.links l ∙ ek)))
     go (FollowerRow.stops r) = let i = some_is r.wreck b (sym r.becomes.nodes.0 ∙ eb) in true_false b.up ub (ap (λ z. z.up) (sym i) ∙ r.down)
-    go (FollowerRow.leaves (Leaves.at_a_line r)) = inl (some_is k' k (sym ek' ∙ (r.links l ∙ ek)))
-    go (FollowerRow.leaves (Leaves.at_the_stream r)) = inl (some_is k' k (sym ek' ∙ (r.links l ∙ ek)))
+    go (FollowerRow.leaves (Leaves.at_an_answer x r)) = inl (some_is k' k (sym ek' ∙ (r.links l ∙ ek)))
+    go (FollowerRow.leaves (Leaves.at_the_stream x r)) = inl (some_is k' k (sym ek' ∙ (r.links l ∙ ek)))
     go (FollowerRow.hears_reply r) = absurd (let e = number_is r.number r.phase in omega (arith, r.not_last, e))
     go (FollowerRow.hears_last_reply r) =
         let i = some_is k' _ (sym ek' ∙ r.becomes.links.0) in
@@ -254,6 +270,50 @@ asks_from_where_it_stands {L} w v n l a b k k' ea row offers eb ub ek' ek = go r
     go (FollowerRow.loads r) = let e = r.phase in absurd (cc)
     go (FollowerRow.applies r) = let e = r.phase in absurd (cc)
 
+-- streams
+
+pub streams_are_followed : {L : Language} → Laws L → StreamsAreFollowed L
+streams_are_followed {L} laws w v n l a b k ea fa row e m more rest good fits within begins eb ub = go row
+  where
+    is : (x : Node L) → SetAt w.node v.node n x → x ≡ b
+    is x s = some_is x b (sym s.0 ∙ eb)
+
+    stays : (x : Node L) → SetAt w.node v.node n x → x.follow ≡ Some (record { link = l; phase = Stream }) → b.follow ≡ Some (record { link = l; phase = Stream })
+    stays x s q = ap (λ z. z.follow) (sym (is x s)) ∙ q
+
+    unfit : (f : L.Effect) (r : List ℕ) → L.IsGood f → unread k.tell ≡ L.text f ++ r → (L.apply f a.held ≡ None) ⊎ (L.limit < a.offset + length (L.text f)) → ⊥
+    unfit f r h q u =
+        let whole : L.text f ++ (r ++ more) ≡ L.text e ++ rest = sym (append_assoc (L.text f) r more) ∙ (ap (λ z. z ++ more) (sym q) ∙ begins) in
+        let same : f ≡ e = laws.text_cut f e (r ++ more) rest h good whole in
+        elim u [
+          | inl x ↦ none_some (L.apply e a.held) m (subst (λ z. L.apply z a.held ≡ None) same x) fits
+          | inr x ↦ (let y = subst (λ z. L.limit < a.offset + length (L.text z)) same x in omega (arith, y, within))
+        ]
+
+    answer : BadAnswer a Stream (unread k.tell) → ⊥
+    answer (BadAnswer.no_reply j p x) = cc
+    answer (BadAnswer.refused j t r p x y) = cc
+    answer (BadAnswer.no_line p x) = cc
+    answer (BadAnswer.no_answer t r line p x y z) = cc
+    answer (BadAnswer.no_snapshot i o p x) = cc
+
+    stream : BadStream a Stream (unread k.tell) → ⊥
+    stream (BadStream.no_snapshot i o p x) = cc
+    stream (BadStream.no_effect p x) = x more rest e good begins
+    stream (BadStream.unfit f r p h q u) = unfit f r h q u
+
+    go : FollowerRow w v n l a Stream k → b.follow ≡ Some (record { link = l; phase = Stream })
+    go (FollowerRow.idles r) = let i = some_is b a (sym eb ∙ (r.still.nodes n ∙ ea)) in ap (λ z. z.follow) i ∙ fa
+    go (FollowerRow.stops r) = true_false b.up ub (ap (λ z. z.up) (sym (is r.wreck r.becomes.nodes)) ∙ r.down)
+    go (FollowerRow.leaves (Leaves.at_an_answer x r)) = absurd (answer x)
+    go (FollowerRow.leaves (Leaves.at_the_stream x r)) = absurd (stream x)
+    go (FollowerRow.hears_reply r) = let p = r.phase in absurd (cc)
+    go (FollowerRow.hears_last_reply r) = let p = r.phase in absurd (cc)
+    go (FollowerRow.hears_full_resync r) = let p = r.phase in absurd (cc)
+    go (FollowerRow.hears_continue r) = let p = r.phase in absurd (cc)
+    go (FollowerRow.loads r) = let p = r.phase in absurd (cc)
+    go (FollowerRow.applies r) = stays _ r.becomes.nodes fa
+
 -- links
 
 pub dialled_links_are_empty : {L : Language} → DialledLinksAreEmpty L
@@ -261,6 +321,7 @@ dialled_links_are_empty {L} w v n s row b f k eb ub ef ek = first row.does
   where
     stays : Same w.node v.node → k.tell ≡ no_bytes
     stays sn = let i = some_is b row.node (sym eb ∙ (sn n ∙ row.found)) in none_some row.node.follow f row.waiting (ap (λ z. z.follow) (sym i) ∙ ef)
+
     go : Dials w v n s row.node → k.tell ≡ no_bytes
     go (Dials.connects r) =
         let i = some_is _ b (sym r.nodes.0 ∙ eb) in
@@ -268,9 +329,11 @@ dialled_links_are_empty {L} w v n s row b f k eb ub ef ek = first row.does
         let here = some_is _ k (sym r.links.0 ∙ (ap (λ z. v.link z.link) j ∙ ek)) in
         ap (λ z. z.tell) (sym here)
     go (Dials.stops r) = let i = some_is r.wreck b (sym r.becomes.nodes.0 ∙ eb) in true_false b.up ub (ap (λ z. z.up) (sym i) ∙ r.down)
+
     second : Unless w v row.server (Dials w v n s row.node) → k.tell ≡ no_bytes
     second (Unless.acts u x) = go x
     second (Unless.stopped u x) = stays x.nodes
+
     first : Unless w v row.node (Unless w v row.server (Dials w v n s row.node)) → k.tell ≡ no_bytes
     first (Unless.acts u x) = second x
     first (Unless.stopped u x) = stays x.nodes

@@ -11,7 +11,7 @@ use Rattle.mr_history.specs.Changing.{Still, LinkBecomes, Stops, Unless, NodeBec
 use Rattle.mr_history.specs.ServerRows.{ServerRow}
 use Rattle.mr_history.specs.FollowerRows.{FollowerRow}
 use Rattle.mr_history.specs.Rows.{fresh_node, fresh_link, more, StartRow, RestartRow, Opens, ClientRow, Connects, Dials, DialRow, CommandRow, DeliverToServer, DeliverToReplica, DeliverToClient, StepOfServer, StepOfReplica, BreakOfServer, BreakOfReplica, BreakOfClient, Acknowledges, Ticks, TickRow, Row}
-use Rattle.mr_history.specs.Invariant.{Talk, Inv}
+use Rattle.mr_history.specs.Invariant.{Talk, Invariant}
 use Rattle.mr_history.specs.Invariant.Talk.{greeting, greeted, asking, asking_for, refused, answered_full, answered_cont, loading, streaming}
 use Rattle.mr_history.proofs.Moves.{Move, Reaches}
 use Rattle.mr_history.proofs.Moves.Move.{still, stop, leave, close, carry, loose, draw, extend, dial, noted}
@@ -42,8 +42,10 @@ restart_reaches {L} w v n file i r = by_moves (closed ∷ []) (first, second)
   where
     closed : World L
     closed = record { node = w.node; link = v.link; book = w.book }
+
     first : Move w closed
     first = close (λ j k. k.to == n) (λ j. refl) r.links (λ j. refl)
+
     shut_to : (j : ℕ) (k : Link) → v.link j ≡ Some k → k.to ≡ n → k.serving ≡ false
     shut_to j k e h = go (w.link j) refl
       where
@@ -54,23 +56,24 @@ restart_reaches {L} w v n file i r = by_moves (closed ∷ []) (first, second)
             let to : z.to ≡ n = ap (λ x. x.to) same ∙ h in
             let yes_is : z.to == n ≡ true = ap (λ x. x == n) to ∙ same_eqb n in
             sym (ap (λ x. x.serving) same) ∙ ap (λ x. cond x false z.serving) yes_is
+
     second : Move closed v
     second = draw n (fresh_node L i r.old.starts_as_master r.held) r.book.new_id refl refl refl refl shut_to r.nodes (λ j. refl) r.book.book
 
 -- nobody follows a link that isn't there, or that a client asked for
-new_is_free : {L : Language} (w : World L) (l : ℕ) → Inv w → w.link l ≡ None → Free w l
+new_is_free : {L : Language} (w : World L) (l : ℕ) → Invariant w → w.link l ≡ None → Free w l
 new_is_free w l inv e m a p ea u ef = let o = inv.links m a (record { link = l; phase = p }) ea u ef in none_some (w.link l) o.link e o.found
 
 not_both : (c : Caller) (b : Bool) (m : ℕ) → c ≡ Client b → c ≡ Peer m → ⊥
 not_both c b m p q = let e = sym p ∙ q in cc
 
-client_is_free : {L : Language} (w : World L) (l : ℕ) (k : Link) (b : Bool) → Inv w → w.link l ≡ Some k → k.caller ≡ Client b → Free w l
+client_is_free : {L : Language} (w : World L) (l : ℕ) (k : Link) (b : Bool) → Invariant w → w.link l ≡ Some k → k.caller ≡ Client b → Free w l
 client_is_free w l k b inv e c m a p ea u ef =
     let o = inv.links m a (record { link = l; phase = p }) ea u ef in
     let i = some_is o.link k (sym o.found ∙ e) in
     not_both k.caller b m c (ap (λ z. z.caller) (sym i) ∙ o.mine)
 
-client_reaches : {L : Language} (w v : World L) (n : ℕ) → Inv w → ClientRow w n v → Reaches w v
+client_reaches : {L : Language} (w v : World L) (n : ℕ) → Invariant w → ClientRow w n v → Reaches w v
 client_reaches {L} w v n inv r = unless w v r.node (Opens w v n r.node) (λ u x. go x) r.does
   where
     go : Opens w v n r.node → Reaches w v
@@ -84,7 +87,7 @@ dial_reaches {L} w v n s r = unless w v r.node (Unless w v r.server (Dials w v n
     go (Dials.connects x) = one w v (dial n s x.link r.node x.request x.asks r.found r.replica r.waiting x.new_link x.nodes x.links x.book)
     go (Dials.stops x) = stops_reach w v n r.node x
 
-command_reaches : {L : Language} (w v : World L) (l : ℕ) (bytes : List ℕ) → Inv w → CommandRow w l bytes v → Reaches w v
+command_reaches : {L : Language} (w v : World L) (l : ℕ) (bytes : List ℕ) → Invariant w → CommandRow w l bytes v → Reaches w v
 command_reaches {L} w v l bytes inv r =
     one w v (loose l _ (client_is_free w l r.link true inv r.found r.client) r.becomes.nodes r.becomes.links r.becomes.book)
 
@@ -111,21 +114,21 @@ streams_is w a k (answered_cont i b e y g f) = f.streams
 streams_is w a k (loading i o m b e y at f) = f.streams
 streams_is w a k (streaming b e y f) = f.streams
 
-acknowledges_reach : {L : Language} (w v : World L) (n : ℕ) (a : Node L) → Inv w → w.node n ≡ Some a → a.up ≡ true → Acknowledges w v a → Reaches w v
+acknowledges_reach : {L : Language} (w v : World L) (n : ℕ) (a : Node L) → Invariant w → w.node n ≡ Some a → a.up ≡ true → Acknowledges w v a → Reaches w v
 acknowledges_reach {L} w v n a inv ea u r =
     let o = inv.links n a (record { link = r.l; phase = Stream }) ea u r.follow in
     let i = some_is o.link r.link (sym o.found ∙ r.found) in
     one w v (noted r.l r.link (r.link.ask.left ++ r.bytes) r.found (streams_is w a r.link (subst (λ z. Talk w a Stream z) i o.talk)) r.becomes.nodes r.becomes.links r.becomes.book)
 
-tick_reaches : {L : Language} (w v : World L) (n : ℕ) (a : Node L) (given : L.Given) → Inv w → w.node n ≡ Some a → a.up ≡ true → Ticks w v n a given → Reaches w v
+tick_reaches : {L : Language} (w v : World L) (n : ℕ) (a : Node L) (given : L.Given) → Invariant w → w.node n ≡ Some a → a.up ≡ true → Ticks w v n a given → Reaches w v
 tick_reaches {L} w v n a given inv ea u (Ticks.beats r) =
     one w v (extend n a r.effects r.grown.held r.grown.backlog r.grown.book.history ea u r.master r.grown.good r.grown.folds r.grown.last_bytes r.grown.nodes
-      r.links r.grown.book.found r.grown.book.book)
+    r.links r.grown.book.found r.grown.book.book)
 tick_reaches w v n a given inv ea u (Ticks.acknowledges r) = acknowledges_reach w v n a inv ea u r
 tick_reaches w v n a given inv ea u (Ticks.rests m s) = still_reaches w v s
 tick_reaches w v n a given inv ea u (Ticks.stops r) = stops_reach w v n a r
 
-break_of_client : {L : Language} (w v : World L) (l : ℕ) → Inv w → BreakOfClient w l v → Reaches w v
+break_of_client : {L : Language} (w v : World L) (l : ℕ) → Invariant w → BreakOfClient w l v → Reaches w v
 break_of_client {L} w v l inv r =
     one w v (loose l _ (client_is_free w l r.at.link true inv r.at.found r.at.client) r.becomes.nodes r.becomes.links r.becomes.book)
 
@@ -133,7 +136,7 @@ either : {A B P : Type 0} → (A → P) → (B → P) → A ⊎ B → P
 either f g (inl x) = f x
 either f g (inr x) = g x
 
-pub row_reaches : {L : Language} (laws : Laws L) (w : World L) (e : Event L) (v : World L) → Inv w → Row w e v → Reaches w v
+pub row_reaches : {L : Language} (laws : Laws L) (w : World L) (e : Event L) (v : World L) → Invariant w → Row w e v → Reaches w v
 row_reaches laws w (Event.Start i master) v inv r = start_reaches w v i master r
 row_reaches laws w (Event.Restart n file i) v inv r = restart_reaches w v n file i r
 row_reaches laws w (Event.Client n) v inv r = client_reaches w v n inv r

@@ -8,12 +8,12 @@ pub data Side : Type 0 where
   Dialler : Side
 
 pub data Event (L : Language) : Type 0 where
-  Start : L.Id → Bool → Event L                    -- a node starts under a drawn id, as a master or not
-  Restart : ℕ → List ℕ → L.Id → Event L            -- a node, whatever bytes are found as its file, a drawn id
-  Client : ℕ → Event L                             -- a client's link to a node
-  Dial : ℕ → ℕ → Event L                           -- a replica's link to a node
-  Command : ℕ → List ℕ → Event L                   -- a client sends more on a link
-  Deliver : ℕ → Side → ℕ → Event L                 -- an end of a link takes so many bytes
-  Step : ℕ → Side → L.Given → L.Id → Event L       -- a step at an end of a link, with what it is given and a fresh id
+  Start : L.Id → Bool → Event L  -- a node starts under a drawn id, as a master or not
+  Restart : ℕ → List ℕ → L.Id → Event L  -- a node, whatever bytes are found as its file, a drawn id
+  Client : ℕ → Event L  -- a client's link to a node
+  Dial : ℕ → ℕ → Event L  -- a replica's link to a node
+  Command : ℕ → List ℕ → Event L  -- a client sends more on a link
+  Deliver : ℕ → Side → ℕ → Event L  -- an end of a link takes so many bytes
+  Step : ℕ → Side → L.Given → L.Id → Event L  -- a step at an end of a link, with what it is given and a fresh id
   Tick : ℕ → L.Given → Event L
-  Break : ℕ → Side → Event L                       -- an end of a link closes
+  Break : ℕ → Side → Event L  -- an end of a link closes

@@ -1,7 +1,7 @@
 -- What a step at a replica's end of the link to its master may do, one row for each.
-use Rattle.std.specs.Prelude.{ℕ, List, [], ◌++◌, ◌+◌, ◌<◌, ◌≤◌, ◌≡◌, ◌≢◌, None, Some, true, false, length}
+use Rattle.std.specs.Prelude.{ℕ, List, [], ◌++◌, ◌+◌, ◌<◌, ◌≤◌, ◌≡◌, ◌≢◌, ◌⊎◌, None, Some, true, false, length}
 use Rattle.mr_history.specs.Language.{Language, Line}
-use Rattle.mr_history.specs.Language.Line.{FullResync, Continue, Refusal}
+use Rattle.mr_history.specs.Language.Line.{FullResync, Continue, Plain, Refusal}
 use Rattle.mr_history.specs.Language.Request.{Handshake, Psync}
 use Rattle.mr_history.specs.Changes.{SetAt, Same}
 use Rattle.mr_history.specs.Node.{Phase, Node, EndsAs, at_phase, continued, wanted}
@@ -38,11 +38,42 @@ pub record FollowerIdles {L : Language} (w v : World L) (p : Phase L.Id) (k : Li
   pub nothing : Usable L p (unread k.tell) → ⊥
   pub still : Still w v
 
--- The replica refuses what its master sent, or is refused, and closes its end. After a snapshot or a stream that can't be read or
--- applied it has nothing to continue. Which bytes are refused isn't said here: whatever they are, this is all that happens.
-pub data Leaves {L : Language} (w v : World L) (n : ℕ) (a : Node L) : Type 0 where
-  at_a_line : NodeBecomes w v n (record a { follow = None }) → Leaves w v n a
-  at_the_stream : NodeBecomes w v n (record a { follow = None; offers = false }) → Leaves w v n a
+-- no continuation of the bytes begins with a line, a snapshot, an effect
+abbrev pub NoLine : (L : Language) → List ℕ → Type 0
+NoLine L bytes = (more text rest : List ℕ) (line : Line L.Id) → L.says text line → bytes ++ more ≡ text ++ rest → ⊥
+
+abbrev pub NoSnapshot : (L : Language) → List ℕ → Type 0
+NoSnapshot L bytes = (more text rest : List ℕ) (m : L.Dataset) → L.loads text m → bytes ++ more ≡ text ++ rest → ⊥
+
+abbrev pub NoEffect : (L : Language) → List ℕ → Type 0
+NoEffect L bytes = (more rest : List ℕ) (e : L.Effect) → L.IsGood e → bytes ++ more ≡ L.text e ++ rest → ⊥
+
+-- the line answers no PSYNC, or not the one that was sent
+abbrev pub IsNoAnswer : {L : Language} → Node L → Line L.Id → Type 0
+IsNoAnswer a (FullResync i o) = ⊥
+IsNoAnswer a (Continue i) = a.offers ≡ false
+IsNoAnswer a Plain = Unit {0}
+IsNoAnswer a Refusal = Unit {0}
+
+-- What is refused before the stream: a line that is none, a refusal, a line that is no answer, a snapshot that is none.
+pub data BadAnswer {L : Language} (a : Node L) (p : Phase L.Id) (bytes : List ℕ) : Type 0 where
+  no_reply : (j : ℕ) → p ≡ Greet j → NoLine L bytes → BadAnswer a p bytes
+  refused : (j : ℕ) (text rest : List ℕ) → p ≡ Greet j → L.says text Refusal → bytes ≡ text ++ rest → BadAnswer a p bytes
+  no_line : p ≡ Asked → NoLine L bytes → BadAnswer a p bytes
+  no_answer : (text rest : List ℕ) (line : Line L.Id) → p ≡ Asked → L.says text line → bytes ≡ text ++ rest → IsNoAnswer a line → BadAnswer a p bytes
+  no_snapshot : (i : L.Id) (o : ℕ) → p ≡ Loading i o → NoSnapshot L bytes → BadAnswer a p bytes
+
+-- What is refused as undecodable: a snapshot or an effect that is none, an effect that doesn't apply or passes the limit.
+pub data BadStream {L : Language} (a : Node L) (p : Phase L.Id) (bytes : List ℕ) : Type 0 where
+  no_snapshot : (i : L.Id) (o : ℕ) → p ≡ Loading i o → NoSnapshot L bytes → BadStream a p bytes
+  no_effect : p ≡ Stream → NoEffect L bytes → BadStream a p bytes
+  unfit : (e : L.Effect) (rest : List ℕ) → p ≡ Stream → L.IsGood e → bytes ≡ L.text e ++ rest
+      → (L.apply e a.held ≡ None) ⊎ (L.limit < a.offset + length (L.text e)) → BadStream a p bytes
+
+-- The replica refuses what its master sent and closes its end. After what is undecodable it has nothing to continue.
+pub data Leaves {L : Language} (w v : World L) (n : ℕ) (a : Node L) (p : Phase L.Id) (k : Link) : Type 0 where
+  at_an_answer : BadAnswer a p (unread k.tell) → NodeBecomes w v n (record a { follow = None }) → Leaves w v n a p k
+  at_the_stream : BadStream a p (unread k.tell) → NodeBecomes w v n (record a { follow = None; offers = false }) → Leaves w v n a p k
 
 -- Any line that begins with + answers a line of the handshake, and the next one is sent; this is where that is not the last.
 pub record HearsReply {L : Language} (w v : World L) (n l : ℕ) (a : Node L) (p : Phase L.Id) (k : Link) : Type 0 where
@@ -78,7 +109,7 @@ pub record HearsFullResync {L : Language} (w v : World L) (n l : ℕ) (a : Node 
 -- The stream goes on from where the replica stands, under an id that may be another.
 pub record HearsContinue {L : Language} (w v : World L) (n l : ℕ) (a : Node L) (p : Phase L.Id) (k : Link) : Type 0 where
   pub phase : p ≡ Asked
-  pub asked_on : a.offers ≡ true
+  pub offered : a.offers ≡ true
   pub id : L.Id
   pub hears : Hears L k (Continue id)
   pub becomes : FollowerBecomes w v n l (at_phase (continued a id) l Stream) (asked k hears.left [])
@@ -94,7 +125,7 @@ pub record Loads {L : Language} (w v : World L) (n l : ℕ) (a : Node L) (p : Ph
   pub left : Way
   pub reads : Reads k.tell text left
   pub becomes : FollowerBecomes w v n l
-    (at_phase (record a { id = id; offset = offset; second = None; backlog = []; held = held; offers = true }) l Stream) (asked k left [])
+      (at_phase (record a { id = id; offset = offset; second = None; backlog = []; held = held; offers = true }) l Stream) (asked k left [])
 
 -- One effect of the stream is applied, counted, and put behind the backlog.
 pub record Applies {L : Language} (w v : World L) (n l : ℕ) (a : Node L) (p : Phase L.Id) (k : Link) : Type 0 where
@@ -114,7 +145,7 @@ pub record Applies {L : Language} (w v : World L) (n l : ℕ) (a : Node L) (p : 
 pub data FollowerRow {L : Language} (w v : World L) (n l : ℕ) (a : Node L) (p : Phase L.Id) (k : Link) : Type 0 where
   idles : FollowerIdles w v p k → FollowerRow w v n l a p k
   stops : Stops w v n a → FollowerRow w v n l a p k
-  leaves : Leaves w v n a → FollowerRow w v n l a p k
+  leaves : Leaves w v n a p k → FollowerRow w v n l a p k
   hears_reply : HearsReply w v n l a p k → FollowerRow w v n l a p k
   hears_last_reply : HearsLastReply w v n l a p k → FollowerRow w v n l a p k
   hears_full_resync : HearsFullResync w v n l a p k → FollowerRow w v n l a p k

@@ -26,27 +26,27 @@ pub record History (L : Language) : Type 0 where
 abbrev pub Book : Language → Type 0
 Book L = L.Id → Option (History L)
 
--- The history of i is pre and then suf, and the texts of pre have o bytes.
-pub record Front (L : Language) (book : Book L) (i : L.Id) (o : ℕ) (start : L.Dataset) (pre suf : List L.Effect) : Type 0 where
-  pub found : book i ≡ Some (record { start = start; effects = pre ++ suf })
-  pub place : length (texts L pre) ≡ o
+-- The history of i is the earlier effects and then the later ones, and the texts of the earlier ones have o bytes.
+pub record Front (L : Language) (book : Book L) (i : L.Id) (o : ℕ) (start : L.Dataset) (earlier later : List L.Effect) : Type 0 where
+  pub found : book i ≡ Some (record { start = start; effects = earlier ++ later })
+  pub place : length (texts L earlier) ≡ o
 
 -- The effects of i whose texts end at or before o come to m: o is an end of one of them, or 0, and each applies.
 pub record IsAt (L : Language) (book : Book L) (i : L.Id) (o : ℕ) (m : L.Dataset) : Type 0 where
   pub start : L.Dataset
-  pub pre : List L.Effect
-  pub suf : List L.Effect
-  pub front : Front L book i o start pre suf
-  pub folds : fold L pre start ≡ Some m
+  pub earlier : List L.Effect
+  pub later : List L.Effect
+  pub front : Front L book i o start earlier later
+  pub folds : fold L earlier start ≡ Some m
 
 -- The histories of i and j are one up to o.
 pub record Agree (L : Language) (book : Book L) (i j : L.Id) (o : ℕ) : Type 0 where
   pub start : L.Dataset
-  pub pre : List L.Effect
-  pub suf : List L.Effect
+  pub earlier : List L.Effect
+  pub later : List L.Effect
   pub other : List L.Effect
-  pub one : Front L book i o start pre suf
-  pub two : Front L book j o start pre other
+  pub one : Front L book i o start earlier later
+  pub two : Front L book j o start earlier other
 
 -- Each id keeps its history, which may have grown at its end.
 abbrev pub Grows : (L : Language) → Book L → Book L → Type 0
@@ -68,7 +68,7 @@ pub record Extends (L : Language) (old new : Book L) (i : L.Id) (es : List L.Eff
 pub record Branches (L : Language) (old new : Book L) (i : L.Id) (from : L.Id) (o : ℕ) : Type 0 where
   pub new_id : old i ≡ None
   pub start : L.Dataset
-  pub pre : List L.Effect
-  pub suf : List L.Effect
-  pub front : Front L old from o start pre suf
-  pub book : SetAt old new i (record { start = start; effects = pre })
+  pub earlier : List L.Effect
+  pub later : List L.Effect
+  pub front : Front L old from o start earlier later
+  pub book : SetAt old new i (record { start = start; effects = earlier })

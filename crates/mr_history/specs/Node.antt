@@ -4,9 +4,9 @@ use Rattle.mr_history.specs.Language.{Language}
 
 -- where a replica's reading of its master's link stands
 pub data Phase (I : Type 0) : Type 0 where
-  Greet : ℕ → Phase I         -- the line of the handshake of this number was sent, the last one not
-  Asked : Phase I             -- PSYNC was sent
-  Loading : I → ℕ → Phase I   -- a snapshot for this id and offset comes
+  Greet : ℕ → Phase I  -- the line of the handshake of this number was sent, the last one not
+  Asked : Phase I  -- PSYNC was sent
+  Loading : I → ℕ → Phase I  -- a snapshot for this id and offset comes
   Stream : Phase I
 
 -- a replica's end of the link to its master, while it's open
@@ -15,17 +15,17 @@ pub record Follow (I : Type 0) : Type 0 where
   pub phase : Phase I
 
 pub record Node (L : Language) : Type 0 where
-  pub up : Bool                      -- it hasn't stopped
+  pub up : Bool  -- it hasn't stopped
   pub master : Bool
   pub id : L.Id
   pub offset : ℕ
-  pub second : Option (L.Id × ℕ)     -- the id before it, and the offset of the first byte that is no longer that one's
-  pub backlog : List ℕ               -- the last bytes of its stream
+  pub second : Option (L.Id × ℕ)  -- the id before it, and the offset of the first byte that is no longer that one's
+  pub backlog : List ℕ  -- the last bytes of its stream
   pub held : L.Dataset
-  pub offers : Bool                  -- as a replica it has something to continue
+  pub offers : Bool  -- as a replica it has something to continue
   pub follow : Option (Follow L.Id)
-  pub upstream : List ℕ              -- the host and port that it follows
-  pub starts_as_master : Bool        -- the role in which it starts
+  pub upstream : List ℕ  -- the host and port that it follows
+  pub starts_as_master : Bool  -- the role in which it starts
 
 abbrev pub at_phase : {L : Language} → Node L → ℕ → Phase L.Id → Node L
 at_phase a l p = record a { follow = Some (record { link = l; phase = p }) }

@@ -6,7 +6,7 @@ use Rattle.mr_history.specs.Node.{Node}
 use Rattle.mr_history.specs.World.{World, Shows}
 use Rattle.mr_history.specs.Event.{Event}
 use Rattle.mr_history.specs.Runs.{IsMoment, CaughtUp}
-use Rattle.mr_history.specs.Invariant.{Inv}
+use Rattle.mr_history.specs.Invariant.{Invariant}
 
 -- At any two moments, nodes that show one id and offset hold one dataset.
 abbrev pub NoSilentDifference : Language → Type 0
@@ -36,4 +36,4 @@ CaughtUpIsLevel L = (events : List (Event L)) (moments : List (World L)) (k : �
 
 -- What all this rests on holds at each moment.
 abbrev pub InvariantHolds : Language → Type 0
-InvariantHolds L = (events : List (Event L)) (moments : List (World L)) (k : ℕ) (v : World L) → IsMoment events moments k v → Inv v
+InvariantHolds L = (events : List (Event L)) (moments : List (World L)) (k : ℕ) (v : World L) → IsMoment events moments k v → Invariant v

@@ -17,13 +17,29 @@ use Rattle.mr_history.specs.FollowerRows.{FollowerRow}
 -- a node that starts under a drawn id
 abbrev pub fresh_node : (L : Language) → L.Id → Bool → L.Dataset → Node L
 fresh_node L i master m = record {
-    up = true; master = master; id = i; offset = 0; second = None; backlog = []; held = m; offers = master; follow = None; upstream = [];
-    starts_as_master = master }
+  up = true;
+  master = master;
+  id = i;
+  offset = 0;
+  second = None;
+  backlog = [];
+  held = m;
+  offers = master;
+  follow = None;
+  upstream = [];
+  starts_as_master = master;
+}
 
 -- a link before its first step
 abbrev pub fresh_link : Caller → ℕ → List ℕ → Link
 fresh_link caller to bytes = record {
-    caller = caller; to = to; serving = true; streams = false; ask = record { left = bytes; taken = 0 }; tell = no_bytes }
+  caller = caller;
+  to = to;
+  serving = true;
+  streams = false;
+  ask = record { left = bytes; taken = 0 };
+  tell = no_bytes;
+}
 
 -- A new node, to which no link leads yet.
 pub record StartRow {L : Language} (w : World L) (i : L.Id) (master : Bool) (v : World L) : Type 0 where

@@ -17,16 +17,16 @@ no_bytes = record { left = []; taken = 0 }
 
 -- who asked for a link
 pub data Caller : Type 0 where
-  Client : Bool → Caller    -- a client, whose end is open or not
-  Peer : ℕ → Caller         -- a node, whose end is open while it follows this link
+  Client : Bool → Caller  -- a client, whose end is open or not
+  Peer : ℕ → Caller  -- a node, whose end is open while it follows this link
 
 pub record Link : Type 0 where
   pub caller : Caller
-  pub to : ℕ                -- the node that serves
-  pub serving : Bool        -- the server's end is open
-  pub streams : Bool        -- the server has answered PSYNC by CONTINUE or FULLRESYNC
-  pub ask : Way             -- to the server
-  pub tell : Way            -- from the server
+  pub to : ℕ  -- the node that serves
+  pub serving : Bool  -- the server's end is open
+  pub streams : Bool  -- the server has answered PSYNC by CONTINUE or FULLRESYNC
+  pub ask : Way  -- to the server
+  pub tell : Way  -- from the server
 
 pub record World (L : Language) : Type 0 where
   pub node : ℕ → Option (Node L)

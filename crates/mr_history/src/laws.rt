@@ -1,12 +1,22 @@
 //! What holds of every run and of every event, at each language. No function here does anything: each is the law that it
 //! ensures.
 ghost use Rattle.mr_history.specs.EachEvent.{
-    AnswersAreOfOneMoment, AsksFromWhereItStands, BookChangesByThreeWays, DialledLinksAreEmpty, MastersTakeNewIds, PartsChangeNothing,
-    RestartsUnderNewIds,
+  AnswersAreOfOneMoment,
+  AsksFromWhereItStands,
+  BookChangesByThreeWays,
+  DialledLinksAreEmpty,
+  MastersTakeNewIds,
+  PartsChangeNothing,
+  RestartsUnderNewIds,
+  StreamsAreFollowed,
 };
 ghost use Rattle.mr_history.specs.Language.{Language, Laws};
 ghost use Rattle.mr_history.specs.Promises.{
-    CaughtUpIsLevel, HistoriesStay, InvariantHolds, NoSilentDifference, TrueToHistory,
+  CaughtUpIsLevel,
+  HistoriesStay,
+  InvariantHolds,
+  NoSilentDifference,
+  TrueToHistory,
 };
 
 /// What replicas hold and how they write to one another, with the proof that of each kind of text none begins another.
@@ -67,8 +77,8 @@ pub fn parts_change_nothing<R: Replicated>()
     ensures { PartsChangeNothing R.language }
 {}
 
-/// What PSYNC is answered is of one moment: the id and the offset with a snapshot of the dataset at them, or, by the continue
-/// rule alone, the stream from the byte that was asked for.
+/// What PSYNC is answered is of one moment: exactly where the continue rule allows it, the stream from the byte that was asked
+/// for, and else the id and the offset with a snapshot of the dataset at them.
 pub fn answers_are_of_one_moment<R: Replicated>()
     ensures { AnswersAreOfOneMoment R.language }
 {}
@@ -76,6 +86,11 @@ pub fn answers_are_of_one_moment<R: Replicated>()
 /// A replica that has something to continue asks for the byte after its last one.
 pub fn asks_from_where_it_stands<R: Replicated>()
     ensures { AsksFromWhereItStands R.language }
+{}
+
+/// While what is unread may still become an effect that applies, a replica in its stream phase keeps its link.
+pub fn streams_are_followed<R: Replicated>()
+    ensures { StreamsAreFollowed R.language }
 {}
 
 /// On a link that a replica has just dialled nothing was sent to it: what a broken link left half-read is gone.

@@ -267,7 +267,7 @@ step_29 : Row (moment_28) (Event.Deliver 2 Server 1) moment_29
 step_29 = record { at = record { link = link2_1; found = refl; serving = refl; node = node1_7; node_found = refl }; sent = let h : 1 ≤ 1 = omega arith in h; does = Unless.acts refl (record { nodes = λ m. refl; links = set_link_2 _ _ _ _ _; book = λ m. refl }) }
 
 step_30 : Row (moment_29) (Event.Step 2 Server tt 2) moment_30
-step_30 = record { at = record { link = link2_2; found = refl; serving = refl; node = node1_7; node_found = refl }; does = Unless.acts refl (ServerRow.promotes (record { client = refl; replica = refl; uses = record { text = 11 ∷ []; asks = refl; left = record { left = []; taken = 0 }; reads = record { rest = []; begins = refl; new_is = refl } }; nodes = set_node_1 _ _ _; reply = 98 ∷ []; links = set_link_2 _ _ _ _ _; book = record { new_id = refl; start = []; pre = 7 ∷ []; suf = []; front = record { found = refl; place = refl }; book = set_id_2 _ _ _ _ } })) }
+step_30 = record { at = record { link = link2_2; found = refl; serving = refl; node = node1_7; node_found = refl }; does = Unless.acts refl (ServerRow.promotes (record { client = refl; replica = refl; uses = record { text = 11 ∷ []; asks = refl; left = record { left = []; taken = 0 }; reads = record { rest = []; begins = refl; new_is = refl } }; nodes = set_node_1 _ _ _; reply = 98 ∷ []; links = set_link_2 _ _ _ _ _; book = record { new_id = refl; start = []; earlier = 7 ∷ []; later = []; front = record { found = refl; place = refl }; book = set_id_2 _ _ _ _ } })) }
 
 step_31 : Row (moment_30) (Event.Command 2 (10 ∷ [])) moment_31
 step_31 = record { link = link2_3; found = refl; client = refl; becomes = record { nodes = λ m. refl; links = set_link_2 _ _ _ _ _; book = λ m. refl } }
@@ -336,7 +336,7 @@ step_52 : Row (moment_51) (Event.Deliver 3 Dialler 4) moment_52
 step_52 = inl (record { at = record { link = link3_6; found = refl; n = 0; node = node0_6; node_found = refl; phase = Asked; follow = refl }; sent = let h : 4 ≤ 4 = omega arith in h; does = Unless.acts refl (record { nodes = λ m. refl; links = set_link_3 _ _ _ _ _; book = λ m. refl }) })
 
 step_53 : Row (moment_52) (Event.Step 3 Dialler tt 2) moment_53
-step_53 = record { at = record { link = link3_7; found = refl; n = 0; node = node0_6; node_found = refl; phase = Asked; follow = refl }; does = Unless.acts refl (FollowerRow.hears_continue (record { phase = refl; asked_on = refl; id = 2; hears = record { text = 3 ∷ 2 ∷ []; says = refl; left = record { left = 1 ∷ 8 ∷ []; taken = 2 }; reads = record { rest = 1 ∷ 8 ∷ []; begins = refl; new_is = refl } }; becomes = record { nodes = set_node_0 _ _ _; links = set_link_3 _ _ _ _ _; book = λ m. refl } })) }
+step_53 = record { at = record { link = link3_7; found = refl; n = 0; node = node0_6; node_found = refl; phase = Asked; follow = refl }; does = Unless.acts refl (FollowerRow.hears_continue (record { phase = refl; offered = refl; id = 2; hears = record { text = 3 ∷ 2 ∷ []; says = refl; left = record { left = 1 ∷ 8 ∷ []; taken = 2 }; reads = record { rest = 1 ∷ 8 ∷ []; begins = refl; new_is = refl } }; becomes = record { nodes = set_node_0 _ _ _; links = set_link_3 _ _ _ _ _; book = λ m. refl } })) }
 
 step_54 : Row (moment_53) (Event.Step 3 Dialler tt 2) moment_54
 step_54 = record { at = record { link = link3_8; found = refl; n = 0; node = node0_7; node_found = refl; phase = Stream; follow = refl }; does = Unless.acts refl (FollowerRow.applies (record { phase = refl; effect = 8; good = tt; left = record { left = []; taken = 0 }; reads = record { rest = []; begins = refl; new_is = refl }; held = 8 ∷ 7 ∷ []; applies = refl; within = let h : 4 ≤ 1000 = omega arith in h; backlog = 1 ∷ 7 ∷ 1 ∷ 8 ∷ []; last_bytes = ([], refl); becomes = record { nodes = set_node_0 _ _ _; links = set_link_3 _ _ _ _ _; book = λ m. refl } })) }
@@ -352,5 +352,17 @@ nothing_left (an_effect e rest p good q) = absurd (cc)
 
 pub ends_level : EndsLevel
 ends_level = record {
-    link = link3_9; found = refl; n = 0; replica_found = refl; replica_up = refl; phase = Stream; follow = refl; master_found = refl; master_up = refl;
-    serving = refl; streams = refl; all_taken = let h : 0 ≤ 0 = omega arith in h; nothing_left = nothing_left }
+  link = link3_9;
+  found = refl;
+  n = 0;
+  replica_found = refl;
+  replica_up = refl;
+  phase = Stream;
+  follow = refl;
+  master_found = refl;
+  master_up = refl;
+  serving = refl;
+  streams = refl;
+  all_taken = let h : 0 ≤ 0 = omega arith in h;
+  nothing_left = nothing_left;
+}

@@ -1,2 +1,3 @@
 pub mod Tiny
+pub mod TinyLaws
 pub mod Story

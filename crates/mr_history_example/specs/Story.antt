@@ -377,59 +377,59 @@ moment_54 = record { node = nodes (Some node0_8) (Some node1_9); link = links (S
 abbrev pub events : List (Event tiny)
 events =
     Event.Start 0 true
-      ∷ Event.Start 1 false
-      ∷ Event.Client 0
-      ∷ Event.Dial 1 0
-      ∷ Event.Deliver 1 Server 1
-      ∷ Event.Step 1 Server tt 2
-      ∷ Event.Deliver 1 Dialler 1
-      ∷ Event.Step 1 Dialler tt 2
-      ∷ Event.Deliver 1 Server 1
-      ∷ Event.Step 1 Server tt 2
-      ∷ Event.Deliver 1 Dialler 1
-      ∷ Event.Step 1 Dialler tt 2
-      ∷ Event.Deliver 1 Server 1
-      ∷ Event.Step 1 Server tt 2
-      ∷ Event.Deliver 1 Dialler 1
-      ∷ Event.Step 1 Dialler tt 2
-      ∷ Event.Deliver 1 Server 2
-      ∷ Event.Step 1 Server tt 2
-      ∷ Event.Deliver 1 Dialler 5
-      ∷ Event.Step 1 Dialler tt 2
-      ∷ Event.Step 1 Dialler tt 2
-      ∷ Event.Command 0 (10 ∷ [])
-      ∷ Event.Deliver 0 Server 1
-      ∷ Event.Step 0 Server tt 2
-      ∷ Event.Deliver 1 Dialler 2
-      ∷ Event.Step 1 Dialler tt 2
-      ∷ Event.Client 1
-      ∷ Event.Command 2 (11 ∷ [])
-      ∷ Event.Deliver 2 Server 1
-      ∷ Event.Step 2 Server tt 2
-      ∷ Event.Command 2 (10 ∷ [])
-      ∷ Event.Deliver 2 Server 1
-      ∷ Event.Step 2 Server tt 2
-      ∷ Event.Command 0 (13 ∷ 1 ∷ 5 ∷ [])
-      ∷ Event.Deliver 0 Server 3
-      ∷ Event.Step 0 Server tt 2
-      ∷ Event.Dial 0 1
-      ∷ Event.Deliver 3 Server 1
-      ∷ Event.Step 3 Server tt 2
-      ∷ Event.Deliver 3 Dialler 1
-      ∷ Event.Step 3 Dialler tt 2
-      ∷ Event.Deliver 3 Server 1
-      ∷ Event.Step 3 Server tt 2
-      ∷ Event.Deliver 3 Dialler 1
-      ∷ Event.Step 3 Dialler tt 2
-      ∷ Event.Deliver 3 Server 1
-      ∷ Event.Step 3 Server tt 2
-      ∷ Event.Deliver 3 Dialler 1
-      ∷ Event.Step 3 Dialler tt 2
-      ∷ Event.Deliver 3 Server 4
-      ∷ Event.Step 3 Server tt 2
-      ∷ Event.Deliver 3 Dialler 4
-      ∷ Event.Step 3 Dialler tt 2
-      ∷ Event.Step 3 Dialler tt 2 ∷ []
+    ∷ Event.Start 1 false
+    ∷ Event.Client 0
+    ∷ Event.Dial 1 0
+    ∷ Event.Deliver 1 Server 1
+    ∷ Event.Step 1 Server tt 2
+    ∷ Event.Deliver 1 Dialler 1
+    ∷ Event.Step 1 Dialler tt 2
+    ∷ Event.Deliver 1 Server 1
+    ∷ Event.Step 1 Server tt 2
+    ∷ Event.Deliver 1 Dialler 1
+    ∷ Event.Step 1 Dialler tt 2
+    ∷ Event.Deliver 1 Server 1
+    ∷ Event.Step 1 Server tt 2
+    ∷ Event.Deliver 1 Dialler 1
+    ∷ Event.Step 1 Dialler tt 2
+    ∷ Event.Deliver 1 Server 2
+    ∷ Event.Step 1 Server tt 2
+    ∷ Event.Deliver 1 Dialler 5
+    ∷ Event.Step 1 Dialler tt 2
+    ∷ Event.Step 1 Dialler tt 2
+    ∷ Event.Command 0 (10 ∷ [])
+    ∷ Event.Deliver 0 Server 1
+    ∷ Event.Step 0 Server tt 2
+    ∷ Event.Deliver 1 Dialler 2
+    ∷ Event.Step 1 Dialler tt 2
+    ∷ Event.Client 1
+    ∷ Event.Command 2 (11 ∷ [])
+    ∷ Event.Deliver 2 Server 1
+    ∷ Event.Step 2 Server tt 2
+    ∷ Event.Command 2 (10 ∷ [])
+    ∷ Event.Deliver 2 Server 1
+    ∷ Event.Step 2 Server tt 2
+    ∷ Event.Command 0 (13 ∷ 1 ∷ 5 ∷ [])
+    ∷ Event.Deliver 0 Server 3
+    ∷ Event.Step 0 Server tt 2
+    ∷ Event.Dial 0 1
+    ∷ Event.Deliver 3 Server 1
+    ∷ Event.Step 3 Server tt 2
+    ∷ Event.Deliver 3 Dialler 1
+    ∷ Event.Step 3 Dialler tt 2
+    ∷ Event.Deliver 3 Server 1
+    ∷ Event.Step 3 Server tt 2
+    ∷ Event.Deliver 3 Dialler 1
+    ∷ Event.Step 3 Dialler tt 2
+    ∷ Event.Deliver 3 Server 1
+    ∷ Event.Step 3 Server tt 2
+    ∷ Event.Deliver 3 Dialler 1
+    ∷ Event.Step 3 Dialler tt 2
+    ∷ Event.Deliver 3 Server 4
+    ∷ Event.Step 3 Server tt 2
+    ∷ Event.Deliver 3 Dialler 4
+    ∷ Event.Step 3 Dialler tt 2
+    ∷ Event.Step 3 Dialler tt 2 ∷ []
 
 abbrev pub moments : List (World tiny)
 moments = moment_1 ∷ moment_2 ∷ moment_3 ∷ moment_4 ∷ moment_5 ∷ moment_6 ∷ moment_7 ∷ moment_8 ∷ moment_9 ∷ moment_10 ∷ moment_11 ∷ moment_12 ∷ moment_13 ∷ moment_14 ∷ moment_15 ∷ moment_16 ∷ moment_17 ∷ moment_18 ∷ moment_19 ∷ moment_20 ∷ moment_21 ∷ moment_22 ∷ moment_23 ∷ moment_24 ∷ moment_25 ∷ moment_26 ∷ moment_27 ∷ moment_28 ∷ moment_29 ∷ moment_30 ∷ moment_31 ∷ moment_32 ∷ moment_33 ∷ moment_34 ∷ moment_35 ∷ moment_36 ∷ moment_37 ∷ moment_38 ∷ moment_39 ∷ moment_40 ∷ moment_41 ∷ moment_42 ∷ moment_43 ∷ moment_44 ∷ moment_45 ∷ moment_46 ∷ moment_47 ∷ moment_48 ∷ moment_49 ∷ moment_50 ∷ moment_51 ∷ moment_52 ∷ moment_53 ∷ moment_54 ∷ []

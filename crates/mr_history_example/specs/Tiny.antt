@@ -29,9 +29,21 @@ snapshot_text numbers = 12 ∷ length numbers ∷ numbers
 
 abbrev pub tiny : Language
 tiny = record {
-    Id = ℕ; same = λ i j. i == j;
-    Dataset = List ℕ; empty = []; Effect = ℕ; apply = λ e m. Some (e ∷ m);
-    text = λ e. 1 ∷ e ∷ []; IsGood = λ e. Unit {0}; limit = 1000;
-    Given = Unit {0}; effects = λ request m given effects. Unit {0}; due = λ m given effects. Unit {0};
-    says = λ text line. text ≡ line_text line; asks = λ text request. text ≡ request_text request;
-    loads = λ text m. text ≡ snapshot_text m; doomed = λ text. ⊥; restores = λ file m. m ≡ [] }
+  Id = ℕ;
+  same = λ i j. i == j;
+  Dataset = List ℕ;
+  empty = [];
+  Effect = ℕ;
+  apply = λ e m. Some (e ∷ m);
+  text = λ e. 1 ∷ e ∷ [];
+  IsGood = λ e. Unit {0};
+  limit = 1000;
+  Given = Unit {0};
+  effects = λ request m given effects. Unit {0};
+  due = λ m given effects. Unit {0};
+  says = λ text line. text ≡ line_text line;
+  asks = λ text request. text ≡ request_text request;
+  loads = λ text m. text ≡ snapshot_text m;
+  doomed = λ text. ⊥;
+  restores = λ file m. m ≡ [];
+}

@@ -8,9 +8,15 @@ use Rattle.mr_language.proofs.Asked.{asks_cut, asks_some, doomed_cut, doomed_som
 
 pub minired_laws : Laws minired
 minired_laws = record {
-    same_decides = bytes_eq-Decides;
-    text_cut = text_cut; text_some = text_some;
-    says_cut = says_cut; says_some = says_some;
-    asks_cut = asks_cut; asks_some = asks_some;
-    loads_cut = loads_cut; loads_some = loads_some;
-    doomed_cut = doomed_cut; doomed_some = doomed_some }
+  same_decides = bytes_eq-Decides;
+  text_cut = text_cut;
+  text_some = text_some;
+  says_cut = says_cut;
+  says_some = says_some;
+  asks_cut = asks_cut;
+  asks_some = asks_some;
+  loads_cut = loads_cut;
+  loads_some = loads_some;
+  doomed_cut = doomed_cut;
+  doomed_some = doomed_some;
+}

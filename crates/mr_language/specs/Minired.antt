@@ -18,7 +18,21 @@ use Rattle.mr_language.specs.Snapshots.{IsSnapshot}
 -- Which effects a command has, and which are due, is left open here: whatever they are, so long as they apply.
 abbrev pub minired : Language
 minired = record {
-    Id = List ℕ; same = bytes_eq;
-    Dataset = Dataset; empty = empty; Effect = Effect; apply = apply; text = text; IsGood = IsGoodEffect; limit = greatest;
-    Given = Given; effects = λ request m given effects. Unit {0}; due = λ m given effects. Unit {0};
-    says = Says; asks = IsAsked; loads = IsSnapshot; doomed = IsDoomed (IsText usual); restores = IsReadAs }
+  Id = List ℕ;
+  same = bytes_eq;
+  Dataset = Dataset;
+  empty = empty;
+  Effect = Effect;
+  apply = apply;
+  text = text;
+  IsGood = IsGoodEffect;
+  limit = greatest;
+  Given = Given;
+  effects = λ request m given effects. Unit {0};
+  due = λ m given effects. Unit {0};
+  says = Says;
+  asks = IsAsked;
+  loads = IsSnapshot;
+  doomed = IsDoomed (IsText usual);
+  restores = IsReadAs;
+}

@@ -1,9 +1,10 @@
 -- What a request asks of a node, by its words.
-use Rattle.std.specs.Prelude.{◌≡◌, ◌≢◌, ℕ, ◌<◌, ◌^◌, List, [], ◌∷◌, ◌++◌, codes, Bool, true, false, ◌||◌, ◌&&◌, if◌then◌else◌, Option, Some, None, bytes_eq}
+use Rattle.std.specs.Prelude.{◌≡◌, ℕ, ◌<◌, ◌^◌, ℤ, pos, negsuc, nat_le, List, [], ◌∷◌, ◌++◌, codes, Bool, true, false, ◌||◌, ◌&&◌, if◌then◌else◌, Option, Some, None, is_some, bytes_eq}
 use Rattle.std.specs.Fmt.{decimal}
 use Rattle.mr_map.specs.Bytes.{Bytes}
 use Rattle.mr_resp.specs.Request.{IsRequest, IsEmptyRequest}
 use Rattle.mr_resp.specs.Usual.{usual}
+use Rattle.mr_value.specs.Number.{number_of}
 use Rattle.mr_words.specs.Names.{lowered}
 use Rattle.mr_repl.specs.ReplId.{IsId, digits_of}
 use Rattle.mr_history.specs.Language.{Request}
@@ -23,36 +24,56 @@ pub data Kind : Type 0 where
 abbrev pub named : Bytes → Bytes → Bool
 named word name = bytes_eq (lowered word) name
 
-abbrev pub asked_by_ping : List Bytes → Kind
-asked_by_ping [] = handshake
-asked_by_ping (message ∷ more) = command
+-- the word is a number of 64 bits; one that a port may have
+abbrev pub is_number : Bytes → Bool
+is_number word = is_some (number_of word)
+
+abbrev pub may_be_port : Option ℤ → Bool
+may_be_port None = false
+may_be_port (Some (pos n)) = nat_le 1 n && nat_le n 65535
+may_be_port (Some (negsuc n)) = false
+
+abbrev pub asked_alone : Kind → List Bytes → Kind
+asked_alone kind [] = kind
+asked_alone kind (word ∷ more) = command
+
+-- what a replica says of itself before it asks for the stream
+abbrev pub tells_of_itself : Bytes → Bool
+tells_of_itself option = named option (codes "listening-port") || (named option (codes "ip-address") || named option (codes "capa"))
+
+-- options that do, each with its value
+abbrev pub all_tell : List Bytes → Bool
+all_tell [] = true
+all_tell (option ∷ []) = false
+all_tell (option ∷ (value ∷ rest)) = tells_of_itself option && all_tell rest
 
 abbrev pub asked_by_replconf : List Bytes → Kind
 asked_by_replconf [] = command
-asked_by_replconf (option ∷ value) =
-    if named option (codes "ack") then ack
-    else (if named option (codes "listening-port") || (named option (codes "ip-address") || named option (codes "capa")) then handshake else command)
+asked_by_replconf (option ∷ []) = command
+asked_by_replconf (option ∷ (value ∷ rest)) =
+    if named option (codes "ack") then (if is_number value then asked_alone ack rest else command)
+    else (if tells_of_itself option && all_tell rest then handshake else command)
 
 abbrev pub asked_by_psync : List Bytes → Kind
 asked_by_psync [] = command
 asked_by_psync (id ∷ []) = command
-asked_by_psync (id ∷ (offset ∷ [])) = psync id offset
-asked_by_psync (id ∷ (offset ∷ (third ∷ more))) = command
+asked_by_psync (id ∷ (offset ∷ rest)) = if is_number offset then asked_alone (psync id offset) rest else command
 
 abbrev pub asked_by_replicaof : List Bytes → Kind
 asked_by_replicaof [] = command
 asked_by_replicaof (host ∷ []) = command
-asked_by_replicaof (host ∷ (port ∷ [])) = if named host (codes "no") && named port (codes "one") then no_one else follow host port
-asked_by_replicaof (host ∷ (port ∷ (third ∷ more))) = command
+asked_by_replicaof (host ∷ (port ∷ rest)) =
+    if named host (codes "no") && named port (codes "one") then asked_alone no_one rest
+    else (if may_be_port (number_of port) then asked_alone (follow host port) rest else command)
 
 abbrev pub kind_of : List Bytes → Kind
 kind_of [] = command
 kind_of (name ∷ arguments) =
-    if named name (codes "ping") then asked_by_ping arguments
+    if named name (codes "ping") then asked_alone handshake arguments
     else (if named name (codes "replconf") then asked_by_replconf arguments
     else (if named name (codes "psync") then asked_by_psync arguments
     else (if named name (codes "replicaof") || named name (codes "slaveof") then asked_by_replicaof arguments
-    else (if named name (codes "quit") then quit else command))))
+    else (if named name (codes "quit") then asked_alone quit arguments else command))))
 
 -- The two words of PSYNC want the stream of this id from this byte on.
 pub record Wants (id_text offset_text : Bytes) (id : List ℕ) (offset : ℕ) : Type 0 where
