@@ -1,5 +1,5 @@
 -- A step at a replica's end is a few moves.
-use Rattle.std.proofs.Common.{ℕ, List, [], ◌+◌, ◌≡◌, Option, None, Some, Bool, true, false, cond, refl, subst}
+use Rattle.std.proofs.Common.{ℕ, [], ◌+◌, ◌≡◌, None, Some, Bool, true, false, cond, refl, subst}
 use Rattle.mr_history.specs.Language.{Language, Laws}
 use Rattle.mr_history.specs.Language.Request.{Psync}
 use Rattle.mr_history.specs.Node.{Phase, Node}

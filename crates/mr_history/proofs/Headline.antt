@@ -3,8 +3,7 @@ use Rattle.std.proofs.Common.{zero, suc, ℕ, List, [], ◌∷◌, ◌≡◌, �
 use Rattle.std.specs.Prelude.{slice_get}
 use Rattle.mr_history.specs.Language.{Language, Laws}
 use Rattle.mr_history.specs.History.{Book, IsAt, Grows}
-use Rattle.mr_history.specs.Node.{Node}
-use Rattle.mr_history.specs.World.{World, Shows}
+use Rattle.mr_history.specs.World.{World}
 use Rattle.mr_history.specs.Event.{Event}
 use Rattle.mr_history.specs.Rows.{Row}
 use Rattle.mr_history.specs.Runs.{nowhere, Moments}

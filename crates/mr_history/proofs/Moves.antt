@@ -1,5 +1,5 @@
 -- The moves of a world. Each event's row is a few of these, one after another; the invariant is proved of each.
-use Rattle.std.specs.Prelude.{ℕ, List, [], ◌∷◌, ◌++◌, ◌+◌, ◌-◌, ◌≤◌, ◌≡◌, ◌≢◌, ◌⊎◌, Option, None, Some, Bool, true, false, length, drop, cond, ◌==◌, ◌&&◌, All}
+use Rattle.std.specs.Prelude.{ℕ, List, [], ◌∷◌, ◌++◌, ◌+◌, ◌≡◌, Option, None, Some, Bool, true, false, length, All}
 use Rattle.mr_history.specs.Language.{Language, Line}
 use Rattle.mr_history.specs.Language.Line.{FullResync, Continue, Plain, Refusal}
 use Rattle.mr_history.specs.Language.Request.{Handshake, Psync}

@@ -6,25 +6,18 @@ use Rattle.std.proofs.Math.Seq.{drop-append_seam}
 use Rattle.mr_history.specs.Language.{Language, Laws, Request}
 use Rattle.mr_history.specs.Language.Request.{Handshake, Psync, Ack, Command, ReplicaOfNoOne, ReplicaOf, Empty, Quit}
 use Rattle.mr_history.specs.Changes.{SetAt}
-use Rattle.mr_history.specs.History.{texts}
-use Rattle.mr_history.specs.Node.{Phase, Node, tail}
-use Rattle.mr_history.specs.Node.Phase.{Greet, Asked, Loading, Stream}
-use Rattle.mr_history.specs.World.{Way, Link, World, hears, told, told_if, shut}
-use Rattle.mr_history.specs.World.Caller.{Client}
-use Rattle.mr_history.specs.Event.{Side, Event}
-use Rattle.mr_history.specs.Event.Side.{Server, Dialler}
-use Rattle.mr_history.specs.Changing.{Still, Reads}
-use Rattle.mr_history.specs.ServerRows.{answered, IsQuiet, ServerRow}
-use Rattle.mr_history.specs.FollowerRows.{asked, FollowerRow}
+use Rattle.mr_history.specs.Node.{Phase, Node}
+use Rattle.mr_history.specs.World.{Way, Link, World, hears, shut}
+use Rattle.mr_history.specs.Changing.{Reads}
+use Rattle.mr_history.specs.ServerRows.{IsQuiet}
 use Rattle.mr_history.specs.Invariant.{Talk, Invariant}
 use Rattle.mr_history.specs.Invariant.Talk.{greeting, greeted, asking, asking_for, refused, answered_full, answered_cont, loading, streaming}
-use Rattle.mr_history.proofs.Moves.{Move, Follows, Serves, used, heard, Reaches}
-use Rattle.mr_history.proofs.Moves.Move.{still, stop, leave, close, carry, loose, draw, extend, promote, demote, dial, greet, refuse, answer_full, answer_cont, noted, go_on, ask_all, ask_on, take_full, take_cont, load, follow}
+use Rattle.mr_history.proofs.Moves.{Move, Reaches}
+use Rattle.mr_history.proofs.Moves.Move.{carry}
 use Rattle.mr_history.proofs.Moves.Reaches.{by_moves}
 use Rattle.mr_history.proofs.Histories.{append_nil}
 use Rattle.mr_history.proofs.Fronts.{some_is}
 use Rattle.mr_history.proofs.Keeping.{one_or, true_false, none_some}
-use Rattle.mr_history.proofs.Theorem.{move_keeps}
 use Rattle.mr_history.proofs.Extend.{same_eqb, hears_is, hears_by}
 
 abbrev pub put : {A : Type 0} → (ℕ → Option A) → ℕ → A → ℕ → Option A

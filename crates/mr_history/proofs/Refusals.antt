@@ -1,21 +1,20 @@
 -- What no row does.
-use Rattle.std.proofs.Common.{ℕ, List, [], ◌++◌, ◌≡◌, ◌≢◌, ◌+◌, ◌⊎◌, Option, None, Some, Bool, true, false, refl, sym, ◌∙◌, ap, subst, inl, inr, arith, ◌<◌, length, append_assoc}
+use Rattle.std.proofs.Common.{ℕ, List, ◌++◌, ◌≡◌, ◌+◌, ◌⊎◌, Option, None, Some, Bool, true, false, refl, sym, ◌∙◌, ap, subst, inl, inr, arith, ◌<◌, length, append_assoc}
 use Rattle.std.specs.Prelude.{cond}
 use Rattle.mr_history.specs.Language.{Language, Laws}
 use Rattle.mr_history.specs.Language.Request.{Psync}
 use Rattle.mr_history.specs.Changes.{SetAt, Same}
-use Rattle.mr_history.specs.Node.{Phase, Follow, Node, continued, tail}
-use Rattle.mr_history.specs.Node.Phase.{Greet, Asked, Loading, Stream}
-use Rattle.mr_history.specs.World.{Caller, Link, World, shut, unread, no_bytes}
+use Rattle.mr_history.specs.Node.{Phase, Node, continued, tail}
+use Rattle.mr_history.specs.Node.Phase.{Greet, Stream}
+use Rattle.mr_history.specs.World.{Link, World, unread, no_bytes}
 use Rattle.mr_history.specs.Event.{Event}
 use Rattle.mr_history.specs.Event.Side.{Server, Dialler}
-use Rattle.mr_history.specs.Changing.{Still, LinkBecomes, NodeBecomes, Stops, Unless}
+use Rattle.mr_history.specs.Changing.{Stops, Unless}
 use Rattle.mr_history.specs.ServerRows.{Uses, ServerRow}
-use Rattle.mr_history.specs.FollowerRows.{Usable, BadAnswer, BadStream, Leaves, FollowerRow}
+use Rattle.mr_history.specs.FollowerRows.{BadAnswer, BadStream, Leaves, FollowerRow}
 use Rattle.mr_history.specs.FollowerRows.Usable.{a_reply, an_answer, a_snapshot, an_effect}
-use Rattle.mr_history.specs.Rows.{fresh_node, RestartRow, Opens, ClientRow, Dials, DialRow, Ticks, Row, BreakOfReplica}
+use Rattle.mr_history.specs.Rows.{Opens, Dials, Ticks, Row}
 use Rattle.mr_history.specs.EachEvent.{BookChange, BookChangesByThreeWays, MastersTakeNewIds, StartsAnew, RestartsUnderNewIds, ShowsTheSame, PartsChangeNothing, Answer, Answered, AnswersAreOfOneMoment, AsksFromWhereItStands, StreamsAreFollowed, DialledLinksAreEmpty}
-use Rattle.mr_history.proofs.Histories.{append_nil}
 use Rattle.mr_history.proofs.Fronts.{some_is}
 use Rattle.mr_history.proofs.Keeping.{one_or, true_false, none_some}
 

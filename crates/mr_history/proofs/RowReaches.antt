@@ -2,7 +2,7 @@
 use Rattle.std.proofs.Common.{ℕ, List, [], ◌∷◌, ◌++◌, ◌+◌, ◌≡◌, ◌⊎◌, Bool, Option, None, Some, true, false, cond, refl, sym, ◌∙◌, ap, subst, inl, inr, ◌==◌}
 use Rattle.mr_history.specs.Language.{Language, Laws}
 use Rattle.mr_history.specs.Node.{Node}
-use Rattle.mr_history.specs.Node.Phase.{Greet, Stream}
+use Rattle.mr_history.specs.Node.Phase.{Stream}
 use Rattle.mr_history.specs.World.{Caller, Link, World, shut}
 use Rattle.mr_history.specs.World.Caller.{Client, Peer}
 use Rattle.mr_history.specs.Event.{Event}
@@ -10,7 +10,7 @@ use Rattle.mr_history.specs.Event.Side.{Server, Dialler}
 use Rattle.mr_history.specs.Changing.{Still, LinkBecomes, Stops, Unless, NodeBecomes}
 use Rattle.mr_history.specs.ServerRows.{ServerRow}
 use Rattle.mr_history.specs.FollowerRows.{FollowerRow}
-use Rattle.mr_history.specs.Rows.{fresh_node, fresh_link, more, StartRow, RestartRow, Opens, ClientRow, Connects, Dials, DialRow, CommandRow, DeliverToServer, DeliverToReplica, DeliverToClient, StepOfServer, StepOfReplica, BreakOfServer, BreakOfReplica, BreakOfClient, Acknowledges, Ticks, TickRow, Row}
+use Rattle.mr_history.specs.Rows.{fresh_node, fresh_link, more, StartRow, RestartRow, Opens, ClientRow, Dials, DialRow, CommandRow, DeliverToServer, DeliverToReplica, DeliverToClient, BreakOfReplica, BreakOfClient, Acknowledges, Ticks, Row}
 use Rattle.mr_history.specs.Invariant.{Talk, Invariant}
 use Rattle.mr_history.specs.Invariant.Talk.{greeting, greeted, asking, asking_for, refused, answered_full, answered_cont, loading, streaming}
 use Rattle.mr_history.proofs.Moves.{Move, Reaches}

@@ -1,5 +1,5 @@
 -- A step at a server's end is a few moves.
-use Rattle.std.proofs.Common.{ℕ, List, [], ◌∷◌, ◌++◌, ◌≡◌, Option, None, Some, Bool, true, false, refl, ap, ◌∙◌, ◌==◌}
+use Rattle.std.proofs.Common.{ℕ, List, [], ◌∷◌, ◌++◌, ◌≡◌, None, Some, Bool, true, false, refl, ap, ◌∙◌, ◌==◌}
 use Rattle.mr_history.specs.Language.{Language, Laws}
 use Rattle.mr_history.specs.Language.Request.{Command, ReplicaOfNoOne, ReplicaOf, Empty, Quit}
 use Rattle.mr_history.specs.Changes.{SetAt}

@@ -19,7 +19,7 @@ use Rattle.mr_history.proofs.Moves.{Move, Chain, Reaches}
 use Rattle.mr_history.proofs.Moves.Move.{still, stop, leave, close, carry, loose, draw, extend, promote, demote, dial, greet, refuse, answer_full, answer_cont, noted, go_on, ask_all, ask_on, take_full, take_cont, load, follow}
 use Rattle.mr_history.proofs.Moves.Reaches.{by_moves}
 use Rattle.mr_history.proofs.Histories.{append_nil, all_back}
-use Rattle.mr_history.proofs.Fronts.{Keeps, some_is, at_grows, at_unique, keeps_grows, history_is}
+use Rattle.mr_history.proofs.Fronts.{Keeps, some_is, at_unique, keeps_grows, history_is}
 use Rattle.mr_history.proofs.Keeping.{same_keeps, same_good, node_keeps, talk_keeps, true_false, none_some}
 use Rattle.mr_history.proofs.NodeMoves.{stop_keeps, leave_keeps, draw_keeps, promote_keeps, demote_keeps, set_keeps}
 use Rattle.mr_history.proofs.LinkMoves.{close_keeps, carry_keeps, loose_keeps, greet_keeps, refuse_keeps, answer_full_keeps, answer_cont_keeps, noted_keeps}

@@ -1,5 +1,5 @@
 -- The changes that the rows of several events share.
-use Rattle.std.specs.Prelude.{ℕ, List, ◌++◌, ◌+◌, ◌-◌, ◌≤◌, ◌≡◌, Some, Bool, true, false, length, drop, All}
+use Rattle.std.specs.Prelude.{ℕ, List, ◌++◌, ◌+◌, ◌-◌, ◌≤◌, ◌≡◌, Some, true, false, length, drop, All}
 use Rattle.mr_history.specs.Language.{Language}
 use Rattle.mr_history.specs.Changes.{SetAt, Same}
 use Rattle.mr_history.specs.History.{Extends, texts, fold}

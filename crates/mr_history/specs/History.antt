@@ -2,7 +2,7 @@
 use Rattle.std.specs.Prelude.{ℕ, List, [], ◌∷◌, ◌++◌, ◌≡◌, Option, None, Some, length}
 use Rattle.std.specs.List.{flat_map}
 use Rattle.mr_history.specs.Language.{Language}
-use Rattle.mr_history.specs.Changes.{SetAt, Same}
+use Rattle.mr_history.specs.Changes.{SetAt}
 
 -- the texts of effects, one after another
 abbrev pub texts : (L : Language) → List L.Effect → List ℕ

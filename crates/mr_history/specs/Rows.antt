@@ -1,5 +1,5 @@
 -- The row of each event: what it changes, and nothing else. An event that a world refuses has no row.
-use Rattle.std.specs.Prelude.{ℕ, List, [], ◌++◌, ◌+◌, ◌≤◌, ◌≡◌, ◌≢◌, ◌⊎◌, Option, None, Some, Bool, true, false, length, ◌==◌}
+use Rattle.std.specs.Prelude.{ℕ, List, [], ◌++◌, ◌+◌, ◌≤◌, ◌≡◌, ◌≢◌, ◌⊎◌, None, Some, Bool, true, false, length, ◌==◌}
 use Rattle.mr_history.specs.Language.{Language}
 use Rattle.mr_history.specs.Language.Request.{Handshake}
 use Rattle.mr_history.specs.Changes.{SetAt, Same}
@@ -8,7 +8,7 @@ use Rattle.mr_history.specs.Node.{Phase, Node, at_phase}
 use Rattle.mr_history.specs.Node.Phase.{Greet, Stream}
 use Rattle.mr_history.specs.World.{Caller, Link, Way, World, hears, no_bytes, shut, told_if}
 use Rattle.mr_history.specs.World.Caller.{Client, Peer}
-use Rattle.mr_history.specs.Event.{Side, Event}
+use Rattle.mr_history.specs.Event.{Event}
 use Rattle.mr_history.specs.Event.Side.{Server, Dialler}
 use Rattle.mr_history.specs.Changing.{Still, LinkBecomes, NodeBecomes, Stops, Unless, Grown}
 use Rattle.mr_history.specs.ServerRows.{ServerRow}

@@ -1,5 +1,5 @@
 -- Runs, their moments, and what may be seen at them.
-use Rattle.std.specs.Prelude.{ℕ, List, [], ◌∷◌, ◌≡◌, ◌≤◌, Option, None, Some, true, length, slice_get}
+use Rattle.std.specs.Prelude.{ℕ, List, [], ◌∷◌, ◌≡◌, ◌≤◌, None, Some, true, length, slice_get}
 use Rattle.mr_history.specs.Language.{Language}
 use Rattle.mr_history.specs.Node.{Phase, Node}
 use Rattle.mr_history.specs.World.{Link, World, unread}

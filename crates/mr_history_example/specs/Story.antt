@@ -1,6 +1,6 @@
 -- A run: a replica takes a snapshot and an effect of its master, is promoted, and applies an effect of its own. The old master then
 -- follows it, and goes on from where it stands by the id before. Nodes 0 and 1, their links, and the ids 0, 1 and 2 change as follows.
-use Rattle.std.specs.Prelude.{ℕ, zero, suc, List, [], ◌∷◌, Option, None, Some, Bool, true, false}
+use Rattle.std.specs.Prelude.{ℕ, zero, suc, List, [], ◌∷◌, Option, None, Some, true, false}
 use Rattle.mr_history.specs.History.{History}
 use Rattle.mr_history.specs.Node.{Node}
 use Rattle.mr_history.specs.Node.Phase.{Greet, Asked, Loading, Stream}

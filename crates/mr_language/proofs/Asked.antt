@@ -1,6 +1,5 @@
 -- No request begins another, and each asks one thing.
-use Rattle.std.proofs.Common.{◌≡◌, ◌≢◌, ℕ, ◌<◌, ◌^◌, List, [], ◌++◌, inl, inr, refl, sym, ◌∙◌, ap, subst, Option, Some, None}
-use Rattle.std.specs.Fmt.{decimal}
+use Rattle.std.proofs.Common.{◌≡◌, ◌≢◌, ℕ, List, [], ◌++◌, inl, inr, refl, sym, ◌∙◌, ap, subst, Option, Some, None}
 use Rattle.std.proofs.lemmas.Fmt.{decimal_injective}
 use Rattle.std.proofs.lemmas.List.{append-nil}
 use Rattle.mr_map.specs.Bytes.{Bytes}
@@ -11,7 +10,7 @@ use Rattle.mr_resp.specs.Usual.{usual}
 use Rattle.mr_resp.proofs.OneAnswer.{same_requests, not_empty, one_text, same_texts}
 use Rattle.mr_history.specs.Language.{Request}
 use Rattle.mr_history.specs.Language.Request.{Psync}
-use Rattle.mr_language.specs.Requests.{Kind, kind_of, Wants, IsWanted, Asks, IsAsked}
+use Rattle.mr_language.specs.Requests.{Kind, kind_of, IsWanted, Asks, IsAsked}
 use Rattle.mr_language.specs.Requests.Kind.{handshake, psync, ack, no_one, follow, quit, command}
 use Rattle.mr_language.specs.Requests.IsAsked.{by_words, by_nothing}
 use Rattle.mr_language.proofs.Ids.{one_id}

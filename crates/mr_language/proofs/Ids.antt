@@ -1,5 +1,5 @@
 -- The text of an id is of no other.
-use Rattle.std.proofs.Common.{ℕ, ◌*◌, List, ◌≡◌, length, ap, sym, ◌∙◌, arith}
+use Rattle.std.proofs.Common.{ℕ, List, ◌≡◌, length, ap, sym, ◌∙◌, arith}
 use Rattle.hex.specs.Hex.{decode_of, lower_digits}
 use Rattle.hex.proofs.HexLemmas.{decode_of-encode_lower, length-encode_with}
 use Rattle.mr_repl.specs.ReplId.{IsId, digits_of}

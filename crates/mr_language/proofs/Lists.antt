@@ -1,5 +1,5 @@
 -- Cutting lists.
-use Rattle.std.proofs.Common.{ℕ, List, [], ◌∷◌, ◌++◌, ◌≡◌, ◌≢◌, length, refl, ap, sym, ◌∙◌, arith, All, Some, Option, ◌<◌}
+use Rattle.std.proofs.Common.{ℕ, List, [], ◌∷◌, ◌++◌, ◌≡◌, ◌≢◌, length, refl, arith, All, Some}
 use Rattle.std.proofs.lemmas.List.Elements.{All-head, All-tail}
 
 pub some_is : {A : Type 0} (x y : A) → Some x ≡ Some y → x ≡ y

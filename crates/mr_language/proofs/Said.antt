@@ -1,5 +1,5 @@
 -- No line begins another, and each says one thing.
-use Rattle.std.proofs.Common.{ℕ, List, [], ◌∷◌, ◌++◌, ◌≡◌, ◌≢◌, ◌<◌, ◌≤◌, ◌^◌, length, refl, ap, sym, ◌∙◌, subst, arith, append_assoc, codes, All}
+use Rattle.std.proofs.Common.{ℕ, List, [], ◌∷◌, ◌++◌, ◌≡◌, ◌≢◌, ◌≤◌, refl, ap, sym, ◌∙◌, subst, arith, append_assoc, codes}
 use Rattle.std.specs.Fmt.{decimal}
 use Rattle.std.proofs.lemmas.Fmt.{decimal_injective}
 use Rattle.std.proofs.lemmas.List.{append_cancel_left}
@@ -7,7 +7,7 @@ use Rattle.mr_resp.specs.Spelling.{line_end}
 use Rattle.mr_repl.specs.ReplId.{IsId, digits_of}
 use Rattle.mr_history.specs.Language.{Line}
 use Rattle.mr_history.specs.Language.Line.{FullResync, Continue, Plain, Refusal}
-use Rattle.mr_language.specs.Lines.{IsLine, IsFullResync, IsContinue, BeginsPlus, IsPlain, Means, Says, full_resync_text, continue_text, greatest}
+use Rattle.mr_language.specs.Lines.{BeginsPlus, Means, Says, full_resync_text, continue_text, greatest}
 use Rattle.mr_language.proofs.Lists.{same_length, same_before}
 use Rattle.mr_language.proofs.Ids.{one_id, forty}
 

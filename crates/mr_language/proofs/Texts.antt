@@ -1,5 +1,5 @@
 -- No effect's text begins another's, and no snapshot another.
-use Rattle.std.proofs.Common.{ℕ, List, [], ◌∷◌, ◌++◌, ◌≡◌, ◌≢◌, ◌<◌, ◌^◌, length, refl, ap, sym, ◌∙◌, subst, arith, append_assoc, All, Some, Option}
+use Rattle.std.proofs.Common.{ℕ, List, [], ◌∷◌, ◌++◌, ◌≡◌, ◌≢◌, ◌<◌, ◌^◌, length, refl, ap, sym, ◌∙◌, subst, arith, append_assoc, All}
 use Rattle.std.proofs.lemmas.List.Elements.{All-head, All-tail}
 use Rattle.std.specs.FinMap.{empty}
 use Rattle.mr_resp.specs.Spelling.{number_line}

@@ -1,5 +1,5 @@
 -- The lines of a master, and what each says to the replica that reads it.
-use Rattle.std.specs.Prelude.{◌≡◌, ◌≢◌, ℕ, ◌≤◌, ◌<◌, ◌^◌, List, [], ◌∷◌, ◌++◌, length, codes, All}
+use Rattle.std.specs.Prelude.{◌≡◌, ◌≢◌, ℕ, ◌≤◌, ◌^◌, List, [], ◌∷◌, ◌++◌, length, codes, All}
 use Rattle.std.specs.Fmt.{decimal}
 use Rattle.mr_resp.specs.Spelling.{line_end}
 use Rattle.mr_repl.specs.ReplId.{IsId, digits_of}

@@ -1,5 +1,5 @@
 -- The language of minired's replicas.
-use Rattle.std.specs.Prelude.{ℕ, List, ◌^◌, bytes_eq}
+use Rattle.std.specs.Prelude.{ℕ, List, bytes_eq}
 use Rattle.std.specs.FinMap.{empty}
 use Rattle.mr_inline.specs.Language.{IsDoomed}
 use Rattle.mr_resp.specs.Request.{IsText}
