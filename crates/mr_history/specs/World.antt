@@ -1,0 +1,57 @@
+-- Nodes, the links between them and to clients, and the book of histories.
+use Rattle.std.specs.Prelude.{ℕ, List, [], ◌++◌, ◌≡◌, Option, Some, Bool, true, false, take, cond, ◌==◌, ◌&&◌}
+use Rattle.mr_history.specs.Language.{Language}
+use Rattle.mr_history.specs.History.{Book}
+use Rattle.mr_history.specs.Node.{Node}
+
+-- One direction of a link: what was sent and not used, and how many bytes of that were taken. Those taken are unread.
+pub record Way : Type 0 where
+  pub left : List ℕ
+  pub taken : ℕ
+
+abbrev pub unread : Way → List ℕ
+unread way = take way.taken way.left
+
+abbrev pub no_bytes : Way
+no_bytes = record { left = []; taken = 0 }
+
+-- who asked for a link
+pub data Caller : Type 0 where
+  Client : Bool → Caller  -- a client, whose end is open or not
+  Peer : ℕ → Caller  -- a node, whose end is open while it follows this link
+
+pub record Link : Type 0 where
+  pub caller : Caller
+  pub to : ℕ  -- the node that serves
+  pub serving : Bool  -- the server's end is open
+  pub streams : Bool  -- the server has answered PSYNC by CONTINUE or FULLRESYNC
+  pub ask : Way  -- to the server
+  pub tell : Way  -- from the server
+
+pub record World (L : Language) : Type 0 where
+  pub node : ℕ → Option (Node L)
+  pub link : ℕ → Option Link
+  pub book : Book L
+
+-- the link carries the stream of node n
+abbrev pub hears : ℕ → Link → Bool
+hears n k = (k.to == n) && (k.serving && k.streams)
+
+-- the server's end closes
+abbrev pub shut : Bool → Link → Link
+shut b k = record k { serving = cond b false k.serving }
+
+abbrev pub told : Link → List ℕ → Link
+told k bytes = record k { tell = record k.tell { left = k.tell.left ++ bytes } }
+
+abbrev pub told_if : Bool → Link → List ℕ → Link
+told_if b k bytes = cond b (told k bytes) k
+
+-- Node n shows this id and offset, and holds m.
+pub record Shows {L : Language} (w : World L) (n : ℕ) (i : L.Id) (o : ℕ) (m : L.Dataset) : Type 0 where
+  pub node : Node L
+  pub found : w.node n ≡ Some node
+  pub up : node.up ≡ true
+  pub id : node.id ≡ i
+  pub offset : node.offset ≡ o
+  pub held : node.held ≡ m

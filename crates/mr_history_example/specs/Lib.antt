@@ -1,0 +1,3 @@
+pub mod Tiny
+pub mod TinyLaws
+pub mod Story

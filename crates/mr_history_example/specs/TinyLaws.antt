@@ -1,0 +1,90 @@
+-- The tiny language keeps the laws.
+use Rattle.std.proofs.Common.{ℕ, List, [], ◌∷◌, ◌++◌, ◌≡◌, ◌≢◌, Option, None, Some, refl, sym, ◌∙◌, ap, length, arith}
+use Rattle.std.proofs.lemmas.Bool.Decides.{Decides-eqb}
+use Rattle.mr_history.specs.Language.{Laws, Line, Request}
+use Rattle.mr_history.specs.Language.Line.{FullResync, Continue, Plain, Refusal}
+use Rattle.mr_history.specs.Language.Request.{Handshake, Psync, Ack, Command, ReplicaOfNoOne, ReplicaOf, Empty, Quit}
+use Rattle.mr_history_example.specs.Tiny.{tiny, line_text, wanted_text, request_text, snapshot_text}
+
+same_length : (h k x y : List ℕ) → length h ≡ length k → h ++ x ≡ k ++ y → h ≡ k
+same_length [] [] x y n e = refl
+same_length [] (b ∷ k) x y n e = absurd (omega (arith, n))
+same_length (a ∷ h) [] x y n e = absurd (omega (arith, n))
+same_length (a ∷ h) (b ∷ k) x y n e =
+    let f : a ≡ b = cc in let g : h ++ x ≡ k ++ y = cc in let t = same_length h k x y (omega (arith, n)) g in cc
+
+line_cut : (a b : Line ℕ) (x y : List ℕ) → line_text a ++ x ≡ line_text b ++ y → a ≡ b
+line_cut (FullResync i o) (FullResync p q) x y e = let h : i ≡ p = cc in let k : o ≡ q = cc in cc
+line_cut (FullResync i o) (Continue p) x y e = cc
+line_cut (FullResync i o) Plain x y e = cc
+line_cut (FullResync i o) Refusal x y e = cc
+line_cut (Continue i) (FullResync p q) x y e = cc
+line_cut (Continue i) (Continue p) x y e = let h : i ≡ p = cc in cc
+line_cut (Continue i) Plain x y e = cc
+line_cut (Continue i) Refusal x y e = cc
+line_cut Plain Plain x y e = refl
+line_cut Plain _ x y e = cc
+line_cut Refusal Refusal x y e = refl
+line_cut Refusal _ x y e = cc
+
+pair_is : (r s : ℕ × ℕ) → r.0 ≡ s.0 → r.1 ≡ s.1 → r ≡ s
+pair_is r s e f = let g : ℕ → ℕ × ℕ = λ z. (z, r.1) in let h : ℕ → ℕ × ℕ = λ z. (s.0, z) in ap g e ∙ ap h f
+
+wanted_cut : (a b : Option (ℕ × ℕ)) (x y : List ℕ) → wanted_text a ++ x ≡ wanted_text b ++ y → a ≡ b
+wanted_cut None None x y e = refl
+wanted_cut None (Some s) x y e = cc
+wanted_cut (Some r) None x y e = cc
+wanted_cut (Some r) (Some s) x y e = ap (λ z. Some z) (pair_is r s (cc) (cc))
+
+request_cut : (a b : Request ℕ) (x y : List ℕ) → request_text a ++ x ≡ request_text b ++ y → a ≡ b
+request_cut Handshake Handshake x y e = refl
+request_cut Handshake _ x y e = cc
+request_cut (Psync q) (Psync r) x y e = let f : wanted_text q ++ x ≡ wanted_text r ++ y = cc in ap (λ z. Psync z) (wanted_cut q r x y f)
+request_cut (Psync q) _ x y e = cc
+request_cut Ack Ack x y e = refl
+request_cut Ack _ x y e = cc
+request_cut Command Command x y e = refl
+request_cut Command _ x y e = cc
+request_cut ReplicaOfNoOne ReplicaOfNoOne x y e = refl
+request_cut ReplicaOfNoOne _ x y e = cc
+request_cut (ReplicaOf h) (ReplicaOf k) x y e = ap (λ z. ReplicaOf z) (same_length h k x y (cc) (cc))
+request_cut (ReplicaOf h) _ x y e = cc
+request_cut Empty Empty x y e = refl
+request_cut Empty _ x y e = cc
+request_cut Quit Quit x y e = refl
+request_cut Quit _ x y e = cc
+
+line_some : (a : Line ℕ) → line_text a ≢ []
+line_some (FullResync i o) e = cc
+line_some (Continue i) e = cc
+line_some Plain e = cc
+line_some Refusal e = cc
+
+request_some : (a : Request ℕ) → request_text a ≢ []
+request_some Handshake e = cc
+request_some (Psync q) e = cc
+request_some Ack e = cc
+request_some Command e = cc
+request_some ReplicaOfNoOne e = cc
+request_some (ReplicaOf h) e = cc
+request_some Empty e = cc
+request_some Quit e = cc
+
+pub tiny_laws : Laws tiny
+tiny_laws = record {
+  same_decides = Decides-eqb;
+  text_cut = λ e f x y p q h. cc;
+  says_cut = λ s t a b x y p q h.
+      let e = line_cut a b x y (ap (λ z. z ++ x) (sym p) ∙ (h ∙ ap (λ z. z ++ y) q)) in (p ∙ (ap (λ z. line_text z) e ∙ sym q), e);
+  asks_cut = λ s t a b x y p q h.
+      let e = request_cut a b x y (ap (λ z. z ++ x) (sym p) ∙ (h ∙ ap (λ z. z ++ y) q)) in (p ∙ (ap (λ z. request_text z) e ∙ sym q), e);
+  loads_cut = λ s t a b x y p q h.
+      let f = ap (λ z. z ++ x) (sym p) ∙ (h ∙ ap (λ z. z ++ y) q) in
+      let e : a ≡ b = same_length a b x y (cc) (cc) in (p ∙ (ap (λ z. snapshot_text z) e ∙ sym q), e);
+  text_some = λ e h. cc;
+  says_some = λ t a p e. line_some a (sym p ∙ e);
+  asks_some = λ t a p e. request_some a (sym p ∙ e);
+  loads_some = λ t m p e. absurd (let h = sym p ∙ e in cc);
+  doomed_cut = λ s t a x y d. absurd d;
+  doomed_some = λ d. d;
+}

@@ -1,0 +1,19 @@
+//! For tests: that there are runs. A tiny language, and a story told in it, event by event: a snapshot, a stream, a promotion, and a
+//! return of the old master that goes on from where it stands.
+#![tactic(auto)]
+
+ghost use Rattle.mr_history_example.specs.Tiny.{tiny};
+ghost use Rattle.mr_history_example.specs.TinyLaws.{tiny_laws};
+
+use mr_history::Replicated;
+
+pub mod laws;
+
+/// Numbers in front of a list.
+pub struct Tiny;
+
+impl Replicated for Tiny {
+    ghost language = { tiny };
+
+    ghost laws = { tiny_laws };
+}

@@ -1,0 +1,69 @@
+-- No request begins another, and each asks one thing.
+use Rattle.std.proofs.Common.{◌≡◌, ◌≢◌, ℕ, List, [], ◌++◌, inl, inr, refl, sym, ◌∙◌, ap, subst, Option, Some, None}
+use Rattle.std.proofs.lemmas.Fmt.{decimal_injective}
+use Rattle.std.proofs.lemmas.List.{append-nil}
+use Rattle.mr_map.specs.Bytes.{Bytes}
+use Rattle.mr_inline.specs.Language.{IsDoomed}
+use Rattle.mr_resp.specs.Spelling.{array}
+use Rattle.mr_resp.specs.Request.{IsText}
+use Rattle.mr_resp.specs.Usual.{usual}
+use Rattle.mr_resp.proofs.OneAnswer.{same_requests, not_empty, one_text, same_texts}
+use Rattle.mr_history.specs.Language.{Request}
+use Rattle.mr_history.specs.Language.Request.{Psync}
+use Rattle.mr_language.specs.Requests.{Kind, kind_of, IsWanted, Asks, IsAsked}
+use Rattle.mr_language.specs.Requests.Kind.{handshake, psync, ack, no_one, follow, quit, command}
+use Rattle.mr_language.specs.Requests.IsAsked.{by_words, by_nothing}
+use Rattle.mr_language.proofs.Ids.{one_id}
+
+one_wanted : (t u : Bytes) (p q : Option (List ℕ × ℕ)) → IsWanted t u p → IsWanted t u q → p ≡ q
+one_wanted t u None None x y = refl
+one_wanted t u None (Some w) x y = absurd (x w.0 w.1 y)
+one_wanted t u (Some w) None x y = absurd (y w.0 w.1 x)
+one_wanted t u (Some w) (Some z) x y =
+    let i : w.0 ≡ z.0 = one_id w.0 z.0 x.is_id y.is_id (sym x.id_is ∙ y.id_is) in
+    let o : w.1 ≡ z.1 = decimal_injective w.1 z.1 x.small y.small (sym x.offset_is ∙ y.offset_is) in
+    ap (λ v. Some v) (pair_is w z i o)
+  where
+    pair_is : (r s : List ℕ × ℕ) → r.0 ≡ s.0 → r.1 ≡ s.1 → r ≡ s
+    pair_is r s e f = let g : List ℕ → List ℕ × ℕ = λ z. (z, r.1) in let h : ℕ → List ℕ × ℕ = λ z. (s.0, z) in ap g e ∙ ap h f
+
+one_asked : (k : Kind) (a b : Request (List ℕ)) → Asks k a → Asks k b → a ≡ b
+one_asked handshake a b x y = x ∙ sym y
+one_asked (psync id offset) a b x y = x.2 ∙ (ap (λ z. Psync z) (one_wanted id offset x.0 y.0 x.1 y.1) ∙ sym y.2)
+one_asked ack a b x y = x ∙ sym y
+one_asked no_one a b x y = x ∙ sym y
+one_asked (follow host port) a b x y = x ∙ sym y
+one_asked quit a b x y = x ∙ sym y
+one_asked command a b x y = x ∙ sym y
+
+is_text : (t : List ℕ) (a : Request (List ℕ)) → IsAsked t a → IsText usual t
+is_text t a (by_words ws r e) = inl (ws, r)
+is_text t a (by_nothing n e) = inr n
+
+pub asks_cut : (s t : List ℕ) (a b : Request (List ℕ)) (x y : List ℕ) → IsAsked s a → IsAsked t b → s ++ x ≡ t ++ y → (s ≡ t) × (a ≡ b)
+asks_cut s t a b x y p q e = (same_texts usual s t x y (is_text s a p) (is_text t b q) e, go p q)
+  where
+    go : IsAsked s a → IsAsked t b → a ≡ b
+    go (by_words ws r f) (by_words vs u g) =
+        let same = (same_requests usual s t x y ws vs r u e).0 in
+        one_asked (kind_of vs) a b (subst (λ z. Asks (kind_of z) a) same f) g
+    go (by_words ws r f) (by_nothing n g) = absurd (not_empty usual s t x y ws r n e)
+    go (by_nothing n f) (by_words vs u g) = absurd (not_empty usual t s y x vs u n (sym e))
+    go (by_nothing n f) (by_nothing m g) = f ∙ sym g
+
+-- the empty array is a text, and isn't empty
+empty_array : IsText usual (array [])
+empty_array = inr (inl (inl refl))
+
+array_some : array [] ≢ []
+array_some e = cc
+
+pub asks_some : (t : List ℕ) (a : Request (List ℕ)) → IsAsked t a → t ≢ []
+asks_some t a p e =
+    array_some (one_text usual t (array []) (array []) [] (is_text t a p) empty_array (ap (λ z. z ++ array []) e ∙ sym (append-nil (array []))))
+
+pub doomed_cut : (s t : List ℕ) (a : Request (List ℕ)) (x y : List ℕ) → IsDoomed (IsText usual) s → IsAsked t a → s ++ x ≡ t ++ y → ⊥
+doomed_cut s t a x y d p e = d.never x t y (is_text t a p) e
+
+pub doomed_some : IsDoomed (IsText usual) [] → ⊥
+doomed_some d = d.never (array []) (array []) [] empty_array (sym (append-nil (array [])))

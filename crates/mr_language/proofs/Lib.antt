@@ -1,0 +1,6 @@
+pub mod Lists
+pub mod Texts
+pub mod Ids
+pub mod Said
+pub mod Asked
+pub mod MiniredLaws

@@ -1,0 +1,59 @@
+-- No effect's text begins another's, and no snapshot another.
+use Rattle.std.proofs.Common.{ℕ, List, [], ◌∷◌, ◌++◌, ◌≡◌, ◌≢◌, ◌<◌, ◌^◌, length, refl, ap, sym, ◌∙◌, subst, arith, append_assoc, All}
+use Rattle.std.proofs.lemmas.List.Elements.{All-head, All-tail}
+use Rattle.std.specs.FinMap.{empty}
+use Rattle.mr_resp.specs.Spelling.{number_line}
+use Rattle.mr_resp.specs.Usual.{commands-words}
+use Rattle.mr_resp.proofs.Words.{line_unique}
+use Rattle.mr_effect.specs.Spelling.{words, text, texts, IsShort}
+use Rattle.mr_effect.specs.declared.effect.Effect.{Effect}
+use Rattle.mr_effect.proofs.Texts.{one_text}
+use Rattle.mr_entries.specs.Dataset.{Dataset}
+use Rattle.mr_data.specs.Meaning.{apply_all}
+use Rattle.mr_language.specs.Effects.{IsGoodEffect, Makes}
+use Rattle.mr_language.specs.Snapshots.{IsSnapshot, snapshot_text}
+use Rattle.mr_language.proofs.Lists.{some_is, same_length}
+
+few : (e : Effect) → IsShort e → length (words e) < 2 ^ 64
+few e s = omega (arith, s, commands-words)
+
+both_are : (e f : Effect) (x y : List ℕ) → IsGoodEffect e → IsGoodEffect f → text e ++ x ≡ text f ++ y → (e ≡ f) × (x ≡ y)
+both_are e f x y g h q = one_text e f x y g.spelled h.spelled g.fits h.fits (few e g.short) (few f h.short) q
+
+pub text_cut : (e f : Effect) (x y : List ℕ) → IsGoodEffect e → IsGoodEffect f → text e ++ x ≡ text f ++ y → e ≡ f
+text_cut e f x y g h q = (both_are e f x y g h q).0
+
+pub text_some : (e : Effect) → text e ≢ []
+text_some e q = cc
+
+no_text : {P : Type 0} (e : Effect) (x : List ℕ) → [] ≡ text e ++ x → P
+no_text e x q = absurd (cc)
+
+same_effects : (es fs : List Effect) → All IsGoodEffect es → All IsGoodEffect fs → texts es ≡ texts fs → es ≡ fs
+same_effects [] [] g h q = refl
+same_effects [] (f ∷ fs) g h q = no_text f (texts fs) q
+same_effects (e ∷ es) [] g h q = no_text e (texts es) (sym q)
+same_effects (e ∷ es) (f ∷ fs) g h q =
+    let r = both_are e f (texts es) (texts fs) (All-head IsGoodEffect e es g) (All-head IsGoodEffect f fs h) q in
+    let s = same_effects es fs (All-tail IsGoodEffect e es g) (All-tail IsGoodEffect f fs h) r.1 in
+    ap (λ z. z ∷ es) r.0 ∙ ap (λ z. f ∷ z) s
+
+pub made_is_one : (bytes : List ℕ) (m n : Dataset) → Makes bytes m → Makes bytes n → m ≡ n
+made_is_one bytes m n p q =
+    let s = same_effects p.effects q.effects p.good q.good (sym p.are_texts ∙ q.are_texts) in
+    some_is m n (sym p.applied ∙ (ap (λ z. apply_all z empty) s ∙ q.applied))
+
+same_commands : (c d x y : List ℕ) → length c < 2 ^ 64 → length d < 2 ^ 64 → snapshot_text c ++ x ≡ snapshot_text d ++ y → c ≡ d
+same_commands c d x y p q e =
+    let inner : (number_line (length c) ++ c) ++ x ≡ (number_line (length d) ++ d) ++ y = cc in
+    let both = sym (append_assoc (number_line (length c)) c x) ∙ (inner ∙ append_assoc (number_line (length d)) d y) in
+    let r = line_unique (length c) (length d) (c ++ x) (d ++ y) p q both in
+    same_length c d x y r.0 r.1
+
+pub loads_cut : (s t : List ℕ) (m n : Dataset) (x y : List ℕ) → IsSnapshot s m → IsSnapshot t n → s ++ x ≡ t ++ y → (s ≡ t) × (m ≡ n)
+loads_cut s t m n x y p q e =
+    let c = same_commands p.commands q.commands x y (omega (arith, p.small)) (omega (arith, q.small)) (ap (λ z. z ++ x) (sym p.is) ∙ (e ∙ ap (λ z. z ++ y) q.is)) in
+    (p.is ∙ (ap (λ z. snapshot_text z) c ∙ sym q.is), made_is_one q.commands m n (subst (λ z. Makes z m) c p.made) q.made)
+
+pub loads_some : (t : List ℕ) (m : Dataset) → IsSnapshot t m → t ≢ []
+loads_some t m p e = let h = sym p.is ∙ e in absurd (cc)
