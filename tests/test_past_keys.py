@@ -290,9 +290,6 @@ class PastKeys(Rehearsing):
     def meets(self, rows):
         self.each_meets(rows, "master", True)
 
-    def only_reads(self, rows):
-        self.each_meets(rows, "replica", False)
-
     def test_what_is_told_of_strings_and_keys(self):
         self.meets(TOLD)
 
@@ -331,10 +328,6 @@ class PastKeys(Rehearsing):
 
     def test_what_is_no_command(self):
         self.meets(FAULTS)
-
-    def test_a_replica_reads_a_past_key_as_absent_and_keeps_it(self):
-        for rows in (TOLD, TOLD_OF_COLLECTIONS, TOLD_OF_SORTED_SETS, NAMELESS):
-            self.only_reads(rows)
 
 
 class Edges(Rehearsing):
