@@ -1,3 +1,0 @@
-pub mod Loadings
-pub mod Stepping
-pub mod Followings

@@ -1,4 +1,0 @@
-pub mod Plain
-pub mod Ends
-pub mod Apart
-pub mod Places

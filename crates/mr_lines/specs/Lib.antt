@@ -1,4 +1,0 @@
-pub mod Bytes
-pub mod Fronts
-pub mod Lines
-pub mod Replies
