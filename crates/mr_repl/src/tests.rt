@@ -152,3 +152,30 @@ fn a_replica_goes_on_under_the_id_before(rt: HostRuntime) {
     assert_eq!(rt; decide(&a, 55, &promoted), Answer::Full);
     assert_eq!(rt; decide(b"cc", 28, &promoted), Answer::Full);
 }
+
+// A replica that is promoted at 27 writes on under another id; one beside it, which stood at 27 too, goes on with it;
+// the old master, which wrote on to 54, takes a snapshot.
+#[test]
+fn who_stood_at_the_promotion_goes_on(rt: HostRuntime) -> Result<(), Fail> {
+    let a = ReplId::new([0xaa; 20]);
+    let b = ReplId::new([0xbb; 20]);
+    let write = b"*3\r\n$3\r\nSET\r\n$1\r\nk\r\n$1\r\nw\r\n";
+    let mut promoted = Lineage::new(rt.alloc(), a, 1_048_576, 27)?;
+    promoted.promote(b);
+    assert!(rt; promoted.stream().end() == 27);
+    promoted.grow(write);
+    let standing = promoted.standing();
+    assert_eq!(rt; decide(&a.digits(), 28, &standing), Answer::Continue(28));
+    assert_eq!(rt; decide(&a.digits(), 55, &standing), Answer::Full);
+    assert_eq!(rt; decide(&b.digits(), 55, &standing), Answer::Continue(55));
+    assert_eq!(rt; (promoted.id(), promoted.stream().end()), (b, 54));
+    assert_eq!(rt; promoted.second(), Some((a, 28)));
+    let mut beside = Lineage::new(rt.alloc(), a, 1_048_576, 27)?;
+    beside.continue_as(b);
+    beside.continue_as(b);
+    assert_eq!(rt; beside.second(), Some((a, 28)));
+    beside.adopt(a, 54);
+    assert_eq!(rt; (beside.id(), beside.stream().end()), (a, 54));
+    assert_eq!(rt; (beside.second(), beside.stream().first()), (None, 55));
+    Ok(())
+}
