@@ -16,6 +16,7 @@
 //! | `backlog` | `new CAPACITY OFFSET`: `begun`; `push BYTES`: `pushed`; `restart OFFSET`: `restarted`; `tail FROM`: `tail BYTES` or `not held`; `shows`: `shows CAPACITY LENGTH FIRST END` |
 //! | `standing` | `stands ID OFFSET FIRST`, `second ID LIMIT`: `stands`; `asks ID FROM`: `full` or `continue FROM` |
 //! | `lineage` | `new ID CAPACITY OFFSET`: `begun`; `grow BYTES`: `grown`; `promote ID`, `continue ID`, `adopt ID OFFSET`: `promoted`, `continued`, `adopted`; `asks ID FROM`: as of `standing`; `shows`: `shows ID END FIRST`, and the id before with its limit |
+//! | `peer` | `line BYTES`: `line USED status TEXT`, `line USED refusal TEXT`, `line USED length LENGTH`, `more` or `bad`; `answer BYTES`: `full ID OFFSET`, `continue ID` or `no answer`; `offset BYTES`: `offset OFFSET` or `no offset` |
 //! | `request` | `limits WORD WORDS TEXT`: `limited` or `no limits`; `next BYTES`, `command BYTES`, `line LIMIT BYTES`: `whole USED`, `skip`, `more` or a fault; `kept BYTES`: a letter for each word, `b` where it is borrowed and `o` where it is owned; `parts WORD WORD`, `push WORD WORD`, `write WORD WORD`: `text BYTES` |
 //! | `ask` | `name WORD`: `name NAME` or `no name`; `group BYTES`: what the request is about, or `no command`; `one`, `minus-one`, `number NUMBER`, `opposite NUMBER`: `adds NUMBER` |
 //! | `part` | `words WORD`, `pairs NAME VALUE`, `scores MEMBER SCORE`: `list LENGTH fits LENGTH`, with `within` or `past` the limits of scores; `name WORD`: `name TEXT` or `no name` |
@@ -35,6 +36,7 @@ mod links;
 mod list;
 mod maps;
 mod parts;
+mod peer;
 mod requests;
 mod sorted_set;
 mod standing;
@@ -53,6 +55,7 @@ use mr_map::{KeyedMap, SliceMap};
 use mr_value::ListValue;
 use mr_zset::ZSet;
 use parts::Parts;
+use peer::PeerLines;
 use requests::Requests;
 use standing::play_place;
 use std::alloc::Global;
@@ -90,6 +93,7 @@ fn play_stateless(
         "id" => play(alloc, Ids, steps, out),
         "ask" => play(alloc, Asks, steps, out),
         "part" => play(alloc, Parts, steps, out),
+        "peer" => play(alloc, PeerLines, steps, out),
         "request" => play(alloc, Requests::new(), steps, out),
         "standing" => play_place(alloc, steps, out),
         "links" => play(alloc, Links::<u64>::new(alloc), steps, out),

@@ -1,0 +1,109 @@
+//! What one node says to another before the stream.
+use crate::fault::RehearsalFault;
+use crate::kind::Kind;
+use crate::step::{Step, bytes_of};
+use crate::telling::{tell, tell_bytes, tell_shown};
+use mr_lines::{LineScan, PeerLine, PsyncReply, next_line, read_offset, read_reply};
+use mr_repl::ReplId;
+use std::alloc::Global;
+
+/// Lines have no state.
+#[derive(Drop)]
+pub struct PeerLines;
+
+impl Kind for PeerLines {
+    fn make(
+        &mut self,
+        alloc: Global,
+        step: Step<'_>,
+        out: &mut Vec<u8>,
+    ) -> Result<(), RehearsalFault> {
+        match step.name {
+            "line" => tell_line(alloc, step, out),
+            "answer" => tell_answer(alloc, step, out),
+            "offset" => tell_offset(alloc, step, out),
+            _ => Err(RehearsalFault::Line),
+        }
+    }
+}
+
+/// The line at the front of the input.
+fn tell_line(alloc: Global, step: Step<'_>, out: &mut Vec<u8>) -> Result<(), RehearsalFault> {
+    let input = bytes_of(alloc, step.first)?;
+    match next_line(input.as_slice()) {
+        LineScan::Whole { line, used } => {
+            tell(out, "line")?;
+            tell_shown(alloc, used, out)?;
+            tell_said(alloc, line, out)
+        }
+        LineScan::More => tell(out, "more"),
+        LineScan::Bad => tell(out, "bad"),
+    }
+}
+
+fn tell_said(alloc: Global, line: PeerLine<'_>, out: &mut Vec<u8>) -> Result<(), RehearsalFault> {
+    match line {
+        PeerLine::Status(text) => tell_text(alloc, " status", text, out),
+        PeerLine::Refusal(text) => tell_text(alloc, " refusal", text, out),
+        PeerLine::Length(length) => {
+            tell(out, " length")?;
+            tell_shown(alloc, length, out)
+        }
+    }
+}
+
+fn tell_text(
+    alloc: Global,
+    name: &str,
+    text: &[u8],
+    out: &mut Vec<u8>,
+) -> Result<(), RehearsalFault> {
+    tell(out, name)?;
+    tell_bytes(alloc, text, out)
+}
+
+/// What a master answers to PSYNC, behind the `+` of its line.
+fn tell_answer(alloc: Global, step: Step<'_>, out: &mut Vec<u8>) -> Result<(), RehearsalFault> {
+    let text = bytes_of(alloc, step.first)?;
+    let reply = read_reply(text.as_slice());
+    tell_reply(alloc, &reply, out)
+}
+
+fn tell_reply(
+    alloc: Global,
+    reply: &Option<PsyncReply>,
+    out: &mut Vec<u8>,
+) -> Result<(), RehearsalFault> {
+    match reply {
+        Some(PsyncReply::FullResync(id, offset)) => tell_full(alloc, *id, *offset, out),
+        Some(PsyncReply::Continue(id)) => tell_continue(alloc, *id, out),
+        None => tell(out, "no answer"),
+    }
+}
+
+fn tell_continue(alloc: Global, id: ReplId, out: &mut Vec<u8>) -> Result<(), RehearsalFault> {
+    tell(out, "continue")?;
+    tell_shown(alloc, id, out)
+}
+
+fn tell_full(
+    alloc: Global,
+    id: ReplId,
+    offset: u64,
+    out: &mut Vec<u8>,
+) -> Result<(), RehearsalFault> {
+    tell(out, "full")?;
+    tell_shown(alloc, id, out)?;
+    tell_shown(alloc, offset, out)
+}
+
+fn tell_offset(alloc: Global, step: Step<'_>, out: &mut Vec<u8>) -> Result<(), RehearsalFault> {
+    let text = bytes_of(alloc, step.first)?;
+    match read_offset(text.as_slice()) {
+        Some(offset) => {
+            tell(out, "offset")?;
+            tell_shown(alloc, offset, out)
+        }
+        None => tell(out, "no offset"),
+    }
+}
