@@ -1,3 +1,2 @@
 pub mod Hashes
-pub mod Groups
 pub mod Commands
