@@ -6,3 +6,4 @@ pub mod RangeLemmas
 pub mod ZSetLemmas
 pub mod OrderLemmas
 pub mod RangeOrderLemmas
+pub mod RangeReadLemmas

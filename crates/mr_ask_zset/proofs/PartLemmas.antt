@@ -49,11 +49,11 @@ pub with_bounds : {A : Type 0} (o : Order) (v w : List ℕ) (next : Bound × Bou
 with_bounds o v w next P h = if_with (bounds o v w) next P (λ p e. h p (bounds_read o v w p e))
 
 -- LIMIT with its words, before they are read
-abbrev pub words_option : Option LimitWords → List (List Part)
-words_option None = []
-words_option (Some words) = (Keyword limit_text ∷ number_part words.offset ∷ number_part words.count ∷ []) ∷ []
+abbrev pub words_option : (List ℕ → Part) → Option LimitWords → List (List Part)
+words_option shown None = []
+words_option shown (Some words) = (Keyword limit_text ∷ shown words.offset ∷ shown words.count ∷ []) ∷ []
 
-limit_read : (ws : LimitWords) (p : Limit) → limit ws ≡ Ok p → words_option (Some ws) ≡ limit_option (Some p)
+limit_read : (ws : LimitWords) (p : Limit) → limit ws ≡ Ok p → words_option number_part (Some ws) ≡ limit_option (Some p)
 limit_read ws p h =
     let x = with_ok (integer ws.offset) (λ offset. with (integer ws.count) (λ count. Ok (record { offset = offset; count = count }))) p h in
     let y = with_ok (integer ws.count) (λ count. Ok (record { offset = x.0; count = count })) p x.1.1 in
@@ -62,7 +62,7 @@ limit_read ws p h =
     ∙ ap (λ (q : Part). (Keyword limit_text ∷ Number x.0 ∷ q ∷ []) ∷ []) (number_part_read ws.count y.0 y.1.0)
     ∙ ap (λ (l : Limit). limit_option (Some l)) same
 
-pub limit_if_any_read : (o : Option LimitWords) (p : Option Limit) → limit_if_any o ≡ Ok p → words_option o ≡ limit_option p
+pub limit_if_any_read : (o : Option LimitWords) (p : Option Limit) → limit_if_any o ≡ Ok p → words_option number_part o ≡ limit_option p
 limit_if_any_read None p h = let same : None ≡ p = cc in ap limit_option same
 limit_if_any_read (Some ws) p h =
     let x = with_ok (limit ws) (λ l. Ok (Some l)) p h in

@@ -6,7 +6,7 @@ use Rattle.std.proofs.lemmas.List.Sorted.{IsPermutation-refl, IsPermutation-midd
 use Rattle.mr_value.proofs.Numbers.{same_bytes}
 use Rattle.mr_words.specs.Names.{lowered}
 use Rattle.mr_words.specs.Parts.{with}
-use Rattle.mr_words.specs.Spelling.{Part, Number, Keyword, AreParts, in_a_row}
+use Rattle.mr_words.specs.Spelling.{Part, Number, Keyword, IsPart, AreParts, in_a_row}
 use Rattle.mr_words.proofs.OptionLemmas.{Adds, one_first, from_none, parts_joined}
 use Rattle.mr_words.proofs.PartLemmas.{with_ok, if_with, with_integer, number_part, is_number_part, found_passes, ok_found}
 use Rattle.mr_words.specs.declared.name.Name.{Name}
@@ -15,7 +15,8 @@ use Rattle.mr_words.specs.declared.fault.AskFault.TheVariants.{Syntax}
 use Rattle.mr_ask_zset.specs.RangeOptions.{all_range_options, by_score_also, is_limit, is_range_option, limit_text, limit_then, limited, no_range_options, range_also, range_option, range_options, range_text, range_word, reverse_also, with_scores_also}
 use Rattle.mr_ask_zset.specs.Parts.{limit_if_any}
 use Rattle.mr_ask_zset.specs.Reading.{range_by_score, range_with, ranks, reversed_with, scores_with, zrange, zrevrange}
-use Rattle.mr_ask_zset.specs.Spelled.{bound_parts, order_option, range_word_option, score_range_name, scores_option, ZSetSpells}
+use Rattle.mr_ask_zset.specs.Spelled.{bound_parts, order_option, score_range_name, scores_option, ZSetSpells}
+use Rattle.mr_ask_zset.specs.RangeWords.{by_option}
 use Rattle.mr_ask_zset.proofs.PartLemmas.{limit_if_any_read, with_bounds, words_option}
 use Rattle.mr_ask_zset.specs.declared.range_options.LimitWords.{LimitWords}
 use Rattle.mr_ask_zset.specs.declared.range_options.RangeBy.{RangeBy}
@@ -33,96 +34,97 @@ use Rattle.mr_ask_zset.specs.declared.zset_ask.ZSetAsk.TheVariants as ask
 option_text : (w : List ℕ) (o : RangeOption) → ok_or (range_option w) Syntax ≡ Ok o → lowered w ≡ range_text o
 option_text w o h = same_bytes _ _ (found_passes (is_range_option (lowered w)) all_range_options o (ok_found (range_option w) o h))
 
--- BYSCORE
-abbrev by_option : RangeBy → List (List Part)
-by_option Rank = []
-by_option Score = range_word_option range.ByScore
-
--- the options that are set
-abbrev parts : RangeBy → Order → Option LimitWords → RangeReply → List (List Part)
-parts by order limit reply = by_option by ++ order_option order ++ words_option limit ++ scores_option reply
-
-abbrev range_parts : RangeOptions → List (List Part)
-range_parts s = parts s.by s.order s.limit s.reply
-
-abbrev option_part : RangeOption → List Part
-option_part o = Keyword (range_text o) ∷ []
-
-by_score_more : (b : RangeBy) (o : Order) (l : Option LimitWords) (r : RangeReply) (t : RangeOptions) → by_score_also b o l r ≡ Ok t
-    → IsPermutation (range_parts t) (option_part range.ByScore ∷ parts b o l r)
-by_score_more Rank o l r t h =
-    let same : record { by = Score; order = o; limit = l; reply = r } ≡ t = cc in
-    subst (λ (x : RangeOptions). IsPermutation (range_parts x) (option_part range.ByScore ∷ parts Rank o l r)) same (IsPermutation-refl _)
-by_score_more Score o l r t h = cc
-
-reverse_more : (b : RangeBy) (o : Order) (l : Option LimitWords) (r : RangeReply) (t : RangeOptions) → reverse_also b o l r ≡ Ok t
-    → IsPermutation (range_parts t) (option_part range.Reverse ∷ parts b o l r)
-reverse_more b Ascending l r t h =
-    let same : record { by = b; order = Descending; limit = l; reply = r } ≡ t = cc in
-    subst (λ (x : RangeOptions). IsPermutation (range_parts x) (option_part range.Reverse ∷ parts b Ascending l r)) same
-    (IsPermutation-append_left (scores_option r) _ _ (IsPermutation-append_left (words_option l) _ _ (IsPermutation-middle (by_option b) (option_part range.Reverse) [])))
-reverse_more b Descending l r t h = cc
-
-with_scores_more : (b : RangeBy) (o : Order) (l : Option LimitWords) (r : RangeReply) (t : RangeOptions) → with_scores_also b o l r ≡ Ok t
-    → IsPermutation (range_parts t) (option_part range.WithScores ∷ parts b o l r)
-with_scores_more b o l reply.Members t h =
-    let same : record { by = b; order = o; limit = l; reply = reply.WithScores } ≡ t = cc in
-    subst (λ (x : RangeOptions). IsPermutation (range_parts x) (option_part range.WithScores ∷ parts b o l reply.Members)) same
-    (IsPermutation-middle (by_option b ++ order_option o ++ words_option l) (option_part range.WithScores) [])
-with_scores_more b o l reply.WithScores t h = cc
-
-range_more : (s : RangeOptions) (o : RangeOption) (t : RangeOptions) → range_also s o ≡ Ok t → IsPermutation (range_parts t) (option_part o ∷ range_parts s)
-range_more s range.ByScore t h = by_score_more s.by s.order s.limit s.reply t h
-range_more s range.Reverse t h = reverse_more s.by s.order s.limit s.reply t h
-range_more s range.WithScores t h = with_scores_more s.by s.order s.limit s.reply t h
-
-abbrev limit_part : List ℕ → List ℕ → List Part
-limit_part v w = Keyword limit_text ∷ number_part v ∷ number_part w ∷ []
-
-limit_more : (b : RangeBy) (o : Order) (l : Option LimitWords) (r : RangeReply) (v w : List ℕ) (t : RangeOptions)
-    → limited (record { by = b; order = o; limit = l; reply = r }) v w ≡ Ok t
-    → IsPermutation (range_parts t) (limit_part v w ∷ parts b o l r)
-limit_more b o None r v w t h =
-    let same : record { by = b; order = o; limit = Some (record { offset = v; count = w }); reply = r } ≡ t = cc in
-    subst (λ (x : RangeOptions). IsPermutation (range_parts x) (limit_part v w ∷ parts b o None r)) same
-    (IsPermutation-append_left (scores_option r) _ _ (IsPermutation-middle (by_option b ++ order_option o) (limit_part v w) []))
-limit_more b o (Some l) r v w t h = cc
-
-abbrev Reads : List (List ℕ) → Type 0
-Reads ws = (s t : RangeOptions) → range_options s ws ≡ Ok t → Adds ws (range_parts s) (range_parts t)
-
-abbrev ReadsLimit : List ℕ → List (List ℕ) → Type 0
-ReadsLimit w ws = (s t : RangeOptions) → is_limit w ≡ true → limit_then s ws ≡ Ok t → Adds (w ∷ ws) (range_parts s) (range_parts t)
-
-first_read : (w : List ℕ) (ws : List (List ℕ)) → Reads ws → ReadsLimit w ws → Reads (w ∷ ws)
-first_read w ws rest limit s t h = elim (is_limit w) as (λ b. is_limit w ≡ b → (if b then limit_then s ws else with (range_word s w) (λ n. range_options n ws)) ≡ Ok t → Adds (w ∷ ws) (range_parts s) (range_parts t)) [
-  | true ↦ λ e k. limit s t e k
-  | false ↦ λ e k.
-      let m = with_ok (range_word s w) (λ n. range_options n ws) t k in
-      let o = with_ok (ok_or (range_option w) Syntax) (range_also s) m.0 m.1.0 in
-      one_first (option_part o.0) (w ∷ []) ws (range_parts s) (range_parts m.0) (range_parts t) (option_text w o.0 o.1.0, tt) (range_more s o.0 m.0 o.1.1) (rest m.0 t m.1.1)
-] refl h
-
-limit_first : (w u v : List ℕ) (ws : List (List ℕ)) → Reads ws → ReadsLimit w (u ∷ v ∷ ws)
-limit_first w u v ws rest s t e h =
-    let m = with_ok (limited s u v) (λ n. range_options n ws) t h in
-    one_first (limit_part u v) (w ∷ u ∷ v ∷ []) ws (range_parts s) (range_parts m.0) (range_parts t) (same_bytes _ _ e, (is_number_part u, (is_number_part v, tt)))
-    (limit_more s.by s.order s.limit s.reply u v m.0 m.1.0) (rest m.0 t m.1.1)
-
-none_added : Reads []
-none_added s t h = let same : s ≡ t = cc in record { order = []; same = subst (λ (x : RangeOptions). IsPermutation (range_parts x) (range_parts s)) same (IsPermutation-refl (range_parts s)); parts = tt }
-
-all_read : (ws : List (List ℕ)) → Reads ws
-all_read [] = none_added
-all_read (w ∷ []) = first_read w [] none_added (λ s t e h. cc)
-all_read (w ∷ u ∷ []) = first_read w (u ∷ []) (all_read (u ∷ [])) (λ s t e h. cc)
-all_read (w ∷ u ∷ v ∷ ws) = first_read w (u ∷ v ∷ ws) (all_read (u ∷ v ∷ ws)) (limit_first w u v ws (all_read ws))
-
 abbrev AreOptions : List (List ℕ) → List (List Part) → Type 0
 AreOptions ws options = (order : List (List Part)) × (IsPermutation options order × AreParts ws (in_a_row order))
 
-options_read : (ws : List (List ℕ)) (t : RangeOptions) → range_options no_range_options ws ≡ Ok t → AreOptions ws (range_parts t)
-options_read ws t h = from_none ws (range_parts t) (all_read ws no_range_options t h)
+-- the words behind LIMIT are shown as numbers where they are ones, or as they are
+module _ (shown : List ℕ → Part) (is_shown : (w : List ℕ) → IsPart w (shown w)) where
+  -- the options that are set
+  abbrev parts : RangeBy → Order → Option LimitWords → RangeReply → List (List Part)
+  parts by order limit reply = by_option by ++ order_option order ++ words_option shown limit ++ scores_option reply
+
+  abbrev range_parts : RangeOptions → List (List Part)
+  range_parts s = parts s.by s.order s.limit s.reply
+
+  abbrev option_part : RangeOption → List Part
+  option_part o = Keyword (range_text o) ∷ []
+
+  by_score_more : (b : RangeBy) (o : Order) (l : Option LimitWords) (r : RangeReply) (t : RangeOptions) → by_score_also b o l r ≡ Ok t
+      → IsPermutation (range_parts t) (option_part range.ByScore ∷ parts b o l r)
+  by_score_more Rank o l r t h =
+      let same : record { by = Score; order = o; limit = l; reply = r } ≡ t = cc in
+      subst (λ (x : RangeOptions). IsPermutation (range_parts x) (option_part range.ByScore ∷ parts Rank o l r)) same (IsPermutation-refl _)
+  by_score_more Score o l r t h = cc
+
+  reverse_more : (b : RangeBy) (o : Order) (l : Option LimitWords) (r : RangeReply) (t : RangeOptions) → reverse_also b o l r ≡ Ok t
+      → IsPermutation (range_parts t) (option_part range.Reverse ∷ parts b o l r)
+  reverse_more b Ascending l r t h =
+      let same : record { by = b; order = Descending; limit = l; reply = r } ≡ t = cc in
+      subst (λ (x : RangeOptions). IsPermutation (range_parts x) (option_part range.Reverse ∷ parts b Ascending l r)) same
+      (IsPermutation-append_left (scores_option r) _ _ (IsPermutation-append_left (words_option shown l) _ _ (IsPermutation-middle (by_option b) (option_part range.Reverse) [])))
+  reverse_more b Descending l r t h = cc
+
+  with_scores_more : (b : RangeBy) (o : Order) (l : Option LimitWords) (r : RangeReply) (t : RangeOptions) → with_scores_also b o l r ≡ Ok t
+      → IsPermutation (range_parts t) (option_part range.WithScores ∷ parts b o l r)
+  with_scores_more b o l reply.Members t h =
+      let same : record { by = b; order = o; limit = l; reply = reply.WithScores } ≡ t = cc in
+      subst (λ (x : RangeOptions). IsPermutation (range_parts x) (option_part range.WithScores ∷ parts b o l reply.Members)) same
+      (IsPermutation-middle (by_option b ++ order_option o ++ words_option shown l) (option_part range.WithScores) [])
+  with_scores_more b o l reply.WithScores t h = cc
+
+  range_more : (s : RangeOptions) (o : RangeOption) (t : RangeOptions) → range_also s o ≡ Ok t → IsPermutation (range_parts t) (option_part o ∷ range_parts s)
+  range_more s range.ByScore t h = by_score_more s.by s.order s.limit s.reply t h
+  range_more s range.Reverse t h = reverse_more s.by s.order s.limit s.reply t h
+  range_more s range.WithScores t h = with_scores_more s.by s.order s.limit s.reply t h
+
+  abbrev limit_part : List ℕ → List ℕ → List Part
+  limit_part v w = Keyword limit_text ∷ shown v ∷ shown w ∷ []
+
+  limit_more : (b : RangeBy) (o : Order) (l : Option LimitWords) (r : RangeReply) (v w : List ℕ) (t : RangeOptions)
+      → limited (record { by = b; order = o; limit = l; reply = r }) v w ≡ Ok t
+      → IsPermutation (range_parts t) (limit_part v w ∷ parts b o l r)
+  limit_more b o None r v w t h =
+      let same : record { by = b; order = o; limit = Some (record { offset = v; count = w }); reply = r } ≡ t = cc in
+      subst (λ (x : RangeOptions). IsPermutation (range_parts x) (limit_part v w ∷ parts b o None r)) same
+      (IsPermutation-append_left (scores_option r) _ _ (IsPermutation-middle (by_option b ++ order_option o) (limit_part v w) []))
+  limit_more b o (Some l) r v w t h = cc
+
+  abbrev Reads : List (List ℕ) → Type 0
+  Reads ws = (s t : RangeOptions) → range_options s ws ≡ Ok t → Adds ws (range_parts s) (range_parts t)
+
+  abbrev ReadsLimit : List ℕ → List (List ℕ) → Type 0
+  ReadsLimit w ws = (s t : RangeOptions) → is_limit w ≡ true → limit_then s ws ≡ Ok t → Adds (w ∷ ws) (range_parts s) (range_parts t)
+
+  first_read : (w : List ℕ) (ws : List (List ℕ)) → Reads ws → ReadsLimit w ws → Reads (w ∷ ws)
+  first_read w ws rest limit s t h = elim (is_limit w) as (λ b. is_limit w ≡ b → (if b then limit_then s ws else with (range_word s w) (λ n. range_options n ws)) ≡ Ok t → Adds (w ∷ ws) (range_parts s) (range_parts t)) [
+    | true ↦ λ e k. limit s t e k
+    | false ↦ λ e k.
+        let m = with_ok (range_word s w) (λ n. range_options n ws) t k in
+        let o = with_ok (ok_or (range_option w) Syntax) (range_also s) m.0 m.1.0 in
+        one_first (option_part o.0) (w ∷ []) ws (range_parts s) (range_parts m.0) (range_parts t) (option_text w o.0 o.1.0, tt) (range_more s o.0 m.0 o.1.1) (rest m.0 t m.1.1)
+  ] refl h
+
+  limit_first : (w u v : List ℕ) (ws : List (List ℕ)) → Reads ws → ReadsLimit w (u ∷ v ∷ ws)
+  limit_first w u v ws rest s t e h =
+      let m = with_ok (limited s u v) (λ n. range_options n ws) t h in
+      one_first (limit_part u v) (w ∷ u ∷ v ∷ []) ws (range_parts s) (range_parts m.0) (range_parts t) (same_bytes _ _ e, (is_shown u, (is_shown v, tt)))
+      (limit_more s.by s.order s.limit s.reply u v m.0 m.1.0) (rest m.0 t m.1.1)
+
+  none_added : Reads []
+  none_added s t h = let same : s ≡ t = cc in record { order = []; same = subst (λ (x : RangeOptions). IsPermutation (range_parts x) (range_parts s)) same (IsPermutation-refl (range_parts s)); parts = tt }
+
+  all_read : (ws : List (List ℕ)) → Reads ws
+  all_read [] = none_added
+  all_read (w ∷ []) = first_read w [] none_added (λ s t e h. cc)
+  all_read (w ∷ u ∷ []) = first_read w (u ∷ []) (all_read (u ∷ [])) (λ s t e h. cc)
+  all_read (w ∷ u ∷ v ∷ ws) = first_read w (u ∷ v ∷ ws) (all_read (u ∷ v ∷ ws)) (limit_first w u v ws (all_read ws))
+
+  pub options_read : (ws : List (List ℕ)) (t : RangeOptions) → range_options no_range_options ws ≡ Ok t → AreOptions ws (range_parts t)
+  options_read ws t h = from_none ws (range_parts t) (all_read ws no_range_options t h)
+
+-- with the words behind LIMIT as numbers
+abbrev range_spelled : RangeBy → Order → Option LimitWords → RangeReply → List (List Part)
+range_spelled = parts number_part is_number_part
 
 ranks_spelled : (n : Name) (k a b : List ℕ) (ws : List (List ℕ)) (o : Order) (r : RangeReply)
     → ((x y : ℤ) → AreParts (a ∷ b ∷ []) (Number x ∷ Number y ∷ []) → ZSetSpells n (k ∷ a ∷ b ∷ ws) (ask.RangeByRank k x y o r))
@@ -130,7 +132,7 @@ ranks_spelled : (n : Name) (k a b : List ℕ) (ws : List (List ℕ)) (o : Order)
 ranks_spelled n k a b ws o r h = with_integer a _ _ (λ x e. with_integer b _ _ (λ y d. h x y (e, (d, tt))))
 
 ranged_spelled : (k a b : List ℕ) (ws : List (List ℕ)) (by : RangeBy) (o : Order) (l : Option LimitWords) (r : RangeReply)
-    → AreOptions ws (parts by o l r) → IfOk (range_with k a b by o l r) (ZSetSpells name.ZRange (k ∷ a ∷ b ∷ ws))
+    → AreOptions ws (range_spelled by o l r) → IfOk (range_with k a b by o l r) (ZSetSpells name.ZRange (k ∷ a ∷ b ∷ ws))
 ranged_spelled k a b ws Rank Ascending None r s = ranks_spelled name.ZRange k a b ws Ascending r (λ x y is. inl (refl, (s.0, (s.1.0, (refl, (is.0, (is.1.0, s.1.1)))))))
 ranged_spelled k a b ws Rank Descending None r s = ranks_spelled name.ZRange k a b ws Descending r (λ x y is. inl (refl, (s.0, (s.1.0, (refl, (is.0, (is.1.0, s.1.1)))))))
 ranged_spelled k a b ws Rank o (Some l) r s = tt
@@ -147,14 +149,14 @@ ranged_spelled k a b ws Score o l r s = if_with (limit_if_any l) _ _ (λ p e. wi
     )))
 
 reversed_spelled : (k a b : List ℕ) (ws : List (List ℕ)) (by : RangeBy) (o : Order) (l : Option LimitWords) (r : RangeReply)
-    → AreOptions ws (parts by o l r) → IfOk (reversed_with k a b by o l r) (ZSetSpells name.ZRevRange (k ∷ a ∷ b ∷ ws))
+    → AreOptions ws (range_spelled by o l r) → IfOk (reversed_with k a b by o l r) (ZSetSpells name.ZRevRange (k ∷ a ∷ b ∷ ws))
 reversed_spelled k a b ws Rank Ascending None r s = ranks_spelled name.ZRevRange k a b ws Descending r (λ x y is. inr (refl, refl, (s.0, (s.1.0, (refl, (is.0, (is.1.0, s.1.1)))))))
 reversed_spelled k a b ws Rank Ascending (Some l) r s = tt
 reversed_spelled k a b ws Rank Descending l r s = tt
 reversed_spelled k a b ws Score o l r s = tt
 
 scores_spelled : (n : Name) (d : Order) (k a b : List ℕ) (ws : List (List ℕ)) (by : RangeBy) (o : Order) (l : Option LimitWords) (r : RangeReply) → n ≡ score_range_name d
-    → AreOptions ws (parts by o l r) → IfOk (scores_with d k a b by o l r) (ZSetSpells n (k ∷ a ∷ b ∷ ws))
+    → AreOptions ws (range_spelled by o l r) → IfOk (scores_with d k a b by o l r) (ZSetSpells n (k ∷ a ∷ b ∷ ws))
 scores_spelled n d k a b ws Rank Ascending l r called s = if_with (limit_if_any l) _ _ (λ p e. with_bounds d a b _ _ (λ ends is.
     inr (
       called,
@@ -170,14 +172,14 @@ scores_spelled n d k a b ws Rank Descending l r called s = tt
 scores_spelled n d k a b ws Score o l r called s = tt
 
 pub zrange_spells : (ws : List (List ℕ)) → IfOk (zrange ws) (ZSetSpells name.ZRange ws)
-zrange_spells (k ∷ a ∷ b ∷ ws) = if_with (range_options no_range_options ws) _ _ (λ t h. ranged_spelled k a b ws t.by t.order t.limit t.reply (options_read ws t h))
+zrange_spells (k ∷ a ∷ b ∷ ws) = if_with (range_options no_range_options ws) _ _ (λ t h. ranged_spelled k a b ws t.by t.order t.limit t.reply (options_read number_part is_number_part ws t h))
 zrange_spells _ = tt
 
 pub zrevrange_spells : (ws : List (List ℕ)) → IfOk (zrevrange ws) (ZSetSpells name.ZRevRange ws)
-zrevrange_spells (k ∷ a ∷ b ∷ ws) = if_with (range_options no_range_options ws) _ _ (λ t h. reversed_spelled k a b ws t.by t.order t.limit t.reply (options_read ws t h))
+zrevrange_spells (k ∷ a ∷ b ∷ ws) = if_with (range_options no_range_options ws) _ _ (λ t h. reversed_spelled k a b ws t.by t.order t.limit t.reply (options_read number_part is_number_part ws t h))
 zrevrange_spells _ = tt
 
 pub range_by_score_spells : (n : Name) (o : Order) → n ≡ score_range_name o → (ws : List (List ℕ)) → IfOk (range_by_score n o ws) (ZSetSpells n ws)
 range_by_score_spells n o called (k ∷ a ∷ b ∷ ws) =
-    if_with (range_options no_range_options ws) _ _ (λ t h. scores_spelled n o k a b ws t.by t.order t.limit t.reply called (options_read ws t h))
+    if_with (range_options no_range_options ws) _ _ (λ t h. scores_spelled n o k a b ws t.by t.order t.limit t.reply called (options_read number_part is_number_part ws t h))
 range_by_score_spells n o called _ = tt

@@ -54,7 +54,7 @@ reverse_scores b Ascending l reply.WithScores = refl
 reverse_scores b Descending l reply.Members = refl
 reverse_scores b Descending l reply.WithScores = refl
 
-alike : (b : RangeBy) (o : Order) (l : Option LimitWords) (r : RangeReply) (x y : RangeOption) → Alike b o l r x y
+pub alike : (b : RangeBy) (o : Order) (l : Option LimitWords) (r : RangeReply) (x y : RangeOption) → Alike b o l r x y
 alike b o l r ByScore ByScore = refl
 alike b o l r ByScore Reverse = by_reverse b o l r
 alike b o l r ByScore WithScores = by_scores b o l r
@@ -71,7 +71,7 @@ range_words_alike s v w =
     (only_found (range_option v)) (only_found (range_option w)) (λ t x y. alike t.by t.order t.limit t.reply x y) s
 
 -- LIMIT beside an option
-limit_alike : (b : RangeBy) (o : Order) (l : Option LimitWords) (r : RangeReply) (x : RangeOption) (u v : List ℕ)
+pub limit_alike : (b : RangeBy) (o : Order) (l : Option LimitWords) (r : RangeReply) (x : RangeOption) (u v : List ℕ)
     → with (range_also (options b o l r) x) (λ t. limited t u v) ≡ with (limited (options b o l r) u v) (λ t. range_also t x)
 limit_alike Rank o None r ByScore u v = refl
 limit_alike Rank o (Some l) r ByScore u v = refl
@@ -100,7 +100,7 @@ word_limit s w u v = by_option (ok_or (range_option w) Syntax) (only_found (rang
     by_option (Err f) h = sym (second_refused (limited s u v) f (limited_only s.by s.order s.limit s.reply u v) h)
 
 -- what one option sets
-abbrev step : RangeOptions → List (List ℕ) → Result RangeOptions AskFault
+abbrev pub step : RangeOptions → List (List ℕ) → Result RangeOptions AskFault
 step s (w ∷ []) = range_word s w
 step s (w ∷ u ∷ v ∷ []) = limited s u v
 step s _ = Err Syntax
@@ -126,7 +126,7 @@ steps_alike s (w ∷ u ∷ []) b g h = absurd g
 steps_alike s (w ∷ u ∷ v ∷ []) b g h = beside_limit s u v b h
 steps_alike s (w ∷ u ∷ v ∷ y ∷ ys) b g h = absurd g
 
-one_step : (s : RangeOptions) (a rest : List (List ℕ)) → AreOneOption a → range_options s (a ++ rest) ≡ with (step s a) (λ t. range_options t rest)
+pub one_step : (s : RangeOptions) (a rest : List (List ℕ)) → AreOneOption a → range_options s (a ++ rest) ≡ with (step s a) (λ t. range_options t rest)
 one_step s [] rest h = absurd h
 one_step s (w ∷ []) rest h = ap (λ (b : Bool). if b then limit_then s rest else with (range_word s w) (λ t. range_options t rest)) h
 one_step s (w ∷ u ∷ []) rest h = absurd h

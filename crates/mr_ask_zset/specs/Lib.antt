@@ -5,3 +5,4 @@ pub mod Parts
 pub mod Reading
 pub mod Carried
 pub mod Spelled
+pub mod RangeWords

@@ -9,7 +9,7 @@ mod reading;
 mod scored;
 mod zset_ask;
 
-pub use laws::options_stand_in_any_order;
+pub use laws::{options_stand_in_any_order, range_options_are_read};
 pub use reading::{
     range_by_score, zadd, zcard, zcount, zincrby, zmscore, zpop, zrange, zrank, zrem,
     zremrangebyrank, zremrangebyscore, zrevrange, zscore,

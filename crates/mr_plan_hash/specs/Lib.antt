@@ -1,3 +1,4 @@
 pub mod Hashes
 pub mod Groups
 pub mod Commands
+pub mod Laws

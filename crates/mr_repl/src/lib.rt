@@ -17,8 +17,3 @@ pub use laws::{
 pub use lineage::Lineage;
 pub use replication_id::ReplId;
 pub use standing::Standing;
-
-#[cfg(test)]
-mod plain_backlog;
-#[cfg(test)]
-mod tests;

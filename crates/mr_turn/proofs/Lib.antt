@@ -3,3 +3,4 @@ pub mod TakenLemmas
 pub mod Laws
 pub mod Changing
 pub mod PlanLemmas
+pub mod LeftAndTold

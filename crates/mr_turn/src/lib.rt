@@ -4,8 +4,10 @@
 mod effects;
 mod looking;
 mod replies;
+mod sequels;
 mod taken;
 
 pub use effects::Effects;
 pub use looking::{look, push_dels, see};
 pub use replies::{bulk, count, done, integer, wrong_kind};
+pub use sequels::what_is_left_is_seen;

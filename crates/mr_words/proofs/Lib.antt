@@ -4,3 +4,5 @@ pub mod PartLemmas
 pub mod FitLemmas
 pub mod OptionLemmas
 pub mod OrderLemmas
+pub mod OrderedLemmas
+pub mod ReadLemmas
