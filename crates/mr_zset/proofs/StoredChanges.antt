@@ -53,8 +53,8 @@ same_pairs m es all k copy z fs same put = put ∙ ap (λ (ls : List (List ℕ �
 
 module _ (m : ByteMap ℤ) (es : List Entry) (all : AreStored m es) (k copy : List ℕ) (z : ℤ) (fs : List Entry) (same : copy ≡ k) (put : map stored fs ≡ insert_key pair_cmp (map stored es) (copy, z)) where
   -- a member comes
-  pub AreStored-added : (name : List ℕ) (n : ByteMap ℤ) → get m k ≡ None → IsTrue (is_score z) → name ≡ k → n ≡ insert m name z → AreStored n fs
-  AreStored-added name n absent fits named is = subst (λ (x : ByteMap ℤ). AreStored x fs) (sym (is ∙ ap (λ (x : List ℕ). insert m x z) named)) (record {
+  pub AreStored-added : (name : List ℕ) (score : ℤ) (n : ByteMap ℤ) → get m k ≡ None → IsTrue (is_score z) → name ≡ k → n ≡ insert m name score → score ≡ z → AreStored n fs
+  AreStored-added name score n absent fits named is same_score = subst (λ (x : ByteMap ℤ). AreStored x fs) (sym (is ∙ ap (λ (x : List ℕ). insert m x score) named ∙ ap (λ (w : ℤ). insert m k w) same_score)) (record {
     within = HasScores-insert m k z fits all.within;
     same = same_pairs m es all k copy z fs same put ∙ put_new m k z absent;
   })
@@ -67,8 +67,8 @@ module _ (m : ByteMap ℤ) (es : List Entry) (all : AreStored m es) (k copy : Li
   })
 
   -- a member has another score
-  pub AreStored-moved : (old : ℤ) (n : ByteMap ℤ) (gs : List Entry) → get m k ≡ Some old → int_eq z old ≡ false → IsTrue (is_score z) → n ≡ insert m k z → map stored gs ≡ filter (is_other (k, old)) (map stored fs) → AreStored n gs
-  AreStored-moved old n gs there apart fits is out = subst (λ (x : ByteMap ℤ). AreStored x gs) (sym is) (record {
+  pub AreStored-moved : (old score : ℤ) (n : ByteMap ℤ) (gs : List Entry) → get m k ≡ Some old → int_eq z old ≡ false → IsTrue (is_score z) → n ≡ insert m k score → score ≡ z → map stored gs ≡ filter (is_other (k, old)) (map stored fs) → AreStored n gs
+  AreStored-moved old score n gs there apart fits is same_score out = subst (λ (x : ByteMap ℤ). AreStored x gs) (sym (is ∙ ap (λ (w : ℤ). insert m k w) same_score)) (record {
     within = HasScores-insert m k z fits all.within;
     same = out ∙ ap (filter (is_other (k, old))) (same_pairs m es all k copy z fs same put) ∙ put_moved m k old z there apart;
   })

@@ -29,4 +29,4 @@ invariant_of-self-else-is_err c =
     let is : is_err c.insert.result ≡ false = sym c.is_err.ensures.value ∙ c.if-is_err.false in
     let put = c.in_ok-put_in.ensures.ok ∙ ap (λ z. insert_key pair_cmp (map stored c.self.inside.pairs) (copy, z)) (to_z-of_z w64 c.args.score c.ranges.score) in
     AreStored-added c.self.inside.scores c.self.inside.pairs c.self.invariant member copy c.args.score c.put_in.new.pairs c.in_ok-member_copy.ensures.items put
-    c.in_ok-key.key.items c.insert.new.self absent c.requires.score c.in_ok-key.ensures.items (succeeded c.insert.result is c.insert.ensures.ok)
+    c.in_ok-key.key.items _ c.insert.new.self absent c.requires.score c.in_ok-key.ensures.items (succeeded c.insert.result is c.insert.ensures.ok) (search (rules, to_z-of_z w64 c.args.score c.ranges.score))
