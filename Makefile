@@ -1,7 +1,7 @@
 .PHONY: build test test-all test-batched bench
 
 # The gate that `make test` runs: test-all, or test-batched.
-GATE = test-all
+GATE = test-batched
 
 # Proves and builds the program, where its sources are newer.
 build:

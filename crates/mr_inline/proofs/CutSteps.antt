@@ -5,7 +5,7 @@ use Rattle.std.specs.Cow.{cow_slice_items, IsBorrowedSlice}
 use Rattle.std.specs.List.{slice_range, AllZip}
 use Rattle.std.specs.declared.borrow.CowSlice.{CowSlice}
 use Rattle.std.proofs.lemmas.Bool.{ne_eqb}
-use Rattle.std.proofs.lemmas.List.{append-nil, drop_more, drop_all, length-drop, take_more, get_or-drop}
+use Rattle.std.proofs.lemmas.List.{append-nil, length-append, drop_more, drop_all, length-drop, take_more, get_or-drop}
 use Rattle.mr_inline.specs.Bytes.{double_quote, single_quote, backslash, letter_x}
 use Rattle.mr_inline.specs.Line.{hex_value, escape_value, begins_hex, IsNext}
 use Rattle.mr_inline.specs.Parts.{StopsPlain, Spells, Unquotes, IsCut, IsPlainUpTo, IsReadAt}
@@ -403,6 +403,14 @@ has_cut_word line at end words newer word h lt not c own e = record {
   starts_are = append_assoc h.starts (drop at line ∷ []) (starts_from Between (drop end line)) ∙ ap (λ (ss : List (List ℕ)). h.starts ++ ss) (sym (one_start line at end (cow_slice_items word) lt not c)) ∙ h.starts_are;
   read = subst (AllZip IsReadAt (h.starts ++ drop at line ∷ [])) (sym e) (zip_push IsReadAt h.starts words (drop at line) word h.read (record { value = c.value; borrowed = own }));
 }
+
+-- where a word begins, the line has one
+pub some_start : (line : List ℕ) (at : ℕ) (words : List (CowSlice ℕ Global)) → HasCut line at words → at < length line → kind_of (get_or line at 0) ≢ Separator → 0 < length (starts_from Between line)
+some_start line at words h lt not =
+    let b : ℕ = get_or line at 0 in
+    let r : List ℕ = drop (at + 1) line in
+    let one = ap (starts_from Between) (drop_more line at 0 lt) ∙ begins_at (kind_of b) (b ∷ r) r not in
+    omega (arith, ap length one, ap length h.starts_are, length-append h.starts (starts_from Between (drop at line)))
 
 pub has_cut_all : (line : List ℕ) (at : ℕ) (words : List (CowSlice ℕ Global)) → HasCut line at words → length line ≤ at → AllZip IsReadAt (starts_from Between line) words
 has_cut_all line at words h le =

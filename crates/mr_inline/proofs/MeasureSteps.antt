@@ -1,10 +1,10 @@
 -- One step of the reader that finds the end of a line.
-use Rattle.std.proofs.Common.{◌≡◌, ◌≢◌, ℕ, zero, suc, ◌+◌, ◌-◌, ◌<◌, ◌≤◌, List, [], ◌∷◌, ◌++◌, length, get_or, take, drop, map, Global, refl, sym, ap, ◌∙◌, subst, arith, take-append-drop, length-take-le}
-use Rattle.std.proofs.lemmas.List.{take_more, take_all, drop_more, take-append-le, length-append}
+use Rattle.std.proofs.Common.{◌≡◌, ◌≢◌, ℕ, zero, suc, ◌+◌, ◌-◌, ◌<◌, ◌≤◌, List, [], ◌∷◌, ◌++◌, length, get_or, take, drop, map, Global, Result, Ok, Err, OnErr, refl, sym, ap, ◌∙◌, subst, arith, take-append-drop, length-take-le}
+use Rattle.std.proofs.lemmas.List.{take_more, take_all, drop_more, take-append-le, length-append, length-map}
 use Rattle.std.specs.Cow.{cow_slice_items, IsBorrowedSlice}
 use Rattle.std.specs.List.{AllZip}
 use Rattle.std.specs.declared.borrow.CowSlice.{CowSlice}
-use Rattle.mr_inline.specs.Scans.{HasNoQuote, BorrowsUnquoted}
+use Rattle.mr_inline.specs.Scans.{BeginsWithLine, HasNoQuote, BorrowsUnquoted}
 use Rattle.mr_inline.specs.Bytes.{star}
 use Rattle.mr_inline.specs.Language.{Continues, Fails}
 use Rattle.mr_inline.specs.Line.{IsNext, Part, word_text, IsLineText, IsLineOf, HasLineFault}
@@ -86,3 +86,16 @@ pub borrows_unquoted : (limit : ℕ) (input : List ℕ) (used n : ℕ) (words : 
 borrows_unquoted limit input used n words e last h = λ line.
     let split : take used input ≡ take n input ++ get_or input n 0 ∷ [] = ap (λ (k : ℕ). take k input) last ∙ take_more input n 0 (omega (arith, e.inside)) in
     own_words line.parts (starts_from Between (take n input)) words (starts_of_line limit (take used input) (take n input) (map cow_slice_items words) (get_or input n 0) line split) h
+
+-- a word that begins in what was measured makes it a line with words
+pub begins_with_line : (limit : ℕ) (input : List ℕ) (used n : ℕ) → get_or input 0 0 ≢ star → EndsAt limit input used → used ≡ n + 1 → 0 < length (starts_from Between (take n input)) → BeginsWithLine limit input
+begins_with_line limit input used n h e last some = record {
+  words = words_from Between (take n input);
+  used = used;
+  inside = e.inside;
+  line = (omega (arith, some, length-map (starts_from Between (take n input)) (word_from Plain)), whole_line limit input used n (words_from Between (take n input)) h e last refl);
+}
+
+pub on_err : {T E : Type 0} (r : Result T E) (P : Type 0) → P → OnErr r P
+on_err (Ok x) P h = tt
+on_err (Err e) P h = h

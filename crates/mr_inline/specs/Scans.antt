@@ -18,6 +18,13 @@ ReadsLine limit input (Skip used) = (used ≤ length input) × IsBlank limit (ta
 ReadsLine limit input More = Continues (IsLineText limit) input
 ReadsLine limit input (Bad fault) = Fails (IsLineText limit) (HasLineFault limit fault) input
 
+-- A line with words begins the input.
+pub record BeginsWithLine (limit : ℕ) (input : List ℕ) : Type 0 where
+  pub words : List (List ℕ)
+  pub used : ℕ
+  pub inside : used ≤ length input
+  pub line : IsLine limit (take used input) words
+
 abbrev pub IsMore : LineScan → Type 0
 IsMore (Whole words used) = ⊥
 IsMore (Skip used) = ⊥
@@ -28,7 +35,7 @@ IsMore (Bad fault) = ⊥
 abbrev pub HasNoQuote : List ℕ → Type 0
 HasNoQuote bytes = All (λ b. (b ≢ double_quote) × (b ≢ single_quote)) bytes
 
--- However the line is parsed, each word in whose own text no quote stands is the input's own bytes.
+-- However the line is parsed, each word in whose own text no quote stands is borrowed, and no copy.
 abbrev pub BorrowsUnquoted : ℕ → List ℕ → List (CowSlice ℕ Global) → Type 0
 BorrowsUnquoted limit text words = (line : IsLineOf limit text (map cow_slice_items words)) → AllZip (λ part word. HasNoQuote (word_text part.word) → IsBorrowedSlice word) line.parts words
 

@@ -1,7 +1,7 @@
-ghost use Rattle.std.specs.Prelude.{ℕ, ◌≢◌, ◌++◌, ◌⊎◌, List, slice_index, IfOk};
+ghost use Rattle.std.specs.Prelude.{ℕ, ◌≢◌, ◌++◌, ◌⊎◌, List, slice_index, IfOk, OnErr};
 ghost use Rattle.mr_inline.specs.Bytes.{star};
 ghost use Rattle.mr_inline.specs.Resumed.{Agrees, IsFresh};
-ghost use Rattle.mr_inline.specs.Scans.{ReadsLine, IsMore, CopiesOnlyQuoted};
+ghost use Rattle.mr_inline.specs.Scans.{ReadsLine, BeginsWithLine, IsMore, CopiesOnlyQuoted};
 
 use crate::fault::LineFault;
 use crate::measure::{Measured, measure};
@@ -42,6 +42,8 @@ pub fn next_line_from<'a>(
     requires no_array { slice_index input.now 0 ≢ star }
     ensures found { IfOk result (λ scan. ReadsLine limit input.now scan) }
     ensures borrowed { IfOk result (λ scan. CopiesOnlyQuoted limit input.now scan) }
+    // Only the words of a whole line take memory.
+    ensures refused { OnErr result (BeginsWithLine limit input.now) }
     // Where more is wanted or memory ran out, the next call may have the input with anything behind it. Else nothing is kept.
     ensures more { (more : List ℕ) → Agrees limit progress.new (input.now ++ more) }
     ensures spent { IfOk result (λ scan. IsMore scan ⊎ IsFresh progress.new) }
@@ -74,6 +76,7 @@ pub fn next_line<'a>(
     requires { slice_index input.now 0 ≢ star }
     ensures found { IfOk result (λ scan. ReadsLine limit input.now scan) }
     ensures borrowed { IfOk result (λ scan. CopiesOnlyQuoted limit input.now scan) }
+    ensures refused { OnErr result (BeginsWithLine limit input.now) }
 {
     let mut progress = LineProgress::new();
     next_line_from(alloc, limit, &mut progress, input)

@@ -1,4 +1,4 @@
-ghost use Rattle.std.specs.Prelude.{◌≢◌, ◌<◌, ◌≤◌, length, drop, IfOk, slice_index};
+ghost use Rattle.std.specs.Prelude.{◌≢◌, ◌<◌, ◌≤◌, length, drop, IfOk, OnErr, slice_index};
 ghost use Rattle.std.specs.List.{AllZip};
 ghost use Rattle.std.specs.Cow.{cow_slice_items, IsBorrowedSlice};
 ghost use Rattle.mr_inline.specs.Parts.{IsCut, IsPlainUpTo, IsReadAt};
@@ -77,7 +77,8 @@ pub(crate) fn words_of<'a>(
     alloc: Global,
     line: &'a [u8],
 ) -> Result<Vec<CowSlice<'a, u8>>, AllocError>
-    ensures { IfOk result (λ words. AllZip IsReadAt (starts_from Between line.now) words.items) }
+    ensures words { IfOk result (λ words. AllZip IsReadAt (starts_from Between line.now) words.items) }
+    ensures refused { OnErr result (0 < length (starts_from Between line.now)) }
 {
     let mut words = Vec::new(alloc);
     let mut at = 0;

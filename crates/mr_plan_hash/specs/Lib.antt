@@ -1,2 +1,3 @@
 pub mod Hashes
 pub mod Commands
+pub mod Laws

@@ -2,6 +2,7 @@
 ghost use Rattle.std.specs.Prelude.{◌≡◌, ℕ, List};
 ghost use Rattle.mr_repl.specs.Pieces.{HeldIsTheEnd, CutsDoNotMatter};
 ghost use Rattle.mr_repl.specs.ReplId.{IsId, TextsAreForty, digits_of};
+ghost use Rattle.mr_repl.specs.Succession.{RenamingStrandsNobody, OldIdEndsAtTheChange, SnapshotEndsAllElse};
 
 /// After a piece of the stream a backlog holds the last bytes of what it held followed by the piece: all of
 /// them, or as many as the capacity.
@@ -22,4 +23,19 @@ pub fn texts_are_of_one_id()
 /// The texts of ids are those of forty lower-case hexadecimal digits.
 pub fn texts_are_forty_digits()
     ensures { TextsAreForty }
+{}
+
+/// When a stream's id changes, who might go on from it under the old id still may.
+pub fn renaming_strands_nobody()
+    ensures { RenamingStrandsNobody }
+{}
+
+/// However a stream goes on under a new id, nobody goes on under the old one from behind the change.
+pub fn old_id_ends_at_the_change()
+    ensures { OldIdEndsAtTheChange }
+{}
+
+/// Once a snapshot has taken the stream's place, only who stands at its end may go on, under its id.
+pub fn snapshot_ends_all_else()
+    ensures { SnapshotEndsAllElse }
 {}

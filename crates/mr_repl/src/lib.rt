@@ -4,16 +4,16 @@
 mod backlog;
 mod decision;
 mod laws;
+mod lineage;
 mod replication_id;
 mod standing;
 
 pub use backlog::Backlog;
 pub use decision::{Answer, decide};
-pub use laws::{cuts_do_not_matter, held_is_the_end, texts_are_forty_digits, texts_are_of_one_id};
+pub use laws::{
+    cuts_do_not_matter, held_is_the_end, old_id_ends_at_the_change, renaming_strands_nobody,
+    snapshot_ends_all_else, texts_are_forty_digits, texts_are_of_one_id,
+};
+pub use lineage::Lineage;
 pub use replication_id::ReplId;
 pub use standing::Standing;
-
-#[cfg(test)]
-mod plain_backlog;
-#[cfg(test)]
-mod tests;

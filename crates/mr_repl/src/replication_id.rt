@@ -53,6 +53,7 @@ impl ReplId {
     /// Reads an id's forty digits. Upper-case digits are refused.
     pub fn read(text: &[u8]) -> Option<ReplId>
         ensures some { IfSome result (λ id. digits_of id ≡ text.now) }
+        ensures id { IfSome result IsId }
         ensures none { IfNone result ((id : List ℕ) → IsId id → digits_of id ≢ text.now) }
     {
         let mut bytes = [0; 20];

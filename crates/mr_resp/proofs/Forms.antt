@@ -131,7 +131,7 @@ module _ (limits : Limits) where
   line_reads input More none p = line_continues input p
   line_reads input (Bad fault) none p = line_fails input fault none p
 
--- where all words are the input's own bytes
+-- where all words are borrowed
 own_words : (parts : List Part) (words : List (CowSlice ℕ Global)) → map cow_slice_items words ≡ map part_value parts → All IsBorrowedSlice words → AllZip (λ part word. HasNoQuote (word_text part.word) → IsBorrowedSlice word) parts words
 own_words [] [] e all = tt
 own_words [] (word ∷ words) e all = absurd (omega (arith, ap length e))

@@ -7,12 +7,12 @@ use Rattle.mr_inline.specs.Line.{IsLineOf, IsLineText}
 use Rattle.mr_inline.specs.Quoted.{quoted_line}
 use Rattle.mr_inline.proofs.LinesByRuns.{apart, one_list}
 use Rattle.mr_inline.proofs.QuotedLines.{quoted_is_read}
-use Rattle.mr_inline.proofs.WordLengths.{words_within}
+use Rattle.mr_inline.proofs.WordLengths as line_words
 use Rattle.mr_resp.specs.Array.{IsArray}
 use Rattle.mr_resp.specs.Request.{line_limit, IsRequest, IsEmptyRequest, IsText, HasInlineFault, HasFault}
 use Rattle.mr_resp.specs.Spelling.{array}
 use Rattle.mr_resp.specs.Scans.{Reads, request, nothing, faulty, outcome_of, IsBad}
-use Rattle.mr_resp.specs.Usual.{usual, usual-word}
+use Rattle.mr_resp.specs.Usual.{usual, usual-word, usual-words}
 use Rattle.mr_resp.specs.declared.limits.Limits.{Limits}
 use Rattle.mr_resp.specs.declared.fault.Fault.{Fault}
 use Rattle.mr_resp.specs.declared.fault.Fault.TheVariants.{MultibulkLength, BulkLength, ExpectedDollar, UnbalancedQuotes, TooBigInline, WordTooBig, TooManyWords}
@@ -173,4 +173,9 @@ module _ (limits : Limits) where
 -- a server's limit on words is above that on lines
 pub words_fit : (text : List ℕ) (words : List (List ℕ)) → IsRequest usual text words → All (λ word. length word ≤ usual.word) words
 words_fit text words (inl r) = r.each
-words_fit text words (inr r) = (let each = words_within line_limit text words r.1 in λ k d lt. omega (arith, each k d lt, usual-word))
+words_fit text words (inr r) = (let each = line_words.words_within line_limit text words r.1 in λ k d lt. omega (arith, each k d lt, usual-word))
+
+-- .. and its limit on their number above the bytes of a line
+pub words_few : (text : List ℕ) (words : List (List ℕ)) → IsRequest usual text words → length words ≤ usual.words
+words_few text words (inl r) = r.count
+words_few text words (inr r) = omega (arith, line_words.words_few line_limit text words r.1, usual-words)

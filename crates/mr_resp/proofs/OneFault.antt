@@ -125,7 +125,7 @@ module _ (limits : Limits) where
       omega (arith, ap length parts.1, length-append tail h.more, h.some)
 
   -- the line of the count and all behind it
-  opened : (count : ℕ) (ws : List (List ℕ)) (part : List ℕ) → (42 ∷ number_line count ++ flat_map bulk ws) ++ part ≡ 42 ∷ (number_line count ++ (flat_map bulk ws ++ part))
+  pub opened : (count : ℕ) (ws : List (List ℕ)) (part : List ℕ) → (42 ∷ number_line count ++ flat_map bulk ws) ++ part ≡ 42 ∷ (number_line count ++ (flat_map bulk ws ++ part))
   opened count ws part = ap (λ (x : List ℕ). 42 ∷ x) (append_assoc (number_line count) (flat_map bulk ws) part)
 
   part_of_fewer : (front part other : List ℕ) (w : IsInWord limits front part) (v : IsInWord limits front other) → flat_map bulk w.words ++ part ≡ flat_map bulk v.words ++ other → length w.words < length v.words → ⊥

@@ -34,3 +34,10 @@ ReadsCommand limits input (Whole words used) = (used ≤ length input) × IsComm
 ReadsCommand limits input (Skip used) = ⊥
 ReadsCommand limits input More = Continues (IsCommandText limits) input
 ReadsCommand limits input (Bad fault) = Fails (IsCommandText limits) (HasCommandFault limits fault) input
+
+-- A command text begins the input.
+pub record BeginsWithCommand (limits : Limits) (input : List ℕ) : Type 0 where
+  pub words : List (List ℕ)
+  pub used : ℕ
+  pub inside : used ≤ length input
+  pub command : IsCommand limits (take used input) words

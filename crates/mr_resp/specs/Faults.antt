@@ -16,3 +16,13 @@ fault_text UnbalancedQuotes = codes "ERR Protocol error: unbalanced quotes in re
 fault_text TooBigInline = codes "ERR Protocol error: too big inline request"
 fault_text WordTooBig = codes "ERR Protocol error: invalid bulk length"
 fault_text TooManyWords = codes "ERR Protocol error: invalid multibulk length"
+
+-- the fault whose text shows a byte
+abbrev pub ShowsByte : Fault → Type 0
+ShowsByte MultibulkLength = ⊥
+ShowsByte BulkLength = ⊥
+ShowsByte (ExpectedDollar b) = Unit {0}
+ShowsByte UnbalancedQuotes = ⊥
+ShowsByte TooBigInline = ⊥
+ShowsByte WordTooBig = ⊥
+ShowsByte TooManyWords = ⊥

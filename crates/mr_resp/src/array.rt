@@ -1,9 +1,9 @@
-ghost use Rattle.std.specs.Prelude.{ℕ, List, ◌++◌, All, IfOk, map, take};
+ghost use Rattle.std.specs.Prelude.{ℕ, List, ◌++◌, All, IfOk, OnErr, map, take};
 ghost use Rattle.std.specs.Cow.{cow_slice_items, IsBorrowedSlice};
 ghost use Rattle.mr_resp.specs.Array.{IsArray};
 ghost use Rattle.mr_resp.specs.Parts.{IsMeasured};
 ghost use Rattle.mr_resp.specs.Resumed.{AgreesArray};
-ghost use Rattle.mr_resp.specs.Scans.{ReadsArray, CopiesNothing};
+ghost use Rattle.mr_resp.specs.Scans.{ReadsArray, BeginsWithArray, CopiesNothing};
 
 use crate::limits::Limits;
 use crate::request::Scan;
@@ -49,6 +49,7 @@ pub(crate) fn next_array_from<'a>(
     requires { AgreesArray limits.now progress.old input.now }
     ensures found { IfOk result (λ scan. ReadsArray limits.now input.now scan) }
     ensures borrowed { IfOk result (λ scan. CopiesNothing scan) }
+    ensures refused { OnErr result (BeginsWithArray limits.now input.now) }
     ensures more { (more : List ℕ) → AgreesArray limits.now progress.new (input.now ++ more) }
 {
     match measure(limits, input, progress) {

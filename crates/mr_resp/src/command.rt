@@ -1,5 +1,5 @@
-ghost use Rattle.std.specs.Prelude.{◌≡◌, ◌<◌, ◌⊎◌, ◌↔◌, IfOk, IsTrue, length, slice_index};
-ghost use Rattle.mr_resp.specs.Command.{ReadsCommand};
+ghost use Rattle.std.specs.Prelude.{◌≡◌, ◌<◌, ◌⊎◌, ◌↔◌, IfOk, OnErr, IsTrue, length, slice_index};
+ghost use Rattle.mr_resp.specs.Command.{ReadsCommand, BeginsWithCommand};
 ghost use Rattle.mr_resp.specs.Scans.{CopiesNothing};
 ghost use Rattle.mr_resp.specs.Usual.{commands};
 
@@ -23,6 +23,8 @@ fn begins_empty(input: &[u8]) -> bool
 pub fn next_command<'a>(alloc: Global, input: &'a [u8]) -> Result<Scan<'a>, AllocError>
     ensures found { IfOk result (λ scan. ReadsCommand commands input.now scan) }
     ensures borrowed { IfOk result (λ scan. CopiesNothing scan) }
+    // Only the words of a whole command text take memory.
+    ensures refused { OnErr result (BeginsWithCommand commands input.now) }
 {
     if begins_empty(input) {
         return Ok(Scan::Bad(Fault::MultibulkLength));

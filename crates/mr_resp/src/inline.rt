@@ -1,6 +1,7 @@
-ghost use Rattle.std.specs.Prelude.{ℕ, ◌≡◌, ◌≢◌, List, ◌++◌, IfOk, slice_index};
+ghost use Rattle.std.specs.Prelude.{ℕ, ◌≡◌, ◌≢◌, List, ◌++◌, IfOk, OnErr, slice_index};
 ghost use Rattle.mr_inline.specs.Bytes.{star};
 ghost use Rattle.mr_inline.specs.Resumed.{Agrees};
+ghost use Rattle.mr_inline.specs.Scans.{BeginsWithLine};
 ghost use Rattle.mr_resp.specs.Request.{line_limit, HasInlineFault};
 ghost use Rattle.mr_resp.specs.Scans.{ReadsInline, CopiesOnlyQuoted};
 
@@ -22,6 +23,7 @@ pub(crate) fn next_inline_from<'a>(
     requires no_array { slice_index input.now 0 ≢ star }
     ensures found { IfOk result (λ scan. ReadsInline input.now scan) }
     ensures borrowed { IfOk result (λ scan. CopiesOnlyQuoted input.now scan) }
+    ensures refused { OnErr result (BeginsWithLine line_limit input.now) }
     ensures more { (more : List ℕ) → Agrees line_limit progress.new (input.now ++ more) }
 {
     match next_line_from(alloc, LINE_LIMIT, progress, input)? {

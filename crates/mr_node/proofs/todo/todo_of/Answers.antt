@@ -25,7 +25,7 @@ returns-in_ok-answer-in-Whole c =
     let slices = c.as_slice.ensures.value in
     let is = subst (λ xs. IsAnswer (map cow_slice_items xs) c.args.given c.args.held.now a) slices c.in_ok-answer-in-Whole.ensures.answer in
     let leads = subst (λ xs. IsTrue (list_all fits (map cow_slice_items xs)) → Leads a c.args.held.now) slices c.in_ok-answer-in-Whole.ensures.leads
-    (all_fit ws (subst (λ n. All (λ w. length w ≤ n) ws) usual-word (c.words_fit.ensures (take c.in-Whole.used input) ws r.1))) in
+    (all_fit ws (subst (λ n. All (λ w. length w ≤ n) ws) usual-word (c.words_fit.ensures.each (take c.in-Whole.used input) ws r.1))) in
     rw c.carry_out.ensures (record {
       todo = answer_todo input c.args.given c.args.held.now a c.in-Whole.used ws r.0 (record { text = take c.in-Whole.used input; begins = sym (take-append-drop c.in-Whole.used input); request = r.1 }) is leads;
       along = answer_along input a c.in-Whole.used;

@@ -25,12 +25,14 @@ returns c =
       | then-input-eq42+in_ok-scan w ↦ record {
         found = subst (λ s. Reads limits input s) (sym w.scan-is) (array_reads limits input w.in_ok-scan.scan (star_first input some w.if-input-eq42.true) w.in_ok-scan.ensures.found);
         borrowed = subst (λ s. CopiesOnlyQuoted input s) (sym w.scan-is) (array_copies input w.in_ok-scan.scan w.in_ok-scan.ensures.borrowed);
+        refused = tt;
         more = λ more. fresh_agrees limits c.new.result (input ++ more) c.new.ensures;
         spent = inr c.new.ensures;
       }
       | else-input-eq42+in_ok-scan-2 w ↦ record {
         found = subst (λ s. Reads limits input s) (sym w.scan-is) (line_reads limits input w.in_ok-scan-2.scan (no_star_first input w.if-input-eq42.false) w.in_ok-scan-2.ensures.found);
         borrowed = subst (λ s. CopiesOnlyQuoted input s) (sym w.scan-is) w.in_ok-scan-2.ensures.borrowed;
+        refused = tt;
         more = λ more. fresh_agrees limits c.new.result (input ++ more) c.new.ensures;
         spent = inr c.new.ensures;
       }

@@ -1,0 +1,61 @@
+ghost use Rattle.std.specs.Prelude.{◌≡◌, ℕ, ◌+◌, ◌<◌, ◌≤◌, ◌^◌, List, length, Option, IfOk, OnOk, OnErr};
+ghost use Rattle.mr_file.specs.LogFile.{Rose, Reads, ReadsSome, Appends, AppendsSome, Keeps, Replaces, IsOldOrNew, IsSynced};
+
+use thiserror::Error;
+
+/// The file answered that it failed.
+#[derive(Clone, Copy, Debug, PartialEq, Eq, Error)]
+#[error("file failed")]
+pub struct Failed;
+
+/// A file that grows at its end. One in memory tells its bytes and how many of them the last sync covered. One of the
+/// system tells neither, and then only the clauses on failures say something. A failure is answered only where the
+/// count of failures rose, or stands at its greatest.
+pub trait LogFile {
+    ghost told: { Self → Option (List ℕ) };
+
+    ghost synced: { Self → Option ℕ };
+
+    ghost failures: { Self → ℕ };
+
+    /// Reads from a place on. The answer is 0 only at the end, or where the buffer is empty.
+    fn read(&mut self, at: u64, into: &mut [u8]) -> Result<usize, Failed>
+        ensures within { IfOk result (λ n. n ≤ length into.old) }
+        ensures countable { IfOk result (λ n. at + n < 2 ^ 64) }
+        ensures read { IfOk result (λ n. Reads (told self.old) at into.old into.new n) }
+        ensures some { IfOk result (λ n. ReadsSome (told self.old) at into.old n) }
+        ensures same { (told self.new ≡ told self.old) × (synced self.new ≡ synced self.old) }
+        ensures later { failures self.old ≤ failures self.new }
+        ensures cause { OnErr result (Rose (failures self.old) (failures self.new)) };
+
+    /// Appends a beginning of the piece: at least one byte, unless the piece is empty.
+    fn write(&mut self, piece: &[u8]) -> Result<usize, Failed>
+        ensures within { IfOk result (λ n. n ≤ length piece.now) }
+        ensures some { IfOk result (λ n. 0 < length piece.now → 0 < n) }
+        ensures written { IfOk result (λ n. Appends (told self.old) (told self.new) piece.now n) }
+        ensures failed { OnErr result (AppendsSome (told self.old) (told self.new) piece.now) }
+        ensures later { failures self.old ≤ failures self.new }
+        ensures cause { OnErr result (Rose (failures self.old) (failures self.new)) };
+
+    /// Has all bytes reach the disk.
+    fn sync(&mut self) -> Result<(), Failed>
+        ensures durable { OnOk result (IsSynced (told self.new) (synced self.new)) }
+        ensures same { told self.new ≡ told self.old }
+        ensures later { failures self.old ≤ failures self.new }
+        ensures cause { OnErr result (Rose (failures self.old) (failures self.new)) };
+
+    /// Keeps the first bytes and drops the others.
+    fn cut(&mut self, len: u64) -> Result<(), Failed>
+        ensures kept { OnOk result (Keeps (told self.old) (told self.new) len) }
+        ensures failed { OnErr result (told self.new ≡ told self.old) }
+        ensures later { failures self.old ≤ failures self.new }
+        ensures cause { OnErr result (Rose (failures self.old) (failures self.new)) };
+
+    /// Puts these bytes in the place of all, and has them reach the disk. After a failure there are the old ones or the new.
+    fn replace(&mut self, whole: &[u8]) -> Result<(), Failed>
+        ensures replaced { OnOk result (Replaces (told self.old) (told self.new) whole.now) }
+        ensures durable { OnOk result (IsSynced (told self.new) (synced self.new)) }
+        ensures failed { OnErr result (IsOldOrNew (told self.old) (told self.new) whole.now) }
+        ensures later { failures self.old ≤ failures self.new }
+        ensures cause { OnErr result (Rose (failures self.old) (failures self.new)) };
+}

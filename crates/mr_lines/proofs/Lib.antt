@@ -1,0 +1,4 @@
+pub mod Plain
+pub mod Ends
+pub mod Apart
+pub mod Places

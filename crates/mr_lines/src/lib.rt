@@ -1,0 +1,12 @@
+//! What one node says to another before the stream: lines, the answer to PSYNC, offsets.
+#![tactic(auto)]
+
+mod laws;
+mod line;
+mod offset;
+mod psync;
+
+pub use laws::{cuts_do_not_matter, line_is_one, lines_are_apart};
+pub use line::{LineScan, PeerLine, next_line};
+pub use offset::read_offset;
+pub use psync::{PsyncReply, read_reply};

@@ -1,0 +1,71 @@
+//! What is read of words, where no reply tells it.
+use crate::fault::RehearsalFault;
+use crate::kind::Kind;
+use crate::step::{Step, bytes_of, number_of};
+use crate::telling::{tell, tell_shown};
+use mr_ask::{Amount, Group, read};
+use mr_resp::{Scan, next_request};
+use mr_words::Name;
+use std::alloc::Global;
+
+/// Commands have no state.
+#[derive(Drop)]
+pub struct Asks;
+
+impl Kind for Asks {
+    fn make(
+        &mut self,
+        alloc: Global,
+        step: Step<'_>,
+        out: &mut Vec<u8>,
+    ) -> Result<(), RehearsalFault> {
+        match step.name {
+            "name" => tell_name(alloc, step, out),
+            "group" => tell_group(alloc, step, out),
+            "one" => tell_amount(alloc, Amount::One, out),
+            "minus-one" => tell_amount(alloc, Amount::MinusOne, out),
+            "number" => tell_amount(alloc, Amount::Number(number_of(step.first)?), out),
+            "opposite" => tell_amount(alloc, Amount::Opposite(number_of(step.first)?), out),
+            _ => Err(RehearsalFault::Line),
+        }
+    }
+}
+
+/// The name of the command that a word is, as it is shown.
+fn tell_name(alloc: Global, step: Step<'_>, out: &mut Vec<u8>) -> Result<(), RehearsalFault> {
+    match Name::of(step.first.as_bytes()) {
+        Some(name) => {
+            tell(out, "name")?;
+            tell_shown(alloc, name, out)
+        }
+        None => tell(out, "no name"),
+    }
+}
+
+/// What a request is about.
+fn tell_group(alloc: Global, step: Step<'_>, out: &mut Vec<u8>) -> Result<(), RehearsalFault> {
+    let text = bytes_of(alloc, step.first)?;
+    let Scan::Whole { words, used: _ } = next_request(alloc, text.as_slice())? else {
+        return Err(RehearsalFault::Line);
+    };
+    if words.is_empty() {
+        return Err(RehearsalFault::Line);
+    }
+    match read(words.as_slice()) {
+        Ok(ask) => tell(out, name_of(ask.group())),
+        Err(_) => tell(out, "no command"),
+    }
+}
+
+fn name_of(group: Group) -> &'static str {
+    match group {
+        Group::Keys => "keys",
+        Group::Collections => "collections",
+        Group::Server => "server",
+    }
+}
+
+fn tell_amount(alloc: Global, amount: Amount, out: &mut Vec<u8>) -> Result<(), RehearsalFault> {
+    tell(out, "adds")?;
+    tell_shown(alloc, amount.number(), out)
+}

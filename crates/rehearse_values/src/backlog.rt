@@ -1,0 +1,120 @@
+//! Backlogs.
+use crate::fault::RehearsalFault;
+use crate::kind::Kind;
+use crate::step::{Step, bytes_of, count_of};
+use crate::telling::{tell, tell_bytes, tell_shown, tell_whether};
+use mr_repl::Backlog;
+use std::alloc::Global;
+
+/// The greatest offset that a step may name.
+const MOST: u64 = 1 << 60;
+
+/// A backlog, once a step has begun one.
+#[derive(Drop)]
+pub struct Stream {
+    backlog: Option<Backlog>,
+}
+
+impl Stream {
+    pub fn new() -> Stream {
+        Stream { backlog: None }
+    }
+
+    fn begin(
+        &mut self,
+        alloc: Global,
+        step: Step<'_>,
+        out: &mut Vec<u8>,
+    ) -> Result<(), RehearsalFault> {
+        let capacity = count_of(step.first)? as usize;
+        let offset = count_of(step.second)?;
+        if capacity < 1 || capacity > 1_073_741_824 || offset > MOST {
+            return Err(RehearsalFault::Line);
+        }
+        self.backlog = Some(Backlog::new(alloc, capacity, offset)?);
+        tell(out, "begun")
+    }
+}
+
+impl Kind for Stream {
+    fn make(
+        &mut self,
+        alloc: Global,
+        step: Step<'_>,
+        out: &mut Vec<u8>,
+    ) -> Result<(), RehearsalFault> {
+        if step.name == "new" {
+            return self.begin(alloc, step, out);
+        }
+        match &mut self.backlog {
+            Some(backlog) => on_backlog(alloc, backlog, step, out),
+            None => Err(RehearsalFault::Line),
+        }
+    }
+}
+
+fn on_backlog(
+    alloc: Global,
+    backlog: &mut Backlog,
+    step: Step<'_>,
+    out: &mut Vec<u8>,
+) -> Result<(), RehearsalFault> {
+    match step.name {
+        "push" => push(alloc, backlog, step, out),
+        "restart" => restart(backlog, step, out),
+        "tail" => tell_tail(alloc, backlog, step, out),
+        "shows" => tell_backlog(alloc, backlog, out),
+        _ => Err(RehearsalFault::Line),
+    }
+}
+
+fn push(
+    alloc: Global,
+    backlog: &mut Backlog,
+    step: Step<'_>,
+    out: &mut Vec<u8>,
+) -> Result<(), RehearsalFault> {
+    let bytes = bytes_of(alloc, step.first)?;
+    let piece = bytes.as_slice();
+    let end = backlog.end();
+    if end > MOST || piece.len() > 1_073_741_824 {
+        return Err(RehearsalFault::Line);
+    }
+    backlog.push(piece);
+    tell(out, "pushed")
+}
+
+fn restart(backlog: &mut Backlog, step: Step<'_>, out: &mut Vec<u8>) -> Result<(), RehearsalFault> {
+    let offset = count_of(step.first)?;
+    if offset > MOST {
+        return Err(RehearsalFault::Line);
+    }
+    backlog.restart(offset);
+    tell(out, "restarted")
+}
+
+/// The bytes from an offset on, if they are held.
+fn tell_tail(
+    alloc: Global,
+    backlog: &Backlog,
+    step: Step<'_>,
+    out: &mut Vec<u8>,
+) -> Result<(), RehearsalFault> {
+    let from = count_of(step.first)?;
+    if from < backlog.first() || from > backlog.end() + 1 {
+        return tell(out, "not held");
+    }
+    let bytes = backlog.tail(alloc, from)?;
+    tell(out, "tail")?;
+    tell_bytes(alloc, bytes.as_slice(), out)
+}
+
+/// The capacity, the length, the first offset that is held and the last, and whether no byte is held.
+fn tell_backlog(alloc: Global, backlog: &Backlog, out: &mut Vec<u8>) -> Result<(), RehearsalFault> {
+    tell(out, "shows")?;
+    tell_shown(alloc, backlog.capacity(), out)?;
+    tell_shown(alloc, backlog.len(), out)?;
+    tell_shown(alloc, backlog.first(), out)?;
+    tell_shown(alloc, backlog.end(), out)?;
+    tell_whether(out, backlog.is_empty(), " empty", "")
+}

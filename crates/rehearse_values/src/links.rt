@@ -1,0 +1,117 @@
+//! Links under their ids, each a number.
+use crate::fault::RehearsalFault;
+use crate::kind::Kind;
+use crate::step::{Step, count_of};
+use crate::telling::{tell, tell_before, tell_shown, tell_whether};
+use mr_links::{LinkId, Links};
+use std::alloc::Global;
+
+impl Kind for Links<u64> {
+    fn make(
+        &mut self,
+        alloc: Global,
+        step: Step<'_>,
+        out: &mut Vec<u8>,
+    ) -> Result<(), RehearsalFault> {
+        match step.name {
+            "insert" => insert(alloc, self, step, out),
+            "shows" => tell_links(alloc, self, out),
+            "ids" => tell_ids(alloc, self, out),
+            _ => on_link(alloc, self, id_of(step)?, step, out),
+        }
+    }
+}
+
+/// The id that stands in front of a step's other arguments.
+fn id_of(step: Step<'_>) -> Result<LinkId, RehearsalFault> {
+    Ok(LinkId {
+        index: count_of(step.first)? as usize,
+        generation: count_of(step.second)?,
+    })
+}
+
+fn on_link(
+    alloc: Global,
+    links: &mut Links<u64>,
+    id: LinkId,
+    step: Step<'_>,
+    out: &mut Vec<u8>,
+) -> Result<(), RehearsalFault> {
+    match step.name {
+        "get" => tell_before(alloc, links.get(id).copied(), out),
+        "contains" => tell_whether(out, links.contains(id), "open", "gone"),
+        "set" => set(links, id, count_of(step.third)?, out),
+        "replace" => replace(alloc, links, id, count_of(step.third)?, out),
+        "remove" => tell_before(alloc, links.remove(id), out),
+        _ => Err(RehearsalFault::Line),
+    }
+}
+
+fn insert(
+    alloc: Global,
+    links: &mut Links<u64>,
+    step: Step<'_>,
+    out: &mut Vec<u8>,
+) -> Result<(), RehearsalFault> {
+    let link = count_of(step.first)?;
+    if links.opened() >= 1 << 62 {
+        return Err(RehearsalFault::Line);
+    }
+    let id = links.insert(link)?;
+    tell(out, "id")?;
+    tell_id(alloc, id, out)
+}
+
+fn set(
+    links: &mut Links<u64>,
+    id: LinkId,
+    link: u64,
+    out: &mut Vec<u8>,
+) -> Result<(), RehearsalFault> {
+    match links.get_mut(id) {
+        Some(place) => {
+            *place = link;
+            tell(out, "set")
+        }
+        None => tell(out, "none"),
+    }
+}
+
+fn replace(
+    alloc: Global,
+    links: &mut Links<u64>,
+    id: LinkId,
+    link: u64,
+    out: &mut Vec<u8>,
+) -> Result<(), RehearsalFault> {
+    if !links.contains(id) {
+        return tell(out, "none");
+    }
+    tell_before(alloc, Some(links.replace(id, link)), out)
+}
+
+fn tell_id(alloc: Global, id: LinkId, out: &mut Vec<u8>) -> Result<(), RehearsalFault> {
+    tell_shown(alloc, id.index, out)?;
+    tell_shown(alloc, id.generation, out)
+}
+
+/// How many links were opened and how many are, whether none is, and each with its id.
+fn tell_links(alloc: Global, links: &Links<u64>, out: &mut Vec<u8>) -> Result<(), RehearsalFault> {
+    tell(out, "shows")?;
+    tell_shown(alloc, links.opened(), out)?;
+    tell_shown(alloc, links.len(), out)?;
+    tell_whether(out, links.is_empty(), " empty", "")?;
+    for (id, link) in links.iter() {
+        tell_id(alloc, id, out)?;
+        tell_shown(alloc, *link, out)?;
+    }
+    Ok(())
+}
+
+fn tell_ids(alloc: Global, links: &Links<u64>, out: &mut Vec<u8>) -> Result<(), RehearsalFault> {
+    tell(out, "ids")?;
+    for id in links.ids() {
+        tell_id(alloc, id, out)?;
+    }
+    Ok(())
+}

@@ -1,0 +1,66 @@
+//! Lists.
+use crate::fault::RehearsalFault;
+use crate::kind::Kind;
+use crate::step::{Step, bytes_of};
+use crate::telling::{tell, tell_bytes, tell_whether};
+use mr_value::{Bytes, ListValue};
+use std::alloc::Global;
+
+impl Kind for ListValue {
+    fn make(
+        &mut self,
+        alloc: Global,
+        step: Step<'_>,
+        out: &mut Vec<u8>,
+    ) -> Result<(), RehearsalFault> {
+        match step.name {
+            "push" => push(alloc, self, step, out),
+            "before" => insert_before(alloc, self, step, out),
+            "after" => insert_after(alloc, self, step, out),
+            "items" => tell_items(alloc, self, out),
+            _ => Err(RehearsalFault::Line),
+        }
+    }
+}
+
+fn push(
+    alloc: Global,
+    list: &mut ListValue,
+    step: Step<'_>,
+    out: &mut Vec<u8>,
+) -> Result<(), RehearsalFault> {
+    list.push_back(Bytes::from_vec(bytes_of(alloc, step.first)?))?;
+    tell(out, "pushed")
+}
+
+fn insert_before(
+    alloc: Global,
+    list: &mut ListValue,
+    step: Step<'_>,
+    out: &mut Vec<u8>,
+) -> Result<(), RehearsalFault> {
+    let pivot = bytes_of(alloc, step.first)?;
+    let item = Bytes::from_vec(bytes_of(alloc, step.second)?);
+    let inserted = list.insert_before(pivot.as_slice(), item)?;
+    tell_whether(out, inserted, "inserted", "no pivot")
+}
+
+fn insert_after(
+    alloc: Global,
+    list: &mut ListValue,
+    step: Step<'_>,
+    out: &mut Vec<u8>,
+) -> Result<(), RehearsalFault> {
+    let pivot = bytes_of(alloc, step.first)?;
+    let item = Bytes::from_vec(bytes_of(alloc, step.second)?);
+    let inserted = list.insert_after(pivot.as_slice(), item)?;
+    tell_whether(out, inserted, "inserted", "no pivot")
+}
+
+fn tell_items(alloc: Global, list: &ListValue, out: &mut Vec<u8>) -> Result<(), RehearsalFault> {
+    tell(out, "items")?;
+    for item in list.iter() {
+        tell_bytes(alloc, item, out)?;
+    }
+    Ok(())
+}

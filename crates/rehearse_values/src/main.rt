@@ -1,0 +1,127 @@
+//! Rehearses values for tests: makes the calls that the lines of standard input name, and writes a line on each. So a test makes calls
+//! that no client's request makes, and sees what no reply tells.
+//!
+//! A line is a kind of value and steps behind a space, with a `;` between two of them: `list push 61;items`. They are played on a fresh value
+//! of that kind. Bytes are written in hexadecimal digits, or as `-` where there are none. `was` tells
+//! what stood there, and `none` that nothing did.
+//!
+//! | Kind | Steps, and what they answer |
+//! |---|---|
+//! | `list` | `push ITEM`: `pushed`; `before PIVOT ITEM`, `after PIVOT ITEM`: `inserted` or `no pivot`; `items`: `items ITEM ..` |
+//! | `sorted` | `put MEMBER SCORE`: `was SCORE`, `none`; `min`, `max`: `taken MEMBER SCORE`, `none`; `pairs`: `pairs COUNT MEMBER SCORE ..` |
+//! | `keyed` | `insert KEY NUMBER`: `was NUMBER`, `none`; `empty`: `empty` or `not empty` |
+//! | `slices` | `insert NUMBER` under the one key `k`, and `empty`: as of `keyed` |
+//! | `links` | `insert LINK`: `id PLACE BEFORE`; `get`, `remove`, each with an id: `was LINK`, `none`; `contains ID`: `open` or `gone`; `set ID LINK`: `set`, `none`; `replace ID LINK`: `was LINK`, `none`; `shows`: `shows OPENED COUNT ID LINK ..`; `ids`: `ids ID ..` |
+//! | `id` | `new BYTES`, `read DIGITS`, `number NUMBER`, `zeros`: `id SHOWN DIGITS BYTES`, with `zeros` behind it where it stands for none, or `no id`; `order NUMBER NUMBER`: `less` or `not less` |
+//! | `backlog` | `new CAPACITY OFFSET`: `begun`; `push BYTES`: `pushed`; `restart OFFSET`: `restarted`; `tail FROM`: `tail BYTES` or `not held`; `shows`: `shows CAPACITY LENGTH FIRST END` |
+//! | `standing` | `stands ID OFFSET FIRST`, `second ID LIMIT`: `stands`; `asks ID FROM`: `full` or `continue FROM` |
+//! | `lineage` | `new ID CAPACITY OFFSET`: `begun`; `grow BYTES`: `grown`; `promote ID`, `continue ID`, `adopt ID OFFSET`: `promoted`, `continued`, `adopted`; `asks ID FROM`: as of `standing`; `shows`: `shows ID END FIRST`, and the id before with its limit |
+//! | `request` | `limits WORD WORDS TEXT`: `limited` or `no limits`; `next BYTES`, `command BYTES`, `line LIMIT BYTES`: `whole USED`, `skip`, `more` or a fault; `kept BYTES`: a letter for each word, `b` where it is borrowed and `o` where it is owned; `parts WORD WORD`, `push WORD WORD`, `write WORD WORD`: `text BYTES` |
+//! | `ask` | `name WORD`: `name NAME` or `no name`; `group BYTES`: what the request is about, or `no command`; `one`, `minus-one`, `number NUMBER`, `opposite NUMBER`: `adds NUMBER` |
+//! | `part` | `words WORD`, `pairs NAME VALUE`, `scores MEMBER SCORE`: `list LENGTH fits LENGTH`, with `within` or `past` the limits of scores; `name WORD`: `name TEXT` or `no name` |
+//! | `dataset` | `set KEY VALUE`, `del KEY`, `no-texts`, `no-members`, `no-items`, `score SCORE`, `offset OFFSET`, `place PLACE`: whether the effect's words are within the limit (`fits`, `too long`), whether it has a spelling (`spelled`, `unspelled`), and `applied` or `refused`, by reference and then moved in; `nothing`: `applied`; `at KEY`: `entry value DEADLINE`, each with `no` before it where there is none; `keys`: `keys COUNT KEY ..`; `given NOW WORD`: `given NOW WORD` or `no moment` |
+//!
+//! Of what is counted, `empty` behind the counts says that there is none.
+#![tactic(auto)]
+
+mod asks;
+mod backlog;
+mod dataset;
+mod fault;
+mod ids;
+mod kind;
+mod lineage;
+mod links;
+mod list;
+mod maps;
+mod parts;
+mod requests;
+mod sorted_set;
+mod standing;
+mod step;
+mod telling;
+
+use asks::Asks;
+use backlog::Stream;
+use fault::RehearsalFault;
+use ids::Ids;
+use kind::play;
+use lineage::NamedStream;
+use mr_data::Dataset;
+use mr_links::Links;
+use mr_map::{KeyedMap, SliceMap};
+use mr_value::ListValue;
+use mr_zset::ZSet;
+use parts::Parts;
+use requests::Requests;
+use standing::play_place;
+use std::alloc::Global;
+use std::hash::RandomState;
+use std::io::{Read, Write};
+use std::process::ExitCode;
+
+/// Makes the calls that a line names on a value of the kind that it begins with.
+fn play_line(
+    alloc: Global,
+    seed: RandomState,
+    line: &str,
+    out: &mut Vec<u8>,
+) -> Result<(), RehearsalFault> {
+    let Some((kind, steps)) = line.split_once(' ') else {
+        return Err(RehearsalFault::Line);
+    };
+    match kind {
+        "list" => play(alloc, ListValue::new(alloc), steps, out),
+        "sorted" => play(alloc, ZSet::new(alloc), steps, out),
+        "keyed" => play(alloc, KeyedMap::<u64>::new(alloc, seed), steps, out),
+        "dataset" => play(alloc, Dataset::new(alloc, seed), steps, out),
+        "slices" => play(alloc, SliceMap::<'static, u64>::new(alloc), steps, out),
+        _ => play_stateless(alloc, kind, steps, out),
+    }
+}
+
+fn play_stateless(
+    alloc: Global,
+    kind: &str,
+    steps: &str,
+    out: &mut Vec<u8>,
+) -> Result<(), RehearsalFault> {
+    match kind {
+        "id" => play(alloc, Ids, steps, out),
+        "ask" => play(alloc, Asks, steps, out),
+        "part" => play(alloc, Parts, steps, out),
+        "request" => play(alloc, Requests::new(), steps, out),
+        "standing" => play_place(alloc, steps, out),
+        "links" => play(alloc, Links::<u64>::new(alloc), steps, out),
+        "backlog" => play(alloc, Stream::new(), steps, out),
+        "lineage" => play(alloc, NamedStream::new(), steps, out),
+        _ => Err(RehearsalFault::Line),
+    }
+}
+
+fn rehearse(rt: &HostRuntime, script: &str, out: &mut Vec<u8>) -> Result<(), RehearsalFault> {
+    let seed = RandomState::new(rt)?;
+    for line in script.lines() {
+        play_line(rt.alloc(), seed, line, out)?;
+    }
+    Ok(())
+}
+
+fn run(rt: &HostRuntime) -> Result<(), RehearsalFault> {
+    let mut script = String::new(rt.alloc());
+    rt.stdin().read_to_string(&mut script)?;
+    let mut out = Vec::new(rt.alloc());
+    rehearse(rt, script.as_str(), &mut out)?;
+    rt.stdout().write_all(out.as_slice())?;
+    Ok(())
+}
+
+fn main(rt: HostRuntime) -> ExitCode {
+    match run(&rt) {
+        Ok(()) => ExitCode::SUCCESS,
+        Err(fault) => {
+            let _ = eprintln!(rt; "rehearse_values: {fault}");
+            ExitCode::FAILURE
+        }
+    }
+}
