@@ -75,6 +75,8 @@ impl SystemFile {
         let beside = format!(in rt.alloc(); "{path}.new").map_err(io::Error::from)?;
         let lock_path = format!(in rt.alloc(); "{path}.lock").map_err(io::Error::from)?;
         let path = String::from_str(rt.alloc(), path).map_err(io::Error::from)?;
+        // What can't be opened gets no lock, and what was replaced before the lock was taken is opened anew.
+        let _first = opened(&rt, path.as_str())?;
         let lock = opened(&rt, lock_path.as_str())?;
         lock.try_lock()?;
         let file = opened(&rt, path.as_str())?;
