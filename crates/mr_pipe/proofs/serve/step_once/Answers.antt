@@ -1,7 +1,7 @@
 use Rattle.std.proofs.Common.{rules, ◌≡◌, ℕ, List, true, false, subst, sym, ap, ◌∙◌}
 use Rattle.std.specs.Io.KnownBytes.{Appends}
 use Rattle.mr_node.specs.Rows.{ClientRow, StepRow}
-use Rattle.mr_pipe.proofs.serve.turn.Goals as goal
+use Rattle.mr_pipe.proofs.serve.step_once.Goals as goal
 
 pub returns-then-closes : goal.returns-then-closes
 returns-then-closes g c = λ u ag. record {
