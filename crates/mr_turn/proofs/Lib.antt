@@ -4,3 +4,4 @@ pub mod Laws
 pub mod Changing
 pub mod PlanLemmas
 pub mod LeftAndTold
+pub mod OnceLemmas
