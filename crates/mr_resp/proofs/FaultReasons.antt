@@ -22,9 +22,9 @@ use Rattle.mr_resp.proofs.Digits.{AreDigits, IsDigitByte, value_after, value_aft
 use Rattle.mr_resp.proofs.Forms.{star_on, array_star, array_text, line_text, line_no_star, form_of}
 use Rattle.mr_resp.proofs.LimitsLemmas.{length-empties}
 use Rattle.mr_resp.proofs.Lines.{decimal_0, strict_decimal, decimal_more}
-use Rattle.mr_resp.proofs.OneFault.{opened}
+use Rattle.mr_resp.proofs.OneFault.{opened, no_whole_word}
 use Rattle.mr_resp.proofs.Requests.{next_word, line_head, array_parts, decimal_longer, six_each, completes, counted_text, few}
-use Rattle.mr_resp.proofs.Words.{length-bulk, line_unique, bulk_unique, bulk_parts}
+use Rattle.mr_resp.proofs.Words.{length-bulk, line_unique, bulk_parts}
 
 -- Strict digits are a number's.
 spelled_after : (v : ℕ) (ds : List ℕ) → 0 < v → AreDigits ds → value_after v ds < 2 ^ 68 → decimal (value_after v ds) ≡ decimal v ++ ds
@@ -291,13 +291,6 @@ module _ (limits : Limits) where
       let small = digits_small (length word) ds front.0 byte (omega (arith, h.whole.1, limits.small_word)) front.1 (last_digit ds byte strict.each) in
       (value_after 0 (ds ++ byte ∷ []), n.1 ∙ ap (λ (x : List ℕ). 36 ∷ x) (sym is ∙ sym (strict_spelled (ds ++ byte ∷ []) strict small)))
 
-  -- what can still become a word of some size doesn't begin with one
-  no_whole_word : (part word z : List ℕ) → length word < 2 ^ 64 → part ≡ bulk word ++ z → Continues (IsBulk limits) part → ⊥
-  no_whole_word part word z small e h =
-      let both : bulk word ++ (z ++ h.more) ≡ bulk h.whole.0 ++ [] = sym (append_assoc (bulk word) z h.more) ∙ ap (λ (x : List ℕ). x ++ h.more) (sym e) ∙ h.whole.2 ∙ sym (append-nil (bulk h.whole.0)) in
-      let parts = bulk_unique word h.whole.0 (z ++ h.more) [] small (omega (arith, h.whole.1, limits.small_word)) both in
-      omega (arith, ap length parts.1, length-append z h.more, h.some)
-
   module _ (front part : List ℕ) (byte : ℕ) (w : IsInWord limits front part) (h : Continues (IsArrayText limits) front) (d : IsDoomed (IsArrayText limits) (front ++ byte ∷ [])) where
     next : Coming w.count w.words part h.more
     next = (let r = some_array front part h.more w h.whole in coming front part h.more w r.0 r.1)
@@ -363,11 +356,11 @@ module _ (limits : Limits) where
         no_word : (more rest word : List ℕ) → length word < 2 ^ 64 → part ++ byte ∷ more ≡ bulk word ++ rest → ⊥
         no_word more rest word small e = elim (split part (byte ∷ more) (bulk word) rest e) [
           | inl p ↦ by_word p.0 p.1 p.2
-          | inr p ↦ no_whole_word part word p.0 small p.1 w.inside
+          | inr p ↦ no_whole_word limits part word p.0 small p.1 w.inside
         ]
           where
             by_word : (z : List ℕ) → bulk word ≡ part ++ z → byte ∷ more ≡ z ++ rest → ⊥
-            by_word [] k t = no_whole_word part word [] small (sym (k ∙ append-nil part) ∙ sym (append-nil (bulk word))) w.inside
+            by_word [] k t = no_whole_word limits part word [] small (sym (k ∙ append-nil part) ∙ sym (append-nil (bulk word))) w.inside
             by_word (c ∷ z) k t =
                 let same : c ≡ byte = cc in
                 let begins : bulk word ≡ part ++ byte ∷ z = k ∙ ap (λ (x : ℕ). part ++ x ∷ z) same in
