@@ -179,6 +179,35 @@ def scores_of(count):
     return write
 
 
+def each_of(count, rounds, reply, words):
+    """One request for each member of `scored`, in rounds: `words` says which, and `reply` what is answered, by round, score and member."""
+
+    def write(file):
+        size = 0
+        for turn in range(rounds):
+            for at in range(count):
+                score = at * 387_420_489 % count
+                file.write(request(*words(turn, score, key(at))))
+                size += len(reply(turn, score))
+        return rounds * count, size
+
+    return write
+
+
+def moved(count, rounds):
+    """Another score for each member."""
+    return each_of(count, rounds, lambda turn, score: b":0\r\n", lambda turn, score, member: (b"ZADD", b"k", b"%d" % (score * 7 % count + (turn + 1) * count), member))
+
+
+def incremented(count, rounds):
+    return each_of(count, rounds, lambda turn, score: bulk(b"%d" % (score + turn + 1)), lambda turn, score, member: (b"ZINCRBY", b"k", b"1", member))
+
+
+def ranks_of(count, rounds):
+    """The rank of each member, which is its score."""
+    return each_of(count, rounds, lambda turn, score: b":%d\r\n" % score, lambda turn, score, member: (b"ZRANK", b"k", member))
+
+
 def first_by_score(count):
     """The member with each score of `scored`, from the least on."""
     return {at * 387_420_489 % count: key(at) for at in range(count)}
@@ -255,6 +284,29 @@ NEW_UNTIL = of_keys(b"SETEX", OK, b"1000000", VALUE)
 HUNDRED = b"*100\r\n" + 100 * bulk(VALUE)
 ONE_KEY = bulk(key(0))
 
+
+def on_sorted_sets(size, count, rounds):
+    """What is measured on a sorted set of so many members; what each member is named in is done in so many rounds."""
+    before, middle = scored(count), count // 2
+
+    def at(first):
+        return ranged(10_000, 100, b"ZRANGE", b"k", b"%d" % first, b"%d" % (first + 99))
+
+    return [
+        (f"ZADD of {size} new members", None, each_scored(count)),
+        (f"ZADD that moves, of {size}", before, moved(count, rounds)),
+        (f"ZINCRBY of {size}", before, incremented(count, rounds)),
+        (f"ZRANK of {size}", before, ranks_of(count, rounds)),
+        (f"ZRANGE of the first 100 of {size}", before, at(0)),
+        (f"ZRANGE of 100 in the middle of {size}", before, at(middle)),
+        (f"ZRANGE of the last 100 of {size}", before, at(count - 100)),
+        (f"ZRANGEBYSCORE LIMIT, 10 of {size}", before, ranged(10_000, 10, b"ZRANGEBYSCORE", b"k", b"(%d" % middle, b"+inf", b"LIMIT", b"5", b"10")),
+        (f"ZREVRANGEBYSCORE LIMIT, 10 of {size}", before, ranged(10_000, 10, b"ZREVRANGEBYSCORE", b"k", b"+inf", b"(%d" % middle, b"LIMIT", b"5", b"10")),
+        (f"ZPOPMIN of {size}", before, popped_least(count, min(count, 100_000))),
+        (f"ZREMRANGEBYRANK of one in the middle of {size}", before, asked(min(count // 2, 10_000), b":1\r\n", b"ZREMRANGEBYRANK", b"k", b"%d" % (middle // 2), b"%d" % (middle // 2))),
+    ]
+
+
 # what is measured, what is done before it, the time of which is taken off, and options of the program
 RUNS = [
     ("SET, GET of one key", None, one_key),
@@ -272,13 +324,10 @@ RUNS = [
     ("SPOP of a million, halfway", added(1_000_000), asked(1_000, ONE_KEY, b"SPOP", b"k"), "--word", "500000"),
     ("LRANGE of the first 100", items(1_000_000), asked(10_000, HUNDRED, b"LRANGE", b"l", b"0", b"99")),
     ("LRANGE of the last 100", items(1_000_000), asked(10_000, HUNDRED, b"LRANGE", b"l", b"-100", b"-1")),
-    ("ZADD of 100,000 members", None, each_scored(100_000)),
     ("ZSCORE of 100,000", scored(100_000), scores_of(100_000)),
-    ("ZRANGE of 100 of 1,000", scored(1_000), ranged(10_000, 100, b"ZRANGE", b"k", b"0", b"99")),
-    ("ZRANGE of 100 of 100,000", scored(100_000), ranged(1_000, 100, b"ZRANGE", b"k", b"0", b"99")),
-    ("ZRANGEBYSCORE LIMIT 10", scored(100_000), ranged(1_000, 10, b"ZRANGEBYSCORE", b"k", b"(5000", b"+inf", b"LIMIT", b"5", b"10")),
-    ("ZPOPMIN of 1,000", scored(1_000), popped_least(1_000, 1_000)),
-    ("ZPOPMIN of 100,000", scored(100_000), popped_least(100_000, 1_000)),
+    *on_sorted_sets("1,000", 1_000, 100),
+    *on_sorted_sets("100,000", 100_000, 1),
+    *on_sorted_sets("a million", 1_000_000, 1),
     ("INCR", None, counted(200_000)),
     ("APPEND of 3 bytes", None, appended(200_000)),
     ("MSET of 10", None, ten_set(100_000)),

@@ -16,6 +16,7 @@ UNKNOWN = b"-ERR unknown command\r\n"
 CURSOR = b"-ERR invalid cursor\r\n"
 NO_BOUND = b"-ERR min or max is not a score\r\n"
 NO_KEY = b"-ERR no such key\r\n"
+READONLY = b"-READONLY You can't write against a read only replica.\r\n"
 OVERFLOW = b"-ERR increment or decrement would overflow\r\n"
 
 

@@ -4,8 +4,8 @@ import subprocess
 import unittest
 
 from program import LATE, built, request
-from rehearsal import ID, Rehearsing, done
-from replies import NIL, OK, bulk
+from rehearsal import ID, Rehearsing, done, holding
+from replies import NIL, NONE, OK, READONLY, UNKNOWN, arity, array, bulk, number
 
 SET = request("SET", "k", "v")
 GET = request("GET", "k")
@@ -94,6 +94,55 @@ class Links(Rehearsing):
         for backlog, answer in [(1, "started"), (1_073_741_824, "started"), (0, "refused"), (1_073_741_825, "refused")]:
             ran = subprocess.run([built("rehearse")], input="start %d\n" % backlog, capture_output=True, text=True, timeout=LATE)
             self.assertEqual((ran.returncode, ran.stdout), (0, answer + "\n"))
+
+
+class Replicas(Rehearsing):
+    def answers(self, *rows):
+        """Each line on a replica that holds a text, a list and a set: it has no effect, and the offset stays."""
+        calls = [*holding("SET k v", "RPUSH l a b", "SADD s a b"), ("replica", "started"), ("open", "opened")]
+        for line, reply in rows:
+            calls += [fed(0, request(*line.split(" "))), ("step 0", done(reply)), ("shows", "shows %s 0" % ID)]
+        self.rehearses(calls)
+
+    def test_writes_are_refused(self):
+        self.answers(
+            ("SET k w", READONLY),
+            ("GET k", bulk("v")),
+            ("DEL k", READONLY),
+            ("LPOP l", READONLY),
+            ("LRANGE l 0 -1", array("a", "b")),
+            ("SPOP s", READONLY),
+            ("SRANDMEMBER s", bulk("a")),
+            ("SCARD s", number(2)),
+            ("FLUSHALL", READONLY),
+            ("FLUSHDB SYNC", READONLY),
+            ("DBSIZE", number(3)),
+        )
+
+    def test_a_write_that_would_change_nothing_is_refused_too(self):
+        self.answers(("SET k v", READONLY), ("DEL x", READONLY), ("GETDEL x", READONLY), ("PERSIST k", READONLY), ("LTRIM l 0 -1", READONLY))
+
+    def test_a_write_on_a_key_of_another_kind_is_refused_as_a_write(self):
+        self.answers(("INCR l", READONLY), ("HGET l f", b"-WRONGTYPE Operation against a key holding the wrong kind of value\r\n"))
+
+    def test_what_is_no_command_is_told_why(self):
+        self.answers(("SET k", arity("set")), ("GETEX k", UNKNOWN), ("INCRBY k x", b"-ERR value is not an integer or out of range\r\n"))
+
+    def test_the_server_answers(self):
+        self.answers(("PING", b"+PONG\r\n"), ("ECHO m", bulk("m")), ("SELECT 0", OK), ("COMMAND", NONE))
+
+    def test_what_ends_a_link_and_empty_requests_are_as_on_a_master(self):
+        self.rehearses([
+            ("replica", "started"),
+            ("open", "opened"),
+            fed(0, b"*0\r\nQUIT\r\n"),
+            ("step 0", done(b"")),
+            ("step 0", done(OK, closes=True)),
+            ("step 0", "closed"),
+            ("open", "opened"),
+            fed(1, b"*1\r\n:3\r\n"),
+            ("step 1", done(b"-ERR Protocol error: expected '$', got ':'\r\n", closes=True)),
+        ])
 
 
 if __name__ == "__main__":

@@ -4,7 +4,7 @@ import unittest
 
 from program import request
 from rehearsal import ID, Rehearsing, done, effect, holding
-from replies import INTEGER, NIL, NO_KEY, NO_LIST, NONE, OK, SYNTAX, WRONG_KIND, arity, array, array_of, bulk, number
+from replies import INTEGER, NIL, NO_KEY, NO_LIST, NONE, OK, READONLY, SYNTAX, WRONG_KIND, arity, array, array_of, bulk, number
 
 # the moment of the commands, which is the deadline of the past keys
 NOW = 2000
@@ -290,6 +290,9 @@ class PastKeys(Rehearsing):
     def meets(self, rows):
         self.each_meets(rows, "master", True)
 
+    def only_reads(self, rows):
+        self.each_meets(rows, "replica", False)
+
     def test_what_is_told_of_strings_and_keys(self):
         self.meets(TOLD)
 
@@ -328,6 +331,14 @@ class PastKeys(Rehearsing):
 
     def test_what_is_no_command(self):
         self.meets(FAULTS)
+
+    def test_a_replica_reads_a_past_key_as_absent_and_keeps_it(self):
+        for rows in (TOLD, TOLD_OF_COLLECTIONS, TOLD_OF_SORTED_SETS, NAMELESS, FAULTS):
+            self.only_reads(rows)
+
+    def test_a_replica_refuses_each_write_and_keeps_the_past_keys_that_it_names(self):
+        for rows in (TEXTS, TEXTS_IN_PART, KEYS, DEADLINES, HASHES, LISTS, SETS, SORTED_SETS):
+            self.only_reads([(line, named, READONLY) for line, named, *_ in rows])
 
 
 class Edges(Rehearsing):

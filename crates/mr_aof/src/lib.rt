@@ -1,6 +1,9 @@
-//! The append-only file: what was appended to it, and nothing behind a failure.
+//! The append-only file: read as it is opened, then grown at its end, and left alone once it has failed.
 #![tactic(auto)]
 
+mod fault;
 mod log;
 
-pub use log::{Log, LogFault, SyncMode};
+pub use fault::LogFault;
+pub use log::{Log, SyncMode};
+pub use mr_replay::{Loaded, load};

@@ -1,28 +1,16 @@
 ghost use Rattle.std.specs.Prelude.{◌≡◌, ◌↔◌, ◌≤◌, true, length, IsErr, IsErrOf, OnOk, OnErr};
 ghost use Rattle.mr_file.specs.LogFile.{Rose, Appends, AppendsSome, Replaces, IsOldOrNew, IsSynced};
 
+mod opening;
+
+use crate::fault::LogFault;
 use mr_file::{Failed, LogFile};
-use thiserror::Error;
 
 /// Whether each append is synced.
 #[derive(Clone, Copy, Debug, PartialEq, Eq)]
 pub enum SyncMode {
     Always,
     No,
-}
-
-/// Why a call on a log failed.
-#[derive(Clone, Copy, Debug, PartialEq, Eq, Error)]
-pub enum LogFault {
-    /// The file failed in this call.
-    #[error("file failed")]
-    Device,
-    /// The file failed in an earlier call.
-    #[error("file failed before")]
-    Broken,
-    /// Memory ran out while the file was read.
-    #[error("out of memory")]
-    Memory,
 }
 
 /// A file to which texts are appended. Once the file has failed, nothing more is done to it.

@@ -8,3 +8,9 @@ pub mod KeyLemmas
 pub mod ServerLemmas
 pub mod TimeLemmas
 pub mod AskLemmas
+pub mod CollReadLemmas
+pub mod TextReadLemmas
+pub mod KeyReadLemmas
+pub mod AskReadLemmas
+pub mod FaultLemmas
+pub mod LeastLemmas

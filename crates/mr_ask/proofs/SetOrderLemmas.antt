@@ -50,13 +50,13 @@ before_lifetime c Done (Some y) x = refl
 before_lifetime c Before (Some y) x = refl
 
 -- an option beside what says how long the value stays
-lifetime_alike : (c : Option SetCondition) (r : SetReply) (l : Option LifetimeOption) (o : SetOption) (x : LifetimeOption)
+pub lifetime_alike : (c : Option SetCondition) (r : SetReply) (l : Option LifetimeOption) (o : SetOption) (x : LifetimeOption)
     → with (set_also (options c r l) o) (λ t. lifetime_also t x) ≡ with (lifetime_also (options c r l) x) (λ t. set_also t o)
 lifetime_alike c r l (set.Condition a) x = two_alike (is_some c) (is_some l) _ _ _ _ _ refl refl
 lifetime_alike c r l set.Before x = sym (before_lifetime c r l x)
 lifetime_alike c r l set.Kept x = twice_refused (is_some l) _ _ _ _ refl refl
 
-alike : (c : Option SetCondition) (r : SetReply) (l : Option LifetimeOption) (o p : SetOption)
+pub alike : (c : Option SetCondition) (r : SetReply) (l : Option LifetimeOption) (o p : SetOption)
     → with (set_also (options c r l) o) (λ t. set_also t p) ≡ with (set_also (options c r l) p) (λ t. set_also t o)
 alike c r l (set.Condition a) (set.Condition b) = twice_refused (is_some c) _ _ _ _ refl refl
 alike c r l (set.Condition a) set.Before = before_condition c r l a
@@ -97,7 +97,7 @@ both_numbered s (Some u) None m n = second_refused (until s (Some u) m) Syntax (
 both_numbered s (Some u) (Some v) m n = twice_refused (is_some s.lifetime) _ _ _ _ refl refl
 
 -- what one option sets
-abbrev step : SetOptions → List (List ℕ) → Result SetOptions AskFault
+abbrev pub step : SetOptions → List (List ℕ) → Result SetOptions AskFault
 step s (w ∷ []) = set_word s w
 step s (w ∷ n ∷ []) = until s (unit_of w) n
 step s _ = Err Syntax
@@ -117,7 +117,7 @@ with_unit : (s : SetOptions) (o : Option ExpiryUnit) (w n : List ℕ) (rest : Li
 with_unit s None w n rest h = cc
 with_unit s (Some u) w n rest h = refl
 
-one_step : (s : SetOptions) (a rest : List (List ℕ)) → AreOneOption a → set_options s (a ++ rest) ≡ with (step s a) (λ t. set_options t rest)
+pub one_step : (s : SetOptions) (a rest : List (List ℕ)) → AreOneOption a → set_options s (a ++ rest) ≡ with (step s a) (λ t. set_options t rest)
 one_step s [] rest h = absurd h
 one_step s (w ∷ []) rest h = ap (λ (b : Bool). if b then number_then s (unit_of w) rest else with (set_word s w) (λ t. set_options t rest)) h
 one_step s (w ∷ n ∷ []) rest h = with_unit s (unit_of w) w n rest h

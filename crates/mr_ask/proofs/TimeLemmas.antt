@@ -1,6 +1,6 @@
 -- The times that texts are set for are at least a millisecond.
-use Rattle.std.proofs.Common.{ℕ, zero, suc, ℤ, pos, negsuc, ◌≡◌, List, [], ◌∷◌, Bool, true, false, Option, Some, None, refl, sym, ◌∙◌, ap, subst, arith}
-use Rattle.std.specs.Prelude.{int_lt, int_le, IsTrue, IfOk, if◌then◌else◌, Result, Ok, Err}
+use Rattle.std.proofs.Common.{ℕ, zero, suc, ℤ, pos, negsuc, ◌≡◌, List, [], ◌∷◌, Option, Some, None, refl, sym, ◌∙◌, ap, subst, arith}
+use Rattle.std.specs.Prelude.{int_le, IsTrue, IfOk, Result, Ok, Err}
 use Rattle.std.specs.Option.{ok_or}
 use Rattle.std.proofs.lemmas.Bool.Decides.{nat_tests}
 use Rattle.mr_words.specs.Parts.{with, integer}
@@ -10,7 +10,6 @@ use Rattle.mr_ask.specs.Expiry.{said}
 use Rattle.mr_ask.specs.Texts.{set, setex, psetex}
 use Rattle.mr_ask.specs.Options.{no_set_options, set_options}
 use Rattle.mr_ask.specs.Asks.{of_kind, reading}
-use Rattle.mr_ask.specs.Called.{text_name}
 use Rattle.mr_ask.specs.Carried.{IsTime, IsTimed}
 use Rattle.mr_ask.specs.Spelled.{SpellsNamed}
 use Rattle.mr_words.proofs.PartLemmas.{with_ok, if_with}

@@ -9,3 +9,5 @@ pub mod Asks
 pub mod Carried
 pub mod Called
 pub mod Spelled
+pub mod Askable
+pub mod WordFaults

@@ -16,7 +16,7 @@ pub use ask::Ask;
 pub use expiry::{Expiry, Milliseconds, Seconds};
 pub use group::Group;
 pub use key_ask::{Cursor, Databases, ExpireCondition, KeyAsk, KindName, Timing};
-pub use laws::options_stand_in_any_order;
+pub use laws::{first_fault_is_told, options_stand_in_any_order, spelled_is_read};
 pub use mr_ask_coll::{FieldsReply, HashAsk, HashPart, ListAsk, PushTo, SetAsk, SetOperation};
 pub use mr_ask_zset::{
     Comparison, Limit, Order, RangeReply, ScoreCondition, ScoredMembers, ScoredMembersIter,

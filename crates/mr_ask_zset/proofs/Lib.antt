@@ -7,3 +7,7 @@ pub mod ZSetLemmas
 pub mod OrderLemmas
 pub mod RangeOrderLemmas
 pub mod RangeReadLemmas
+pub mod RangeAskLemmas
+pub mod ScoreTexts
+pub mod AddReadLemmas
+pub mod FaultLemmas

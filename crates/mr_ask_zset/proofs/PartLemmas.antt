@@ -2,9 +2,11 @@
 use Rattle.std.proofs.Common.{ℕ, ℤ, ◌≡◌, List, [], ◌∷◌, Option, Some, None, refl, ◌∙◌, ap, subst}
 use Rattle.std.specs.Prelude.{IfOk, Result, Ok}
 use Rattle.std.specs.Option.{ok_or}
+use Rattle.mr_value.specs.Number.{number_of}
 use Rattle.mr_words.specs.Parts.{with, integer}
 use Rattle.mr_words.specs.Spelling.{Part, Number, Keyword, AreParts}
 use Rattle.mr_words.proofs.PartLemmas.{with_ok, if_with, number_part, number_part_read}
+use Rattle.mr_words.proofs.FaultPlaces.{found_or, OnlyFault}
 use Rattle.mr_words.specs.declared.fault.AskFault.{AskFault}
 use Rattle.mr_words.specs.declared.fault.AskFault.TheVariants.{Integer, Other}
 use Rattle.mr_words.specs.declared.fault.BadValue.TheVariants as bad
@@ -68,3 +70,19 @@ limit_if_any_read (Some ws) p h =
     let x = with_ok (limit ws) (λ l. Ok (Some l)) p h in
     let same : Some x.0 ≡ p = cc in
     limit_read ws x.0 x.1.0 ∙ ap limit_option same
+
+-- ---- which fault
+pub bound_fault : (w : List ℕ) → OnlyFault (Other bad.Bound) (bound w)
+bound_fault w = found_or (bound_of w) (Other bad.Bound)
+
+abbrev limit_by : Option ℤ → Option ℤ → Result Limit AskFault
+limit_by o p = with (ok_or o Integer) (λ offset. with (ok_or p Integer) (λ count. Ok (record { offset = offset; count = count })))
+
+limit_fault : (o p : Option ℤ) → OnlyFault Integer (with (limit_by o p) (λ l. Ok (Some l)))
+limit_fault None p = refl
+limit_fault (Some m) None = refl
+limit_fault (Some m) (Some n) = tt
+
+pub limit_faults : (words : Option LimitWords) → OnlyFault Integer (limit_if_any words)
+limit_faults None = tt
+limit_faults (Some words) = limit_fault (number_of words.offset) (number_of words.count)

@@ -6,3 +6,5 @@ pub mod Reading
 pub mod Carried
 pub mod Spelled
 pub mod RangeWords
+pub mod Askable
+pub mod ArgumentFaults

@@ -1,11 +1,11 @@
 -- The timed keys of an index, as they come.
-use Rattle.std.proofs.Common.{◌≡◌, ℤ, List, [], ◌∷◌, ◌++◌, map, Bool, true, false, ◌&&◌, ◌||◌, cond, Option, Some, None, refl, sym, ◌∙◌, ap, subst}
+use Rattle.std.proofs.Common.{◌≡◌, ℤ, List, [], ◌∷◌, ◌++◌, map, Bool, true, false, ◌&&◌, ◌||◌, cond, Option, Some, None, refl, sym, ◌∙◌, ap}
 use Rattle.std.specs.Prelude.{T, is_some}
 use Rattle.std.specs.FinMap.Entries.{below_all}
 use Rattle.std.specs.declared.cmp.Ordering.{Ordering}
 use Rattle.std.specs.declared.cmp.Ordering.TheVariants.{Less, Equal, Greater}
 use Rattle.std.specs.Ordering.{int_eq, is_eq, is_lt, eq_by_cmp, ordering_reverse}
-use Rattle.std.specs.Cmp.{IsTotalOrder, tied_then}
+use Rattle.std.specs.Cmp.{tied_then}
 use Rattle.std.specs.List.{AllByRecursion, list_any, flat_map}
 use Rattle.std.specs.List.Sorted.{IsStrictlySortedBy}
 use Rattle.std.specs.FinMap.{get, keys, contains_key, entries, entries_sorted, is_sorted, contains_key-keys}
@@ -20,7 +20,7 @@ use Rattle.mr_zset.proofs.Orders.{IsPermutation-in_order}
 use Rattle.mr_zset.proofs.PairLemmas.{pairs_total, exact_pair}
 use Rattle.mr_entries.specs.Dataset.{Dataset}
 use Rattle.mr_entries.specs.Steps.{deadline_of}
-use Rattle.mr_entries.specs.TimedKeys.{shown, is_deadline, timed_cmp, has, IsIndex, timed, timed_keys}
+use Rattle.mr_entries.specs.TimedKeys.{shown, is_deadline, timed_cmp, IsIndex, timed, timed_keys}
 use Rattle.mr_entries.specs.declared.timed_key.TimedKey.{TimedKey}
 use Rattle.mr_entries.specs.declared.value.Entry.{Entry}
 use Rattle.mr_entries.proofs.Maps.{same_key}

@@ -1,8 +1,10 @@
-//! Files that grow at their end: what one promises, and one in memory.
+//! Files that grow at their end: what one promises, one in memory, and one of the system.
 #![tactic(auto)]
 
 mod log_file;
 mod mem_file;
+mod system_file;
 
 pub use log_file::{Failed, LogFile};
 pub use mem_file::MemFile;
+pub use system_file::{OpenFault, SystemFile};

@@ -8,3 +8,4 @@ pub mod CutSteps
 pub mod MeasureSteps
 pub mod SkipSteps
 pub mod WordLengths
+pub mod FaultReasons

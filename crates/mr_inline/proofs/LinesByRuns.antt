@@ -37,11 +37,11 @@ starts_of_line limit text line words last t e =
     let same = same_from_push line body last line_feed (sym e ∙ t.spelled) in
     subst (λ (x : List ℕ). AllZip IsStartOf t.parts (starts_from Between x)) (sym same.0) (ends_line t.parts t.after t.are_parts t.separators).starts
 
-record SomeLine (limit : ℕ) (text : List ℕ) : Type 0 where
-  words : List (List ℕ)
-  line : IsLineOf limit text words
+pub record SomeLine (limit : ℕ) (text : List ℕ) : Type 0 where
+  pub words : List (List ℕ)
+  pub line : IsLineOf limit text words
 
-some_line : (limit : ℕ) (text : List ℕ) → turn_of text ≡ Ends → length text ≤ limit + 1 → (IsNext star text → ⊥) → SomeLine limit text
+pub some_line : (limit : ℕ) (text : List ℕ) → turn_of text ≡ Ends → length text ≤ limit + 1 → (IsNext star text → ⊥) → SomeLine limit text
 some_line limit text e size none =
     let t = tree text Between e in
     record { words = map part_value t.parts; line = record { parts = t.parts; after = t.after; spelled = t.spelled; are_parts = t.are_parts; separators = t.separators; means = refl; size = size; no_array = none } }
@@ -54,11 +54,11 @@ line_of_run limit text line last e size none is =
     let same = same_from_push line body last line_feed (sym is ∙ l.line.spelled) in
     subst (IsLineOf limit text) (words_of_line limit text line l.words l.line (l.line.spelled ∙ ap (λ (x : List ℕ). x ++ line_feed ∷ []) (sym same.0))) l.line
 
-to_text : (limit : ℕ) (text : List ℕ) (words : List (List ℕ)) → IsLineOf limit text words → IsLineText limit text
+pub to_text : (limit : ℕ) (text : List ℕ) (words : List (List ℕ)) → IsLineOf limit text words → IsLineText limit text
 to_text limit text [] l = inr l
 to_text limit text (word ∷ words) l = inl (word ∷ words, (omega arith, l))
 
-from_text : (limit : ℕ) (text : List ℕ) → IsLineText limit text → SomeLine limit text
+pub from_text : (limit : ℕ) (text : List ℕ) → IsLineText limit text → SomeLine limit text
 from_text limit text (inl l) = record { words = l.0; line = l.1.1 }
 from_text limit text (inr l) = record { words = []; line = l }
 
@@ -90,7 +90,7 @@ continues limit place bytes o =
     record { more = more; some = omega (arith, length-closing place); are_bytes = bytes_closing place; whole = to_text limit (bytes ++ more) l.words l.line }
 
 -- of two beginnings of one list, one begins the other
-split : (xs ys cs bs : List ℕ) → xs ++ ys ≡ cs ++ bs → ((z : List ℕ) × (cs ≡ xs ++ z) × (ys ≡ z ++ bs)) ⊎ ((z : List ℕ) × (xs ≡ cs ++ z) × (bs ≡ z ++ ys))
+pub split : (xs ys cs bs : List ℕ) → xs ++ ys ≡ cs ++ bs → ((z : List ℕ) × (cs ≡ xs ++ z) × (ys ≡ z ++ bs)) ⊎ ((z : List ℕ) × (xs ≡ cs ++ z) × (bs ≡ z ++ ys))
 split [] ys cs bs e = inl (cs, refl, e)
 split (x ∷ xs) ys [] bs e = inr (x ∷ xs, refl, sym e)
 split (x ∷ xs) ys (a ∷ cs) bs e =

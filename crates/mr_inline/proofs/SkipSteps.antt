@@ -35,7 +35,7 @@ record GoesUnquoted (turn : Turn) : Type 0 where
   unquoted : IsUnquoted place
   leads : turn ≡ Goes place
 
-unquoted_turn : (place : Place) (kind : Kind) (b : ℕ) → IsUnquoted place → IsOfKind kind b → IsUnmarked b → turn_at place kind ≡ Goes (unquoted_place kind)
+pub unquoted_turn : (place : Place) (kind : Kind) (b : ℕ) → IsUnquoted place → IsOfKind kind b → IsUnmarked b → turn_at place kind ≡ Goes (unquoted_place kind)
 unquoted_turn Between LineFeed b u f h = absurd (h.no_line_feed f)
 unquoted_turn Between DoubleQuote b u f h = absurd (h.no_double f)
 unquoted_turn Between SingleQuote b u f h = absurd (h.no_single f)
@@ -54,7 +54,7 @@ unquoted_turn Single kind b u f h = absurd u
 unquoted_turn SingleEscape kind b u f h = absurd u
 unquoted_turn Closed kind b u f h = absurd u
 
-place_unquoted : (kind : Kind) → IsUnquoted (unquoted_place kind)
+pub place_unquoted : (kind : Kind) → IsUnquoted (unquoted_place kind)
 place_unquoted LineFeed = tt
 place_unquoted Separator = tt
 place_unquoted DoubleQuote = tt

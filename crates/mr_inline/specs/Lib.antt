@@ -6,3 +6,4 @@ pub mod Scans
 pub mod Places
 pub mod Parts
 pub mod Resumed
+pub mod Reasons

@@ -11,6 +11,6 @@ mod scan;
 mod words;
 
 pub use fault::LineFault;
-pub use laws::{lines_are_apart, one_fault, quoted_words_are_read};
+pub use laws::{faults_say_why, lines_are_apart, one_fault, quoted_words_are_read};
 pub use progress::LineProgress;
 pub use scan::{LineScan, next_line, next_line_from};

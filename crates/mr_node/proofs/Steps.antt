@@ -1,10 +1,9 @@
 -- From what the parts of a step do to the step's row.
-use Rattle.std.proofs.Common.{◌≡◌, ◌≢◌, ℕ, List, [], drop, Some, Ok, Err, Result, IfOk, OnOk, refl, sym, ap, subst, ◌∙◌}
-use Rattle.mr_repl.specs.Backlog.{after_bytes}
+use Rattle.std.proofs.Common.{◌≡◌, ◌≢◌, ℕ, List, [], true, drop, Bool, Some, Ok, Err, Result, IfOk, OnOk, refl, sym, ap, subst, ◌∙◌}
 use Rattle.mr_links.specs.declared.link_id.LinkId.{LinkId}
 use Rattle.mr_resp.specs.ReplyView.{view}
 use Rattle.mr_resp.specs.declared.fault.Fault.{Fault}
-use Rattle.mr_effect.specs.Spelling.{texts}
+use Rattle.mr_entries.specs.Dataset.{Dataset}
 use Rattle.mr_data.specs.declared.given.Given.{Given}
 use Rattle.mr_data.specs.declared.plan.Plan.{Plan}
 use Rattle.mr_node.specs.State.{NodeState, EndState, end_of, put_end, open_end, shut_end, Agrees}
@@ -13,8 +12,10 @@ use Rattle.mr_node.specs.Requests.{IsDoomedBy}
 use Rattle.mr_resp.specs.Replies.{error, reply_text}
 use Rattle.mr_resp.specs.Faults.{fault_text}
 use Rattle.mr_turn.specs.Turns.{done}
+use Rattle.mr_effect.specs.Spelling.{texts}
+use Rattle.mr_node.specs.Served.{Served, Answered, left_of, grown_by, limit_text}
 use Rattle.mr_node.specs.Rows.{ClientRow, StepRow, Leaves, Ends, Stops}
-use Rattle.mr_node.specs.Parts.{Uses, Ran, Quits, last_outs}
+use Rattle.mr_node.specs.Parts.{Uses, Ran, Quits, Halts, last_outs}
 use Rattle.mr_node.specs.Parts.Ran.{commits, too_far}
 use Rattle.mr_node.specs.Parts.{Passes, Runs}
 use Rattle.mr_node.specs.declared.step.Step.{Step}
@@ -38,10 +39,18 @@ used_end a b l u used ag uses = uses (open_end u) ag.is
 leaves_of : (a b : NodeState) (l : LinkId) (rest : List ℕ) → b ≡ put_end a l (open_end rest) → Leaves a l b rest
 leaves_of a b l rest e = record { agrees = put_agrees a b l rest e; others = put_others a b l _ e }
 
-pub skip_row : (a b : NodeState) (l : LinkId) (given : Given) (u : List ℕ) (used : ℕ) → Passes u used → Uses a l used b → Agrees a l u → ClientRow a l u given b (record no_outs { link = Some l })
-skip_row a b l given u used p uses ag =
+pub skip_row : (a b : NodeState) (l : LinkId) (given : Given) (u : List ℕ) (used : ℕ) → a.core.up ≡ true → Passes u used → Uses a l used b → Agrees a l u → ClientRow a l u given b (record no_outs { link = Some l })
+skip_row a b l given u used up p uses ag =
     let e = used_end a b l u used ag uses in
-    ClientRow.skips (record { rest = drop used u; asks = p.asks; core = ap (λ (s : NodeState). s.core) e; leaves = leaves_of a b l (drop used u) e; outs_are = refl })
+    ClientRow.serves (record {
+      up = up;
+      rest = drop used u;
+      grown = [];
+      said = [];
+      served = Served.nothing p.asks (ap (λ (s : NodeState). s.core) e) refl refl;
+      leaves = leaves_of a b l (drop used u) e;
+      outs_are = refl;
+    })
 
 pub fault_ends : (u : List ℕ) (fault : Fault) → IsDoomedBy u fault → Ends u (reply_text (error (fault_text fault)))
 fault_ends u fault d = Ends.doomed fault d refl
@@ -49,48 +58,39 @@ fault_ends u fault d = Ends.doomed fault d refl
 pub quit_ends : (u : List ℕ) → Quits u → Ends u (reply_text done)
 quit_ends u q = Ends.quit q.words q.rest q.asks q.quit refl
 
-pub last_row : (a b : NodeState) (l : LinkId) (given : Given) (u last : List ℕ) → Ends u last → b ≡ put_end a l (shut_end) → ClientRow a l u given b (last_outs l last)
-last_row a b l given u last d e =
-    ClientRow.closes (record { last = last; ends = d; core = ap (λ (s : NodeState). s.core) e; shut = put_shut a b l e; others = put_others a b l _ e; outs_are = refl })
+pub last_row : (a b : NodeState) (l : LinkId) (given : Given) (u last : List ℕ) → a.core.up ≡ true → Ends u last → b ≡ put_end a l (shut_end) → ClientRow a l u given b (last_outs l last)
+last_row a b l given u last up d e =
+    ClientRow.closes (record { up = up; last = last; ends = d; core = ap (λ (s : NodeState). s.core) e; shut = put_shut a b l e; others = put_others a b l _ e; outs_are = refl })
 
-pub run_row : (a b : NodeState) (l : LinkId) (given : Given) (u : List ℕ) (used : ℕ) (p : Plan) (s : Step) → Runs u given a.core.held used p
+pub run_row : (a b : NodeState) (l : LinkId) (given : Given) (u : List ℕ) (used : ℕ) (p : Plan) (s : Step) → a.core.up ≡ true → Runs a.core.replica u given a.core.held used p
     → Ran a l used (view p.reply) p.effects.items b s → Agrees a l u → StepRow a l u given b s
-run_row a b l given u used p s r (commits within c) ag =
+run_row a b l given u used p s up r (commits within c) ag =
     let es = p.effects.items in
-    let mid : NodeState = record a { core = record a.core { held = c.held; stream = after_bytes a.core.stream (texts es) } } in
+    let mid : NodeState = record a { core = grown_by es c.held a.core } in
     let e : b ≡ put_end mid l (open_end (drop used u)) = c.state (open_end u) ag.is in
+    let left : c.held ≡ left_of a.core r.words given = some_is c.held (left_of a.core r.words given) (sym c.applied ∙ r.plan.leads) in
     let o = put_others mid b l _ e in
-    subst (λ z. StepRow a l u given b z) (sym c.step) (ClientRow.replies (record {
-      words = r.words;
+    subst (λ z. StepRow a l u given b z) (sym c.step) (ClientRow.serves (record {
+      up = up;
       rest = drop used u;
-      asks = r.asks;
-      reply = view p.reply;
-      effects = es;
-      goes_on = r.goes_on;
-      planned = r.planned;
-      within = within;
-      held = c.held;
-      applied = c.applied;
-      core = ap (λ (z : NodeState). z.core) e;
+      grown = texts es;
+      said = reply_text (view p.reply);
+      served = Served.request r.words r.asks (Answered.within (view p.reply) es r.plan within (ap (λ (z : NodeState). z.core) e ∙ ap (λ (m : Dataset). grown_by es m a.core) left) refl refl);
       leaves = record { agrees = put_agrees mid b l (drop used u) e; others = record { stay = o.stay; opened = o.opened } };
       outs_are = refl;
     }))
-run_row a b l given u used p s r (too_far t) ag =
+run_row a b l given u used p s up r (too_far t) ag =
     let e = used_end a b l u used ag t.state in
-    subst (λ z. StepRow a l u given b z) (sym t.step) (ClientRow.passes_limit (record {
-      words = r.words;
+    subst (λ z. StepRow a l u given b z) (sym t.step) (ClientRow.serves (record {
+      up = up;
       rest = drop used u;
-      asks = r.asks;
-      reply = view p.reply;
-      effects = p.effects.items;
-      goes_on = r.goes_on;
-      planned = r.planned;
-      beyond = t.beyond;
-      core = ap (λ (z : NodeState). z.core) e;
+      grown = [];
+      said = reply_text (error limit_text);
+      served = Served.request r.words r.asks (Answered.beyond (view p.reply) p.effects.items r.plan t.beyond (ap (λ (z : NodeState). z.core) e) refl refl);
       leaves = leaves_of a b l (drop used u) e;
       outs_are = refl;
     }))
 
 -- a node may stop at a request with effects
-pub stops_of : (a : NodeState) (u : List ℕ) (given : Given) (used : ℕ) (p : Plan) → Runs u given a.core.held used p → p.effects.items ≢ [] → Stops a u given
-stops_of a u given used p r some = record { words = r.words; rest = drop used u; asks = r.asks; reply = view p.reply; effects = p.effects.items; planned = r.planned; some = some }
+pub stops_of : (a b : NodeState) (u : List ℕ) (given : Given) (used : ℕ) (p : Plan) → Runs a.core.replica u given a.core.held used p → Halts a p.effects.items b → Stops a u given
+stops_of a b u given used p r h = record { words = r.words; rest = drop used u; asks = r.asks; reply = view p.reply; effects = p.effects.items; plan = r.plan; within = h.within; some = h.some }

@@ -3,6 +3,7 @@ pub mod Progresses
 pub mod Outs
 pub mod Listing
 pub mod Requests
+pub mod Served
 pub mod Rows
 pub mod Parts
 pub mod Ticks

@@ -1,6 +1,5 @@
 -- What the parts of a step do.
-use Rattle.std.specs.Prelude.{◌≡◌, ◌++◌, ◌≤◌, ◌<◌, ◌+◌, ℕ, List, [], Bool, true, false, Some, length, drop}
-use Rattle.mr_repl.specs.Backlog.{after_bytes}
+use Rattle.std.specs.Prelude.{◌≡◌, ◌≢◌, ◌++◌, ◌≤◌, ◌<◌, ◌+◌, ℕ, List, [], Bool, true, false, Some, length, drop}
 use Rattle.mr_links.specs.declared.link_id.LinkId.{LinkId}
 use Rattle.mr_resp.specs.Replies.{Tree, error, reply_text}
 use Rattle.mr_resp.specs.ReplyView.{view}
@@ -11,12 +10,12 @@ use Rattle.mr_effect.specs.Spelling.{texts}
 use Rattle.mr_effect.specs.declared.effect.Effect.{Effect}
 use Rattle.mr_data.specs.declared.given.Given.{Given}
 use Rattle.mr_data.specs.declared.plan.Plan.{Plan}
-use Rattle.mr_plan.specs.Requests.{IsPlanned, quits}
-use Rattle.mr_node.specs.State.{NodeState, EndState, end_of, put_end, full}
+use Rattle.mr_plan.specs.Requests.{quits}
+use Rattle.mr_node.specs.State.{NodeState, EndState, end_of, put_end, full, spent_as}
 use Rattle.mr_node.specs.Outs.{OutsState, no_outs}
 use Rattle.mr_node.specs.Requests.{Asks, AsksNothing, Waits, IsDoomedBy}
 use Rattle.mr_node.specs.Progresses.{AgreesAlong}
-use Rattle.mr_node.specs.Rows.{offset_limit, limit_text}
+use Rattle.mr_node.specs.Served.{HasPlan, grown_by, offset_behind, offset_limit, limit_text}
 use Rattle.mr_node.specs.declared.step.Step.{Step}
 use Rattle.mr_node.specs.declared.step.Step.TheVariants.{Done}
 use Rattle.mr_plan.specs.declared.requests.Answer.{Answer}
@@ -41,13 +40,11 @@ abbrev pub Leads : List Effect → Dataset → Type 0
 Leads es m = (n : Dataset) × (apply_all es m ≡ Some n)
 
 -- So many bytes are a request, of which this is the plan.
-pub record Runs (u : List ℕ) (given : Given) (m : Dataset) (used : ℕ) (p : Plan) : Type 0 where
+pub record Runs (replica : Bool) (u : List ℕ) (given : Given) (m : Dataset) (used : ℕ) (p : Plan) : Type 0 where
   pub enough : used ≤ length u
   pub words : List (List ℕ)
   pub asks : Asks u words (drop used u)
-  pub goes_on : quits words ≡ false
-  pub planned : IsPlanned words given m (view p.reply) p.effects.items
-  pub leads : Leads p.effects.items m
+  pub plan : HasPlan replica m words given (view p.reply) p.effects.items
 
 -- So many bytes are an empty request.
 pub record Passes (u : List ℕ) (used : ℕ) : Type 0 where
@@ -61,12 +58,12 @@ pub record Quits (u : List ℕ) : Type 0 where
   pub asks : Asks u words rest
   pub quit : quits words ≡ true
 
-abbrev pub IsTodo : List ℕ → Given → Dataset → Todo → Type 0
-IsTodo u given m (todo.Wait progress) = Waits u × (length u < full)
-IsTodo u given m (todo.Skip used) = Passes u used
-IsTodo u given m (todo.Refuse fault) = IsDoomedBy u fault
-IsTodo u given m todo.Quit = Quits u
-IsTodo u given m (todo.Run used plan) = Runs u given m used plan
+abbrev pub IsTodo : Bool → List ℕ → Given → Dataset → Todo → Type 0
+IsTodo replica u given m (todo.Wait progress) = Waits u × (length u < full)
+IsTodo replica u given m (todo.Skip used) = Passes u used
+IsTodo replica u given m (todo.Refuse fault) = IsDoomedBy u fault
+IsTodo replica u given m todo.Quit = Quits u
+IsTodo replica u given m (todo.Run used plan) = Runs replica u given m used plan
 
 abbrev pub carry_out : Answer → ℕ → Todo
 carry_out (answer.Run plan) used = todo.Run used plan
@@ -96,18 +93,24 @@ last_outs l last = record no_outs { link = Some l; reply = last; closes = true }
 pub record Commits (a : NodeState) (l : LinkId) (used : ℕ) (reply : Tree) (effects : List Effect) (b : NodeState) (s : Step) : Type 0 where
   pub held : Dataset
   pub applied : apply_all effects a.core.held ≡ Some held
-  pub state : Uses (record a { core = record a.core { held = held; stream = after_bytes a.core.stream (texts effects) } }) l used b
+  pub state : Uses (record a { core = grown_by effects held a.core }) l used b
   pub step : s ≡ Done (record no_outs { link = Some l; grown = texts effects; reply = reply_text reply })
 
 -- The effects would carry the offset past its limit.
 pub record IsTooFar (a : NodeState) (l : LinkId) (used : ℕ) (effects : List Effect) (b : NodeState) (s : Step) : Type 0 where
-  pub beyond : offset_limit < a.core.stream.offset + length (texts effects)
+  pub beyond : offset_limit < offset_behind effects a.core
   pub state : Uses a l used b
   pub step : s ≡ Done (record no_outs { link = Some l; reply = reply_text (error limit_text) })
 
 pub data Ran (a : NodeState) (l : LinkId) (used : ℕ) (reply : Tree) (effects : List Effect) (b : NodeState) (s : Step) : Type 0 where
-  commits : a.core.stream.offset + length (texts effects) ≤ offset_limit → Commits a l used reply effects b s → Ran a l used reply effects b s
+  commits : offset_behind effects a.core ≤ offset_limit → Commits a l used reply effects b s → Ran a l used reply effects b s
   too_far : IsTooFar a l used effects b s → Ran a l used reply effects b s
+
+-- Memory ran out while effects were applied.
+pub record Halts (a : NodeState) (effects : List Effect) (b : NodeState) : Type 0 where
+  pub some : effects ≢ []
+  pub within : offset_behind effects a.core ≤ offset_limit
+  pub state : b ≡ spent_as b.core.held a
 
 -- what is written for a plan at an offset
 abbrev pub Tells : ℕ → Tree → List Effect → OutsState → Bool → OutsState → Type 0

@@ -1,72 +1,35 @@
 -- What a step at a client's end of a link may do, one row for each.
-use Rattle.std.specs.Prelude.{◌≡◌, ◌≢◌, ◌≤◌, ◌<◌, ◌+◌, ◌^◌, ℕ, List, [], true, false, Some, length, codes}
-use Rattle.mr_repl.specs.Backlog.{after_bytes}
+use Rattle.std.specs.Prelude.{◌≡◌, ◌≢◌, ◌≤◌, ◌<◌, ℕ, List, [], true, false, Some, length}
 use Rattle.mr_links.specs.declared.link_id.LinkId.{LinkId}
 use Rattle.mr_resp.specs.Replies.{Tree, error, reply_text}
 use Rattle.mr_resp.specs.Faults.{fault_text}
 use Rattle.mr_resp.specs.declared.fault.Fault.{Fault}
 use Rattle.mr_entries.specs.Dataset.{Dataset}
-use Rattle.mr_data.specs.Meaning.{apply_all}
-use Rattle.mr_effect.specs.Spelling.{texts}
 use Rattle.mr_effect.specs.declared.effect.Effect.{Effect}
 use Rattle.mr_data.specs.declared.given.Given.{Given}
 use Rattle.mr_turn.specs.Turns.{done}
-use Rattle.mr_plan.specs.Requests.{IsPlanned, quits}
-use Rattle.mr_node.specs.State.{NodeState, Agrees, IsShut, OthersStay, full}
+use Rattle.mr_plan.specs.Requests.{quits}
+use Rattle.mr_node.specs.State.{NodeState, Agrees, IsShut, OthersStay, full, spent_as}
 use Rattle.mr_node.specs.Outs.{OutsState, no_outs}
-use Rattle.mr_node.specs.Requests.{Asks, AsksNothing, Waits, IsDoomedBy}
+use Rattle.mr_node.specs.Requests.{Asks, Waits, IsDoomedBy}
+use Rattle.mr_node.specs.Served.{Served, HasPlan, offset_behind, offset_limit}
 use Rattle.mr_node.specs.declared.step.Step.{Step}
 use Rattle.mr_node.specs.declared.step.Step.TheVariants as step
-
--- no offset is greater
-abbrev pub offset_limit : ℕ
-offset_limit = 2 ^ 62
-
-abbrev pub limit_text : List ℕ
-limit_text = codes "ERR offset limit"
 
 -- The end of the link has these bytes left, and the other ends stay.
 pub record Leaves (a : NodeState) (l : LinkId) (b : NodeState) (rest : List ℕ) : Type 0 where
   pub agrees : Agrees b l rest
   pub others : OthersStay a b l
 
--- A request is used and its reply is sent; its effects are applied and put behind the stream.
-pub record Replies (a : NodeState) (l : LinkId) (u : List ℕ) (given : Given) (b : NodeState) (outs : OutsState) : Type 0 where
-  pub words : List (List ℕ)
+-- What stands at the front is used: the node becomes what that makes of it, and what it says is sent.
+pub record Serves (a : NodeState) (l : LinkId) (u : List ℕ) (given : Given) (b : NodeState) (outs : OutsState) : Type 0 where
+  pub up : a.core.up ≡ true
   pub rest : List ℕ
-  pub asks : Asks u words rest
-  pub reply : Tree
-  pub effects : List Effect
-  pub goes_on : quits words ≡ false
-  pub planned : IsPlanned words given a.core.held reply effects
-  pub within : a.core.stream.offset + length (texts effects) ≤ offset_limit
-  pub held : Dataset
-  pub applied : apply_all effects a.core.held ≡ Some held
-  pub core : b.core ≡ record a.core { held = held; stream = after_bytes a.core.stream (texts effects) }
+  pub grown : List ℕ
+  pub said : List ℕ
+  pub served : Served a.core u given b.core rest grown said
   pub leaves : Leaves a l b rest
-  pub outs_are : outs ≡ record no_outs { link = Some l; grown = texts effects; reply = reply_text reply }
-
--- A request whose effects would carry the offset past its limit is used, is told so, and changes nothing.
-pub record PassesLimit (a : NodeState) (l : LinkId) (u : List ℕ) (given : Given) (b : NodeState) (outs : OutsState) : Type 0 where
-  pub words : List (List ℕ)
-  pub rest : List ℕ
-  pub asks : Asks u words rest
-  pub reply : Tree
-  pub effects : List Effect
-  pub goes_on : quits words ≡ false
-  pub planned : IsPlanned words given a.core.held reply effects
-  pub beyond : offset_limit < a.core.stream.offset + length (texts effects)
-  pub core : b.core ≡ a.core
-  pub leaves : Leaves a l b rest
-  pub outs_are : outs ≡ record no_outs { link = Some l; reply = reply_text (error limit_text) }
-
--- An empty request is used, and nothing is sent.
-pub record Skips (a : NodeState) (l : LinkId) (u : List ℕ) (b : NodeState) (outs : OutsState) : Type 0 where
-  pub rest : List ℕ
-  pub asks : AsksNothing u rest
-  pub core : b.core ≡ a.core
-  pub leaves : Leaves a l b rest
-  pub outs_are : outs ≡ record no_outs { link = Some l }
+  pub outs_are : outs ≡ record no_outs { link = Some l; grown = grown; reply = said }
 
 -- These bytes end a link, and this is told last: they are doomed, or a client asks that its link be closed.
 pub data Ends (u last : List ℕ) : Type 0 where
@@ -75,6 +38,7 @@ pub data Ends (u last : List ℕ) : Type 0 where
 
 -- The last is told, and the link is closed.
 pub record Closes (a : NodeState) (l : LinkId) (u : List ℕ) (b : NodeState) (outs : OutsState) : Type 0 where
+  pub up : a.core.up ≡ true
   pub last : List ℕ
   pub ends : Ends u last
   pub core : b.core ≡ a.core
@@ -83,13 +47,12 @@ pub record Closes (a : NodeState) (l : LinkId) (u : List ℕ) (b : NodeState) (o
   pub outs_are : outs ≡ record no_outs { link = Some l; reply = last; closes = true }
 
 pub data ClientRow (a : NodeState) (l : LinkId) (u : List ℕ) (given : Given) (b : NodeState) (outs : OutsState) : Type 0 where
-  replies : Replies a l u given b outs → ClientRow a l u given b outs
-  passes_limit : PassesLimit a l u given b outs → ClientRow a l u given b outs
-  skips : Skips a l u b outs → ClientRow a l u given b outs
+  serves : Serves a l u given b outs → ClientRow a l u given b outs
   closes : Closes a l u b outs → ClientRow a l u given b outs
 
 -- Nothing whole is there, and nothing changes. A full input is never left so.
 pub record Idles (a : NodeState) (u : List ℕ) (b : NodeState) : Type 0 where
+  pub up : a.core.up ≡ true
   pub waits : Waits u
   pub few : length u < full
   pub same : b ≡ a
@@ -100,17 +63,19 @@ StepRow a l u given b step.Idle = Idles a u b
 StepRow a l u given b (step.Done outs) = ClientRow a l u given b outs
 StepRow a l u given b step.Closed = ⊥
 
--- Memory ran out while the effects of a request were applied. Some of them may be.
+-- The first request has effects, within the offset limit.
 pub record Stops (a : NodeState) (u : List ℕ) (given : Given) : Type 0 where
   pub words : List (List ℕ)
   pub rest : List ℕ
   pub asks : Asks u words rest
   pub reply : Tree
   pub effects : List Effect
-  pub planned : IsPlanned words given a.core.held reply effects
+  pub plan : HasPlan a.core.replica a.core.held words given reply effects
+  pub within : offset_behind effects a.core ≤ offset_limit
   pub some : effects ≢ []
 
--- The node was stopped, and stays as it was; or it stops now, at a request with effects.
+-- The node was stopped, and stays as it was; or memory ran out while effects were applied, of which some may be: it stops, and
+-- nothing but its dataset has changed.
 pub data WhyStopped (a : NodeState) (l : LinkId) (given : Given) (b : NodeState) : Type 0 where
   was_down : a.core.up ≡ false → b ≡ a → WhyStopped a l given b
-  stops : a.core.up ≡ true → ((u : List ℕ) → Agrees a l u → Stops a u given) → b.core.up ≡ false → WhyStopped a l given b
+  stops : a.core.up ≡ true → ((u : List ℕ) → Agrees a l u → Stops a u given) → (held : Dataset) → b ≡ spent_as held a → WhyStopped a l given b

@@ -2,7 +2,7 @@
 use Rattle.std.specs.Prelude.{◌≡◌, ◌≢◌, ℕ, List, [], Bool, true, false, Option, None, Some, refl, ◌<◌, ◌+◌, ◌-◌, ◌^◌, length, if◌then◌else◌}
 use Rattle.std.specs.Coded.{Coded, code_by, coded×, coded_ℕ, coded_bool, coded_list}
 use Rattle.std.specs.FinMap as map
-use Rattle.mr_repl.specs.Backlog.{Window}
+use Rattle.mr_repl.specs.Backlog.{Window, empty_at}
 use Rattle.mr_links.specs.Links.{Links, links_code}
 use Rattle.mr_links.specs.declared.link_id.LinkId.{LinkId}
 use Rattle.mr_entries.specs.Dataset.{Dataset}
@@ -45,6 +45,13 @@ core_code = code_by (Bool × (Bool × (ℕ × (List ℕ × (Dataset × Window)))
 abbrev pub node_code : Coded NodeState
 node_code = code_by (Core × Links EndState) (coded× core_code (links_code end_code)) (λ a. (a.core, a.links)) (λ p. record { core = p.0; links = p.1 }) (λ _. refl)
 
+-- a node that begins in this role: at offset 0, without links
+abbrev pub started : (replica : Bool) (port backlog : ℕ) → List ℕ → Dataset → NodeState
+started replica port backlog id held = record {
+  core = record { up = true; replica = replica; port = port; id = id; held = held; stream = empty_at backlog 0 };
+  links = record { open_links = map.empty; opened = 0 };
+}
+
 -- the node's end of a link
 abbrev pub end_of : NodeState → LinkId → Option EndState
 end_of a l = map.get a.links.open_links l
@@ -75,6 +82,10 @@ pub record OthersStay (a b : NodeState) (l : LinkId) : Type 0 where
 -- the node, stopped
 abbrev pub stopped_as : NodeState → NodeState
 stopped_as a = record a { core = record a.core { up = false } }
+
+-- .. with its dataset spent
+abbrev pub spent_as : Dataset → NodeState → NodeState
+spent_as held a = record a { core = record a.core { up = false; held = held } }
 
 -- the id and the offset that a node shows, none once it is stopped
 abbrev pub shown : Core → Option (List ℕ × ℕ)

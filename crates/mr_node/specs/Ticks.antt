@@ -1,7 +1,6 @@
 -- What a node does as time passes.
 use Rattle.std.specs.Prelude.{◌≡◌, IsTrue, ◌-◌, ℕ, ℤ, List, [], ◌∷◌, map, take, nat_le, if◌then◌else◌, true, false, Some}
 use Rattle.mr_value.specs.Words.{fits}
-use Rattle.mr_repl.specs.Backlog.{after_bytes}
 use Rattle.mr_effect.specs.Spelling.{size, texts}
 use Rattle.mr_effect.specs.declared.effect.Effect.{Effect}
 use Rattle.mr_effect.specs.declared.effect.Effect.TheVariants as effect
@@ -10,7 +9,7 @@ use Rattle.mr_data.specs.Due.{due}
 use Rattle.mr_data.specs.Meaning.{apply_all}
 use Rattle.mr_node.specs.State.{NodeState}
 use Rattle.mr_node.specs.Outs.{OutsState, no_outs}
-use Rattle.mr_node.specs.Rows.{offset_limit}
+use Rattle.mr_node.specs.Served.{grown_by, offset_limit}
 
 -- so many keys go in one tick at most
 abbrev pub most_deleted : ℕ
@@ -36,11 +35,11 @@ pub record Deletes (a : NodeState) (now : ℤ) (b : NodeState) (outs : OutsState
   pub effects_are : effects ≡ deletions now a.core.held (offset_limit - a.core.stream.offset)
   pub held : Dataset
   pub applied : apply_all effects a.core.held ≡ Some held
-  pub core : b.core ≡ record a.core { held = held; stream = after_bytes a.core.stream (texts effects) }
+  pub core : b.core ≡ grown_by effects held a.core
   pub links : b.links ≡ a.links
   pub outs_are : outs ≡ record no_outs { grown = texts effects }
 
 -- A replica deletes nothing: it waits for what its master deletes.
 pub data TickRow (a : NodeState) (now : ℤ) (b : NodeState) (outs : OutsState) : Type 0 where
-  waits : a.core.replica ≡ true → b ≡ a → outs ≡ no_outs → TickRow a now b outs
-  deletes : a.core.replica ≡ false → Deletes a now b outs → TickRow a now b outs
+  waits : a.core.up ≡ true → a.core.replica ≡ true → b ≡ a → outs ≡ no_outs → TickRow a now b outs
+  deletes : a.core.up ≡ true → a.core.replica ≡ false → Deletes a now b outs → TickRow a now b outs

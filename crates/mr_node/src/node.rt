@@ -1,18 +1,18 @@
 // A node.
 ghost use Rattle.std.specs.Prelude.{◌≡◌, ◌≢◌, ◌≤◌, ◌<◌, ◌+◌, ◌^◌, ◌++◌, ℕ, List, [], true, false, length, IsSome, Some, None, Ok, OnOk, OnErr, IfOk, IfErr, IfSome, IsErrOf, ◌↔◌, ◌⊎◌};
 ghost use Rattle.std.specs.FinMap as map;
-ghost use Rattle.mr_repl.specs.Backlog.{empty_at};
 ghost use Rattle.mr_resp.specs.Faults.{fault_text};
 ghost use Rattle.mr_resp.specs.Replies.{error, reply_text};
 ghost use Rattle.mr_resp.specs.ReplyView.{view};
 ghost use Rattle.mr_effect.specs.Spelling.{texts};
 ghost use Rattle.mr_turn.specs.Turns.{done};
 ghost use Rattle.mr_data.specs.Meaning.{apply_all};
-ghost use Rattle.mr_node.specs.State.{NodeState, Core, EndState, end_of, put_end, open_end, shut_end, Agrees, IsShut, OthersStay, Opens, stopped_as, shown, room_of, IsTooMuch};
+ghost use Rattle.mr_node.specs.State.{NodeState, Core, EndState, end_of, put_end, open_end, shut_end, Agrees, IsShut, OthersStay, Opens, started, stopped_as, shown, room_of, IsTooMuch};
 ghost use Rattle.mr_node.specs.Outs.{no_outs};
 ghost use Rattle.mr_node.specs.Progresses.{AgreesAlong};
-ghost use Rattle.mr_node.specs.Parts.{Leads, HasAhead, HasRoom, Uses, Hears, last_outs, Ran, Commits, Tells, KeepsOn};
-ghost use Rattle.mr_node.specs.Rows.{StepRow, WhyStopped, offset_limit};
+ghost use Rattle.mr_node.specs.Parts.{Leads, HasAhead, HasRoom, Uses, Hears, last_outs, Ran, Commits, Halts, Tells, KeepsOn};
+ghost use Rattle.mr_node.specs.Served.{offset_limit};
+ghost use Rattle.mr_node.specs.Rows.{StepRow, WhyStopped};
 
 mod ticking;
 
@@ -69,8 +69,7 @@ impl Node {
         held: Dataset,
         config: Config,
     ) -> Result<Node, AllocError>
-        ensures core { IfOk result (λ a. a.core ≡ record { up = true; replica = config.replica; port = config.port; id = id; held = held; stream = empty_at config.backlog 0 }) }
-        ensures links { IfOk result (λ a. a.links ≡ record { open_links = map.empty; opened = 0 }) }
+        ensures { IfOk result (λ a. a ≡ started config.replica config.port config.backlog id held) }
     {
         let Ok(stream) = Backlog::new(alloc, config.backlog, 0) else {
             return Err(AllocError);
@@ -168,6 +167,7 @@ impl Node {
         ensures step { IfOk result (λ s. s ≡ Step.Done (last_outs link (reply_text (view reply.now)))) }
         ensures state { OnOk result (self.new ≡ put_end self.old link shut_end) }
         ensures err { IfErr result (λ e. (e ≡ NodeFault.Memory) × (self.new ≡ self.old)) }
+        ensures core { self.new.core ≡ self.old.core }
     {
         let mut outs = self.fresh_outs(Some(link));
         if outs.say(reply).is_err() {
@@ -184,6 +184,7 @@ impl Node {
         ensures step { IfOk result (λ s. s ≡ Step.Done (last_outs link (reply_text (error (fault_text fault))))) }
         ensures state { OnOk result (self.new ≡ put_end self.old link shut_end) }
         ensures err { IfErr result (λ e. (e ≡ NodeFault.Memory) × (self.new ≡ self.old)) }
+        ensures core { self.new.core ≡ self.old.core }
     {
         let Ok(reply) = fault.reply(self.alloc) else {
             return Err(NodeFault::Memory);
@@ -197,6 +198,7 @@ impl Node {
         ensures step { IfOk result (λ s. s ≡ Step.Done (last_outs link (reply_text done))) }
         ensures state { OnOk result (self.new ≡ put_end self.old link shut_end) }
         ensures err { IfErr result (λ e. (e ≡ NodeFault.Memory) × (self.new ≡ self.old)) }
+        ensures core { self.new.core ≡ self.old.core }
     {
         let reply = Reply::Simple(CowSlice::Borrowed(b"OK"));
         self.dismiss(link, &reply)
@@ -208,8 +210,9 @@ impl Node {
         requires leads { Leads plan.effects.items self.old.core.held }
         ensures step { IfOk result (λ s. Ran self.old link used (view plan.reply) plan.effects.items self.new s) }
         ensures memory { IsErrOf result NodeFault.Memory → self.new ≡ self.old }
-        ensures stopped { IsErrOf result NodeFault.Stopped → (self.new.core.up ≡ false) × (plan.effects.items ≢ []) }
+        ensures stopped { IsErrOf result NodeFault.Stopped → Halts self.old plan.effects.items self.new }
         ensures no_other { IfErr result (λ e. (e ≡ NodeFault.Memory) ⊎ (e ≡ NodeFault.Stopped)) }
+        ensures quiet { plan.effects.items ≡ [] → self.new.core ≡ self.old.core }
     {
         let mut outs = self.fresh_outs(Some(link));
         match told(&mut outs, &plan, self.stream.end()) {
@@ -235,7 +238,7 @@ impl Node {
         requires outs { outs ≡ record no_outs { link = Some link; grown = texts plan.effects.items; reply = reply_text (view plan.reply) } }
         requires within { self.old.core.stream.offset + length (texts plan.effects.items) ≤ offset_limit }
         ensures step { IfOk result (λ s. Commits self.old link used (view plan.reply) plan.effects.items self.new s) }
-        ensures stopped { IfErr result (λ e. (e ≡ NodeFault.Stopped) × (self.new.core.up ≡ false) × (plan.effects.items ≢ [])) }
+        ensures stopped { IfErr result (λ e. (e ≡ NodeFault.Stopped) × Halts self.old plan.effects.items self.new) }
     {
         let Plan { reply: _, effects } = plan;
         if let Err(_) = self.held.apply_all(effects) {
@@ -275,6 +278,7 @@ impl Node {
         // It stops for good once 2^62 links were opened.
         ensures stopped { IsErrOf result NodeFault.Stopped ↔ ((self.old.core.up ≡ false) ⊎ (2 ^ 62 ≤ self.old.links.opened)) }
         ensures stops { IsErrOf result NodeFault.Stopped → self.new ≡ stopped_as self.old }
+        ensures down { self.old.core.up ≡ false → self.new ≡ self.old }
         ensures no_other { IfErr result (λ e. (e ≡ NodeFault.Memory) ⊎ (e ≡ NodeFault.Stopped)) }
     {
         if !self.up {
@@ -350,11 +354,14 @@ impl Node {
         Ok(())
     }
 
-    /// The next step on a link: uses the request at the front of its unread bytes. `given` is the time and the chance of this
-    /// step; `fresh` is an id that was never drawn, for a step that needs one.
+    /// The next step on a link: uses the request at the front of its unread bytes. A replica only answers: it refuses writes, and
+    /// keeps past keys. `given` is the time and the chance of this step; `fresh` is an id that was never drawn, for a step that
+    /// needs one.
     pub fn step(&mut self, link: LinkId, given: Given, fresh: ReplId) -> Result<Step, NodeFault>
         ensures row { IfOk result (λ s. (u : List ℕ) → Agrees self.old link u → StepRow self.old link u given self.new s) }
+        ensures down { self.old.core.up ≡ false → IsErrOf result NodeFault.Stopped × (self.new ≡ self.old) }
         ensures shut { self.old.core.up ≡ true → IsShut self.old link → (result ≡ Ok Step.Closed) × (self.new ≡ self.old) }
+        ensures replica { self.old.core.replica ≡ true → self.new.core ≡ self.old.core }
         ensures memory { IsErrOf result NodeFault.Memory → self.new ≡ self.old }
         ensures stopped { IsErrOf result NodeFault.Stopped → WhyStopped self.old link given self.new }
         ensures no_link { IsErrOf result NodeFault.NoLink ↔ ((self.old.core.up ≡ true) × (end_of self.old link ≡ None)) }
@@ -372,7 +379,14 @@ impl Node {
             return Ok(Step::Closed);
         }
         let progress = end.progress();
-        match todo_of(self.alloc, &self.held, end.unread(), progress, given) {
+        match todo_of(
+            self.alloc,
+            &self.held,
+            self.replica,
+            end.unread(),
+            progress,
+            given,
+        ) {
             Err(_) => Err(NodeFault::Memory),
             Ok(Todo::Wait(progress)) => {
                 self.keep(link, progress);

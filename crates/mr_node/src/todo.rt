@@ -27,12 +27,13 @@ pub(crate) enum Todo {
 pub(crate) fn todo_of(
     alloc: Global,
     held: &Dataset,
+    replica: bool,
     unread: &[u8],
     progress: Progress,
     given: Given,
 ) -> Result<Todo, AllocError>
     requires { AgreesAlong progress unread.now }
-    ensures todo { IfOk result (λ t. IsTodo unread.now given held.now t) }
+    ensures todo { IfOk result (λ t. IsTodo replica unread.now given held.now t) }
     ensures along { IfOk result (λ t. KeepsAlong t unread.now) }
 {
     let limits = Limits::usual();
@@ -41,7 +42,7 @@ pub(crate) fn todo_of(
     match scan {
         Scan::Whole { words, used } => {
             words_fit();
-            let answer = plan_words(alloc, held, words.as_slice(), given)?;
+            let answer = plan_words(alloc, held, replica, words.as_slice(), given)?;
             Ok(carry_out(answer, used))
         }
         Scan::Skip { used } => Ok(Todo::Skip { used }),

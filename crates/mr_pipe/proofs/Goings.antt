@@ -7,14 +7,16 @@ use Rattle.mr_data.specs.declared.given.Given.{Given}
 use Rattle.mr_node.specs.State.{NodeState, Core, Agrees}
 use Rattle.mr_node.specs.Outs.{OutsState}
 use Rattle.mr_node.specs.Rows.{ClientRow}
-use Rattle.mr_pipe.specs.Sessions.{Turn, Serves}
-use Rattle.mr_pipe.specs.Serving.{Going, Drained, Ended, TurnedOn, TurnedNothing, IsDrained}
+use Rattle.mr_node.specs.Served.{Served}
+use Rattle.mr_pipe.specs.Sessions.{AreServed}
+use Rattle.mr_pipe.specs.Serving.{Going, Drained, Ended, StepUsed, StepWaits, IsDrained}
 use Rattle.mr_pipe.proofs.Serves.{append_nil, serves_then, serves_more, serves_join, more_moments}
 
 -- a row that goes on, without the links
 record Went (a : NodeState) (l : LinkId) (u : List ℕ) (g : Given) (b : NodeState) (outs : OutsState) : Type 0 where
   pub rest : List ℕ
-  pub turn : Turn a.core u g b.core rest outs.reply
+  pub grown : List ℕ
+  pub served : Served a.core u g b.core rest grown outs.reply
   pub agrees : Agrees b l rest
 
 no_close : {A : Type 0} → true ≡ false → A
@@ -24,49 +26,40 @@ yes_close : {A : Type 0} → false ≡ true → A
 yes_close e = absurd (cc)
 
 went : (a : NodeState) (l : LinkId) (u : List ℕ) (g : Given) (b : NodeState) (outs : OutsState) → ClientRow a l u g b outs → outs.closes ≡ false → Went a l u g b outs
-went a l u g b outs (ClientRow.replies r) e = record {
+went a l u g b outs (ClientRow.serves r) e = record {
   rest = r.rest;
+  grown = r.grown;
+  served = subst (λ z. Served a.core u g b.core r.rest r.grown z) (sym (ap (λ (o : OutsState). o.reply) r.outs_are)) r.served;
   agrees = r.leaves.agrees;
-  turn = Turn.replies r.words r.reply r.effects r.held r.asks r.goes_on r.planned r.within r.applied r.core (ap (λ (o : OutsState). o.reply) r.outs_are);
-}
-went a l u g b outs (ClientRow.passes_limit r) e = record {
-  rest = r.rest;
-  agrees = r.leaves.agrees;
-  turn = Turn.passes_limit r.words r.reply r.effects r.asks r.goes_on r.planned r.beyond r.core (ap (λ (o : OutsState). o.reply) r.outs_are);
-}
-went a l u g b outs (ClientRow.skips r) e = record {
-  rest = r.rest;
-  agrees = r.leaves.agrees;
-  turn = Turn.skips r.asks r.core (ap (λ (o : OutsState). o.reply) r.outs_are);
 }
 went a l u g b outs (ClientRow.closes r) e = no_close (sym (ap (λ (o : OutsState). o.closes) r.outs_are) ∙ e)
 
 abbrev pub starts : (g : Given) (a : NodeState) (l : LinkId) (u : List ℕ) (old : Option (List ℕ)) → Agrees a l u → Going g a l u old a old
-starts g a l u old ag = record { turns = []; rest = u; said = []; serves = (refl, refl, refl); told = Appends-nil old; agrees = ag }
+starts g a l u old ag = record { moments = []; rest = u; said = []; serves = (refl, refl, refl); told = Appends-nil old; agrees = ag }
 
 pub goes_on : (g : Given) (a : NodeState) (l : LinkId) (u : List ℕ) (old : Option (List ℕ)) (b : NodeState) (mid : Option (List ℕ)) (d : NodeState) (new : Option (List ℕ))
-    → (w : Going g a l u old b mid) → TurnedOn b l w.rest g mid d new false → Going g a l u old d new
+    → (w : Going g a l u old b mid) → StepUsed b l w.rest g mid d new false → Going g a l u old d new
 goes_on g a l u old b mid d new w t =
     let r = went b l w.rest g d t.outs t.row t.closes_is in
     record {
-      turns = w.turns ++ record { core = d.core; left = r.rest; said = t.outs.reply } ∷ [];
+      moments = w.moments ++ record { core = d.core; left = r.rest; grown = r.grown; said = t.outs.reply } ∷ [];
       rest = r.rest;
       said = w.said ++ t.outs.reply;
-      serves = serves_then g a.core u w.turns b.core w.rest w.said d.core r.rest t.outs.reply w.serves r.turn;
+      serves = serves_then g a.core u w.moments b.core w.rest w.said d.core r.rest r.grown t.outs.reply w.serves r.served;
       told = Appends-trans old mid new w.said t.outs.reply w.told t.told;
       agrees = r.agrees;
     }
 
 pub drained : (g : Given) (a : NodeState) (l : LinkId) (u : List ℕ) (old : Option (List ℕ)) (b : NodeState) (mid : Option (List ℕ)) (d : NodeState) (new : Option (List ℕ))
-    → (w : Going g a l u old b mid) → TurnedNothing b w.rest mid d new → Drained g a l u old d new
+    → (w : Going g a l u old b mid) → StepWaits b w.rest mid d new → Drained g a l u old d new
 drained g a l u old b mid d new w t =
     let s = t.idles.same in
     record {
       going = record {
-        turns = w.turns;
+        moments = w.moments;
         rest = w.rest;
         said = w.said;
-        serves = subst (λ (z : NodeState). Serves g a.core u w.turns z.core w.rest w.said) (sym s) w.serves;
+        serves = subst (λ (z : NodeState). AreServed g a.core u w.moments z.core w.rest w.said) (sym s) w.serves;
         told = subst (λ z. Appends old new z) (append_nil w.said) (Appends-trans old mid new w.said [] w.told t.told);
         agrees = subst (λ z. Agrees z l w.rest) (sym s) w.agrees;
       };
@@ -85,18 +78,16 @@ ended g a l u old b mid d new w outs (ClientRow.closes r) e n = record {
   told = subst (λ (o : OutsState). Appends mid new o.reply) r.outs_are n;
   shut = r.shut;
 }
-ended g a l u old b mid d new w outs (ClientRow.replies r) e n = yes_close (sym (ap (λ (o : OutsState). o.closes) r.outs_are) ∙ e)
-ended g a l u old b mid d new w outs (ClientRow.passes_limit r) e n = yes_close (sym (ap (λ (o : OutsState). o.closes) r.outs_are) ∙ e)
-ended g a l u old b mid d new w outs (ClientRow.skips r) e n = yes_close (sym (ap (λ (o : OutsState). o.closes) r.outs_are) ∙ e)
+ended g a l u old b mid d new w outs (ClientRow.serves r) e n = yes_close (sym (ap (λ (o : OutsState). o.closes) r.outs_are) ∙ e)
 
 abbrev pub going_join : (g : Given) (a : NodeState) (l : LinkId) (u : List ℕ) (old : Option (List ℕ)) (bytes : List ℕ) (n : NodeState) (m : Option (List ℕ)) (n1 b : NodeState) (new : Option (List ℕ))
     → (w : Going g a l u old n m) → n1.core ≡ n.core → Going g n1 l (w.rest ++ bytes) m b new → Going g a l (u ++ bytes) old b new
 going_join g a l u old bytes n m n1 b new w same d = record {
-  turns = more_moments bytes w.turns ++ d.turns;
+  moments = more_moments bytes w.moments ++ d.moments;
   rest = d.rest;
   said = w.said ++ d.said;
-  serves = serves_join g a.core (u ++ bytes) (more_moments bytes w.turns) n.core (w.rest ++ bytes) w.said d.turns b.core d.rest d.said
-      (serves_more g bytes a.core u w.turns n.core w.rest w.said w.serves) (subst (λ z. Serves g z (w.rest ++ bytes) d.turns b.core d.rest d.said) same d.serves);
+  serves = serves_join g a.core (u ++ bytes) (more_moments bytes w.moments) n.core (w.rest ++ bytes) w.said d.moments b.core d.rest d.said
+      (serves_more g bytes a.core u w.moments n.core w.rest w.said w.serves) (subst (λ z. AreServed g z (w.rest ++ bytes) d.moments b.core d.rest d.said) same d.serves);
   told = Appends-trans old m new w.said d.said w.told d.told;
   agrees = d.agrees;
 }

@@ -36,7 +36,7 @@ session_end g a l old x z b new r =
       consumed = r.all.consumed;
       said = w.said;
       told = w.told;
-      answers = Answers.at_end w.turns b.core w.rest w.serves r.all.drained.waits r.at_end;
+      answers = Answers.at_end w.moments b.core w.rest w.serves r.all.drained.waits r.at_end;
     }
 
 pub session_close : (g : Given) (a : NodeState) (l : LinkId) (old x z : Option (List ℕ)) (b : NodeState) (new : Option (List ℕ)) → RelaysClose g a l [] old x z b new → Session g a.core x z old new
@@ -47,14 +47,14 @@ session_close g a l old x z b new r =
       consumed = r.consumed;
       said = w.said ++ r.ended.last;
       told = Appends-trans old r.ended.before new w.said r.ended.last w.told r.ended.told;
-      answers = Answers.at_close w.turns r.ended.mid.core w.rest w.said r.ended.last w.serves r.ended.ends refl;
+      answers = Answers.at_close w.moments r.ended.mid.core w.rest w.said r.ended.last w.serves r.ended.ends refl;
     }
 
 -- a flush changes nothing of this
 pub drained_kept : (g : Given) (a : NodeState) (l : LinkId) (u : List ℕ) (old : Option (List ℕ)) (b : NodeState) (mid new : Option (List ℕ)) → Drained g a l u old b mid → Keeps mid new → Drained g a l u old b new
 drained_kept g a l u old b mid new d k =
     let w = d.going in
-    record { going = record { turns = w.turns; rest = w.rest; said = w.said; serves = w.serves; told = Appends-kept old mid new w.said w.told k; agrees = w.agrees }; waits = d.waits }
+    record { going = record { moments = w.moments; rest = w.rest; said = w.said; serves = w.serves; told = Appends-kept old mid new w.said w.told k; agrees = w.agrees }; waits = d.waits }
 
 pub ended_kept : (g : Given) (a : NodeState) (l : LinkId) (u : List ℕ) (old : Option (List ℕ)) (b : NodeState) (mid new : Option (List ℕ)) → Ended g a l u old b mid → Keeps mid new → Ended g a l u old b new
 ended_kept g a l u old b mid new e k = record {

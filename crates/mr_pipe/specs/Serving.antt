@@ -7,16 +7,16 @@ use Rattle.mr_node.specs.State.{NodeState, Agrees, IsShut}
 use Rattle.mr_node.specs.Outs.{OutsState}
 use Rattle.mr_node.specs.Requests.{Waits}
 use Rattle.mr_node.specs.Rows.{ClientRow, Ends, Idles}
-use Rattle.mr_pipe.specs.Sessions.{Moment, Serves}
-use Rattle.mr_pipe.specs.declared.serve.Turned.{Turned}
-use Rattle.mr_pipe.specs.declared.serve.Turned.TheVariants as turned
+use Rattle.mr_pipe.specs.Sessions.{Moment, AreServed}
+use Rattle.mr_pipe.specs.declared.serve.Stepped.{Stepped}
+use Rattle.mr_pipe.specs.declared.serve.Stepped.TheVariants as stepped
 
 -- Of the bytes u the requests in front were served, what is left is unread, and what was sent is written.
 pub record Going (g : Given) (a : NodeState) (l : LinkId) (u : List ℕ) (old : Option (List ℕ)) (b : NodeState) (new : Option (List ℕ)) : Type 0 where
-  pub turns : List Moment
+  pub moments : List Moment
   pub rest : List ℕ
   pub said : List ℕ
-  pub serves : Serves g a.core u turns b.core rest said
+  pub serves : AreServed g a.core u moments b.core rest said
   pub told : Appends old new said
   pub agrees : Agrees b l rest
 
@@ -41,18 +41,18 @@ IsDrained g a l u old b new true = Drained g a l u old b new
 IsDrained g a l u old b new false = Ended g a l u old b new
 
 -- A step used something, and what it sends is written.
-pub record TurnedOn (a : NodeState) (l : LinkId) (u : List ℕ) (g : Given) (old : Option (List ℕ)) (b : NodeState) (new : Option (List ℕ)) (closes : Bool) : Type 0 where
+pub record StepUsed (a : NodeState) (l : LinkId) (u : List ℕ) (g : Given) (old : Option (List ℕ)) (b : NodeState) (new : Option (List ℕ)) (closes : Bool) : Type 0 where
   pub outs : OutsState
   pub row : ClientRow a l u g b outs
   pub closes_is : outs.closes ≡ closes
   pub told : Appends old new outs.reply
 
 -- A step found no whole request.
-pub record TurnedNothing (a : NodeState) (u : List ℕ) (old : Option (List ℕ)) (b : NodeState) (new : Option (List ℕ)) : Type 0 where
+pub record StepWaits (a : NodeState) (u : List ℕ) (old : Option (List ℕ)) (b : NodeState) (new : Option (List ℕ)) : Type 0 where
   pub idles : Idles a u b
   pub told : Appends old new []
 
-abbrev pub IsTurn : NodeState → LinkId → List ℕ → Given → Option (List ℕ) → NodeState → Option (List ℕ) → Turned → Type 0
-IsTurn a l u g old b new turned.Waits = TurnedNothing a u old b new
-IsTurn a l u g old b new turned.On = TurnedOn a l u g old b new false
-IsTurn a l u g old b new turned.Shut = TurnedOn a l u g old b new true
+abbrev pub IsStepped : NodeState → LinkId → List ℕ → Given → Option (List ℕ) → NodeState → Option (List ℕ) → Stepped → Type 0
+IsStepped a l u g old b new stepped.Waits = StepWaits a u old b new
+IsStepped a l u g old b new stepped.On = StepUsed a l u g old b new false
+IsStepped a l u g old b new stepped.Shut = StepUsed a l u g old b new true

@@ -96,7 +96,7 @@ fn relay<R: Read, W: Write>(
     requires { 0 < length buffer.old }
     ensures { OnOk result (Agrees node.old link [] → Session given node.old.core (R.remaining input.old) (R.remaining input.new) (W.contents output.old) (W.contents output.new)) }
 {
-    for _turn in 0..u64::MAX {
+    for _round in 0..u64::MAX {
         match serve_piece(node, link, given, input, buffer, output)? {
             Round::On => {}
             Round::End => return Ok(()),

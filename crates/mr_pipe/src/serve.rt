@@ -1,7 +1,7 @@
 // All that stands on a link, served one request after another.
 ghost use Rattle.std.specs.Prelude.{◌≡◌, ◌++◌, ℕ, List, Option, IfOk};
 ghost use Rattle.mr_node.specs.State.{NodeState, Agrees};
-ghost use Rattle.mr_pipe.specs.Serving.{Going, IsTurn, IsDrained};
+ghost use Rattle.mr_pipe.specs.Serving.{Going, IsStepped, IsDrained};
 
 use crate::fault::PipeFault;
 use mr_data::Given;
@@ -12,7 +12,7 @@ use std::io::Write;
 
 /// What one step came to.
 #[derive(Clone, Copy)]
-pub(crate) enum Turned {
+pub(crate) enum Stepped {
     /// No whole request is left.
     Waits,
     /// Something was used.
@@ -22,17 +22,17 @@ pub(crate) enum Turned {
 }
 
 /// One step, whose reply is written.
-fn turn<W: Write>(
+fn step_once<W: Write>(
     node: &mut Node,
     link: LinkId,
     given: Given,
     output: &mut W,
-) -> Result<Turned, PipeFault>
-    ensures { IfOk result (λ t. (u : List ℕ) → Agrees node.old link u → IsTurn node.old link u given (W.contents output.old) node.new (W.contents output.new) t) }
+) -> Result<Stepped, PipeFault>
+    ensures { IfOk result (λ t. (u : List ℕ) → Agrees node.old link u → IsStepped node.old link u given (W.contents output.old) node.new (W.contents output.new) t) }
 {
     match node.step(link, given, ReplId::numbered(1))? {
-        Step::Idle => Ok(Turned::Waits),
-        Step::Closed => Ok(Turned::Shut),
+        Step::Idle => Ok(Stepped::Waits),
+        Step::Closed => Ok(Stepped::Shut),
         Step::Done(outs) => {
             if output.write_all(outs.reply()).is_err() {
                 return Err(PipeFault::Write);
@@ -40,14 +40,14 @@ fn turn<W: Write>(
             let closes = outs.closes();
             node.reuse(outs);
             if closes {
-                return Ok(Turned::Shut);
+                return Ok(Stepped::Shut);
             }
-            Ok(Turned::On)
+            Ok(Stepped::On)
         }
     }
 }
 
-/// Serves requests until none is whole, or the link is closed (false).
+/// AreServed requests until none is whole, or the link is closed (false).
 fn drain<W: Write>(
     node: &mut Node,
     link: LinkId,
@@ -56,11 +56,11 @@ fn drain<W: Write>(
 ) -> Result<bool, PipeFault>
     ensures { IfOk result (λ goes_on. (u : List ℕ) → Agrees node.old link u → IsDrained given node.old link u (W.contents output.old) node.new (W.contents output.new) goes_on) }
 {
-    for _turn in 0..u64::MAX {
-        match turn(node, link, given, output)? {
-            Turned::Waits => return Ok(true),
-            Turned::Shut => return Ok(false),
-            Turned::On => {}
+    for _step in 0..u64::MAX {
+        match step_once(node, link, given, output)? {
+            Stepped::Waits => return Ok(true),
+            Stepped::Shut => return Ok(false),
+            Stepped::On => {}
         }
     }
     Err(PipeFault::Read)

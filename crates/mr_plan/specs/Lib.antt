@@ -1,2 +1,3 @@
 pub mod PlannedCommands
 pub mod Requests
+pub mod Writes

@@ -1,5 +1,5 @@
 -- What the words of a request are answered, and their effects.
-use Rattle.std.specs.Prelude.{◌≡◌, ℕ, All, List, [], Bool, true, false, Result, Ok, Err, Some}
+use Rattle.std.specs.Prelude.{◌≡◌, ℕ, All, List, [], Bool, true, false, Result, Ok, Err, Some, codes, if◌then◌else◌}
 use Rattle.mr_resp.specs.Replies.{Tree, error}
 use Rattle.mr_resp.specs.ReplyView.{view}
 use Rattle.mr_resp.specs.Command.{IsCommandText}
@@ -15,18 +15,38 @@ use Rattle.mr_ask.specs.declared.ask.Ask.{Ask}
 use Rattle.mr_ask.specs.declared.ask.Ask.TheVariants as ask
 use Rattle.mr_ask.specs.declared.server_ask.ServerAsk.TheVariants as server
 use Rattle.mr_words.specs.declared.fault.AskFault.{AskFault}
-use Rattle.mr_turn.specs.Commands.{IsPlan}
+use Rattle.mr_turn.specs.Commands.{IsPlan, answer, after}
 use Rattle.mr_plan.specs.PlannedCommands.{command_of}
+use Rattle.mr_plan.specs.Writes.{writes}
 use Rattle.mr_plan.specs.declared.requests.Answer.{Answer}
 use Rattle.mr_plan.specs.declared.requests.Answer.TheVariants as answer
 
--- a command has its plan, and words that are none are told why
-abbrev pub IsPlannedAs : Result Ask AskFault → Given → Dataset → Tree → List Effect → Type 0
-IsPlannedAs (Ok command) given m reply effects = IsPlan (command_of command given) given.now m reply effects
-IsPlannedAs (Err fault) given m reply effects = (reply ≡ error (fault_text fault)) × (effects ≡ [])
+-- a write that a client asks of a replica
+abbrev pub readonly : Tree
+readonly = error (codes "READONLY You can't write against a read only replica.")
 
-pub record IsPlanned (words : List (List ℕ)) (given : Given) (m : Dataset) (reply : Tree) (effects : List Effect) : Type 0 where
-  pub planned : IsPlannedAs (asked words) given m reply effects
+-- what a replica answers: it refuses writes, and tells what is seen at the moment
+abbrev pub told : Ask → Given → Dataset → Tree
+told command given m = if writes command then readonly else answer (command_of command given) given.now m
+
+-- On a master (false) a command has its plan; a replica (true) only answers, and leaves past keys to the DELs of its master.
+-- Words that are no command are told why by either.
+abbrev pub IsPlannedAs : Result Ask AskFault → Bool → Given → Dataset → Tree → List Effect → Type 0
+IsPlannedAs (Ok command) false given m reply effects = IsPlan (command_of command given) given.now m reply effects
+IsPlannedAs (Ok command) true given m reply effects = (reply ≡ told command given m) × (effects ≡ [])
+IsPlannedAs (Err fault) replica given m reply effects = (reply ≡ error (fault_text fault)) × (effects ≡ [])
+
+pub record IsPlanned (replica : Bool) (words : List (List ℕ)) (given : Given) (m : Dataset) (reply : Tree) (effects : List Effect) : Type 0 where
+  pub planned : IsPlannedAs (asked words) replica given m reply effects
+
+-- the dataset behind it: on a master what the command leaves, and else the one before
+abbrev pub left_by : Result Ask AskFault → Bool → Given → Dataset → Dataset
+left_by (Ok command) false given m = after (command_of command given) given.now m
+left_by (Ok command) true given m = m
+left_by (Err fault) replica given m = m
+
+abbrev pub left : Bool → List (List ℕ) → Given → Dataset → Dataset
+left replica words given m = left_by (asked words) replica given m
 
 -- QUIT
 abbrev pub is_quit : Ask → Bool
@@ -42,18 +62,18 @@ abbrev pub quits : List (List ℕ) → Bool
 quits words = closes (asked words)
 
 -- what is done about a command
-abbrev pub IsAnswerTo : Ask → Given → Dataset → Answer → Type 0
-IsAnswerTo command given m (answer.Run plan) = (is_quit command ≡ false) × IsPlan (command_of command given) given.now m (view plan.reply) plan.effects.items
-IsAnswerTo command given m answer.Quit = is_quit command ≡ true
+abbrev pub IsAnswerTo : Bool → Ask → Given → Dataset → Answer → Type 0
+IsAnswerTo replica command given m (answer.Run plan) = (is_quit command ≡ false) × IsPlannedAs (Ok command) replica given m (view plan.reply) plan.effects.items
+IsAnswerTo replica command given m answer.Quit = is_quit command ≡ true
 
-abbrev pub IsAnswer : List (List ℕ) → Given → Dataset → Answer → Type 0
-IsAnswer words given m (answer.Run plan) = (quits words ≡ false) × IsPlanned words given m (view plan.reply) plan.effects.items
-IsAnswer words given m answer.Quit = quits words ≡ true
+abbrev pub IsAnswer : Bool → List (List ℕ) → Given → Dataset → Answer → Type 0
+IsAnswer replica words given m (answer.Run plan) = (quits words ≡ false) × IsPlanned replica words given m (view plan.reply) plan.effects.items
+IsAnswer replica words given m answer.Quit = quits words ≡ true
 
--- what is carried out leads to a dataset
-abbrev pub Leads : Answer → Dataset → Type 0
-Leads (answer.Run plan) m = (n : Dataset) × (apply_all plan.effects.items m ≡ Some n)
-Leads answer.Quit m = Unit {0}
+-- what is carried out leads from the one dataset to the other
+abbrev pub Leads : Answer → Dataset → Dataset → Type 0
+Leads (answer.Run plan) m n = apply_all plan.effects.items m ≡ Some n
+Leads answer.Quit m n = Unit {0}
 
 -- the text of each of its effects is a command text
 abbrev pub HasTexts : Answer → Type 0

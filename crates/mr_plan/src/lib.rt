@@ -1,8 +1,12 @@
 //! Plans of commands: what is answered, and which effects the command has, by the planner of its kind.
 #![tactic(auto)]
 
+mod laws;
 mod planning;
 mod requests;
+mod writing;
 
+pub use laws::others_have_no_effects;
 pub use planning::plan;
 pub use requests::{Answer, plan_words};
+pub use writing::writes;

@@ -6,11 +6,15 @@ ghost use Rattle.mr_value.specs.Words.{fits};
 ghost use Rattle.mr_resp.specs.Usual.{commands};
 ghost use Rattle.mr_ask.specs.Carried.{AskFits};
 ghost use Rattle.mr_plan.specs.PlannedCommands.{HasRoom};
-ghost use Rattle.mr_plan.specs.Requests.{IsAnswer, IsAnswerTo, Leads, HasTexts, is_quit};
+ghost use Rattle.mr_resp.specs.ReplyView.{view};
+ghost use Rattle.mr_plan.specs.Requests.{IsAnswer, IsAnswerTo, Leads, HasTexts, is_quit, left, left_by, told, readonly};
+ghost use Rattle.std.specs.Prelude.{Ok};
 
 use crate::planning::plan;
+use crate::writing::writes;
 use mr_ask::{Ask, ServerAsk, read};
 use mr_data::{Dataset, Given, Plan};
+use mr_resp::Reply;
 use std::alloc::{AllocError, Global};
 use std::borrow::CowSlice;
 
@@ -23,22 +27,26 @@ pub enum Answer {
     Quit,
 }
 
-/// What the words of a request are answered, and their effects. Words that are no command are told why, and have none.
+/// What the words of a request are answered by a master or by a replica, and their effects. Words that are no command are told why,
+/// and have none. A replica refuses writes, and no answer of its has an effect: a past key is told as absent, and kept.
 pub fn plan_words(
     alloc: Global,
     held: &Dataset,
+    replica: bool,
     words: &[CowSlice<'_, u8>],
     given: Given,
 ) -> Result<Answer, AllocError>
     requires { 0 < length words.now }
-    ensures answer { IfOk result (λ a. IsAnswer (map cow_slice_items words.now) given held.now a) }
-    ensures leads { IfOk result (λ a. IsTrue (list_all fits (map cow_slice_items words.now)) → Leads a held.now) }
+    ensures answer { IfOk result (λ a. IsAnswer replica (map cow_slice_items words.now) given held.now a) }
+
+    // The effects lead to what the command leaves.
+    ensures leads { IfOk result (λ a. IsTrue (list_all fits (map cow_slice_items words.now)) → Leads a held.now (left replica (map cow_slice_items words.now) given held.now)) }
 
     // The effects' texts are command texts.
     ensures texts { IfOk result (λ a. IsTrue (list_all fits (map cow_slice_items words.now)) → length words.now ≤ commands.words → HasTexts a) }
 {
     match read(words) {
-        Ok(ask) => answer_to(alloc, held, &ask, given),
+        Ok(ask) => answer_to(alloc, held, replica, &ask, given),
         Err(fault) => Ok(Answer::Run(Plan {
             reply: fault.reply(),
             effects: Vec::new(alloc),
@@ -46,20 +54,46 @@ pub fn plan_words(
     }
 }
 
+#[tactic(auto, using(crate::proofs::Leading::on_master, crate::proofs::Leading::on_replica, crate::proofs::Leading::leads_on_replica, crate::proofs::Leading::no_texts))]
 fn answer_to(
     alloc: Global,
     held: &Dataset,
+    replica: bool,
     ask: &Ask<'_, '_>,
     given: Given,
 ) -> Result<Answer, AllocError>
-    ensures answer { IfOk result (λ a. IsAnswerTo ask.now given held.now a) }
-    ensures leads { IfOk result (λ a. AskFits ask.now → Leads a held.now) }
+    ensures answer { IfOk result (λ a. IsAnswerTo replica ask.now given held.now a) }
+    ensures leads { IfOk result (λ a. AskFits ask.now → Leads a held.now (left_by (Ok ask.now) replica given held.now)) }
     ensures texts { IfOk result (λ a. AskFits ask.now → HasRoom ask.now → HasTexts a) }
 {
     if quits(ask) {
         return Ok(Answer::Quit);
     }
+    if replica {
+        let reply = tell(alloc, held, ask, given)?;
+        return Ok(Answer::Run(Plan {
+            reply,
+            effects: Vec::new(alloc),
+        }));
+    }
     Ok(Answer::Run(plan(alloc, held, ask, given)?))
+}
+
+/// What a replica answers.
+fn tell(alloc: Global, held: &Dataset, ask: &Ask<'_, '_>, given: Given) -> Result<Reply, AllocError>
+    ensures { IfOk result (λ reply. view reply ≡ told ask.now given held.now) }
+{
+    if writes(ask) {
+        return Ok(readonly());
+    }
+    let plan = plan(alloc, held, ask, given)?;
+    Ok(plan.reply)
+}
+
+fn readonly() -> Reply
+    ensures { view result ≡ readonly }
+{
+    Reply::Error(CowSlice::Borrowed(b"READONLY You can't write against a read only replica."))
 }
 
 fn quits(ask: &Ask<'_, '_>) -> bool

@@ -19,7 +19,7 @@ use Rattle.mr_entries.proofs.Maps.{same_key}
 use Rattle.mr_entries.proofs.Puts.{is_key_itself, is_key_symm}
 use Rattle.mr_plan_hash.specs.Hashes.{Hash, last_values, is_value, changed}
 
-abbrev Pair : Type 0
+abbrev pub Pair : Type 0
 Pair = Bytes × Bytes
 
 -- ---- the last value of a field
@@ -54,19 +54,19 @@ get_last : (ps : List Pair) (q : Bytes) → get (last_values ps) q ≡ last ps q
 get_last ps q = get_with ps empty q ∙ ap (or_else (last ps q)) (get-empty bytes_cmp q) ∙ or_none (last ps q)
 
 -- ---- pairs whose fields are apart
-abbrev AreApart : List Pair → Type 0
+abbrev pub AreApart : List Pair → Type 0
 AreApart [] = Unit {0}
 AreApart (e ∷ es) = AllByRecursion (λ (x : Pair). is_key x.0 e.0 ≡ false) es × AreApart es
 
-left : (a b : Bool) → T (a && b) → T a
+pub left : (a b : Bool) → T (a && b) → T a
 left true b h = tt
 left false b h = absurd h
 
-right : (a b : Bool) → T (a && b) → T b
+pub right : (a b : Bool) → T (a && b) → T b
 right true b h = h
 right false b h = absurd h
 
-turned : (r : Ordering) → T (is_lt r) → is_eq (ordering_reverse r) ≡ false
+pub turned : (r : Ordering) → T (is_lt r) → is_eq (ordering_reverse r) ≡ false
 turned Less h = refl
 turned Equal h = absurd h
 turned Greater h = absurd h
@@ -79,7 +79,7 @@ sorted_apart : (es : List Pair) → T (is_sorted bytes_cmp es) → AreApart es
 sorted_apart [] h = tt
 sorted_apart (e ∷ es) h = (below_apart e.0 es (left _ _ h), sorted_apart es (right (below_all bytes_cmp e.0 es) _ h))
 
-entries_apart : (h : Hash) → AreApart (entries h)
+pub entries_apart : (h : Hash) → AreApart (entries h)
 entries_apart h = sorted_apart (entries h) (entries_sorted h)
 
 missing : (es : List Pair) (k : Bytes) → AllByRecursion (λ (x : Pair). is_key x.0 k ≡ false) es → last es k ≡ None
@@ -99,7 +99,7 @@ last_entries : (h : Hash) (q : Bytes) → last (entries h) q ≡ get h q
 last_entries h q = last_find (entries h) q (entries_apart h) ∙ sym (get-entries h q)
 
 -- the fields of a map get its values
-with_entries : (ps : List Pair) (h : Hash) → with_fields (entries (last_values ps)) h ≡ with_fields ps h
+pub with_entries : (ps : List Pair) (h : Hash) → with_fields (entries (last_values ps)) h ≡ with_fields ps h
 with_entries ps h = same_map nat_list_cmp_total exact_bytes _ _ (λ q.
     get_with (entries (last_values ps)) h q ∙ ap (λ o. or_else o (get h q)) (last_entries (last_values ps) q ∙ get_last ps q) ∙ sym (get_with ps h q))
 

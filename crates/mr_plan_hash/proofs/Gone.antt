@@ -1,8 +1,10 @@
 -- What is left where fields go.
-use Rattle.std.proofs.Common.{◌≡◌, List, [], ◌∷◌, Bool, true, false, ◌&&◌, cond, Option, Some, None, IsTrue, refl, sym, ◌∙◌, ap}
+use Rattle.std.proofs.Common.{◌≡◌, List, [], ◌∷◌, Bool, true, false, ◌&&◌, cond, Option, Some, None, IsTrue, T, map, refl, sym, ◌∙◌, ap}
 use Rattle.std.specs.Prelude.{◌||◌, filter, is_some}
-use Rattle.std.specs.List.{list_all}
-use Rattle.std.specs.FinMap.{empty, get, insert, remove, keys, contains_key, contains_key-keys, get-empty, get-insert, get-remove, same_map}
+use Rattle.std.specs.List.{list_all, AllByRecursion}
+use Rattle.std.specs.Ordering.{is_eq, is_lt}
+use Rattle.std.specs.FinMap.{empty, get, insert, remove, keys, contains_key, contains_key-keys, get-empty, get-insert, get-remove, same_map, entries, entries_sorted, is_sorted}
+use Rattle.std.specs.FinMap.Entries.{below_all}
 use Rattle.std.proofs.lemmas.Cmp.{nat_list_cmp_total}
 use Rattle.std.proofs.lemmas.Map.Lookups.{exact_bytes}
 use Rattle.mr_map.specs.Bytes.{Bytes, ByteMap, bytes_cmp}
@@ -12,6 +14,7 @@ use Rattle.mr_turn.specs.Taken.{has, is_key}
 use Rattle.mr_entries.proofs.Maps.{same_key}
 use Rattle.mr_entries.proofs.Puts.{is_key_itself}
 use Rattle.mr_plan_hash.specs.Hashes.{Hash, removed}
+use Rattle.mr_plan_hash.proofs.Fields.{turned, left as is_below, right as are_sorted}
 
 abbrev Names : Type 0
 Names = ByteMap (Unit {0})
@@ -124,3 +127,24 @@ first_true false b h = cc
 
 pub removed_fit : (fs : List Bytes) (h : Hash) → IsTrue (list_all fits fs) → IsTrue (list_all fits (removed fs h))
 removed_fit fs h fit = all_fit (removed fs h) (λ q t. one_fits fs q fit (first_true (has fs q) (contains_key h q) (sym (has_removed fs h q) ∙ t)))
+
+-- ---- names that are apart
+abbrev pub NamesApart : List Bytes → Type 0
+NamesApart [] = Unit {0}
+NamesApart (x ∷ xs) = AllByRecursion (λ (y : Bytes). is_key y x ≡ false) xs × NamesApart xs
+
+below_names : {X : Type 0} (k : Bytes) (es : List (Bytes × X)) → T (below_all bytes_cmp k es) → AllByRecursion (λ (y : Bytes). is_key y k ≡ false) (map (λ e. e.0) es)
+below_names k [] h = tt
+below_names k (e ∷ es) h = (ap is_eq (nat_list_cmp_total.antisymm e.0 k) ∙ turned (bytes_cmp k e.0) (is_below _ _ h), below_names k es (are_sorted (is_lt (bytes_cmp k e.0)) _ h))
+
+sorted_names : {X : Type 0} (es : List (Bytes × X)) → T (is_sorted bytes_cmp es) → NamesApart (map (λ e. e.0) es)
+sorted_names [] h = tt
+sorted_names (e ∷ es) h = (below_names e.0 es (is_below _ _ h), sorted_names es (are_sorted (below_all bytes_cmp e.0 es) _ h))
+
+pub names_apart : (s : Names) → NamesApart (keys s)
+names_apart s = sorted_names (entries s) (entries_sorted s)
+
+-- each name once is enough
+pub with_names : (fs : List Bytes) (h : Hash) → without_fields fs h ≡ without_fields (keys (with_members fs empty)) h
+with_names fs h = same_map nat_list_cmp_total exact_bytes _ _ (λ q.
+    get_without fs h q ∙ ap (λ b. cond b None (get h q)) (sym (has_names fs q)) ∙ sym (get_without (keys (with_members fs empty)) h q))

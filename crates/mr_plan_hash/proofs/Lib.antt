@@ -5,3 +5,4 @@ pub mod Fields
 pub mod Gone
 pub mod Laws
 pub mod TurnLemmas
+pub mod LeftAndTold

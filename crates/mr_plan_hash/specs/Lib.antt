@@ -1,3 +1,3 @@
 pub mod Hashes
-pub mod Groups
 pub mod Commands
+pub mod Laws

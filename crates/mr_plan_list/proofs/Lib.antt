@@ -9,3 +9,4 @@ pub mod PopLaws
 pub mod EditLaws
 pub mod MoveLaws
 pub mod Laws
+pub mod LeftAndTold

@@ -6,3 +6,4 @@ pub mod Edits
 pub mod Moves
 pub mod Commands
 pub mod Numbers
+pub mod Laws

@@ -9,6 +9,7 @@ use Rattle.std.specs.declared.cmp.Ordering.TheVariants.{Less, Equal, Greater}
 use Rattle.std.specs.FinMap.{empty, get, insert, entries, find, is_sorted, entries_sorted, get-entries, get-empty, get-insert, same_map, len, len-insert, len-entries, len-empty, contains_key}
 use Rattle.std.specs.FinMap.Entries.{below_all}
 use Rattle.std.proofs.lemmas.Cmp.{nat_list_cmp_total}
+use Rattle.std.proofs.lemmas.List.Elements.{All-nil, All-cons}
 use Rattle.std.proofs.lemmas.Map.Lookups.{exact_bytes}
 use Rattle.mr_map.specs.Bytes.{Bytes, ByteMap, bytes_cmp}
 use Rattle.mr_value.specs.Words.{fits}
@@ -32,11 +33,12 @@ use Rattle.mr_entries.proofs.Puts.{is_key_itself, is_key_symm}
 use Rattle.mr_turn.proofs.Laws.{answered_faithful, IsLeadingAt, leading_at, leading, sent, none_short, one_short}
 use Rattle.mr_plan_text.specs.Setting.{plain, is_plain}
 use Rattle.mr_plan_text.specs.SettingAll.{names, last_texts, changed, set_effects, put_all, set_all, is_any_there, set_all_new}
+use Rattle.mr_plan_text.specs.Laws.{SetAllIsNoLonger, SetAllNewIsNoLonger}
 use Rattle.mr_plan_text.proofs.SameTexts.{bytes_itself, plain_is, both}
 use Rattle.mr_effect.specs.declared.effect.Effect.TheVariants as effect
 use Rattle.mr_effect.proofs.Texts.{short_effect}
 use Rattle.mr_resp.specs.Usual.{commands, commands-words}
-use Rattle.mr_effect.specs.Spelling.{IsShort}
+use Rattle.mr_effect.specs.Spelling.{IsShort, arguments}
 use Rattle.mr_effect.proofs.Appending.{length-pairs}
 
 abbrev Pair : Type 0
@@ -256,3 +258,17 @@ new_short ps m few = elim (is_any_there ps m) as (λ b. All IsShort (if b then a
 
 pub set_all_new_texts : (ps : List Pair) (now : ℤ) (m : Dataset) → IsTrue (list_all fits (unpaired ps)) → length (unpaired ps) < commands.words → HasCommandTexts (on_keys (names ps) (set_all_new ps)) now m
 set_all_new_texts ps now m h few = let command : Command = on_keys (names ps) (set_all_new ps) in sent command now m (set_all_new_faithful ps now m h) (new_short ps (before command now m) few)
+
+-- ---- .. and carries no more words than the command
+set_effects_few : (n : ℕ) (xs : List Pair) → 2 * length xs ≤ n → All (λ e. length (arguments e) ≤ n) (set_effects xs)
+set_effects_few n [] few = All-nil (λ e. length (arguments e) ≤ n)
+set_effects_few n (x ∷ xs) few = All-cons (λ e. length (arguments e) ≤ n) (effect.SetAll (x ∷ xs)) [] (omega (arith, length-pairs (x ∷ xs), few)) (All-nil (λ e. length (arguments e) ≤ n))
+
+pub set_all_few : SetAllIsNoLonger
+set_all_few ps m = set_effects_few (length (unpaired ps)) (changed ps m) (omega (arith, unpaired_twice ps, changed_few ps m))
+
+pub set_all_new_few : SetAllNewIsNoLonger
+set_all_new_few ps m = elim (is_any_there ps m) as (λ b. All (λ e. length (arguments e) ≤ length (unpaired ps)) (if b then answered (reply.int (pos 0)) m else put_all (reply.int (pos 1)) ps m).effects) [
+  | true ↦ All-nil (λ e. length (arguments e) ≤ length (unpaired ps))
+  | false ↦ set_all_few ps m
+]

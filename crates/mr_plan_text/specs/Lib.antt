@@ -4,3 +4,4 @@ pub mod Changing
 pub mod SettingAll
 pub mod Finding
 pub mod Commands
+pub mod Laws

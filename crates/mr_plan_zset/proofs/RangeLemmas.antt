@@ -2,7 +2,7 @@
 use Rattle.std.proofs.Common.{◌≡◌, ℕ, suc, ◌+◌, ◌-◌, ◌*◌, ◌<◌, ◌≤◌, length, take, drop, append_assoc, map, List, [], ◌∷◌, ◌++◌, Option, Some, None, refl, sym, ◌∙◌, ap, subst, arith}
 use Rattle.std.specs.Prelude.{ℤ, pos, negsuc, true, false, int_lt, unsigned_abs, min, reverse, slice_range}
 use Rattle.std.specs.List.{flat_map}
-use Rattle.std.proofs.lemmas.List.{reverse-append, length-reverse, length-drop, length-take-le, drop_at, take_at, take_min, drop_min, take_rest}
+use Rattle.std.proofs.lemmas.List.{reverse-append, length-reverse, length-drop, length-take-le, drop-drop, drop-take, take-take, drop_at, take_at, take_min, drop_min, take_rest}
 use Rattle.std.proofs.lemmas.List.Edits.{split_between}
 use Rattle.std.proofs.lemmas.Bool.{ltb-true}
 use Rattle.std.specs.FinMap.{len}
@@ -46,6 +46,17 @@ turned_range order pairs count start end turned long up within =
 length-ordered : (order : Order) (pairs : List (Bytes × ℤ)) → length (ordered order pairs) ≡ length pairs
 length-ordered Ascending pairs = refl
 length-ordered Descending pairs = length-reverse pairs
+
+-- a part of a part
+
+pub part_of_part : {X : Type 0} (xs : List X) (first past s e : ℕ) → s ≤ e → e ≤ past - first → slice_range xs (first + s) (first + e) ≡ slice_range (slice_range xs first past) s e
+part_of_part xs first past s e up within =
+    let rest = drop first xs in
+    let long : past - first ≡ s + ((past - first) - s) = omega arith in
+    let count : (first + e) - (first + s) ≡ e - s = omega arith in
+    ap (λ n. take n (drop (first + s) xs)) count ∙ ap (take (e - s)) (sym (drop-drop s first xs))
+    ∙ sym (take-take (e - s) ((past - first) - s) (drop s rest) (omega arith))
+    ∙ ap (take (e - s)) (sym (drop-take s ((past - first) - s) rest) ∙ ap (λ n. drop s (take n rest)) (sym long))
 
 -- what a limit leaves
 

@@ -1,5 +1,4 @@
 pub mod Scores
-pub mod Groups
 pub mod Telling
 pub mod Ranges
 pub mod Adding

@@ -39,7 +39,7 @@ pub fn by_rank(
 }
 
 /// `ZRANGE` with `BYSCORE`, `ZRANGEBYSCORE` and `ZREVRANGEBYSCORE`: the pairs within the bounds, put in the order, and of
-/// these what the limit leaves.
+/// these what the limit leaves. Only what is answered is taken from the set.
 pub fn by_score(
     alloc: Global,
     min: Bound,
@@ -55,11 +55,12 @@ pub fn by_score(
     let Some(set) = set_at(seen, &empty) else {
         return Ok(wrong_kind());
     };
-    let pairs = set.by_score(min, max)?;
-    let pairs = pairs.as_slice();
-    let (start, end) = limited_places(limit, pairs.len());
-    let (start, end) = places_in(order, start, end, pairs.len());
-    listed(alloc, &pairs[start..end], order, shape)
+    let (first, past) = set.places(min, max);
+    let count = past - first;
+    let (start, end) = limited_places(limit, count);
+    let (start, end) = places_in(order, start, end, count);
+    let pairs = set.between(first + start, first + end)?;
+    listed(alloc, pairs.as_slice(), order, shape)
 }
 
 // The places, from the first to one past the last, that a limit leaves of so many.

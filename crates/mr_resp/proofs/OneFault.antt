@@ -1,5 +1,5 @@
 -- A byte of a request in array form has one fault.
-use Rattle.std.proofs.Common.{◌≡◌, ℕ, ◌<◌, ◌≤◌, ◌⊎◌, inl, inr, List, [], ◌∷◌, ◌++◌, length, refl, sym, ap, ◌∙◌, subst, append_assoc, arith}
+use Rattle.std.proofs.Common.{◌≡◌, ℕ, ◌<◌, ◌^◌, ◌⊎◌, inl, inr, List, [], ◌∷◌, ◌++◌, length, refl, sym, ap, ◌∙◌, subst, append_assoc, arith}
 use Rattle.std.specs.List.{flat_map}
 use Rattle.std.proofs.lemmas.Bool.{cases_lt}
 use Rattle.std.proofs.lemmas.List.{append-nil, length-append, length_push}
@@ -117,21 +117,21 @@ one_word_fault f g part byte a b = elim (word_cases f part byte a) [
 ]
 
 module _ (limits : Limits) where
-  -- what can still become a word doesn't begin with one
-  no_whole_word : (part w tail : List ℕ) → length w ≤ limits.word → part ≡ bulk w ++ tail → Continues (IsBulk limits) part → ⊥
-  no_whole_word part w tail within e h =
+  -- what can still become a word begins with no word of any size
+  pub no_whole_word : (part w tail : List ℕ) → length w < 2 ^ 64 → part ≡ bulk w ++ tail → Continues (IsBulk limits) part → ⊥
+  no_whole_word part w tail small e h =
       let both : bulk w ++ (tail ++ h.more) ≡ bulk h.whole.0 ++ [] = sym (append_assoc (bulk w) tail h.more) ∙ ap (λ (x : List ℕ). x ++ h.more) (sym e) ∙ h.whole.2 ∙ sym (append-nil (bulk h.whole.0)) in
-      let parts = bulk_unique w h.whole.0 (tail ++ h.more) [] (omega (arith, within, limits.small_word)) (omega (arith, h.whole.1, limits.small_word)) both in
+      let parts = bulk_unique w h.whole.0 (tail ++ h.more) [] small (omega (arith, h.whole.1, limits.small_word)) both in
       omega (arith, ap length parts.1, length-append tail h.more, h.some)
 
   -- the line of the count and all behind it
-  opened : (count : ℕ) (ws : List (List ℕ)) (part : List ℕ) → (42 ∷ number_line count ++ flat_map bulk ws) ++ part ≡ 42 ∷ (number_line count ++ (flat_map bulk ws ++ part))
+  pub opened : (count : ℕ) (ws : List (List ℕ)) (part : List ℕ) → (42 ∷ number_line count ++ flat_map bulk ws) ++ part ≡ 42 ∷ (number_line count ++ (flat_map bulk ws ++ part))
   opened count ws part = ap (λ (x : List ℕ). 42 ∷ x) (append_assoc (number_line count) (flat_map bulk ws) part)
 
   part_of_fewer : (front part other : List ℕ) (w : IsInWord limits front part) (v : IsInWord limits front other) → flat_map bulk w.words ++ part ≡ flat_map bulk v.words ++ other → length w.words < length v.words → ⊥
   part_of_fewer front part other w v e lt =
       let n = next_word limits w.words v.words part other limits.small_word w.each v.each lt e in
-      no_whole_word part n.word (flat_map bulk n.later ++ other) n.within n.text w.inside
+      no_whole_word part n.word (flat_map bulk n.later ++ other) (omega (arith, n.within, limits.small_word)) n.text w.inside
 
   same_part : (front part other : List ℕ) → IsInWord limits front part → IsInWord limits front other → part ≡ other
   same_part front part other w v =

@@ -1,5 +1,5 @@
 -- Some of the keys that a command names, each once, in order of naming.
-use Rattle.std.specs.Prelude.{ℤ, List, [], ◌∷◌, map, Bool, true, false, not, if◌then◌else◌, Option, Some, None}
+use Rattle.std.specs.Prelude.{ℤ, List, [], ◌∷◌, filter, map, Bool, true, false, not, if◌then◌else◌, Option, Some, None}
 use Rattle.std.specs.FinMap.{get, remove}
 use Rattle.mr_map.specs.Bytes.{Bytes}
 use Rattle.mr_entries.specs.Dataset.{Dataset}
@@ -7,6 +7,7 @@ use Rattle.mr_data.specs.Dataset.{is_past}
 use Rattle.mr_entries.specs.declared.value.Entry.{Entry}
 use Rattle.mr_effect.specs.declared.effect.Effect.{Effect}
 use Rattle.mr_effect.specs.declared.effect.Effect.TheVariants as effect
+use Rattle.mr_turn.specs.Taken.{is_key}
 
 -- those whose entries pass the test
 abbrev pub chosen : (Option Entry → Bool) → List Bytes → Dataset → List Bytes
@@ -35,3 +36,8 @@ past now ks m = chosen (is_stored now true) ks m
 -- the dataset without them
 abbrev pub purged : ℤ → List Bytes → Dataset → Dataset
 purged now ks m = without (past now ks m) m
+
+-- the keys, each where it is named first
+abbrev pub named_once : List Bytes → List Bytes
+named_once [] = []
+named_once (k ∷ ks) = k ∷ filter (λ q. not (is_key q k)) (named_once ks)

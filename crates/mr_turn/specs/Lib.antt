@@ -4,3 +4,4 @@ pub mod Turns
 pub mod Outcomes
 pub mod Commands
 pub mod Collections
+pub mod Groups

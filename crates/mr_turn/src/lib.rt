@@ -1,11 +1,15 @@
 //! What planners of commands share: the keys that a command names, what is seen there, and effects that own their words.
 #![tactic(auto)]
 
+mod choosing;
 mod effects;
 mod looking;
 mod replies;
+mod sequels;
 mod taken;
 
+pub use choosing::{items_are_cut_in_groups, past_keys_stand_once};
 pub use effects::Effects;
 pub use looking::{look, push_dels, see};
 pub use replies::{bulk, count, done, integer, wrong_kind};
+pub use sequels::what_is_left_is_seen;

@@ -4,5 +4,4 @@ pub mod Removals
 pub mod Windows
 pub mod Uniform
 pub mod Places
-pub mod Fitting
 pub mod Texts

@@ -1,4 +1,3 @@
-pub mod Fitting
 pub mod Lists
 pub mod Number
 pub mod Texts

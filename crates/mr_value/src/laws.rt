@@ -1,12 +1,8 @@
 // Laws of the definitions that the contracts cite.
-ghost use Rattle.std.specs.Prelude.{◌≡◌, ◌+◌, ◌<◌, ◌↔◌, ℕ, ℤ, pos, ◌≤ℤ◌, List, Some, IsTrue, insert, length, reverse, slice_get, slice_range, slice_set, take, drop, ◌++◌, ◌-◌};
+ghost use Rattle.std.specs.Prelude.{◌≡◌, ◌+◌, ◌<◌, ◌↔◌, ℕ, ℤ, pos, ◌≤ℤ◌, List, Some, IsTrue, length, reverse, take, drop, ◌++◌, ◌-◌};
 ghost use Rattle.std.specs.Fmt.{signed_decimal};
 ghost use Rattle.mr_value.specs.Lists.{are_equal, count_of, without, without_first, without_last, removed_count};
-ghost use Rattle.mr_value.specs.Fitting.{HashFits, SetFits, list_fits};
 ghost use Rattle.mr_value.specs.Number.{is_i64, number_of};
-ghost use Rattle.mr_value.specs.Words.{fits};
-ghost use Rattle.mr_map.specs.Bytes.{ByteMap, Bytes};
-ghost use Rattle.std.specs.FinMap as map;
 ghost use Rattle.mr_value.specs.Window.{place_of, window_of, IsInWindow};
 
 /// The text of a number reads as that number again, and no other text reads as it.
@@ -31,22 +27,4 @@ pub fn removals_mirrored()
 pub fn uniform_lists()
     ensures left { (items : List (List ℕ)) → IsTrue (are_equal items) ↔ (drop 1 items ++ take 1 items ≡ items) }
     ensures right { (items : List (List ℕ)) → IsTrue (are_equal items) ↔ (drop (length items - 1) items ++ take (length items - 1) items ≡ items) }
-{}
-
-/// What is made of lists whose items are within the word limit has such items alone.
-pub fn fitting_lists()
-    ensures joined { (xs ys : List Bytes) → IsTrue (list_fits xs) → IsTrue (list_fits ys) → IsTrue (list_fits (xs ++ ys)) }
-    ensures part { (xs : List Bytes) (a b : ℕ) → IsTrue (list_fits xs) → IsTrue (list_fits (slice_range xs a b)) }
-    ensures put { (xs : List Bytes) (i : ℕ) (x : Bytes) → IsTrue (fits x) → IsTrue (list_fits xs) → IsTrue (list_fits (insert xs i x)) }
-    ensures replaced { (xs : List Bytes) (i : ℕ) (x : Bytes) → IsTrue (fits x) → IsTrue (list_fits xs) → IsTrue (list_fits (slice_set xs i x)) }
-    ensures removed { (count : ℤ) (item : Bytes) (xs : List Bytes) → IsTrue (list_fits xs) → IsTrue (list_fits (without count item xs)) }
-    ensures item { (xs : List Bytes) (i : ℕ) (x : Bytes) → slice_get xs i ≡ Some x → IsTrue (list_fits xs) → IsTrue (fits x) }
-{}
-
-/// The same of hashes and sets.
-pub fn fitting_maps()
-    ensures field_put { (m : ByteMap Bytes) (f v : Bytes) → IsTrue (fits f) → IsTrue (fits v) → HashFits m → HashFits (map.insert m f v) }
-    ensures field_removed { (m : ByteMap Bytes) (f : Bytes) → HashFits m → HashFits (map.remove m f) }
-    ensures member_put { (m : ByteMap (Unit {0})) (k : Bytes) → IsTrue (fits k) → SetFits m → SetFits (map.insert m k tt) }
-    ensures member_removed { (m : ByteMap (Unit {0})) (k : Bytes) → SetFits m → SetFits (map.remove m k) }
 {}

@@ -18,9 +18,7 @@ pub use ends::{End, Side};
 pub use hash::Hash;
 pub use indexes::{place, window};
 pub use items::Items;
-pub use laws::{
-    fitting_lists, fitting_maps, number_texts, removals_mirrored, uniform_lists, window_places,
-};
+pub use laws::{number_texts, removals_mirrored, uniform_lists, window_places};
 pub use list_value::ListValue;
 pub use number::{read_i64, write_i64};
 pub use set_value::SetValue;

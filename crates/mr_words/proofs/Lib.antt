@@ -6,3 +6,4 @@ pub mod OptionLemmas
 pub mod OrderLemmas
 pub mod OrderedLemmas
 pub mod ReadLemmas
+pub mod FaultPlaces

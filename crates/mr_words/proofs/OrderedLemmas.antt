@@ -58,7 +58,7 @@ module _ {O S : Type 0} (add : S → O → Result S AskFault) (alike : (s : S) (
 
   module _ (part : O → List Part) where
     -- options in the order of their words
-    abbrev Reordered : List O → List (List Part) → Type 0
+    abbrev pub Reordered : List O → List (List Part) → Type 0
     Reordered os order = (ps : List O) × ((map part ps ≡ order) × ((s : S) → added add s ps ≡ added add s os))
 
     one_swap : (os : List O) (order : List (List Part)) (i j : ℕ) → i < length order → j < length order → Reordered os order → Reordered os (swap order i j)
@@ -67,12 +67,12 @@ module _ {O S : Type 0} (add : S → O → Result S AskFault) (alike : (s : S) (
         let long : length ps ≡ length order = sym (length-map ps part) ∙ ap length r.1.0 in
         (swap ps i j, (map_swap part ps i j ∙ ap (λ xs. swap xs i j) r.1.0, λ s. swapped ps i j (omega arith) (omega arith) s ∙ r.1.1 s))
 
-    reordered : (os : List O) (order : List (List Part)) → IsPermutation (map part os) order → Reordered os order
+    pub reordered : (os : List O) (order : List (List Part)) → IsPermutation (map part os) order → Reordered os order
     reordered os order p = IsPermutation-keeps (map part os) (Reordered os) (os, (refl, λ s. refl)) (one_swap os) order p
 
     module _ (read : S → List (List ℕ) → Result S AskFault) (none : (s : S) → read s [] ≡ Ok s)
         (first : (s : S) (o : O) (words rest : List (List ℕ)) → AreParts words (part o) → read s (words ++ rest) ≡ with (add s o) (λ t. read t rest)) where
-      in_order : (os : List O) (s : S) (words : List (List ℕ)) → AreParts words (in_a_row (map part os)) → read s words ≡ added add s os
+      pub in_order : (os : List O) (s : S) (words : List (List ℕ)) → AreParts words (in_a_row (map part os)) → read s words ≡ added add s os
       in_order [] s [] h = none s
       in_order [] s (w ∷ words) h = absurd h
       in_order (o ∷ os) s words h =

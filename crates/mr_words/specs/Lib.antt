@@ -4,3 +4,5 @@ pub mod Pairing
 pub mod Parts
 pub mod Options
 pub mod Spelling
+pub mod Askable
+pub mod FaultOrder

@@ -1,13 +1,13 @@
 -- Lists in an order: what is placed, sorted or filtered, and that a list in order is known by its elements.
-use Rattle.std.proofs.Common.{◌≡◌, Some, ℕ, zero, suc, ◌+◌, ◌<◌, length, get_or, map, List, [], ◌∷◌, Bool, true, false, cond, refl, sym, ◌∙◌, ap, subst, arith}
+use Rattle.std.proofs.Common.{◌≡◌, Some, ℕ, zero, suc, ◌+◌, ◌<◌, length, get_or, List, [], ◌∷◌, Bool, true, false, cond, refl, sym, ◌∙◌, ap, subst, arith}
 use Rattle.std.specs.Prelude.{filter, sum_by, count_by, slice_get}
 use Rattle.std.specs.declared.cmp.Ordering.{Ordering}
 use Rattle.std.specs.Ordering.{is_lt, is_gt, is_eq, ordering_reverse}
 use Rattle.std.specs.declared.cmp.Ordering.TheVariants.{Less, Equal, Greater}
 use Rattle.std.specs.Cmp.{IsTotalOrder}
-use Rattle.std.specs.List.Sorted.{IsPermutation, IsSorted, IsSortedBy}
+use Rattle.std.specs.List.Sorted.{IsPermutation, IsSorted}
 use Rattle.std.proofs.lemmas.Cmp.{upto, tied_itself}
-use Rattle.std.proofs.lemmas.List.Sorted.{IsPermutation-refl, IsPermutation-cons, IsPermutation-trans, IsPermutation-middle, sum_by-IsPermutation, sorted_far, ranks_by}
+use Rattle.std.proofs.lemmas.List.Sorted.{IsPermutation-refl, IsPermutation-cons, IsPermutation-trans, IsPermutation-middle, sum_by-IsPermutation}
 use Rattle.std.proofs.lemmas.List.Sums.{sum_by-cons}
 use Rattle.mr_zset.specs.Order.{placed, in_order}
 
@@ -47,7 +47,7 @@ module _ {X : Type 0} {R : X → X → Ordering} (total : IsTotalOrder R) where
     | false ↦ (le, h)
   ]
 
-  Ascends-placed : (a : X) (ys : List X) → Ascends R ys → Ascends R (placed R a ys)
+  pub Ascends-placed : (a : X) (ys : List X) → Ascends R ys → Ascends R (placed R a ys)
   Ascends-placed a [] h = (tt, tt)
   Ascends-placed a (y ∷ ys) h = elim (is_lt (R y a)) as (λ b. is_lt (R y a) ≡ b → Ascends R (cond b (y ∷ placed R a ys) (a ∷ y ∷ ys))) [
     | true ↦ λ e. (Above-placed y a ys (less_not_more _ e) h.0, Ascends-placed a ys h.1)
@@ -75,7 +75,7 @@ module _ {X : Type 0} {R : X → X → Ordering} (total : IsTotalOrder R) where
 -- what is placed, and a list in order, have the same elements
 
 module _ {X : Type 0} (R : X → X → Ordering) where
-  IsPermutation-placed : (a : X) (ys : List X) → IsPermutation (a ∷ ys) (placed R a ys)
+  pub IsPermutation-placed : (a : X) (ys : List X) → IsPermutation (a ∷ ys) (placed R a ys)
   IsPermutation-placed a [] = IsPermutation-refl (a ∷ [])
   IsPermutation-placed a (y ∷ ys) = elim (is_lt (R y a)) as (λ b. IsPermutation (a ∷ y ∷ ys) (cond b (y ∷ placed R a ys) (a ∷ y ∷ ys))) [
     | true ↦ IsPermutation-trans (a ∷ y ∷ ys) (y ∷ a ∷ ys) (y ∷ placed R a ys) (IsPermutation-middle (a ∷ []) y ys) (IsPermutation-cons y (a ∷ ys) (placed R a ys) (IsPermutation-placed a ys))
@@ -92,11 +92,11 @@ pub one : Bool → ℕ
 one true = 1
 one false = 0
 
-one-true : (b : Bool) → b ≡ true → one b ≡ 1
+pub one-true : (b : Bool) → b ≡ true → one b ≡ 1
 unfolding one
 one-true b e = ap one e
 
-one-false : (b : Bool) → b ≡ false → one b ≡ 0
+pub one-false : (b : Bool) → b ≡ false → one b ≡ 0
 unfolding one
 one-false b e = ap one e
 
@@ -104,7 +104,7 @@ module _ {X : Type 0} (R : X → X → Ordering) where
   pub times : X → List X → ℕ
   times q xs = sum_by (λ x. one (is_eq (R q x))) xs
 
-  times-nil : (q : X) → times q [] ≡ 0
+  pub times-nil : (q : X) → times q [] ≡ 0
   unfolding times
   times-nil q = refl
 
@@ -112,14 +112,14 @@ module _ {X : Type 0} (R : X → X → Ordering) where
   unfolding times
   times-cons q x xs = sum_by-cons (λ y. one (is_eq (R q y))) x xs
 
-  times-permutation : (q : X) (xs ys : List X) → IsPermutation xs ys → times q ys ≡ times q xs
+  pub times-permutation : (q : X) (xs ys : List X) → IsPermutation xs ys → times q ys ≡ times q xs
   unfolding times
   times-permutation q xs ys h = sum_by-IsPermutation (λ y. one (is_eq (R q y))) xs ys h
 
-  times-yes : (q x : X) (xs : List X) → is_eq (R q x) ≡ true → times q (x ∷ xs) ≡ suc (times q xs)
+  pub times-yes : (q x : X) (xs : List X) → is_eq (R q x) ≡ true → times q (x ∷ xs) ≡ suc (times q xs)
   times-yes q x xs e = times-cons q x xs ∙ (let here : one (is_eq (R q x)) ≡ 1 = one-true _ e in omega arith)
 
-  times-no : (q x : X) (xs : List X) → is_eq (R q x) ≡ false → times q (x ∷ xs) ≡ times q xs
+  pub times-no : (q x : X) (xs : List X) → is_eq (R q x) ≡ false → times q (x ∷ xs) ≡ times q xs
   times-no q x xs e = times-cons q x xs ∙ (let here : one (is_eq (R q x)) ≡ 0 = one-false _ e in omega arith)
 
 module _ {X : Type 0} {R : X → X → Ordering} (total : IsTotalOrder R) where
@@ -182,14 +182,14 @@ module _ {X : Type 0} {R : X → X → Ordering} (total : IsTotalOrder R) where
       | Greater ↦ λ e. refl
     ] refl
 
-    filtered_yes : (p : X → Bool) (q : X) → p q ≡ true → (xs : List X) → times R q (filter p xs) ≡ times R q xs
+    pub filtered_yes : (p : X → Bool) (q : X) → p q ≡ true → (xs : List X) → times R q (filter p xs) ≡ times R q xs
     filtered_yes p q hq [] = refl
     filtered_yes p q hq (x ∷ xs) = elim (p x) as (λ b. p x ≡ b → times R q (cond b (x ∷ filter p xs) (filter p xs)) ≡ times R q (x ∷ xs)) [
       | true ↦ λ e. times-cons R q x (filter p xs) ∙ ap (λ n. one (is_eq (R q x)) + n) (filtered_yes p q hq xs) ∙ sym (times-cons R q x xs)
       | false ↦ λ e. filtered_yes p q hq xs ∙ sym (times-no R q x xs (differ_yes p q x hq e))
     ] refl
 
-    filtered_no : (p : X → Bool) (q : X) → p q ≡ false → (xs : List X) → times R q (filter p xs) ≡ 0
+    pub filtered_no : (p : X → Bool) (q : X) → p q ≡ false → (xs : List X) → times R q (filter p xs) ≡ 0
     filtered_no p q hq [] = times-nil R q
     filtered_no p q hq (x ∷ xs) = elim (p x) as (λ b. p x ≡ b → times R q (cond b (x ∷ filter p xs) (filter p xs)) ≡ 0) [
       | true ↦ λ e. times-no R q x (filter p xs) (differ_no p q x hq e) ∙ filtered_no p q hq xs
@@ -207,23 +207,6 @@ module _ {X : Type 0} {R : X → X → Ordering} (total : IsTotalOrder R) where
     pub sorted_filter : (es ls : List X) (p : X → Bool) → Ascends R ls → IsPermutation (filter p es) ls → ls ≡ filter p (in_order R es)
     sorted_filter es ls p up moved = one_order ls (filter p (in_order R es)) up (Ascends-filter total p (in_order R es) (Ascends-in_order total es)) (λ q.
         times-permutation R q (filter p es) ls moved ∙ filtered p q es (in_order R es) (sym (times-permutation R q es (in_order R es) (IsPermutation-in_order R es))))
-
--- what a sort by a key ensures
-
-module _ {X A : Type 0} {R : X → X → Ordering} (total : IsTotalOrder R) (key : A → X) where
-  Above-sorted : (x : A) (ys : List A) → ((j : ℕ) (d : A) → j < length ys → is_gt (R (key x) (key (get_or ys j d))) ≡ false) → Above R (key x) (map key ys)
-  Above-sorted x [] h = tt
-  Above-sorted x (y ∷ ys) h = (h 0 y (omega arith), Above-sorted x ys (λ j d lt. h (suc j) d (omega arith)))
-
-  pub Ascends-sorted : (xs : List A) → IsSortedBy (λ a b. is_lt (R (key a) (key b))) xs → Ascends R (map key xs)
-  Ascends-sorted [] h = tt
-  Ascends-sorted (x ∷ xs) h = (
-    Above-sorted x xs (λ j d lt. not_less_back (R (key x) (key (get_or xs j d))) (R (key (get_or xs j d)) (key x)) (total.antisymm (key x) (key (get_or xs j d)))
-        (sorted_far (λ a b. is_lt (R (key a) (key b))) (ranks_by total key) (x ∷ xs) h 0 (suc j) d (omega arith) (omega arith))),
-    Ascends-sorted xs (λ k d low high.
-        let e : suc k + 1 ≡ suc (k + 1) = omega arith in
-        subst (λ (n : ℕ). is_lt (R (key (get_or (x ∷ xs) n d)) (key (get_or xs k d))) ≡ false) e (h (suc k) d (omega arith) (omega arith))),
-  )
 
 -- the place of an element in a list in order is the number of lesser ones
 

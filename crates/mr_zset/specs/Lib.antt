@@ -1,5 +1,7 @@
 pub mod Bounds
+pub mod Limits
 pub mod Order
 pub mod Pairs
 pub mod Score
+pub mod Stored
 pub mod Texts

@@ -1,7 +1,7 @@
 -- The pairs of a sorted set: their order, ranks and ranges.
-use Rattle.std.specs.Prelude.{ℕ, ℤ, List, Bool, Option, Some, None, count_by, filter, option_map}
+use Rattle.std.specs.Prelude.{ℕ, ℤ, List, Bool, not, Option, Some, None, count_by, filter, option_map}
 use Rattle.std.specs.declared.cmp.Ordering.{Ordering}
-use Rattle.std.specs.Ordering.{int_cmp, ordering_then, is_lt}
+use Rattle.std.specs.Ordering.{int_cmp, ordering_then, is_eq, is_lt}
 use Rattle.std.specs.FinMap.{entries, get, remove}
 use Rattle.mr_map.specs.Bytes.{bytes_cmp, ByteMap}
 use Rattle.mr_zset.specs.declared.bound.Bound.{Bound}
@@ -15,6 +15,10 @@ pair_cmp p q = ordering_then (int_cmp p.1 q.1) (bytes_cmp p.0 q.0)
 
 abbrev pub pair_lt : List ℕ × ℤ → List ℕ × ℤ → Bool
 pair_lt p q = is_lt (pair_cmp p q)
+
+-- a pair is another than p
+abbrev pub is_other : List ℕ × ℤ → List ℕ × ℤ → Bool
+is_other p q = not (is_eq (pair_cmp q p))
 
 -- all pairs of a set, in order
 abbrev pub pairs_of : ByteMap ℤ → List (List ℕ × ℤ)

@@ -1,23 +1,26 @@
 // A sorted set.
-ghost use Rattle.std.specs.Prelude.{◌≡◌, ◌==◌, ◌+◌, ◌-◌, ◌<◌, ◌≤◌, ◌^◌, IsTrue, OnOk, OnErr, IfOk, IfSome, length, map, option_map, slice_get, slice_range};
-ghost use Rattle.std.specs.Option.{option_copied};
+ghost use Rattle.std.specs.Prelude.{◌≡◌, ◌==◌, ◌+◌, ◌-◌, ◌<◌, ◌≤◌, ◌^◌, ℕ, IsTrue, OnOk, OnErr, IfOk, IfSome, Some, None, count_by, length, map, option_map, slice_get, slice_range};
 ghost use Rattle.std.specs.FinMap as finite;
 ghost use Rattle.mr_zset.specs.Score.{is_score};
-ghost use Rattle.mr_zset.specs.Pairs.{pairs_of, rank_of, range_of, shown, without};
+ghost use Rattle.mr_zset.specs.Pairs.{pair_lt, pairs_of, rank_of, range_of, shown, without};
+ghost use Rattle.mr_zset.specs.Stored.{stored};
 
 use crate::bound::Bound;
+use crate::entry::Entry;
 use crate::pair::Pair;
-use crate::ranges::{between, count_within, lesser_than, pairs_within};
+use crate::stored::{pairs_between, place_of, places_of, put_in, take_out};
 use mr_map::{ByteMap, Pairs};
+use mr_order::{Ordered, Steps};
 use mr_value::Bytes;
 use std::alloc::{AllocError, Global};
 use std::marker::Model;
 
-/// A finite map from member to score. A plain body: the pairs are put in order for each range.
+/// A finite map from member to score, beside which the same pairs stand in order, each at its place.
 #[derive(Drop)]
 pub struct ZSet {
     alloc: Global,
     scores: ByteMap<i64>,
+    pairs: Ordered<Entry>,
 }
 
 impl Model for ZSet {
@@ -25,7 +28,7 @@ impl Model for ZSet {
     ghost use Rattle.std.specs.Prelude.{ℤ};
     ghost use Rattle.std.specs.Coded.{coded_ℕ, coded_ℤ, coded_list};
     ghost use Rattle.mr_map.specs.Bytes.{bytes_cmp};
-    ghost use Rattle.mr_zset.specs.Score.{HasScores};
+    ghost use Rattle.mr_zset.specs.Stored.{AreStored};
 
     ghost Value = { finite.FinMap bytes_cmp ℤ };
 
@@ -33,7 +36,7 @@ impl Model for ZSet {
 
     ghost view = { λ a. a.scores };
 
-    ghost invariant = { λ a. HasScores a.scores };
+    ghost invariant = { λ a. AreStored a.scores a.pairs };
 }
 
 impl ZSet {
@@ -44,6 +47,7 @@ impl ZSet {
         ZSet {
             alloc,
             scores: ByteMap::new(alloc),
+            pairs: Ordered::new(alloc),
         }
     }
 
@@ -78,13 +82,64 @@ impl ZSet {
         ensures ok { OnOk result (self.new ≡ finite.insert self.old member.now score) }
         ensures err { OnErr result (self.new ≡ self.old) }
     {
-        if let Some(place) = self.scores.get_mut(member) {
-            let before = *place;
-            *place = score;
-            return Ok(Some(before));
+        let before = self.score(member);
+        match before {
+            Some(before) => self.change(member, before, score)?,
+            None => self.add(member, score)?,
         }
-        self.scores
-            .insert(Vec::from_slice(self.alloc, member)?, score)
+        Ok(before)
+    }
+
+    // Gives a member that is there another score. The new pair is put in before the first one goes.
+    fn change(&mut self, member: &[u8], before: i64, score: i64) -> Result<(), AllocError>
+        requires there { finite.get self.old member.now ≡ Some before }
+        requires score { IsTrue (is_score score) }
+        ensures ok { OnOk result (self.new ≡ finite.insert self.old member.now score) }
+        ensures err { OnErr result (self.new ≡ self.old) }
+    {
+        if score == before {
+            return Ok(());
+        }
+        let member_copy = Vec::from_slice(self.alloc, member)?;
+        put_in(
+            &mut self.pairs,
+            Entry {
+                score,
+                member: member_copy,
+            },
+        )?;
+        write(&mut self.scores, member, score);
+        take_out(
+            &mut self.pairs,
+            Pair {
+                score: before,
+                member,
+            },
+        );
+        Ok(())
+    }
+
+    // Adds a member that isn't there.
+    fn add(&mut self, member: &[u8], score: i64) -> Result<(), AllocError>
+        requires absent { finite.get self.old member.now ≡ None }
+        requires score { IsTrue (is_score score) }
+        ensures ok { OnOk result (self.new ≡ finite.insert self.old member.now score) }
+        ensures err { OnErr result (self.new ≡ self.old) }
+    {
+        let key = Vec::from_slice(self.alloc, member)?;
+        let member_copy = Vec::from_slice(self.alloc, member)?;
+        put_in(
+            &mut self.pairs,
+            Entry {
+                score,
+                member: member_copy,
+            },
+        )?;
+        if self.scores.insert(key, score).is_err() {
+            take_out(&mut self.pairs, Pair { score, member });
+            return Err(AllocError);
+        }
+        Ok(())
     }
 
     /// Removes a member, and answers its score.
@@ -92,7 +147,9 @@ impl ZSet {
         ensures before { result ≡ finite.get self.old member.now }
         ensures removed { self.new ≡ finite.remove self.old member.now }
     {
-        self.scores.remove(member)
+        let score = self.scores.remove(member)?;
+        take_out(&mut self.pairs, Pair { score, member });
+        Some(score)
     }
 
     /// The number of lesser pairs, which is the member's place among all pairs in order, counted from 0. It takes no
@@ -103,7 +160,17 @@ impl ZSet {
         ensures place { IfSome result (λ rank. IfSome (slice_get (pairs_of self.now) rank) (λ pair. pair.0 ≡ member.now)) }
     {
         let score = self.score(member)?;
-        Some(lesser_than(&self.scores, Pair { score, member }))
+        let mut steps = Steps { count: 0 };
+        Some(self.place(score, member, &mut steps))
+    }
+
+    /// The number of pairs that are less than a score with a member, which is the place where that pair stands or would stand.
+    /// It is compared with at most as many pairs as the number of members has binary digits. It takes no memory.
+    pub fn place(&self, score: i64, member: &[u8], steps: &mut Steps) -> usize
+        ensures count { result ≡ count_by (λ p. pair_lt p (member.now, score)) (finite.entries self.now) }
+        ensures steps { (digits : ℕ) → finite.len self.now < 2 ^ digits → steps.new.count ≤ steps.old.count + digits }
+    {
+        place_of(&self.pairs, Pair { score, member }, steps)
     }
 
     /// The pairs from one place to another, both included and counted from 0, in order.
@@ -112,15 +179,35 @@ impl ZSet {
         requires within { last < finite.len self.now }
         ensures { IfOk result (λ pairs. map shown pairs.items ≡ slice_range (pairs_of self.now) first (last + 1)) }
     {
-        let all = self.by_score(Bound::NegativeInfinity, Bound::PositiveInfinity)?;
-        between(self.alloc, &all, first, last)
+        prove!(last < self.len());
+        self.between(first, last + 1)
+    }
+
+    /// The pairs from one place to another, the second left out, in order. It takes memory for these alone.
+    pub fn between(&self, first: usize, past: usize) -> Result<Vec<Pair<'_>>, AllocError>
+        requires ordered { first ≤ past }
+        requires within { past ≤ finite.len self.now }
+        ensures { IfOk result (λ pairs. map shown pairs.items ≡ slice_range (pairs_of self.now) first past) }
+    {
+        pairs_between(self.alloc, &self.pairs, first, past)
     }
 
     /// The pairs whose scores are within two bounds, in order.
     pub fn by_score(&self, from: Bound, to: Bound) -> Result<Vec<Pair<'_>>, AllocError>
         ensures { IfOk result (λ pairs. map shown pairs.items ≡ range_of from to self.now) }
     {
-        pairs_within(self.alloc, &self.scores, from, to)
+        let (first, past) = self.places(from, to);
+        self.between(first, past)
+    }
+
+    /// The places of the pairs whose scores are within two bounds: that of the first, and the one behind the last. It takes
+    /// no memory.
+    pub fn places(&self, from: Bound, to: Bound) -> (usize, usize)
+        ensures ordered { result.0 ≤ result.1 }
+        ensures within { result.1 ≤ finite.len self.now }
+        ensures range { range_of from to self.now ≡ slice_range (pairs_of self.now) result.0 result.1 }
+    {
+        places_of(&self.pairs, from, to)
     }
 
     /// How many scores are within two bounds. It takes no memory.
@@ -128,9 +215,9 @@ impl ZSet {
         ensures count { result ≡ length (range_of from to self.now) }
         ensures small { result < 2 ^ 63 }
     {
-        let count = count_within(&self.scores, from, to);
-        prove!(count <= self.len());
-        count
+        let (first, past) = self.places(from, to);
+        prove!(past <= self.len());
+        past - first
     }
 
     /// The members with their scores, in the order of the members' bytes. It takes no memory.
@@ -146,11 +233,8 @@ impl ZSet {
         ensures ok { IfOk result (λ popped. self.new ≡ without popped self.old) }
         ensures err { OnErr result (self.new ≡ self.old) }
     {
-        let popped = self.first_pair()?;
-        if let Some((member, _)) = &popped {
-            self.scores.remove(member.as_slice());
-        }
-        Ok(popped)
+        let first = self.pairs.pop_first();
+        Ok(forget(&mut self.scores, first))
     }
 
     /// Removes the last pair in order, and answers it. Where memory runs out, the set is as it was.
@@ -159,34 +243,28 @@ impl ZSet {
         ensures ok { IfOk result (λ popped. self.new ≡ without popped self.old) }
         ensures err { OnErr result (self.new ≡ self.old) }
     {
-        let popped = self.last_pair()?;
-        if let Some((member, _)) = &popped {
-            self.scores.remove(member.as_slice());
-        }
-        Ok(popped)
-    }
-
-    fn first_pair(&self) -> Result<Option<(Bytes, i64)>, AllocError>
-        ensures { IfOk result (λ first. first ≡ slice_get (pairs_of self.now) 0) }
-    {
-        let pairs = self.by_score(Bound::NegativeInfinity, Bound::PositiveInfinity)?;
-        owned(self.alloc, pairs.first())
-    }
-
-    fn last_pair(&self) -> Result<Option<(Bytes, i64)>, AllocError>
-        ensures { IfOk result (λ last. last ≡ slice_get (pairs_of self.now) (length (pairs_of self.now) - 1)) }
-    {
-        let pairs = self.by_score(Bound::NegativeInfinity, Bound::PositiveInfinity)?;
-        owned(self.alloc, pairs.last())
+        let last = self.pairs.pop_last();
+        Ok(forget(&mut self.scores, last))
     }
 }
 
-// A pair with memory of its own.
-fn owned(alloc: Global, pair: Option<&Pair<'_>>) -> Result<Option<(Bytes, i64)>, AllocError>
-    ensures { IfOk result (λ copy. copy ≡ option_map shown (option_copied pair.entry)) }
+// Sets the score of a member that is there.
+fn write(scores: &mut ByteMap<i64>, member: &[u8], score: i64)
+    requires { IsTrue (finite.contains_key scores.old member.now) }
+    ensures { scores.new ≡ finite.insert scores.old member.now score }
 {
-    match pair {
-        Some(pair) => Ok(Some((Bytes::from_slice(alloc, pair.member)?, pair.score))),
-        None => Ok(None),
-    }
+    let Some(place) = scores.get_mut(member) else {
+        unreachable!()
+    };
+    *place = score;
+}
+
+// Takes out of a map what it says of the member of a pair, and answers the pair.
+fn forget(scores: &mut ByteMap<i64>, pair: Option<Entry>) -> Option<(Bytes, i64)>
+    ensures pair { result ≡ option_map stored pair }
+    ensures gone { scores.new ≡ without result scores.old }
+{
+    let Entry { score, member } = pair?;
+    scores.remove(member.as_slice());
+    Some((Bytes::from_vec(member), score))
 }

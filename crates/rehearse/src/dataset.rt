@@ -95,7 +95,7 @@ fn ask(
     if words.is_empty() {
         return Err(RehearsalFault::Line);
     }
-    match plan_words(alloc, held, words.as_slice(), given)? {
+    match plan_words(alloc, held, false, words.as_slice(), given)? {
         Answer::Quit => tell(out, "quit"),
         Answer::Run(plan) => {
             let mut reply = Vec::new(alloc);

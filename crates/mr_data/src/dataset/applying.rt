@@ -1,9 +1,10 @@
 // Effects on a dataset.
 ghost use Rattle.std.specs.Prelude.{◌≡◌, ◌≢◌, ◌↔◌, ◌&&◌, [], Some, None, Err, IsOk, OnOk};
+ghost use Rattle.std.specs.FinMap as map;
 ghost use Rattle.std.specs.List.{AllByRecursion};
 ghost use Rattle.mr_effect.specs.Effects.{has_spelling, words_fit};
 ghost use Rattle.mr_entries.specs.Changes.{NeedsNoMemory};
-ghost use Rattle.mr_data.specs.Meaning.{apply, apply_all};
+ghost use Rattle.mr_data.specs.Meaning.{StopsAtOne, apply, apply_all};
 
 use crate::dataset::Dataset;
 use mr_effect::Effect;
@@ -16,6 +17,7 @@ impl Dataset {
         ensures ok { OnOk result (apply effect.now self.old ≡ Some self.new) }
         ensures refused { (result ≡ Err ApplyFault.Refused) ↔ (apply effect.now self.old ≡ None) }
         ensures unchanged { result ≡ Err ApplyFault.Refused → self.new ≡ self.old }
+        ensures emptied { result ≡ Err ApplyFault.Memory → self.new ≡ map.empty }
         ensures memory { NeedsNoMemory effect.now → result ≢ Err ApplyFault.Memory }
     {
         if !is_possible(effect) {
@@ -33,6 +35,7 @@ impl Dataset {
         ensures ok { OnOk result (apply effect.entry self.old ≡ Some self.new) }
         ensures refused { (result ≡ Err ApplyFault.Refused) ↔ (apply effect.entry self.old ≡ None) }
         ensures unchanged { result ≡ Err ApplyFault.Refused → self.new ≡ self.old }
+        ensures emptied { result ≡ Err ApplyFault.Memory → self.new ≡ map.empty }
         ensures memory { NeedsNoMemory effect.entry → result ≢ Err ApplyFault.Memory }
     {
         if !is_possible(&effect) {
@@ -43,11 +46,13 @@ impl Dataset {
         outcome
     }
 
-    /// Does effects one after another, and moves into the dataset the words that own their memory. After an `Err` some
-    /// of them may be done.
+    /// Does effects one after another, and moves into the dataset the words that own their memory. Where one is refused,
+    /// those before it are done, and no other. A dataset for which memory ran out is emptied.
     pub fn apply_all(&mut self, effects: Vec<Effect<'_>>) -> Result<(), ApplyFault>
         ensures ok { OnOk result (apply_all effects.entry.items self.old ≡ Some self.new) }
         ensures refused { result ≡ Err ApplyFault.Refused → apply_all effects.entry.items self.old ≡ None }
+        ensures begun { result ≡ Err ApplyFault.Refused → StopsAtOne effects.entry.items self.old self.new }
+        ensures emptied { result ≡ Err ApplyFault.Memory → self.new ≡ map.empty }
         ensures memory { AllByRecursion NeedsNoMemory effects.entry.items → result ≢ Err ApplyFault.Memory }
         ensures none { effects.entry.items ≡ [] → IsOk result }
     {

@@ -1,10 +1,9 @@
 // What a node does as time passes.
 ghost use Rattle.std.specs.Prelude.{◌≡◌, ◌↔◌, ◌⊎◌, [], ◌-◌, ◌+◌, ◌≤◌, ◌<◌, ◌++◌, length, nat_le, if◌then◌else◌, false, Some, All, IfOk, IfErr, OnErr, IsErrOf};
-ghost use Rattle.mr_repl.specs.Backlog.{after_bytes};
 ghost use Rattle.mr_effect.specs.Spelling.{size, text, texts};
 ghost use Rattle.mr_effect.specs.declared.effect.Effect.TheVariants as effect;
 ghost use Rattle.mr_data.specs.Meaning.{apply_all};
-ghost use Rattle.mr_node.specs.Rows.{offset_limit};
+ghost use Rattle.mr_node.specs.Served.{grown_by, offset_limit};
 ghost use Rattle.mr_node.specs.Ticks.{TickRow, IsDeletion, deletions};
 
 use crate::fault::NodeFault;
@@ -49,7 +48,7 @@ impl Node {
         requires texts { outs.now.grown ≡ texts effects.items }
         requires within { self.old.core.stream.offset + length (texts effects.items) ≤ offset_limit }
         ensures applied { apply_all effects.entry.items self.old.core.held ≡ Some self.new.core.held }
-        ensures core { self.new.core ≡ record self.old.core { held = self.new.core.held; stream = after_bytes self.old.core.stream (texts effects.entry.items) } }
+        ensures core { self.new.core ≡ grown_by effects.entry.items self.new.core.held self.old.core }
         ensures links { self.new.links ≡ self.old.links }
     {
         let Ok(()) = self.held.apply_all(effects) else {

@@ -2,7 +2,7 @@
 ghost use Rattle.std.specs.Prelude.{◌≡◌, ◌≤◌, [], ◌∷◌, ◌++◌, length, map, if◌then◌else◌, OnOk};
 ghost use Rattle.mr_effect.specs.declared.effect.Effect.TheVariants as made;
 ghost use Rattle.mr_entries.specs.Cuts.{cut, most_items};
-ghost use Rattle.mr_plan_hash.specs.Groups.{TakesItems};
+ghost use Rattle.mr_turn.specs.Groups.{TakesItems};
 
 use crate::groups::MOST_ITEMS;
 use mr_data::{Effect, Words};

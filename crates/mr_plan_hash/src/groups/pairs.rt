@@ -3,7 +3,7 @@ ghost use Rattle.std.specs.Prelude.{◌≡◌, ◌≤◌, [], ◌∷◌, ◌++�
 ghost use Rattle.mr_effect.specs.declared.effect.Effect.TheVariants as made;
 ghost use Rattle.mr_entries.specs.Cuts.{cut, most_items};
 ghost use Rattle.mr_plan_hash.specs.Hashes.{is_value};
-ghost use Rattle.mr_plan_hash.specs.Groups.{TakesItems};
+ghost use Rattle.mr_turn.specs.Groups.{TakesItems};
 
 use crate::groups::MOST_ITEMS;
 use mr_data::{Effect, Pairs};

@@ -2,7 +2,7 @@
 ghost use Rattle.std.specs.Prelude.{◌≡◌, ◌≤◌, [], ◌∷◌, ◌++◌, length, map, OnOk};
 ghost use Rattle.mr_effect.specs.declared.effect.Effect.TheVariants as made;
 ghost use Rattle.mr_entries.specs.Cuts.{cut, most_items};
-ghost use Rattle.mr_plan_zset.specs.Groups.{TakesItems};
+ghost use Rattle.mr_turn.specs.Groups.{TakesItems};
 ghost use Rattle.mr_plan_zset.specs.Scores.{changed_alone};
 
 use crate::groups::MOST_ITEMS;

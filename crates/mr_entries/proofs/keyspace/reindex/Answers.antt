@@ -1,6 +1,5 @@
 use Rattle.std.proofs.Common.{rules, ◌≡◌, None, Some, sym, subst, to_z, of_z, w64}
-use Rattle.std.proofs.lemmas.Int.{to_z-of_z}
-use Rattle.mr_entries.specs.TimedKeys.{IsDeadlineOf, Reindexes}
+use Rattle.mr_entries.specs.TimedKeys.{IsDeadlineOf}
 use Rattle.mr_entries.proofs.Index.{unmoved, comes, goes_out}
 use Rattle.mr_entries.proofs.keyspace.reindex.Goals as goal
 

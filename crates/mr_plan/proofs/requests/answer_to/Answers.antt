@@ -1,8 +1,8 @@
-use Rattle.mr_plan.proofs.Leading.{planned_leads, planned_texts}
+use Rattle.mr_plan.proofs.Leading.{leads_on_master, planned_texts}
 use Rattle.mr_plan.proofs.requests.answer_to.Goals as goal
 
 pub returns-clause-leads : goal.returns-clause-leads
-returns-clause-leads c = λ h. planned_leads _ _ _ _ _ c.in_ok-plan.ensures.plan (c.in_ok-plan.ensures.faithful h)
+returns-clause-leads c = λ h. leads_on_master c.args.replica c.args.ask.now c.args.given c.args.held.now _ _ c.if-replica.false c.in_ok-plan.ensures.plan (c.in_ok-plan.ensures.faithful h)
 
 pub returns-clause-texts : goal.returns-clause-texts
 returns-clause-texts c = λ h room. planned_texts _ _ _ _ _ c.in_ok-plan.ensures.plan (c.in_ok-plan.ensures.texts h room)

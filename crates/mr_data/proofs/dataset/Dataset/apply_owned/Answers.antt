@@ -32,3 +32,6 @@ returns-clause-unchanged c =
     let possible : has_spelling e && words_fit e ≡ true = search rules in
     subst (λ m. c.take-outcome.result ≡ Err Refused → c.settle.new.self ≡ m) c.self.view_is
     (is_unchanged e c.self.inside.entries c.take-outcome.result c.take-outcome.new.self possible c.take-outcome.ensures.applies c.settle.new.self c.settle.ensures.spent c.settle.ensures.kept)
+
+pub returns-clause-emptied : goal.returns-clause-emptied
+returns-clause-emptied c = c.settle.ensures.spent

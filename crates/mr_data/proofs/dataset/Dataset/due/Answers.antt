@@ -1,4 +1,4 @@
-use Rattle.std.proofs.Common.{◌≡◌, map, false, true, None, Some, sym, ◌∙◌, ap, to_z, of_z, w64}
+use Rattle.std.proofs.Common.{◌≡◌, map, false, true, Some, sym, ◌∙◌, ap, to_z, of_z, w64}
 use Rattle.std.specs.Prelude.{option_copied, int_le}
 use Rattle.std.specs.Option.{option_map}
 use Rattle.std.proofs.lemmas.Int.{to_z-of_z}

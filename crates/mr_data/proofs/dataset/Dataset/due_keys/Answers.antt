@@ -1,5 +1,4 @@
-use Rattle.std.proofs.Common.{rules, ◌≡◌, false, sym, ◌∙◌, ap, to_z, of_z, w64, length, take, ℤ}
-use Rattle.std.specs.Prelude.{int_le}
+use Rattle.std.proofs.Common.{rules, ◌≡◌, ◌∙◌, ap, to_z, of_z, w64, length, take, ℤ}
 use Rattle.std.proofs.lemmas.Int.{to_z-of_z}
 use Rattle.mr_data.specs.Due.{due}
 use Rattle.mr_data.proofs.Dues.{at_end, at_later, at_full, each_is_word, is_out}

@@ -1,4 +1,4 @@
-use Rattle.std.proofs.Common.{rules, ◌≡◌, Some, None, sym, ◌∙◌, ap, to_z, of_z, w64}
+use Rattle.std.proofs.Common.{rules, ◌≡◌, Some, None, sym, to_z, of_z, w64}
 use Rattle.std.specs.FinMap.{get}
 use Rattle.mr_entries.proofs.Index.{leaves_none, leaves_without, leaves_with}
 use Rattle.mr_entries.proofs.keyspace.Keyspace.remove.Goals as goal

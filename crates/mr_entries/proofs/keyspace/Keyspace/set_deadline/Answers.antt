@@ -1,4 +1,4 @@
-use Rattle.std.proofs.Common.{rules, ◌≡◌, Some, refl, sym, ◌∙◌, ap, subst}
+use Rattle.std.proofs.Common.{rules, ◌≡◌, Some, sym, ◌∙◌}
 use Rattle.mr_entries.proofs.Maps.{insert_same}
 use Rattle.mr_entries.proofs.Index.{IsIndex-kept, IsIndex-set}
 use Rattle.mr_entries.proofs.keyspace.Keyspace.set_deadline.Goals as goal

@@ -1,7 +1,7 @@
 use Rattle.std.proofs.Common.{rules, ◌≡◌, ap, subst, ◌∙◌}
 use Rattle.mr_repl.specs.Backlog.{Window, after_bytes}
 use Rattle.mr_effect.specs.Spelling.{texts}
-use Rattle.mr_node.specs.State.{NodeState}
+use Rattle.mr_node.specs.State.{NodeState, spent_as}
 use Rattle.mr_node.specs.Parts.{Uses}
 use Rattle.mr_node.specs.declared.step.Step.TheVariants.{Done}
 use Rattle.mr_node.proofs.Nodes.{with_stream}
@@ -23,3 +23,6 @@ returns-clause-step c =
       state = subst (λ s. Uses s c.args.link c.args.used c.advance.new.self) path c.advance.ensures;
       step = ap Done c.requires.outs;
     }
+
+pub returns-in-Err-clause-stopped : goal.returns-in-Err-clause-stopped
+returns-in-Err-clause-stopped c = (search rules, record { some = search rules; within = c.requires.within; state = ap (λ (s : NodeState). spent_as c.apply_all.new.self s) c.self.view_is })

@@ -3,7 +3,7 @@ use Rattle.mr_node.specs.Ticks.{TickRow}
 use Rattle.mr_node.proofs.node.Node.tick.Goals as goal
 
 pub returns-in-Ok-clause-row : goal.returns-in-Ok-clause-row
-returns-in-Ok-clause-row c = TickRow.deletes (search rules) (record {
+returns-in-Ok-clause-row c = TickRow.deletes (search rules) (search rules) (record {
   effects = c.in-Ok.effects.items;
   effects_are = search rules;
   held = c.delete.new.self.core.held;

@@ -1,7 +1,5 @@
-use Rattle.std.proofs.Common.{subst, sym}
-use Rattle.mr_zset.specs.Score.{HasScores}
-use Rattle.mr_zset.proofs.PairLemmas.{HasScores-empty}
+use Rattle.mr_zset.proofs.StoredChanges.{AreStored-empty}
 use Rattle.mr_zset.proofs.sorted_set.ZSet.new.Goals as goal
 
 pub invariant_of-result : goal.invariant_of-result
-invariant_of-result c = subst HasScores (sym c.«new».ensures) HasScores-empty
+invariant_of-result c = AreStored-empty _ _ c.«new».ensures c.new-2.ensures

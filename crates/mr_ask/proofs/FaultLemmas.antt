@@ -1,0 +1,388 @@
+-- Told is the fault that comes first among those that the words have.
+use Rattle.std.proofs.Common.{ℕ, ℤ, pos, negsuc, zero, suc, ◌≡◌, List, [], ◌∷◌, ◌++◌, Bool, true, false, Option, Some, None, refl, ◌∙◌}
+use Rattle.std.specs.Prelude.{if◌then◌else◌, int_lt, option_map, Result, Ok, Err}
+use Rattle.std.specs.Option.{ok_or}
+use Rattle.std.specs.Str.{bytes_eq}
+use Rattle.mr_value.specs.Number.{number_of}
+use Rattle.mr_value.specs.declared.ends.End.TheVariants.{Left, Right}
+use Rattle.mr_words.specs.Names.{lowered, named}
+use Rattle.mr_words.specs.Pairing.{are_pairs, paired}
+use Rattle.mr_words.specs.Parts.{with, integer, count, offset}
+use Rattle.mr_words.specs.FaultOrder.{counted, first_of, in_reading, told}
+use Rattle.mr_words.proofs.FaultPlaces.{ComesBefore, ComesLater, no_other, OnlyFault}
+use Rattle.mr_words.specs.declared.name.Name.{Name}
+use Rattle.mr_words.specs.declared.name.Name.TheVariants as name
+use Rattle.mr_words.specs.declared.fault.AskFault.{AskFault}
+use Rattle.mr_words.specs.declared.fault.AskFault.TheVariants.{Arity, Syntax, Integer, ExpireTime, Other}
+use Rattle.mr_words.specs.declared.fault.BadValue.TheVariants as bad
+use Rattle.mr_words.specs.declared.fault.ExpiringCommand.{ExpiringCommand}
+use Rattle.mr_ask_coll.specs.Parts.{end_of, end_text, side_of}
+use Rattle.mr_ask_coll.specs.declared.hash_ask.FieldsReply.TheVariants.{Added, Done}
+use Rattle.mr_ask_coll.specs.declared.hash_ask.HashAsk.TheVariants as hash
+use Rattle.mr_ask_coll.specs.declared.list_ask.ListAsk.TheVariants as list
+use Rattle.mr_ask_coll.specs.declared.set_ask.SetAsk.TheVariants as set
+use Rattle.mr_ask_zset.specs.Parts.{bound, score}
+use Rattle.mr_ask_zset.proofs.FaultLemmas.{by_score_first, zadd_first, zrange_first, zrevrange_first}
+use Rattle.mr_ask_zset.proofs.PartLemmas.{bound_fault}
+use Rattle.mr_ask_zset.specs.Reading.{range_by_score, zadd, zrange, zrevrange}
+use Rattle.mr_ask_zset.specs.declared.zset_ask.Order.TheVariants.{Ascending, Descending}
+use Rattle.mr_ask_zset.specs.declared.zset_ask.ZSetAsk.TheVariants as zset
+use Rattle.mr_ask.specs.Asks.{asked, asked_by, of_kind, reading}
+use Rattle.mr_ask.specs.Expiry.{expiry_of}
+use Rattle.mr_ask.specs.Options.{condition_if_any, expire_condition, no_set_options, scan_options, set_options}
+use Rattle.mr_ask.specs.Parts.{cursor_at, cursor_of, expiring, key_expiry, kind_of, lifetime_if_any, milliseconds, not_below_1, opposite, positive_if_any, seconds, timing_of}
+use Rattle.mr_ask.proofs.OrderLemmas.{scan_options_only}
+use Rattle.mr_ask.specs.Server.{database, setinfo, setname}
+use Rattle.mr_ask.specs.WordFaults.{argument_faults, faults_behind, in_scan_options, in_set_options, word_faults}
+use Rattle.mr_ask.specs.declared.expiry.ExpiryUnit.{ExpiryUnit}
+use Rattle.mr_ask.specs.declared.expiry.ExpiryUnit.TheVariants as unit
+use Rattle.mr_ask.specs.declared.options.ScanOptions.{ScanOptions}
+use Rattle.mr_ask.specs.declared.options.SetOptions.{SetOptions}
+use Rattle.mr_ask.specs.declared.key_ask.Cursor.{Cursor}
+use Rattle.mr_ask.specs.declared.key_ask.Databases.TheVariants as databases
+use Rattle.mr_ask.specs.declared.key_ask.KeyAsk.{KeyAsk}
+use Rattle.mr_ask.specs.declared.key_ask.KeyAsk.TheVariants as key
+use Rattle.mr_ask.specs.declared.text_ask.Amount.TheVariants as amount
+use Rattle.mr_ask.specs.declared.text_ask.TextAsk.TheVariants as text
+use Rattle.mr_ask.specs.declared.server_ask.ServerAsk.{ServerAsk}
+use Rattle.mr_ask.specs.declared.server_ask.ServerAsk.TheVariants as server
+use Rattle.mr_ask.specs.declared.ask.Ask.{Ask}
+use Rattle.mr_ask.specs.declared.ask.Ask.TheVariants as ask
+
+module _ {A : Type 0} (kind : A → Ask) where
+  of_its_kind : (r : Result A AskFault) → told (of_kind kind r) ≡ told r
+  of_its_kind (Ok a) = refl
+  of_its_kind (Err f) = refl
+
+  -- ---- one word
+  alone : (r : Result A AskFault) → told (of_kind kind r) ≡ first_of (in_reading r ++ [])
+  alone (Ok a) = refl
+  alone (Err f) = refl
+
+  one : {X : Type 0} (next : X → A) (r : Result X AskFault) → told (of_kind kind (with r (λ x. Ok (next x)))) ≡ first_of (in_reading r ++ [])
+  one next (Ok x) = refl
+  one next (Err f) = refl
+
+  last : {X : Type 0} (next : X → A) (r : Result X AskFault) → told (of_kind kind (with r (λ x. Ok (next x)))) ≡ first_of (in_reading r)
+  last next (Ok x) = refl
+  last next (Err f) = refl
+
+  nested : {X Y : Type 0} (next : Y → A) (g : X → Result Y AskFault) (r : Result X AskFault) → told (of_kind kind (with r (λ x. with (g x) (λ y. Ok (next y))))) ≡ first_of (in_reading (with r g) ++ [])
+  nested next g (Ok x) = one next (g x)
+  nested next g (Err f) = refl
+
+  -- ---- two words
+  two_integers : (next : ℤ → ℤ → A) (o p : Option ℤ) → told (of_kind kind (with (ok_or o Integer) (λ m. with (ok_or p Integer) (λ n. Ok (next m n))))) ≡ first_of (in_reading (ok_or o Integer) ++ (in_reading (ok_or p Integer) ++ []))
+  two_integers next None None = refl
+  two_integers next None (Some n) = refl
+  two_integers next (Some m) None = refl
+  two_integers next (Some m) (Some n) = refl
+
+  both_syntax : {X : Type 0} (next : X → X → A) (r q : Result X AskFault) → OnlyFault Syntax r → OnlyFault Syntax q → told (of_kind kind (with r (λ x. with q (λ y. Ok (next x y))))) ≡ first_of (in_reading r ++ (in_reading q ++ []))
+  both_syntax next (Ok x) (Ok y) h k = refl
+  both_syntax next (Ok x) (Err g) h k = refl
+  both_syntax next (Err f) (Ok y) h k = refl
+  both_syntax next (Err f) (Err g) h k = rw (h, k) refl
+
+  two_bounds : {B : Type 0} (next : B → B → A) (r q : Result B AskFault) → OnlyFault (Other bad.Bound) r → OnlyFault (Other bad.Bound) q
+      → told (of_kind kind (with {A = B × B} (with r (λ min. with q (λ max. Ok (min, max)))) (λ ends. Ok (next ends.0 ends.1)))) ≡ first_of (in_reading r ++ (in_reading q ++ []))
+  two_bounds next (Ok x) (Ok y) h k = refl
+  two_bounds next (Ok x) (Err g) h k = refl
+  two_bounds next (Err f) (Ok y) h k = refl
+  two_bounds next (Err f) (Err g) h k = rw (h, k) refl
+
+  -- ---- what is read first and stands behind
+  behind_read_first : {X Y : Type 0} (next : X → Y → A) (r : Result X AskFault) (q : Result Y AskFault) → OnlyFault Syntax q → ComesLater 3 r
+      → told (of_kind kind (with q (λ y. with r (λ x. Ok (next x y))))) ≡ first_of (in_reading r ++ in_reading q)
+  behind_read_first next (Ok x) (Ok y) h k = refl
+  behind_read_first next (Err g) (Ok y) h k = refl
+  behind_read_first next (Ok x) (Err f) h k = refl
+  behind_read_first next (Err g) (Err f) h k = rw (h, k) refl
+
+  -- ---- pairs
+  if_pairs : {P : Type 0} (n : Name) (next : P → A) (b : Bool) (ps : P) → told (of_kind kind (with (ok_or (if b then Some ps else None) (Arity n)) (λ x. Ok (next x)))) ≡ first_of (counted n (if b then Some [] else None))
+  if_pairs n next true ps = refl
+  if_pairs n next false ps = refl
+
+if_named : (a : ServerAsk) (b : Bool) → told (of_kind ask.Server (if b then Ok a else Err Syntax)) ≡ first_of (if b then [] else Syntax ∷ [])
+if_named a true = refl
+if_named a false = refl
+
+-- ---- which faults single words have
+one_of_two : {A : Type 0} (a b : Bool) (x y : A) → OnlyFault Syntax (if a then Ok x else (if b then Ok y else Err Syntax))
+one_of_two true b x y = tt
+one_of_two false true x y = tt
+one_of_two false false x y = refl
+
+end_fault : (w : List ℕ) → OnlyFault Syntax (end_of w)
+end_fault w = one_of_two (bytes_eq (lowered w) (end_text Left)) (bytes_eq (lowered w) (end_text Right)) Left Right
+
+-- ---- SET
+set_first : (k v : List ℕ) (r : Result SetOptions AskFault)
+    → told (of_kind ask.Texts (with r (λ options. with (lifetime_if_any options.lifetime) (λ stays. Ok (text.Set k v options.condition options.reply stays))))) ≡ first_of (in_set_options r)
+set_first k v (Ok s) = last ask.Texts (λ stays. text.Set k v s.condition s.reply stays) (lifetime_if_any s.lifetime)
+set_first k v (Err f) = refl
+
+-- ---- EXPIRE and its kin
+condition_fault : (ws : List (List ℕ)) → OnlyFault Syntax (condition_if_any ws)
+condition_fault [] = tt
+condition_fault (w ∷ []) = elim (expire_condition w) as (λ o. OnlyFault Syntax (with (ok_or o Syntax) (λ c. Ok (Some c)))) [ None ↦ refl | Some c ↦ tt ]
+condition_fault (w ∷ v ∷ ws) = refl
+
+amount_fault : (o : Option ℤ) (u : ExpiryUnit) (c : ExpiringCommand) → ComesLater 3 (with (ok_or o Integer) (λ n. ok_or (expiry_of u n) (ExpireTime c)))
+amount_fault None u c = refl
+amount_fault (Some n) u c = elim (expiry_of u n) as (λ e. ComesLater 3 (ok_or e (ExpireTime c))) [ None ↦ refl | Some e ↦ tt ]
+
+expire_first : (k : List ℕ) (u : ExpiryUnit) (a : List ℕ) (ws : List (List ℕ))
+    → told (of_kind ask.Keys (with (condition_if_any ws) (λ condition. with (key_expiry u a) (λ expiry. Ok (key.Expire k expiry condition))))) ≡ first_of (in_reading (key_expiry u a) ++ in_reading (condition_if_any ws))
+expire_first k u a ws = behind_read_first ask.Keys (λ expiry condition. key.Expire k expiry condition) (key_expiry u a) (condition_if_any ws) (condition_fault ws) (amount_fault (number_of a) u (expiring u))
+
+-- ---- SCAN
+cursor_fault : (o : Option ℤ) → OnlyFault (Other bad.Cursor) (with (ok_or o (Other bad.Cursor)) cursor_at)
+cursor_fault None = refl
+cursor_fault (Some (pos zero)) = tt
+cursor_fault (Some (pos (suc n))) = tt
+cursor_fault (Some (negsuc n)) = refl
+
+count_fault : (o : Option ℤ) → ComesBefore 6 (with (with (ok_or o Integer) (not_below_1 Syntax)) (λ n. Ok (Some n)))
+count_fault None = refl
+count_fault (Some n) = elim (int_lt n (pos 1)) as (λ b. ComesBefore 6 (with (if b then Err Syntax else Ok n) (λ m. Ok (Some m)))) [ true ↦ refl | false ↦ tt ]
+
+counts_fault : (c : Option (List ℕ)) → ComesBefore 6 (positive_if_any c)
+counts_fault None = tt
+counts_fault (Some w) = count_fault (number_of w)
+
+cursor_last : {C D : Type 0} (next : C → D → KeyAsk) (r : Result C AskFault) (q : Result D AskFault) → OnlyFault (Other bad.Cursor) r → ComesBefore 6 q
+    → told (of_kind ask.Keys (with q (λ n. with r (λ c. Ok (next c n))))) ≡ first_of (in_reading r ++ in_reading q)
+cursor_last next (Ok c) (Ok n) h k = refl
+cursor_last next (Ok c) (Err f) h k = refl
+cursor_last next (Err g) (Ok n) h k = refl
+cursor_last next (Err g) (Err f) h k = rw (h, k) refl
+
+scan_cases : (r : Result Cursor AskFault) (q : Result ScanOptions AskFault) → OnlyFault (Other bad.Cursor) r → OnlyFault Syntax q
+    → told (of_kind ask.Keys (with q (λ options. with (positive_if_any options.count) (λ n. with r (λ place. Ok (key.Scan place options.pattern (option_map kind_of options.kind))))))) ≡ first_of (in_reading r ++ in_scan_options q)
+scan_cases r (Ok s) h k = cursor_last (λ place n. key.Scan place s.pattern (option_map kind_of s.kind)) r (positive_if_any s.count) h (counts_fault s.count)
+scan_cases (Ok c) (Err f) h k = refl
+scan_cases (Err g) (Err f) h k = rw (h, k) refl
+
+scan_first : (w : List ℕ) (ws : List (List ℕ)) → told (reading name.Scan (w ∷ ws)) ≡ first_of (in_reading (cursor_of w) ++ in_scan_options (scan_options ws))
+scan_first w ws = scan_cases (cursor_of w) (scan_options ws) (cursor_fault (number_of w)) (no_other (scan_options ws) (scan_options_only ws))
+
+-- ---- every command
+argument_first : (n : Name) (ws : List (List ℕ)) → told (reading n ws) ≡ first_of (argument_faults n ws)
+argument_first name.Get (a ∷ []) = refl
+argument_first name.Get _ = refl
+argument_first name.Set (k ∷ v ∷ ws) = set_first k v (set_options no_set_options ws)
+argument_first name.Set _ = refl
+argument_first name.Del [] = refl
+argument_first name.Del (k ∷ ws) = refl
+argument_first name.Unlink [] = refl
+argument_first name.Unlink (k ∷ ws) = refl
+argument_first name.Exists [] = refl
+argument_first name.Exists (k ∷ ws) = refl
+argument_first name.KeyType (a ∷ []) = refl
+argument_first name.KeyType _ = refl
+argument_first name.StrLen (a ∷ []) = refl
+argument_first name.StrLen _ = refl
+argument_first name.GetRange (k ∷ a ∷ b ∷ []) = two_integers ask.Texts (λ m n. text.GetRange k m n) (number_of a) (number_of b)
+argument_first name.GetRange _ = refl
+argument_first name.MGet [] = refl
+argument_first name.MGet (k ∷ ws) = refl
+argument_first name.SetNx (a ∷ b ∷ []) = refl
+argument_first name.SetNx _ = refl
+argument_first name.GetSet (a ∷ b ∷ []) = refl
+argument_first name.GetSet _ = refl
+argument_first name.GetDel (a ∷ []) = refl
+argument_first name.GetDel _ = refl
+argument_first name.Keys (a ∷ []) = refl
+argument_first name.Keys _ = refl
+argument_first name.Scan (k ∷ ws) = scan_first k ws
+argument_first name.Scan _ = refl
+argument_first name.DbSize [] = refl
+argument_first name.DbSize _ = refl
+argument_first name.MSet (w ∷ ws) = if_pairs ask.Texts name.MSet (λ ps. text.SetAll ps) (are_pairs (w ∷ ws)) (paired (w ∷ ws))
+argument_first name.MSet _ = refl
+argument_first name.MSetNx (w ∷ ws) = if_pairs ask.Texts name.MSetNx (λ ps. text.SetAllNew ps) (are_pairs (w ∷ ws)) (paired (w ∷ ws))
+argument_first name.MSetNx _ = refl
+argument_first name.Append (a ∷ b ∷ []) = refl
+argument_first name.Append _ = refl
+argument_first name.SetRange (k ∷ a ∷ v ∷ []) = one ask.Texts (λ n. text.SetRange k n v) (offset a)
+argument_first name.SetRange _ = refl
+argument_first name.Incr (a ∷ []) = refl
+argument_first name.Incr _ = refl
+argument_first name.Decr (a ∷ []) = refl
+argument_first name.Decr _ = refl
+argument_first name.IncrBy (k ∷ a ∷ []) = one ask.Texts (λ n. text.Increase k (amount.Number n)) (integer a)
+argument_first name.IncrBy _ = refl
+argument_first name.DecrBy (k ∷ a ∷ []) = nested ask.Texts (λ n. text.Increase k (amount.Opposite n)) opposite (integer a)
+argument_first name.DecrBy _ = refl
+argument_first name.Rename (a ∷ b ∷ []) = refl
+argument_first name.Rename _ = refl
+argument_first name.RenameNx (a ∷ b ∷ []) = refl
+argument_first name.RenameNx _ = refl
+argument_first name.FlushAll [] = refl
+argument_first name.FlushAll (t ∷ []) = last ask.Keys (λ x. key.Clear databases.All (Some x)) (timing_of t)
+argument_first name.FlushAll _ = refl
+argument_first name.FlushDb [] = refl
+argument_first name.FlushDb (t ∷ []) = last ask.Keys (λ x. key.Clear databases.Selected (Some x)) (timing_of t)
+argument_first name.FlushDb _ = refl
+argument_first name.SetEx (k ∷ a ∷ v ∷ []) = nested ask.Texts (λ n. text.SetEx k n v) seconds (integer a)
+argument_first name.SetEx _ = refl
+argument_first name.PSetEx (k ∷ a ∷ v ∷ []) = nested ask.Texts (λ n. text.PSetEx k n v) milliseconds (integer a)
+argument_first name.PSetEx _ = refl
+argument_first name.Expire (k ∷ a ∷ ws) = expire_first k unit.Seconds a ws
+argument_first name.Expire _ = refl
+argument_first name.PExpire (k ∷ a ∷ ws) = expire_first k unit.Milliseconds a ws
+argument_first name.PExpire _ = refl
+argument_first name.ExpireAt (k ∷ a ∷ ws) = expire_first k unit.AtSecond a ws
+argument_first name.ExpireAt _ = refl
+argument_first name.PExpireAt (k ∷ a ∷ ws) = expire_first k unit.AtMillisecond a ws
+argument_first name.PExpireAt _ = refl
+argument_first name.Ttl (a ∷ []) = refl
+argument_first name.Ttl _ = refl
+argument_first name.PTtl (a ∷ []) = refl
+argument_first name.PTtl _ = refl
+argument_first name.ExpireTime (a ∷ []) = refl
+argument_first name.ExpireTime _ = refl
+argument_first name.PExpireTime (a ∷ []) = refl
+argument_first name.PExpireTime _ = refl
+argument_first name.Persist (a ∷ []) = refl
+argument_first name.Persist _ = refl
+argument_first name.HSet (k ∷ []) = refl
+argument_first name.HSet (k ∷ w ∷ ws) = if_pairs ask.Hashes name.HSet (λ ps. hash.SetFields k ps Added) (are_pairs (w ∷ ws)) (paired (w ∷ ws))
+argument_first name.HSet _ = refl
+argument_first name.HMSet (k ∷ []) = refl
+argument_first name.HMSet (k ∷ w ∷ ws) = if_pairs ask.Hashes name.HMSet (λ ps. hash.SetFields k ps Done) (are_pairs (w ∷ ws)) (paired (w ∷ ws))
+argument_first name.HMSet _ = refl
+argument_first name.HSetNx (a ∷ b ∷ c ∷ []) = refl
+argument_first name.HSetNx _ = refl
+argument_first name.HGet (a ∷ b ∷ []) = refl
+argument_first name.HGet _ = refl
+argument_first name.HMGet (k ∷ w ∷ ws) = refl
+argument_first name.HMGet _ = refl
+argument_first name.HGetAll (a ∷ []) = refl
+argument_first name.HGetAll _ = refl
+argument_first name.HKeys (a ∷ []) = refl
+argument_first name.HKeys _ = refl
+argument_first name.HVals (a ∷ []) = refl
+argument_first name.HVals _ = refl
+argument_first name.HDel (k ∷ w ∷ ws) = refl
+argument_first name.HDel _ = refl
+argument_first name.HExists (a ∷ b ∷ []) = refl
+argument_first name.HExists _ = refl
+argument_first name.HLen (a ∷ []) = refl
+argument_first name.HLen _ = refl
+argument_first name.HStrLen (a ∷ b ∷ []) = refl
+argument_first name.HStrLen _ = refl
+argument_first name.HIncrBy (k ∷ f ∷ a ∷ []) = one ask.Hashes (λ n. hash.IncreaseField k f n) (integer a)
+argument_first name.HIncrBy _ = refl
+argument_first name.LPush (k ∷ w ∷ ws) = refl
+argument_first name.LPush _ = refl
+argument_first name.RPush (k ∷ w ∷ ws) = refl
+argument_first name.RPush _ = refl
+argument_first name.LPushX (k ∷ w ∷ ws) = refl
+argument_first name.LPushX _ = refl
+argument_first name.RPushX (k ∷ w ∷ ws) = refl
+argument_first name.RPushX _ = refl
+argument_first name.LPop (k ∷ []) = refl
+argument_first name.LPop (k ∷ a ∷ []) = last ask.Lists (λ n. list.Pop k Left (Some n)) (count a)
+argument_first name.LPop _ = refl
+argument_first name.RPop (k ∷ []) = refl
+argument_first name.RPop (k ∷ a ∷ []) = last ask.Lists (λ n. list.Pop k Right (Some n)) (count a)
+argument_first name.RPop _ = refl
+argument_first name.LLen (a ∷ []) = refl
+argument_first name.LLen _ = refl
+argument_first name.LRange (k ∷ a ∷ b ∷ []) = two_integers ask.Lists (λ m n. list.Range k m n) (number_of a) (number_of b)
+argument_first name.LRange _ = refl
+argument_first name.LIndex (k ∷ a ∷ []) = one ask.Lists (λ n. list.GetItem k n) (integer a)
+argument_first name.LIndex _ = refl
+argument_first name.LSet (k ∷ a ∷ v ∷ []) = one ask.Lists (λ n. list.SetItem k n v) (integer a)
+argument_first name.LSet _ = refl
+argument_first name.LInsert (k ∷ a ∷ p ∷ v ∷ []) = one ask.Lists (λ s. list.InsertItem k s p v) (side_of a)
+argument_first name.LInsert _ = refl
+argument_first name.LRem (k ∷ a ∷ v ∷ []) = one ask.Lists (λ n. list.RemoveItems k n v) (integer a)
+argument_first name.LRem _ = refl
+argument_first name.LTrim (k ∷ a ∷ b ∷ []) = two_integers ask.Lists (λ m n. list.Trim k m n) (number_of a) (number_of b)
+argument_first name.LTrim _ = refl
+argument_first name.LMove (k ∷ d ∷ a ∷ b ∷ []) = both_syntax ask.Lists (λ m n. list.MoveItem k d m n) (end_of a) (end_of b) (end_fault a) (end_fault b)
+argument_first name.LMove _ = refl
+argument_first name.RPopLPush (a ∷ b ∷ []) = refl
+argument_first name.RPopLPush _ = refl
+argument_first name.SAdd (k ∷ w ∷ ws) = refl
+argument_first name.SAdd _ = refl
+argument_first name.SRem (k ∷ w ∷ ws) = refl
+argument_first name.SRem _ = refl
+argument_first name.SIsMember (a ∷ b ∷ []) = refl
+argument_first name.SIsMember _ = refl
+argument_first name.SMIsMember (k ∷ w ∷ ws) = refl
+argument_first name.SMIsMember _ = refl
+argument_first name.SMembers (a ∷ []) = refl
+argument_first name.SMembers _ = refl
+argument_first name.SCard (a ∷ []) = refl
+argument_first name.SCard _ = refl
+argument_first name.SPop (k ∷ []) = refl
+argument_first name.SPop (k ∷ a ∷ []) = last ask.Sets (λ n. set.TakeMembers k (Some n)) (count a)
+argument_first name.SPop _ = refl
+argument_first name.SRandMember (k ∷ []) = refl
+argument_first name.SRandMember (k ∷ a ∷ []) = last ask.Sets (λ n. set.DrawMembers k (Some n)) (count a)
+argument_first name.SRandMember _ = refl
+argument_first name.SMove (a ∷ b ∷ c ∷ []) = refl
+argument_first name.SMove _ = refl
+argument_first name.SInter [] = refl
+argument_first name.SInter (k ∷ ws) = refl
+argument_first name.SUnion [] = refl
+argument_first name.SUnion (k ∷ ws) = refl
+argument_first name.SDiff [] = refl
+argument_first name.SDiff (k ∷ ws) = refl
+argument_first name.ZAdd ws = of_its_kind ask.SortedSets (zadd ws) ∙ zadd_first ws
+argument_first name.ZIncrBy (k ∷ a ∷ m ∷ []) = one ask.SortedSets (λ n. zset.IncreaseScore k n m) (score a)
+argument_first name.ZIncrBy _ = refl
+argument_first name.ZRem (k ∷ w ∷ ws) = refl
+argument_first name.ZRem _ = refl
+argument_first name.ZCard (a ∷ []) = refl
+argument_first name.ZCard _ = refl
+argument_first name.ZCount (k ∷ a ∷ b ∷ []) = two_bounds ask.SortedSets (λ m n. zset.CountScores k m n) (bound a) (bound b) (bound_fault a) (bound_fault b)
+argument_first name.ZCount _ = refl
+argument_first name.ZScore (a ∷ b ∷ []) = refl
+argument_first name.ZScore _ = refl
+argument_first name.ZMScore (k ∷ w ∷ ws) = refl
+argument_first name.ZMScore _ = refl
+argument_first name.ZRank (a ∷ b ∷ []) = refl
+argument_first name.ZRank _ = refl
+argument_first name.ZRevRank (a ∷ b ∷ []) = refl
+argument_first name.ZRevRank _ = refl
+argument_first name.ZRange ws = of_its_kind ask.SortedSets (zrange ws) ∙ zrange_first ws
+argument_first name.ZRevRange ws = of_its_kind ask.SortedSets (zrevrange ws) ∙ zrevrange_first ws
+argument_first name.ZRangeByScore ws = of_its_kind ask.SortedSets (range_by_score name.ZRangeByScore Ascending ws) ∙ by_score_first name.ZRangeByScore Ascending ws
+argument_first name.ZRevRangeByScore ws = of_its_kind ask.SortedSets (range_by_score name.ZRevRangeByScore Descending ws) ∙ by_score_first name.ZRevRangeByScore Descending ws
+argument_first name.ZPopMin (k ∷ []) = refl
+argument_first name.ZPopMin (k ∷ a ∷ []) = last ask.SortedSets (λ n. zset.TakePairs k Ascending (Some n)) (count a)
+argument_first name.ZPopMin _ = refl
+argument_first name.ZPopMax (k ∷ []) = refl
+argument_first name.ZPopMax (k ∷ a ∷ []) = last ask.SortedSets (λ n. zset.TakePairs k Descending (Some n)) (count a)
+argument_first name.ZPopMax _ = refl
+argument_first name.ZRemRangeByRank (k ∷ a ∷ b ∷ []) = two_integers ask.SortedSets (λ m n. zset.RemoveRanks k m n) (number_of a) (number_of b)
+argument_first name.ZRemRangeByRank _ = refl
+argument_first name.ZRemRangeByScore (k ∷ a ∷ b ∷ []) = two_bounds ask.SortedSets (λ m n. zset.RemoveScores k m n) (bound a) (bound b) (bound_fault a) (bound_fault b)
+argument_first name.ZRemRangeByScore _ = refl
+argument_first name.Ping [] = refl
+argument_first name.Ping (m ∷ []) = refl
+argument_first name.Ping _ = refl
+argument_first name.Echo (a ∷ []) = refl
+argument_first name.Echo _ = refl
+argument_first name.Select (a ∷ []) = alone ask.Server (with (integer a) database)
+argument_first name.Select _ = refl
+argument_first name.Quit [] = refl
+argument_first name.Quit _ = refl
+argument_first name.Command ws = refl
+argument_first name.Client (o ∷ l ∷ []) = if_named (server.SetClientName l) (bytes_eq (lowered o) setname)
+argument_first name.Client (o ∷ a ∷ v ∷ []) = if_named (server.SetClientInfo a v) (bytes_eq (lowered o) setinfo)
+argument_first name.Client _ = refl
+
+behind_first : (o : Option Name) (ws : List (List ℕ)) → told (asked_by o ws) ≡ first_of (faults_behind o ws)
+behind_first None ws = refl
+behind_first (Some n) ws = argument_first n ws
+
+pub first_is_told : (ws : List (List ℕ)) → told (asked ws) ≡ first_of (word_faults ws)
+first_is_told [] = refl
+first_is_told (w ∷ ws) = behind_first (named (lowered w)) ws

@@ -1,0 +1,54 @@
+-- What a request makes of a node, and what it is sent.
+use Rattle.std.specs.Prelude.{◌≡◌, ◌≤◌, ◌<◌, ◌+◌, ◌^◌, ℕ, List, [], Bool, false, Some, length, codes}
+use Rattle.mr_repl.specs.Backlog.{after_bytes}
+use Rattle.mr_resp.specs.Replies.{Tree, error, reply_text}
+use Rattle.mr_entries.specs.Dataset.{Dataset}
+use Rattle.mr_data.specs.Meaning.{apply_all}
+use Rattle.mr_data.specs.declared.given.Given.{Given}
+use Rattle.mr_effect.specs.Spelling.{texts}
+use Rattle.mr_effect.specs.declared.effect.Effect.{Effect}
+use Rattle.mr_plan.specs.Requests.{IsPlanned, left, quits}
+use Rattle.mr_node.specs.State.{Core}
+use Rattle.mr_node.specs.Requests.{Asks, AsksNothing}
+
+-- no offset is greater
+abbrev pub offset_limit : ℕ
+offset_limit = 2 ^ 62
+
+abbrev pub limit_text : List ℕ
+limit_text = codes "ERR offset limit"
+
+-- the offset behind the texts of effects
+abbrev pub offset_behind : List Effect → Core → ℕ
+offset_behind effects c = c.stream.offset + length (texts effects)
+
+-- effects are put behind the stream, and leave this dataset
+abbrev pub grown_by : List Effect → Dataset → Core → Core
+grown_by effects held c = record c { held = held; stream = after_bytes c.stream (texts effects) }
+
+-- A request other than QUIT: its answer at this dataset, on a master (false) or a replica (true), and its effects there. They lead to
+-- what it leaves.
+pub record HasPlan (replica : Bool) (m : Dataset) (words : List (List ℕ)) (given : Given) (reply : Tree) (effects : List Effect) : Type 0 where
+  pub goes_on : quits words ≡ false
+  pub planned : IsPlanned replica words given m reply effects
+  pub leads : apply_all effects m ≡ Some (left replica words given m)
+
+-- what a request leaves of a node's dataset
+abbrev pub left_of : Core → List (List ℕ) → Given → Dataset
+left_of c words given = left c.replica words given c.held
+
+-- A request is answered: what it makes of the node, what the stream grows by, and what is sent.
+pub data Answered (c : Core) (words : List (List ℕ)) (given : Given) (d : Core) (grown said : List ℕ) : Type 0 where
+  -- its effects are applied and put behind the stream
+  within : (reply : Tree) (effects : List Effect) → HasPlan c.replica c.held words given reply effects → offset_behind effects c ≤ offset_limit
+      → d ≡ grown_by effects (left_of c words given) c → grown ≡ texts effects → said ≡ reply_text reply → Answered c words given d grown said
+  -- they would carry the offset past its limit: it is told so, and nothing is done
+  beyond : (reply : Tree) (effects : List Effect) → HasPlan c.replica c.held words given reply effects → offset_limit < offset_behind effects c
+      → d ≡ c → grown ≡ [] → said ≡ reply_text (error limit_text) → Answered c words given d grown said
+
+-- What stands at the front of unread bytes is used: what it makes of the node, what is left unread, what the stream grows by, and
+-- what is sent.
+pub data Served (c : Core) (u : List ℕ) (given : Given) (d : Core) (rest grown said : List ℕ) : Type 0 where
+  request : (words : List (List ℕ)) → Asks u words rest → Answered c words given d grown said → Served c u given d rest grown said
+  -- an empty request
+  nothing : AsksNothing u rest → d ≡ c → grown ≡ [] → said ≡ [] → Served c u given d rest grown said

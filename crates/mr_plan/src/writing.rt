@@ -1,0 +1,94 @@
+// Which commands are writes.
+ghost use Rattle.std.specs.Prelude.{◌≡◌};
+ghost use Rattle.mr_plan.specs.Writes.{writes, text_writes, key_writes, hash_writes, list_writes, set_writes, zset_writes};
+
+use mr_ask::{Ask, HashAsk, KeyAsk, ListAsk, SetAsk, TextAsk, ZSetAsk};
+
+/// Whether the command may have an effect of its own. A replica refuses it then, also where it would change nothing.
+pub fn writes(ask: &Ask<'_, '_>) -> bool
+    ensures { result ≡ writes ask.now }
+{
+    match ask {
+        Ask::Texts(ask) => text_writes(ask),
+        Ask::Keys(ask) => key_writes(ask),
+        Ask::Hashes(ask) => hash_writes(ask),
+        Ask::Lists(ask) => list_writes(ask),
+        Ask::Sets(ask) => set_writes(ask),
+        Ask::SortedSets(ask) => zset_writes(ask),
+        Ask::Server(_) => false,
+    }
+}
+
+fn text_writes(ask: &TextAsk<'_, '_>) -> bool
+    ensures { result ≡ text_writes ask.now }
+{
+    match ask {
+        TextAsk::Get { .. }
+        | TextAsk::TextLength { .. }
+        | TextAsk::GetRange { .. }
+        | TextAsk::GetAll { .. } => false,
+        _ => true,
+    }
+}
+
+fn key_writes(ask: &KeyAsk<'_, '_>) -> bool
+    ensures { result ≡ key_writes ask.now }
+{
+    match ask {
+        KeyAsk::Del { .. }
+        | KeyAsk::Unlink { .. }
+        | KeyAsk::Rename { .. }
+        | KeyAsk::RenameNew { .. }
+        | KeyAsk::Clear { .. }
+        | KeyAsk::Expire { .. }
+        | KeyAsk::Persist { .. } => true,
+        _ => false,
+    }
+}
+
+fn hash_writes(ask: &HashAsk<'_, '_>) -> bool
+    ensures { result ≡ hash_writes ask.now }
+{
+    match ask {
+        HashAsk::SetFields { .. }
+        | HashAsk::SetNewField { .. }
+        | HashAsk::RemoveFields { .. }
+        | HashAsk::IncreaseField { .. } => true,
+        _ => false,
+    }
+}
+
+fn list_writes(ask: &ListAsk<'_, '_>) -> bool
+    ensures { result ≡ list_writes ask.now }
+{
+    match ask {
+        ListAsk::CountItems { .. } | ListAsk::Range { .. } | ListAsk::GetItem { .. } => false,
+        _ => true,
+    }
+}
+
+fn set_writes(ask: &SetAsk<'_, '_>) -> bool
+    ensures { result ≡ set_writes ask.now }
+{
+    match ask {
+        SetAsk::AddMembers { .. }
+        | SetAsk::RemoveMembers { .. }
+        | SetAsk::TakeMembers { .. }
+        | SetAsk::MoveMember { .. } => true,
+        _ => false,
+    }
+}
+
+fn zset_writes(ask: &ZSetAsk<'_, '_>) -> bool
+    ensures { result ≡ zset_writes ask.now }
+{
+    match ask {
+        ZSetAsk::AddScores { .. }
+        | ZSetAsk::IncreaseScore { .. }
+        | ZSetAsk::RemoveMembers { .. }
+        | ZSetAsk::TakePairs { .. }
+        | ZSetAsk::RemoveRanks { .. }
+        | ZSetAsk::RemoveScores { .. } => true,
+        _ => false,
+    }
+}

@@ -1,0 +1,15 @@
+-- Pairs as a sorted set keeps them, in order and beside a map that says the same.
+use Rattle.std.specs.Prelude.{◌≡◌, ℕ, ℤ, List, map}
+use Rattle.mr_map.specs.Bytes.{ByteMap}
+use Rattle.mr_zset.specs.declared.entry.Entry.{Entry}
+use Rattle.mr_zset.specs.Pairs.{pairs_of}
+use Rattle.mr_zset.specs.Score.{HasScores}
+
+-- a stored pair as a member and its score
+abbrev pub stored : Entry → List ℕ × ℤ
+stored e = (e.member.items, e.score)
+
+-- the stored pairs are those of the map, in order, and each score is one
+pub record AreStored (scores : ByteMap ℤ) (pairs : List Entry) : Type 0 where
+  pub within : HasScores scores
+  pub same : map stored pairs ≡ pairs_of scores
