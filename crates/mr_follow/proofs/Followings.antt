@@ -1,5 +1,5 @@
 -- A follower in its stream.
-use Rattle.std.proofs.Common.{◌≡◌, ◌≢◌, ℕ, ◌+◌, ◌<◌, ◌≤◌, ◌^◌, ◌⊎◌, inl, inr, List, [], ◌∷◌, ◌++◌, length, All, Some, Ok, Err, refl, sym, ap, ◌∙◌, subst, arith, append_assoc, append-nil, length-append}
+use Rattle.std.proofs.Common.{◌≡◌, ℕ, ◌+◌, ◌<◌, ◌≤◌, ◌^◌, ◌⊎◌, inl, inr, List, [], ◌∷◌, ◌++◌, length, Some, Ok, refl, sym, ap, ◌∙◌, subst, arith, append_assoc, append-nil, length-append}
 use Rattle.std.specs.Option.{option_and_then}
 use Rattle.std.proofs.lemmas.List.Elements.{All-head, All-tail}
 use Rattle.mr_inline.specs.Language.{IsDoomed}
@@ -7,7 +7,7 @@ use Rattle.mr_resp.specs.Command.{IsCommand, IsCommandText}
 use Rattle.mr_resp.specs.Usual.{commands}
 use Rattle.mr_resp.proofs.Commands.{commands_apart}
 use Rattle.mr_data.specs.Meaning.{apply, apply_all}
-use Rattle.mr_effect.specs.Spelling.{words, text, texts, IsShort}
+use Rattle.mr_effect.specs.Spelling.{text, texts, IsShort}
 use Rattle.mr_effect.specs.declared.effect.Effect.{Effect}
 use Rattle.mr_effect.specs.declared.effect.Effect.TheVariants as effect
 use Rattle.mr_effect.proofs.Texts.{one_text, command_text, short_effect}
@@ -17,12 +17,11 @@ use Rattle.mr_follow.specs.Handshake.{IsGreeting}
 use Rattle.mr_follow.specs.Loading.{Loads, Applies}
 use Rattle.mr_follow.specs.State.{FollowState, heard}
 use Rattle.mr_follow.specs.Rows.{FollowRow, Stays, Follows}
-use Rattle.mr_follow.specs.Following.{Call, feed, step, fed_by, Stepped, Runs, IsStream, HasFollowed, FollowsBy, FollowsTheStream, IsWant, StreamIsTaken}
+use Rattle.mr_follow.specs.Following.{Call, feed, step, fed_by, Runs, IsStream, HasFollowed, FollowsBy, FollowsTheStream, StreamIsTaken}
 use Rattle.mr_follow.specs.declared.phase.Phase.{Phase}
 use Rattle.mr_follow.specs.declared.phase.Phase.TheVariants as phase
 use Rattle.mr_follow.specs.declared.heard.Heard.{Heard}
 use Rattle.mr_follow.specs.declared.heard.Heard.TheVariants as told
-use Rattle.mr_follow.specs.declared.heard.FollowFault.{FollowFault}
 use Rattle.mr_follow.specs.declared.heard.FollowFault.TheVariants as fault
 use Rattle.mr_follow.proofs.Loadings.{possible, then_some, text_of_words, short_of_words, some_text, short_small, front_command}
 

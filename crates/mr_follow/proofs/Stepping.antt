@@ -1,24 +1,22 @@
 -- The rows of a step, by what was found at the front of the unread bytes.
-use Rattle.std.proofs.Common.{◌≡◌, ◌≢◌, ℕ, ◌+◌, ◌-◌, ◌<◌, ◌≤◌, ◌^◌, ◌⊎◌, inl, inr, List, [], ◌∷◌, ◌++◌, length, take, drop, get_or, Option, Some, None, IsSome, Result, Ok, Err, refl, sym, ap, ◌∙◌, subst, arith, drop-drop, length-drop}
+use Rattle.std.proofs.Common.{◌≡◌, ℕ, ◌+◌, ◌-◌, ◌<◌, ◌≤◌, inl, inr, List, [], ◌++◌, length, take, drop, get_or, Option, Some, None, IsSome, Result, Ok, Err, refl, sym, ap, ◌∙◌, subst, arith, drop-drop, length-drop}
 use Rattle.std.specs.FinMap.{empty}
 use Rattle.std.specs.Prelude.{codes}
 use Rattle.std.proofs.lemmas.List.{take-append-drop, length-take-le, append-nil}
-use Rattle.mr_inline.specs.Language.{Continues, IsDoomed}
-use Rattle.mr_resp.specs.Command.{IsCommand, IsCommandText}
-use Rattle.mr_resp.specs.Usual.{commands}
+use Rattle.mr_inline.specs.Language.{Continues}
 use Rattle.mr_entries.specs.Dataset.{Dataset}
-use Rattle.mr_lines.specs.Lines.{Line, status, refusal, size, IsLineText, IsPeerLine, most_counted}
+use Rattle.mr_lines.specs.Lines.{Line, status, refusal, size, IsLineText, most_counted}
 use Rattle.mr_repl.specs.ReplId.{digits_of}
 use Rattle.mr_lines.specs.Replies.{IsReplyText, place_text}
 use Rattle.mr_lines.specs.declared.psync.PsyncReply.{PsyncReply}
 use Rattle.mr_lines.specs.declared.psync.PsyncReply.TheVariants as reply
 use Rattle.mr_lines.proofs.Places.{rest_from}
 use Rattle.mr_follow.specs.Handshake.{IsGreeting, next_of, line_after}
-use Rattle.mr_follow.specs.Lines.{Begins, IsFront, IsNoLine, HasOther, HasSnapshot, IsShortOf, HearsAnswer, HearsSnapshot, HearsStatus}
-use Rattle.mr_follow.specs.Loading.{Loads, Applies, ReadsSnapshot}
-use Rattle.mr_follow.specs.State.{FollowState, Agrees, Moves}
+use Rattle.mr_follow.specs.Lines.{Begins, IsFront, HasSnapshot, IsShortOf, HearsAnswer, HearsSnapshot, HearsStatus}
+use Rattle.mr_follow.specs.Loading.{Loads, ReadsSnapshot}
+use Rattle.mr_follow.specs.State.{FollowState, Agrees}
 use Rattle.mr_follow.specs.Stream.{AppliesFront}
-use Rattle.mr_follow.specs.Rows.{Waits, WantsLine, IsOutOfPlace, IsWrongLine, IsBadLine, IsRefused, FollowRow, Steps, StepsAside}
+use Rattle.mr_follow.specs.Rows.{Waits, WantsLine, IsOutOfPlace, IsWrongLine, FollowRow, Steps, StepsAside}
 use Rattle.mr_follow.specs.declared.phase.Phase.{Phase}
 use Rattle.mr_follow.specs.declared.phase.Phase.TheVariants as phase
 use Rattle.mr_follow.specs.declared.heard.Heard.{Heard}

@@ -1,5 +1,5 @@
 -- Lists of effect texts, and what they make of a dataset.
-use Rattle.std.specs.Prelude.{◌≡◌, ℕ, ◌<◌, ◌≤◌, ◌^◌, List, All, Option, Some, None, IsTrue, length, take, Result, Ok, Err}
+use Rattle.std.specs.Prelude.{◌≡◌, ℕ, ◌<◌, ◌≤◌, ◌^◌, List, All, Some, None, length, take, Result, Ok, Err}
 use Rattle.std.specs.FinMap.{empty}
 use Rattle.mr_data.specs.Meaning.{apply, apply_all}
 use Rattle.mr_resp.specs.Command.{IsCommand}

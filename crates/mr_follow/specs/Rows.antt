@@ -1,5 +1,5 @@
 -- What a step of a follower may do, one row for each outcome.
-use Rattle.std.specs.Prelude.{◌≡◌, ◌≢◌, ℕ, ◌+◌, ◌≤◌, ◌⊎◌, List, [], ◌∷◌, ◌++◌, length, Option, Some, None, IsSome, Result, Ok, Err}
+use Rattle.std.specs.Prelude.{◌≡◌, ◌≢◌, ℕ, ◌+◌, ◌≤◌, ◌⊎◌, List, [], ◌++◌, length, Option, None, IsSome, Result, Ok, Err}
 use Rattle.std.specs.FinMap.{empty}
 use Rattle.mr_inline.specs.Language.{Continues, IsDoomed}
 use Rattle.mr_resp.specs.Command.{IsCommand, IsCommandText}

@@ -1,4 +1,4 @@
-use Rattle.std.proofs.Common.{rules, ◌≡◌, ℕ, subst, sym, map}
+use Rattle.std.proofs.Common.{subst, map}
 use Rattle.std.specs.Cow.{cow_slice_items}
 use Rattle.mr_resp.specs.Command.{ReadsCommand}
 use Rattle.mr_resp.specs.Usual.{commands}

@@ -1,4 +1,4 @@
-use Rattle.std.proofs.Common.{rules, ◌≡◌, ℕ, ◌+◌, ◌-◌, ◌<◌, ◌≤◌, ◌^◌, length, take, drop, List, Ok, Err, sym, ap, subst, arith, length-drop}
+use Rattle.std.proofs.Common.{rules, ◌≡◌, ℕ, ◌<◌, ◌^◌, length, drop, List, Err, sym, ap, subst, arith, length-drop}
 use Rattle.std.specs.Prelude.{Result}
 use Rattle.mr_entries.specs.Dataset.{Dataset}
 use Rattle.mr_lines.proofs.Places.{rest_from}

@@ -1,4 +1,4 @@
-use Rattle.std.proofs.Common.{length, ◌-◌, ◌≡◌, ◌<◌, ℕ, ◌+◌, ◌*◌, ◌≤◌}
+use Rattle.std.proofs.Common.{length, ◌-◌}
 use Rattle.mr_follow.proofs.Loadings.{Loading}
 use Rattle.mr_follow.proofs.snapshot.read_snapshot.Given as goal
 

@@ -1,4 +1,4 @@
-use Rattle.std.proofs.Common.{rules, ◌≡◌, ℕ, inr, Option, Some, Ok, subst, arith}
+use Rattle.std.proofs.Common.{inr, Option, Some, Ok, subst}
 use Rattle.mr_follow.specs.Lines.{HearsLength}
 use Rattle.mr_follow.specs.declared.status.Announced.{Announced}
 use Rattle.mr_follow.proofs.Stepping.{snapshot_short, snapshot_found}

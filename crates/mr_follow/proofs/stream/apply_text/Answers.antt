@@ -1,4 +1,4 @@
-use Rattle.std.proofs.Common.{rules, ◌≡◌, ◌++◌, ℕ, length, map}
+use Rattle.std.proofs.Common.{rules, ◌≡◌, ◌++◌, length, map}
 use Rattle.std.specs.Cow.{cow_slice_items}
 use Rattle.mr_follow.proofs.Loadings.{cut_back, text_refused}
 use Rattle.mr_follow.proofs.stream.apply_text.Goals as goal

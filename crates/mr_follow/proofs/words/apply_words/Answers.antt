@@ -1,4 +1,4 @@
-use Rattle.std.proofs.Common.{◌≡◌, List, Option, Some, map, subst}
+use Rattle.std.proofs.Common.{Option, Some, map, subst}
 use Rattle.std.specs.Cow.{cow_slice_items}
 use Rattle.mr_effect.specs.Spelling.{Spells, FindsEach}
 use Rattle.mr_effect.specs.declared.effect.Effect.{Effect}

@@ -1,4 +1,4 @@
-use Rattle.std.proofs.Common.{rules, ◌≡◌, ℕ, List, Option, None, Some, Ok, Err, sym, ap, subst, ◌∙◌}
+use Rattle.std.proofs.Common.{rules, ◌≡◌, ℕ, List, Option, Some, Ok, Err, sym, ap, subst, ◌∙◌}
 use Rattle.std.specs.Prelude.{Result}
 use Rattle.mr_follow.specs.State.{FollowState}
 use Rattle.mr_follow.specs.Lines.{HasAnswer, HearsAnswer}
@@ -6,7 +6,7 @@ use Rattle.mr_follow.specs.Rows.{StepsAside}
 use Rattle.mr_follow.specs.declared.heard.FollowFault.{FollowFault}
 use Rattle.mr_follow.specs.declared.heard.Heard.{Heard}
 use Rattle.mr_follow.specs.declared.status.Answered.{Answered}
-use Rattle.mr_follow.proofs.Stepping.{answer_fault, answer_idle}
+use Rattle.mr_follow.proofs.Stepping.{answer_fault}
 use Rattle.mr_follow.proofs.follower.Follower.hear_answer.Goals as goal
 
 pub returns-in_err-answered : goal.returns-in_err-answered

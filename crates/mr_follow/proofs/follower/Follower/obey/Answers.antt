@@ -1,4 +1,4 @@
-use Rattle.std.proofs.Common.{rules, ◌≡◌, ℕ, List, None, sym, ap, subst, ◌∙◌}
+use Rattle.std.proofs.Common.{rules, ◌≡◌, None, sym, ap, subst, ◌∙◌}
 use Rattle.mr_lines.specs.Replies.{IsReplyText}
 use Rattle.mr_lines.specs.declared.psync.PsyncReply.{PsyncReply}
 use Rattle.mr_follow.specs.State.{FollowState}
