@@ -1,0 +1,3 @@
+pub mod Loadings
+pub mod Stepping
+pub mod Followings

@@ -1,0 +1,78 @@
+-- Calls on a follower in its stream, one after another.
+use Rattle.std.specs.Prelude.{◌≡◌, ℕ, ◌+◌, ◌≤◌, List, [], ◌∷◌, ◌++◌, length, All, Some, Ok, Err}
+use Rattle.mr_data.specs.Meaning.{apply_all}
+use Rattle.mr_effect.specs.Spelling.{texts, IsShort}
+use Rattle.mr_effect.specs.declared.effect.Effect.{Effect}
+use Rattle.mr_entries.specs.Dataset.{Dataset}
+use Rattle.mr_lines.specs.Lines.{most_counted}
+use Rattle.mr_follow.specs.State.{FollowState, heard}
+use Rattle.mr_follow.specs.Rows.{FollowRow}
+use Rattle.mr_follow.specs.declared.phase.Phase.TheVariants as phase
+use Rattle.mr_follow.specs.declared.heard.Heard.{Heard}
+use Rattle.mr_follow.specs.declared.heard.FollowFault.{FollowFault}
+use Rattle.mr_follow.specs.declared.heard.FollowFault.TheVariants.{BadLine, Refused, Undecodable, Memory, Spent}
+
+-- bytes are fed, or a step is made
+pub data Call : Type 0 where
+  feed : List ℕ → Call
+  step : Call
+
+-- the bytes that are fed, all together
+abbrev pub fed_by : List Call → List ℕ
+fed_by [] = []
+fed_by (feed bytes ∷ calls) = bytes ++ fed_by calls
+fed_by (step ∷ calls) = fed_by calls
+
+-- One step that isn't refused: the follower, the dataset and the offset after it.
+pub record Stepped (a : FollowState) (m : Dataset) (offset : ℕ) (b : FollowState) (n : Dataset) (end : ℕ) : Type 0 where
+  pub told : List ℕ
+  pub outcome : Heard
+  pub row : FollowRow a a.kept m offset (Ok outcome) b n told
+  pub counted : end ≡ offset + length told
+
+-- what calls, none of which is refused, make of a follower, a dataset and its offset
+abbrev pub Runs : List Call → FollowState → Dataset → ℕ → FollowState → Dataset → ℕ → Type 0
+Runs [] a m offset b n end = (b ≡ a) × ((n ≡ m) × (end ≡ offset))
+Runs (feed bytes ∷ calls) a m offset b n end = Runs calls (heard a bytes) m offset b n end
+Runs (step ∷ calls) a m offset b n end = (c : FollowState) × ((k : Dataset) × ((mid : ℕ) × (Stepped a m offset c k mid × Runs calls c k mid b n end)))
+
+-- These effects can be applied one after another, and lead up to no offset past the limit.
+pub record IsStream (effects : List Effect) (m : Dataset) (offset : ℕ) : Type 0 where
+  pub last : Dataset
+  pub applied : apply_all effects m ≡ Some last
+  pub short : All IsShort effects
+  pub within : offset + length (texts effects) ≤ most_counted
+
+-- Of these effects the first were applied, and the bytes left to read are behind their texts.
+pub record HasFollowed (effects : List Effect) (bytes : List ℕ) (m : Dataset) (offset : ℕ) (b : FollowState) (n : Dataset) (end : ℕ) : Type 0 where
+  pub done : List Effect
+  pub left : List Effect
+  pub first : effects ≡ done ++ left
+  pub applied : apply_all done m ≡ Some n
+  pub counted : end ≡ offset + length (texts done)
+  pub unread : bytes ≡ texts done ++ b.kept
+  pub streams : b.phase ≡ phase.Stream
+
+-- Fed a beginning of the texts of effects that can be applied, in any pieces and with any steps between, a follower in its
+-- stream has applied the first of them, and keeps the rest of what it was fed.
+abbrev pub FollowsBy : List Call → Type 0
+FollowsBy calls = (a b : FollowState) (m n : Dataset) (offset end : ℕ) (effects : List Effect) (later : List ℕ)
+    → a.phase ≡ phase.Stream → IsStream effects m offset → texts effects ≡ (a.kept ++ fed_by calls) ++ later
+    → Runs calls a m offset b n end → HasFollowed effects (a.kept ++ fed_by calls) m offset b n end
+
+abbrev pub FollowsTheStream : Type 0
+FollowsTheStream = (calls : List Call) → FollowsBy calls
+
+-- it is told for want of memory
+abbrev pub IsWant : FollowFault → Type 0
+IsWant BadLine = ⊥
+IsWant Refused = ⊥
+IsWant Undecodable = ⊥
+IsWant Memory = Unit {0}
+IsWant Spent = Unit {0}
+
+-- then no step is refused but for want of memory
+abbrev pub StreamIsTaken : Type 0
+StreamIsTaken = (a b : FollowState) (m n : Dataset) (offset : ℕ) (effects : List Effect) (later told : List ℕ) (fault : FollowFault)
+    → a.phase ≡ phase.Stream → IsStream effects m offset → texts effects ≡ a.kept ++ later
+    → FollowRow a a.kept m offset (Err fault) b n told → IsWant fault
