@@ -10,6 +10,7 @@ FUNCTION = re.compile(r"^( *)(?:pub(?:\([^)]*\))? )?(?:(?:const|unsafe|extern \"
 IMPL = re.compile(r"^(?:unsafe )?impl(?:<(?:[^<>]|<[^<>]*>)*>)? (?:(?:\w+::)*(\w+)(?:<(.*)>)? for )?(?:\w+::)*(\w+)")
 TYPE = re.compile(r"^(?:pub(?:\([^)]*\))? )?(?:struct|enum) (\w+)", re.M)
 CYCLE = re.compile(r"^ *#\[cycle\((\w+)\)\]")
+ATTRIBUTE = re.compile(r"^ *#\[")
 CONSTANT = re.compile(r"^ *(?:pub(?:\([^)]*\))? )?const (\w+): .*;$")
 IMPORT = re.compile(r"^ *(?:pub(?:\([^)]*\))? )?use [^;]*;", re.M)
 
@@ -21,12 +22,14 @@ class Function:
     name: str
     # the group of functions that call each other, which are proved together
     cycle: str
+    # its first attribute, or its head where it has none: a check tells a goal of all of it at this row
+    first: int
     head: int
     opening: int
     closing: int
 
     def holds(self, row):
-        return self.head <= row <= self.closing
+        return self.first <= row <= self.closing
 
     def has_in_body(self, first, end):
         """Whether the rows from `first` to before `end` lie between the body's braces."""
@@ -88,19 +91,23 @@ class Sources:
     def functions(self, path, text=None):
         """The functions of a file, or of a text in its place."""
         lines = (self.texts[path] if text is None else text).split("\n")
-        found, owner, cycle, row = [], "", "", 0
+        found, owner, cycle, first, row = [], "", "", None, 0
         while row < len(lines):
             line = lines[row]
             begins, in_cycle = FUNCTION.match(line), CYCLE.match(line)
             owner = "" if line == "}" else owner_of(line) or owner
             cycle = in_cycle[1] if in_cycle else cycle
+            if not line:
+                first = None
+            elif first is None and ATTRIBUTE.match(line):
+                first = row
             if begins:
                 ends = end_of(lines, row, begins[1])
                 if ends:
                     name = self.path_of(path, owner if begins[1] else "", begins[2])
-                    found.append(Function(name, cycle, row, *ends))
+                    found.append(Function(name, cycle, row if first is None else first, row, *ends))
                     row = ends[1]
-                cycle = ""
+                cycle, first = "", None
             row += 1
         return found
 

@@ -142,6 +142,15 @@ class Reading(WithTheTinyCrate):
         said = f"note: src/lib.rt:{row}:5: it is not proved that what the function ensures holds when it returns (`returns`)\nonly=1 proved=0\n"
         self.assertEqual([it.function for it in self.answer(said, texts={"src/lib.rt": text}).reasons], ["limit"])
 
+    def test_a_note_on_the_row_of_an_attribute_belongs_to_the_function_below_it(self):
+        attributes = "#[derive(Drop)]\nstruct Told {}\n\n/// A limit.\n#[tactic(\n    auto,\n    using(crate::proofs::Sums::one_more)\n)]\n// Why.\npub fn limit"
+        text = tiny.CRATE["src/lib.rt"].replace("pub fn limit", attributes)
+        row = text[: text.index("#[tactic")].count("\n") + 1
+        said = f"note: src/lib.rt:{row}:1: it is not proved that what the function ensures holds when it returns (`returns`); the facts known there allow values at which this goal is false\nonly=1 proved=0\n"
+        self.assertEqual([it.function for it in self.answer(said, texts={"src/lib.rt": text}).reasons], ["limit"])
+        said = said.replace(f"lib.rt:{row}:", f"lib.rt:{text[: text.index('#[derive')].count(chr(10)) + 1}:")
+        self.assertEqual([it.function for it in self.answer(said, texts={"src/lib.rt": text}).reasons], [""])
+
     def test_a_closure_belongs_to_its_function(self):
         said = "fn tiny::levels::fn::all_low::all+FnMut::call_mut: no proof: `search` did not prove `returns`\nonly=1 proved=0\n"
         self.assertEqual([it.function for it in self.answer(said).reasons], ["levels::all_low"])

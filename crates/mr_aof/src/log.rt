@@ -38,11 +38,12 @@ impl<F: LogFile> Log<F> {
         LogFault::Device
     }
 
-    /// Appends a piece, and syncs it in the mode `Always`. After a fault a beginning of the piece is there, which may be
+    /// Appends a piece, and syncs it in the mode `Always` alone. After a fault a beginning of the piece is there, which may be
     /// empty or all of it.
     pub fn append(&mut self, piece: &[u8]) -> Result<(), LogFault>
         ensures ok { OnOk result (Appends (F.told self.old.file) (F.told self.new.file) piece.now (length piece.now)) }
         ensures synced { self.old.mode ≡ SyncMode.Always → OnOk result (IsSynced (F.told self.new.file) (F.synced self.new.file)) }
+        ensures unsynced { self.old.mode ≡ SyncMode.No → F.synced self.new.file ≡ F.synced self.old.file }
         ensures err { OnErr result (AppendsSome (F.told self.old.file) (F.told self.new.file) piece.now) }
         ensures broken { IsErrOf result LogFault.Broken ↔ (self.old.broken ≡ true) }
         ensures untouched { self.old.broken ≡ true → self.new ≡ self.old }
@@ -89,6 +90,7 @@ impl<F: LogFile> Log<F> {
 fn write_all<F: LogFile>(file: &mut F, piece: &[u8]) -> Result<(), Failed>
     ensures written { OnOk result (Appends (F.told file.old) (F.told file.new) piece.now (length piece.now)) }
     ensures failed { OnErr result (AppendsSome (F.told file.old) (F.told file.new) piece.now) }
+    ensures covered { F.synced file.new ≡ F.synced file.old }
     ensures later { F.failures file.old ≤ F.failures file.new }
     ensures cause { OnErr result (Rose (F.failures file.old) (F.failures file.new)) }
 {

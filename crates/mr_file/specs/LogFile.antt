@@ -1,5 +1,5 @@
 -- What a file that tells its bytes does. One that doesn't tell them tells `None`, and nothing is said of it.
-use Rattle.std.specs.Prelude.{◌≡◌, ◌⊎◌, ℕ, ◌-◌, ◌<◌, ◌≤◌, ◌^◌, List, ◌++◌, length, take, drop, Option, Some, IfSome}
+use Rattle.std.specs.Prelude.{◌≡◌, ◌⊎◌, ℕ, ◌-◌, ◌<◌, ◌≤◌, ◌^◌, List, ◌++◌, length, take, drop, min, Option, Some, IfSome}
 
 -- a count of failures rose, or is the greatest that there is
 abbrev pub Rose : ℕ → ℕ → Type 0
@@ -36,3 +36,7 @@ IsOldOrNew before after whole = IfSome before (λ xs. (after ≡ Some xs) ⊎ (a
 -- the last sync covered all bytes
 abbrev pub IsSynced : Option (List ℕ) → Option ℕ → Type 0
 IsSynced bytes synced = IfSome bytes (λ xs. synced ≡ Some (length xs))
+
+-- of the bytes that the last sync covered, those among the first n
+abbrev pub StaysCovered : Option ℕ → Option ℕ → ℕ → Type 0
+StaysCovered before after n = IfSome before (λ c. after ≡ Some (min c n))

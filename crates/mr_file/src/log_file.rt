@@ -1,5 +1,5 @@
 ghost use Rattle.std.specs.Prelude.{◌≡◌, ℕ, ◌+◌, ◌<◌, ◌≤◌, ◌^◌, List, length, Option, IfOk, OnOk, OnErr};
-ghost use Rattle.mr_file.specs.LogFile.{Rose, Reads, ReadsSome, Appends, AppendsSome, Keeps, Replaces, IsOldOrNew, IsSynced};
+ghost use Rattle.mr_file.specs.LogFile.{Rose, Reads, ReadsSome, Appends, AppendsSome, Keeps, Replaces, IsOldOrNew, IsSynced, StaysCovered};
 
 use thiserror::Error;
 
@@ -34,12 +34,14 @@ pub trait LogFile {
         ensures some { IfOk result (λ n. 0 < length piece.now → 0 < n) }
         ensures written { IfOk result (λ n. Appends (told self.old) (told self.new) piece.now n) }
         ensures failed { OnErr result (AppendsSome (told self.old) (told self.new) piece.now) }
+        ensures covered { synced self.new ≡ synced self.old }
         ensures later { failures self.old ≤ failures self.new }
         ensures cause { OnErr result (Rose (failures self.old) (failures self.new)) };
 
     /// Has all bytes reach the disk.
     fn sync(&mut self) -> Result<(), Failed>
         ensures durable { OnOk result (IsSynced (told self.new) (synced self.new)) }
+        ensures failed { OnErr result (synced self.new ≡ synced self.old) }
         ensures same { told self.new ≡ told self.old }
         ensures later { failures self.old ≤ failures self.new }
         ensures cause { OnErr result (Rose (failures self.old) (failures self.new)) };
@@ -47,7 +49,9 @@ pub trait LogFile {
     /// Keeps the first bytes and drops the others.
     fn cut(&mut self, len: u64) -> Result<(), Failed>
         ensures kept { OnOk result (Keeps (told self.old) (told self.new) len) }
+        ensures covered { OnOk result (StaysCovered (synced self.old) (synced self.new) len) }
         ensures failed { OnErr result (told self.new ≡ told self.old) }
+        ensures still { OnErr result (synced self.new ≡ synced self.old) }
         ensures later { failures self.old ≤ failures self.new }
         ensures cause { OnErr result (Rose (failures self.old) (failures self.new)) };
 
@@ -56,6 +60,7 @@ pub trait LogFile {
         ensures replaced { OnOk result (Replaces (told self.old) (told self.new) whole.now) }
         ensures durable { OnOk result (IsSynced (told self.new) (synced self.new)) }
         ensures failed { OnErr result (IsOldOrNew (told self.old) (told self.new) whole.now) }
+        ensures still { OnErr result (told self.new ≡ told self.old → synced self.new ≡ synced self.old) }
         ensures later { failures self.old ≤ failures self.new }
         ensures cause { OnErr result (Rose (failures self.old) (failures self.new)) };
 }

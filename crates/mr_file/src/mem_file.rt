@@ -1,4 +1,4 @@
-ghost use Rattle.std.specs.Prelude.{◌≡◌, ◌==◌, ◌-◌, ◌<◌, ◌≤◌, length, Some, IsTrue};
+ghost use Rattle.std.specs.Prelude.{◌≡◌, ◌==◌, ◌-◌, ◌<◌, ◌≤◌, ◌^◌, length, min, Some, IsTrue};
 ghost use Rattle.mr_file.specs.LogFile.{Rose};
 
 use crate::log_file::{Failed, LogFile};
@@ -18,11 +18,12 @@ pub struct MemFile<A: Allocator = Global> {
 }
 
 impl<A: Allocator> MemFile<A> {
-    /// A file of these bytes, none of which was synced.
+    /// A file of these bytes, none of which was synced. No call fails, and a write appends all of its piece.
     pub fn new(held: Vec<u8, A>) -> Self
         ensures held { result.held ≡ held }
         ensures covered { result.covered ≡ 0 }
         ensures countdown { result.countdown ≡ 0 }
+        ensures most { result.most ≡ 2 ^ 64 - 1 }
         ensures failed { result.failed ≡ 0 }
     {
         MemFile {
@@ -90,6 +91,15 @@ impl<A: Allocator> MemFile<A> {
     {
         let len = self.held.len();
         self.covered = len;
+    }
+
+    /// Covers no byte behind the first so many.
+    fn uncover(&mut self, len: u64)
+        ensures held { self.new.held ≡ self.old.held }
+        ensures covered { self.new.covered ≡ min self.old.covered len }
+        ensures failed { self.new.failed ≡ self.old.failed }
+    {
+        self.covered = self.covered.min(len as usize);
     }
 
     /// Whether this call is to fail, in which case the failure is counted.
@@ -161,6 +171,7 @@ impl<A: Allocator> LogFile for MemFile<A> {
         if self.fails() {
             return Err(Failed);
         }
+        self.uncover(len);
         if len < self.held.len() as u64 {
             self.held.truncate(len as usize);
         }
