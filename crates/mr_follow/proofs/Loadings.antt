@@ -1,5 +1,6 @@
 -- Effects by their words, and whole snapshots.
-use Rattle.std.proofs.Common.{◌≡◌, ℕ, ◌+◌, ◌<◌, ◌≤◌, ◌^◌, inr, Bool, true, false, cond, ◌&&◌, List, [], ◌++◌, length, take, Option, Some, None, Result, Ok, Err, refl, sym, ap, ◌∙◌, subst, arith, append-nil, take_all}
+use Rattle.std.proofs.Common.{◌≡◌, ◌≢◌, ◌↔◌, ℕ, ◌+◌, ◌<◌, ◌≤◌, ◌^◌, inr, Bool, true, false, cond, ◌&&◌, List, [], ◌++◌, length, take, Option, Some, None, Result, Ok, Err, refl, sym, ap, ◌∙◌, subst, arith, append-nil, take_all}
+use Rattle.std.specs.FinMap.{empty}
 use Rattle.std.specs.Option.{option_and_then}
 use Rattle.std.proofs.lemmas.Bool.{and_parts}
 use Rattle.std.proofs.lemmas.List.{length-take-le}
@@ -17,6 +18,8 @@ use Rattle.mr_effect.specs.Spelling.{words, text, IsShort, IsSpelled, FindsEach}
 use Rattle.mr_effect.specs.declared.effect.Effect.{Effect}
 use Rattle.mr_entries.specs.Dataset.{Dataset}
 use Rattle.mr_entries.specs.Changes.{change}
+use Rattle.mr_entries.specs.declared.fault.ApplyFault.{ApplyFault}
+use Rattle.mr_entries.specs.declared.fault.ApplyFault.TheVariants.{Refused, Memory}
 use Rattle.mr_data.specs.Meaning.{apply}
 use Rattle.mr_replay.specs.Effects.{Makes, Loads}
 use Rattle.mr_follow.specs.Loading.{AppliesEffect, AppliesWords}
@@ -60,6 +63,17 @@ pub part_read : (bytes : List ℕ) (used : ℕ) (m n : Dataset) → Loads bytes 
 part_read bytes used m n h part made = omega (arith, h.longest bytes [] n (sym (append-nil bytes)) made, part)
 
 -- ---- one effect after another
+some_of : (o : Option Dataset) → o ≢ None → (k : Dataset) × (o ≡ Some k)
+some_of None h = absurd (h refl)
+some_of (Some k) h = (k, refl)
+
+-- memory ran out within an effect, which isn't refused
+pub effect_spent : (e : Effect) (m n : Dataset) (r : Result (Unit {0}) ApplyFault) → ((r ≡ Err Refused) ↔ (apply e m ≡ None)) → (r ≡ Err Memory → n ≡ empty) → r ≡ Err Memory → (apply e m ≢ None) × (n ≡ empty)
+effect_spent e m n r refused emptied is = ((λ none. not_both r is (refused.1 none)), emptied is)
+  where
+    not_both : (o : Result (Unit {0}) ApplyFault) → o ≡ Err Memory → o ≡ Err Refused → ⊥
+    not_both o p q = let wrong = sym p ∙ q in cc
+
 -- the effect with a command's words is done as it is, or there is none that can be
 pub words_applied : (e : Effect) (ws : List (List ℕ)) (m n : Dataset) (r : Result (Unit {0}) FollowFault) → AppliesEffect e m r n → IsSpelled ws e → FindsEach ws (Some e) → AppliesWords ws m r n
 words_applied e ws m n (Ok done) h spelled each = record { effect = e; spelled = spelled; applied = h }
@@ -73,7 +87,9 @@ words_applied e ws m n (Err fault.Undecodable) h spelled each = (
   h.1,
 )
 words_applied e ws m n (Err fault.Memory) h spelled each = absurd h
-words_applied e ws m n (Err fault.Spent) h spelled each = tt
+words_applied e ws m n (Err fault.Spent) h spelled each =
+    let k = some_of (apply e m) h.0 in
+    ((k.0, record { effect = e; spelled = spelled; applied = k.1 }), h.1)
 
 -- a whole command text stands in front, whose words are applied or aren't
 pub text_in_front : (u : List ℕ) (used room : ℕ) (ws : List (List ℕ)) (m n : Dataset) (r : Result (Option ℕ) FollowFault) (before after : List ℕ) → used ≤ length u → IsCommand commands (take used u) ws
@@ -94,8 +110,10 @@ text_in_front u used room ws m n (Err fault.BadLine) before after inside c h = a
 text_in_front u used room ws m n (Err fault.Refused) before after inside c h = absurd h
 text_in_front u used room ws m n (Err fault.Undecodable) before after inside c h =
     (inr (record { used = used; words = ws; inside = inside; command = c; bad = λ k few. h.0 k (omega (arith, few, length-take-le used u inside)) }), h.1)
-text_in_front u used room ws m n (Err fault.Memory) before after inside c h = h
-text_in_front u used room ws m n (Err fault.Spent) before after inside c h = h
+text_in_front u used room ws m n (Err fault.Memory) before after inside c h = (record { words = ws; used = used; inside = inside; command = c }, h)
+text_in_front u used room ws m n (Err fault.Spent) before after inside c h =
+    let few = h.0.0 in
+    ((used, (h.0.1.0, record { inside = inside; within = omega (arith, few, length-take-le used u inside); words = ws; command = c; applies = h.0.1.1 })), h.1)
 
 -- what a reader finds doomed is
 pub bad_doomed : (u : List ℕ) (found : Scan) (f : Fault) → found ≡ scan.Bad f → ReadsCommand commands u found → IsDoomed (IsCommandText commands) u
@@ -109,9 +127,9 @@ pub cut_back : (xs ys zs all : List ℕ) (k : ℕ) → all ≡ xs ++ ys → k �
 cut_back xs ys zs all k put at cut = cut ∙ (λ i. take (at i) (put i)) ∙ take-append_seam xs ys
 
 -- the text was put out and taken back
-pub text_refused : (text : List ℕ) (ws : List (List ℕ)) (room : ℕ) (m n : Dataset) (f : FollowFault) (before after : List ℕ) → after ≡ before → AppliesWords ws m (Err f) n → AppliesText text ws room m (Err f) n before after
-text_refused text ws room m n fault.BadLine before after same h = absurd h
-text_refused text ws room m n fault.Refused before after same h = absurd h
-text_refused text ws room m n fault.Undecodable before after same h = (λ k few. h.0 k, (h.1, same))
-text_refused text ws room m n fault.Memory before after same h = (h, same)
-text_refused text ws room m n fault.Spent before after same h = same
+pub text_refused : (text : List ℕ) (ws : List (List ℕ)) (room : ℕ) (m n : Dataset) (f : FollowFault) (before after : List ℕ) → after ≡ before → length text ≤ room → AppliesWords ws m (Err f) n → AppliesText text ws room m (Err f) n before after
+text_refused text ws room m n fault.BadLine before after same fits h = absurd h
+text_refused text ws room m n fault.Refused before after same fits h = absurd h
+text_refused text ws room m n fault.Undecodable before after same fits h = (λ k few. h.0 k, (h.1, same))
+text_refused text ws room m n fault.Memory before after same fits h = (h, same)
+text_refused text ws room m n fault.Spent before after same fits h = ((fits, h.0), (h.1, same))

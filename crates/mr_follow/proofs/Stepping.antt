@@ -11,12 +11,12 @@ use Rattle.mr_lines.specs.declared.psync.PsyncReply.{PsyncReply}
 use Rattle.mr_lines.specs.declared.psync.PsyncReply.TheVariants as reply
 use Rattle.mr_lines.proofs.Places.{rest_from}
 use Rattle.mr_follow.specs.Handshake.{IsGreeting, next_of, line_after}
-use Rattle.mr_follow.specs.Lines.{Begins, IsFront, HasSnapshot, IsShortOf, HearsAnswer, HearsSnapshot, HearsStatus}
+use Rattle.mr_follow.specs.Lines.{Begins, IsFront, HasSnapshot, HasStatus, IsShortOf, HearsAnswer, HearsSnapshot, HearsStatus}
 use Rattle.mr_replay.specs.Effects.{Makes}
 use Rattle.mr_follow.specs.Loading.{ReadsSnapshot}
 use Rattle.mr_follow.specs.State.{FollowState, Agrees}
 use Rattle.mr_follow.specs.Stream.{AppliesFront}
-use Rattle.mr_follow.specs.Rows.{Waits, WantsLine, IsOutOfPlace, IsWrongLine, FollowRow, Steps, StepsAside}
+use Rattle.mr_follow.specs.Rows.{Waits, MayLack, WantsLine, IsOutOfPlace, IsWrongLine, FollowRow, Steps, StepsAside}
 use Rattle.mr_follow.specs.declared.phase.Phase.{Phase}
 use Rattle.mr_follow.specs.declared.phase.Phase.TheVariants as phase
 use Rattle.mr_follow.specs.declared.heard.Heard.{Heard}
@@ -85,8 +85,17 @@ greet_fault a f g h = status_fault a f (greeting_wants a.phase g) (λ n. greetin
 pub greet_idle : (a : FollowState) → IsGreeting a.phase → Continues IsLineText a.kept → (out : List ℕ) → StepsAside a (Ok heard.Idle) a out out
 greet_idle a g h out m o = stays a m o (Ok heard.Idle) out (greeting_waits a.phase a.kept g h, record { state = refl; held = refl; silent = refl })
 
-pub no_memory : (a : FollowState) (before after : List ℕ) → after ≡ before → StepsAside a (Err fault.Memory) a before after
-no_memory a before after same m o = record { told = []; put = same ∙ sym (append-nil before); row = record { state = refl; held = refl; silent = refl } }
+greeting_lacks : (p : Phase) (u : List ℕ) → IsGreeting p → HasStatus u → MayLack p u
+greeting_lacks phase.Ping u g h = h
+greeting_lacks phase.Port u g h = h
+greeting_lacks phase.Capabilities u g h = h
+greeting_lacks phase.Psync u g h = absurd g
+greeting_lacks (phase.Snapshot id offset) u g h = absurd g
+greeting_lacks phase.Stream u g h = absurd g
+
+pub no_memory : (a : FollowState) (used : ℕ) (text before after : List ℕ) → IsGreeting a.phase → IsFront a.kept used (status text) → after ≡ before → StepsAside a (Err fault.Memory) a before after
+no_memory a used text before after g h same m o =
+    record { told = []; put = same ∙ sym (append-nil before); row = (greeting_lacks a.phase a.kept g (used, (text, h)), record { state = refl; held = refl; silent = refl }) }
 
 pub greet_said : (a b : FollowState) (used : ℕ) (text before after : List ℕ) → IsGreeting a.phase → IsFront a.kept used (status text) → after ≡ before ++ line_after a.phase a.port a.offer
     → b ≡ record a { phase = next_of a.phase; kept = drop used a.kept } → StepsAside a (Ok heard.Say) b before after
@@ -250,7 +259,8 @@ load_refused a fault.Undecodable id bytes o used announced h r out m offset = st
   }),
   record { state = refl; held = refl; silent = refl },
 )
-load_refused a fault.Memory id bytes o used announced h r out m offset = stays a m offset (Err fault.Memory) out (record { state = refl; held = refl; silent = refl })
+load_refused a fault.Memory id bytes o used announced h r out m offset =
+    stays a m offset (Err fault.Memory) out (subst (λ (p : Phase). MayLack p a.kept) (sym announced) (bytes, (used, h)), record { state = refl; held = refl; silent = refl })
 load_refused a fault.Spent id bytes o used announced h r out m offset = absurd r
 
 pub load_whole : (a b : FollowState) (id bytes : List ℕ) (o used : ℕ) (loaded : Dataset) → a.phase ≡ phase.Snapshot id o → HasSnapshot a.kept bytes used
@@ -309,8 +319,30 @@ follow_fault a m n offset room fault.Undecodable before after streams all (inr h
         record { state = refl; held = same.0; silent = refl },
       );
     }
-follow_fault a m n offset room fault.Memory before after streams all h = record { told = []; put = h.1 ∙ sym (append-nil before); row = record { state = refl; held = h.0; silent = refl } }
-follow_fault a m n offset room fault.Spent before after streams all h = record { told = []; put = h ∙ sym (append-nil before); row = (streams, refl) }
+follow_fault a m n offset room fault.Memory before after streams all h = record {
+  told = [];
+  put = h.1.1 ∙ sym (append-nil before);
+  row = (subst (λ (p : Phase). MayLack p a.kept) (sym streams) h.0, record { state = refl; held = h.1.0; silent = refl });
+}
+follow_fault a m n offset room fault.Spent before after streams all h =
+    let used = h.0.0 in let front = h.0.1.1 in let few = front.within in
+    record {
+      told = [];
+      put = h.1.1 ∙ sym (append-nil before);
+      row = record {
+        streams = streams;
+        words = front.words;
+        text = take used a.kept;
+        rest = drop used a.kept;
+        begins = record { is = sym (take-append-drop used a.kept); command = front.command };
+        within = omega (arith, few, length-take-le used a.kept front.inside, all);
+        applied = h.0.1.0;
+        applies = front.applies;
+        state = refl;
+        held = h.1.0;
+        silent = refl;
+      };
+    }
 
 pub follow_applied : (a b : FollowState) (m n : Dataset) (offset room used : ℕ) (before after : List ℕ) → a.phase ≡ phase.Stream → offset + room ≡ most_counted → AppliesFront a.kept room m (Ok (Some used)) n before after
     → b ≡ record a { phase = phase.Stream; kept = drop used a.kept } → Steps a a.kept m offset (Ok heard.Applied) b n before after

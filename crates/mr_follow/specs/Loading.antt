@@ -1,5 +1,6 @@
 -- Snapshots, and effects by their words.
-use Rattle.std.specs.Prelude.{◌≡◌, ℕ, List, Some, None, Result, Ok, Err}
+use Rattle.std.specs.Prelude.{◌≡◌, ◌≢◌, ℕ, List, Some, None, Result, Ok, Err}
+use Rattle.std.specs.FinMap.{empty}
 use Rattle.mr_data.specs.Meaning.{apply}
 use Rattle.mr_replay.specs.Effects.{Makes}
 use Rattle.mr_replay.specs.Steps.{DoesWords}
@@ -17,20 +18,20 @@ ReadsSnapshot bytes (Err Undecodable) = (n : Dataset) → Makes bytes n → ⊥
 ReadsSnapshot bytes (Err Memory) = Unit {0}
 ReadsSnapshot bytes (Err Spent) = ⊥
 
--- the effect is applied, or it can't be
+-- the effect is applied, or it can't be; or it could be, and memory ran out within it
 abbrev pub AppliesEffect : Effect → Dataset → Result (Unit {0}) FollowFault → Dataset → Type 0
 AppliesEffect e m (Ok done) n = apply e m ≡ Some n
 AppliesEffect e m (Err BadLine) n = ⊥
 AppliesEffect e m (Err Refused) n = ⊥
 AppliesEffect e m (Err Undecodable) n = (apply e m ≡ None) × (n ≡ m)
 AppliesEffect e m (Err Memory) n = ⊥
-AppliesEffect e m (Err Spent) n = Unit {0}
+AppliesEffect e m (Err Spent) n = (apply e m ≢ None) × (n ≡ empty)
 
--- the effect with these words is applied, or there is none that can be
+-- the effect with these words is applied, or there is none that can be; or memory ran out within it
 abbrev pub AppliesWords : List (List ℕ) → Dataset → Result (Unit {0}) FollowFault → Dataset → Type 0
 AppliesWords words m (Ok done) n = DoesWords words m n
 AppliesWords words m (Err BadLine) n = ⊥
 AppliesWords words m (Err Refused) n = ⊥
 AppliesWords words m (Err Undecodable) n = ((k : Dataset) → DoesWords words m k → ⊥) × (n ≡ m)
 AppliesWords words m (Err Memory) n = n ≡ m
-AppliesWords words m (Err Spent) n = Unit {0}
+AppliesWords words m (Err Spent) n = ((k : Dataset) × DoesWords words m k) × (n ≡ empty)

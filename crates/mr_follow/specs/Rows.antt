@@ -1,7 +1,8 @@
 -- What a step of a follower may do, one row for each outcome.
 use Rattle.std.specs.Prelude.{◌≡◌, ◌≢◌, ℕ, ◌+◌, ◌≤◌, ◌⊎◌, List, [], ◌++◌, length, Option, None, IsSome, Result, Ok, Err}
 use Rattle.mr_inline.specs.Language.{Continues, IsDoomed}
-use Rattle.mr_resp.specs.Command.{IsCommand, IsCommandText}
+use Rattle.std.specs.FinMap.{empty}
+use Rattle.mr_resp.specs.Command.{IsCommand, IsCommandText, BeginsWithCommand}
 use Rattle.mr_resp.specs.Usual.{commands}
 use Rattle.mr_entries.specs.Dataset.{Dataset}
 use Rattle.mr_lines.specs.Lines.{Line, status, refusal, size, IsLineText, most_counted}
@@ -11,7 +12,7 @@ use Rattle.mr_lines.specs.declared.psync.PsyncReply.TheVariants as reply
 use Rattle.mr_replay.specs.Effects.{Makes}
 use Rattle.mr_replay.specs.Steps.{DoesWords}
 use Rattle.mr_follow.specs.Handshake.{IsGreeting, next_of, line_after}
-use Rattle.mr_follow.specs.Lines.{Begins, IsNoLine, IsShortOf}
+use Rattle.mr_follow.specs.Lines.{Begins, IsNoLine, IsShortOf, HasStatus, HasSnapshot}
 use Rattle.mr_follow.specs.State.{FollowState, Moves}
 use Rattle.mr_follow.specs.declared.phase.Phase.{Phase}
 use Rattle.mr_follow.specs.declared.phase.Phase.TheVariants as phase
@@ -133,6 +134,29 @@ pub record IsBadStream (a : FollowState) (u : List ℕ) (m : Dataset) (offset : 
   pub streams : a.phase ≡ phase.Stream
   pub cause : IsDoomed (IsCommandText commands) u ⊎ IsBadCommand u m offset
 
+-- where memory can be lacking: behind an answer to a line of the handshake, a whole snapshot, or a whole command text
+abbrev pub MayLack : Phase → List ℕ → Type 0
+MayLack phase.Ping u = HasStatus u
+MayLack phase.Port u = HasStatus u
+MayLack phase.Capabilities u = HasStatus u
+MayLack phase.Psync u = ⊥
+MayLack (phase.Snapshot id offset) u = (bytes : List ℕ) × ((used : ℕ) × HasSnapshot u bytes used)
+MayLack phase.Stream u = BeginsWithCommand commands u
+
+-- Memory ran out within an effect that can be applied here, the first of the stream: the dataset is spent, and nothing else has changed.
+pub record Spends (a : FollowState) (u : List ℕ) (m : Dataset) (offset : ℕ) (b : FollowState) (n : Dataset) (told : List ℕ) : Type 0 where
+  pub streams : a.phase ≡ phase.Stream
+  pub words : List (List ℕ)
+  pub text : List ℕ
+  pub rest : List ℕ
+  pub begins : Commands u words text rest
+  pub within : offset + length text ≤ most_counted
+  pub applied : Dataset
+  pub applies : DoesWords words m applied
+  pub state : b ≡ a
+  pub held : n ≡ empty
+  pub silent : told ≡ []
+
 -- nothing has changed, and nothing is put out
 pub record Stays (a : FollowState) (m : Dataset) (b : FollowState) (n : Dataset) (told : List ℕ) : Type 0 where
   pub state : b ≡ a
@@ -155,8 +179,8 @@ FollowRow a u m offset (Ok heard.Applied) b n told = Follows a u m offset b n to
 FollowRow a u m offset (Err fault.BadLine) b n told = IsBadLine a u × Stays a m b n told
 FollowRow a u m offset (Err fault.Refused) b n told = IsRefused a u × Stays a m b n told
 FollowRow a u m offset (Err fault.Undecodable) b n told = (IsBadSnapshot a u ⊎ IsBadStream a u m offset) × Stays a m b n told
-FollowRow a u m offset (Err fault.Memory) b n told = Stays a m b n told
-FollowRow a u m offset (Err fault.Spent) b n told = (a.phase ≡ phase.Stream) × (told ≡ [])
+FollowRow a u m offset (Err fault.Memory) b n told = MayLack a.phase u × Stays a m b n told
+FollowRow a u m offset (Err fault.Spent) b n told = Spends a u m offset b n told
 
 -- a step, and what it puts out
 pub record Steps (a : FollowState) (u : List ℕ) (m : Dataset) (offset : ℕ) (result : Result Heard FollowFault) (b : FollowState) (n : Dataset) (before after : List ℕ) : Type 0 where

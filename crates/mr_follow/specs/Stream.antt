@@ -1,7 +1,8 @@
 -- The effect at the front of the stream.
 use Rattle.std.specs.Prelude.{◌≡◌, ℕ, ◌≤◌, ◌⊎◌, List, ◌++◌, length, take, Option, Some, None, Result, Ok, Err}
 use Rattle.mr_inline.specs.Language.{Continues, IsDoomed}
-use Rattle.mr_resp.specs.Command.{IsCommand, IsCommandText}
+use Rattle.std.specs.FinMap.{empty}
+use Rattle.mr_resp.specs.Command.{IsCommand, IsCommandText, BeginsWithCommand}
 use Rattle.mr_resp.specs.Usual.{commands}
 use Rattle.mr_entries.specs.Dataset.{Dataset}
 use Rattle.mr_replay.specs.Steps.{DoesWords}
@@ -28,6 +29,10 @@ pub record HasBadFront (u : List ℕ) (room : ℕ) (m : Dataset) : Type 0 where
 abbrev pub IsSame : Dataset → Dataset → List ℕ → List ℕ → Type 0
 IsSame m n before after = (n ≡ m) × (after ≡ before)
 
+-- the dataset is spent, which leaves it empty, and nothing is put out
+abbrev pub IsSpent : Dataset → List ℕ → List ℕ → Type 0
+IsSpent n before after = (n ≡ empty) × (after ≡ before)
+
 -- the effect with these words, whose text this is, is applied, or there is none of at most so many bytes that can be
 abbrev pub AppliesText : List ℕ → List (List ℕ) → ℕ → Dataset → Result (Option ℕ) FollowFault → Dataset → List ℕ → List ℕ → Type 0
 AppliesText text ws room m (Ok None) n before after = ⊥
@@ -36,7 +41,7 @@ AppliesText text ws room m (Err BadLine) n before after = ⊥
 AppliesText text ws room m (Err Refused) n before after = ⊥
 AppliesText text ws room m (Err Undecodable) n before after = ((k : Dataset) → length text ≤ room → DoesWords ws m k → ⊥) × IsSame m n before after
 AppliesText text ws room m (Err Memory) n before after = IsSame m n before after
-AppliesText text ws room m (Err Spent) n before after = after ≡ before
+AppliesText text ws room m (Err Spent) n before after = ((length text ≤ room) × ((k : Dataset) × DoesWords ws m k)) × IsSpent n before after
 
 -- the effect at the front is applied; none is whole; or what stands there is none of at most so many bytes that can be
 abbrev pub AppliesFront : List ℕ → ℕ → Dataset → Result (Option ℕ) FollowFault → Dataset → List ℕ → List ℕ → Type 0
@@ -45,5 +50,5 @@ AppliesFront u room m (Ok (Some used)) n before after = HasFront u room used m n
 AppliesFront u room m (Err BadLine) n before after = ⊥
 AppliesFront u room m (Err Refused) n before after = ⊥
 AppliesFront u room m (Err Undecodable) n before after = (IsDoomed (IsCommandText commands) u ⊎ HasBadFront u room m) × IsSame m n before after
-AppliesFront u room m (Err Memory) n before after = IsSame m n before after
-AppliesFront u room m (Err Spent) n before after = after ≡ before
+AppliesFront u room m (Err Memory) n before after = BeginsWithCommand commands u × IsSame m n before after
+AppliesFront u room m (Err Spent) n before after = ((used : ℕ) × ((k : Dataset) × HasFront u room used m k)) × IsSpent n before after

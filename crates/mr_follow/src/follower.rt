@@ -126,6 +126,7 @@ impl Follower {
     }
 
     /// Uses the answer to a line of the handshake, and puts out the next line.
+    #[tactic(auto, using(crate::proofs::Stepping::no_memory))]
     fn greet(&mut self, out: &mut Vec<u8>) -> Result<Heard, FollowFault>
         requires { IsGreeting self.old.phase }
         ensures { StepsAside self.old result self.new out.old.items out.new.items }

@@ -8,6 +8,7 @@ use std::alloc::Global;
 use std::borrow::CowSlice;
 
 /// Applies an effect.
+#[tactic(auto, using(crate::proofs::Loadings::effect_spent))]
 fn apply_effect(effect: Effect<'_>, held: &mut Dataset) -> Result<(), FollowFault>
     ensures { AppliesEffect effect.entry held.old result held.new }
 {

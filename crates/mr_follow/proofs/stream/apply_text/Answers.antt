@@ -1,4 +1,4 @@
-use Rattle.std.proofs.Common.{rules, ◌≡◌, ◌++◌, length, map}
+use Rattle.std.proofs.Common.{rules, ◌≡◌, ◌≤◌, ◌++◌, length, map}
 use Rattle.std.specs.Cow.{cow_slice_items}
 use Rattle.mr_follow.proofs.Loadings.{cut_back, text_refused}
 use Rattle.mr_follow.proofs.stream.apply_text.Goals as goal
@@ -10,4 +10,5 @@ returns-in-Err c =
     let put : c.extend_from_slice.new.self.items ≡ before ++ c.args.text.now = search rules in
     let at : c.len-before.result ≡ length before = search rules in
     let same : after ≡ before = cut_back before c.args.text.now after c.extend_from_slice.new.self.items c.len-before.result put at c.truncate.ensures.items in
-    text_refused c.args.text.now (map cow_slice_items c.args.words.now) c.args.room c.args.held.now c.apply_words.new.held c.in-Err.fault before after same c.in-Err.ensures
+    let few : length c.args.text.now ≤ c.args.room = search rules in
+    text_refused c.args.text.now (map cow_slice_items c.args.words.now) c.args.room c.args.held.now c.apply_words.new.held c.in-Err.fault before after same few c.in-Err.ensures
