@@ -7,7 +7,10 @@ the runs whose names have one of them.
 The clock of `pipe` stands still, so ticks are made by `rehearse` (crates/rehearse) on a dataset of a million keys; what it
 takes to read the lines and to write the effects in hexadecimal digits is counted in. What redis-server does in their place is
 its active expiry, ten times a second: of keys none of which are past, the server's time so long, a cycle; of past keys, its time
-until none is left, a key."""
+until none is left, a key.
+
+What a replica takes from its master is fed by `rehearse_values` to a follower; what it takes to read the lines is taken off, and what
+it takes to give the dataset back isn't. Beside it stands what redis-server takes to load a file of the same commands."""
 
 import os
 import shutil
@@ -347,6 +350,10 @@ HELD = [("bytes a key", NEW), ("bytes a key with a deadline", NEW_UNTIL)]
 # ticks on a million deadlines: how many, and at which moment; the time is told a tick, or a key where they delete some
 TICKS = [("tick, none of a million past", KEYS, 0), ("tick, all of a million past", KEYS // 64, DEADLINE)]
 
+# what a replica takes from its master
+PIECE = 65_536
+FOLLOWED = [("stream of a million SETs", False), ("snapshot of a million keys", True)]
+
 
 def timed(words, path, out):
     """Nanoseconds of processor time and bytes of peak memory of a program on a file, whose output goes to another."""
@@ -501,6 +508,53 @@ def tick_cells(room, has_redis, count, now):
     return cells + ([f"{expired(room, is_past):,.0f}", ""] if has_redis else ["-", "-"])
 
 
+def followed(room, is_snapshot):
+    """Nanoseconds that a follower takes for a million SETs in pieces: as a stream, an effect at a step, or as a snapshot."""
+    path, out, program = os.path.join(room, "lines"), os.path.join(room, "answers"), built("rehearse_values")
+    texts = b"".join(request(b"SET", scrambled(at), VALUE) for at in range(KEYS))
+    snapshot = b"$%d\r\n" % len(texts) if is_snapshot else b"$0\r\n"
+    answers = b"+PONG\r\n+OK\r\n+OK\r\n+FULLRESYNC %s 0\r\n" % (b"a" * 40) + snapshot
+    times = []
+    # with steps behind the pieces, less without them
+    for after in ("", ";step" if is_snapshot else ";run"):
+        with open(path, "w") as file:
+            file.write("follower begin 0;feed " + answers.hex() + ";step" * 5)
+            for at in range(0, len(texts), PIECE):
+                file.write(";feed " + texts[at : at + PIECE].hex() + after)
+            file.write("\n")
+        times.append(timed([program], path, out)[0])
+    with open(out) as told:
+        told = told.read().split("\n")
+    if is_snapshot != (told.count("installs") == 1 and told[-2] == "installs") or not is_snapshot and sum(int(it[8:]) for it in told if it[:8] == "applied ") != KEYS:
+        raise SystemExit("bench: the follower didn't take all")
+    return times[1] - times[0]
+
+
+def loaded(room):
+    """Nanoseconds that redis-server takes to load a file of the same SETs, less that of an empty one."""
+    times = []
+    for count in (0, KEYS):
+        folder = os.path.join(room, "load%d" % count)
+        os.mkdir(folder)
+        with open(os.path.join(folder, "appendonly.aof"), "wb") as file:
+            for at in range(count):
+                file.write(request(b"SET", scrambled(at), VALUE))
+        server = Redis(folder, "--appendonly", "yes")
+        try:
+            while server.asked("DBSIZE") != str(count):
+                time.sleep(0.05)
+            times.append(server.used())
+        finally:
+            server.stop()
+            shutil.rmtree(folder)
+    return times[1] - times[0]
+
+
+def followed_cells(room, has_redis, is_snapshot):
+    cells = [f"{KEYS:,}", f"{followed(room, is_snapshot) / KEYS:,.0f}", ""]
+    return cells + ([f"{loaded(room) / KEYS:,.0f}", ""] if has_redis else ["-", "-"])
+
+
 def is_chosen(name, chosen):
     return not chosen or any(word in name for word in chosen)
 
@@ -523,6 +577,9 @@ def main(*chosen):
         for name, count, now in TICKS:
             if is_chosen(name, chosen):
                 line(name, *tick_cells(room, has_redis, count, now))
+        for name, is_snapshot in FOLLOWED:
+            if is_chosen(name, chosen):
+                line(name, *followed_cells(room, has_redis, is_snapshot))
     if not has_redis:
         print("redis-server and redis-cli are not installed (Debian's redis-server and redis-tools)")
 

@@ -6,7 +6,7 @@ import tempfile
 import unittest
 
 from program import LATE, PROGRAM, built, compiler, request, run
-from rehearsal import asked as asking, holding
+from rehearsal import asked as asking, effect, holding
 from replies import NIL, NONE, OK, array, asked, bulk, number
 from test_collections import HASHES, LISTS, SERVER, SETS
 from test_sorted_sets import SORTED_SETS
@@ -165,6 +165,34 @@ class Memory(unittest.TestCase):
 
     def test_what_is_rebuilt_and_due_without_memory(self):
         self.assertEqual(self.rehearsed(LOOKED_AT), set())
+
+    def test_a_follower_that_lacks_memory_has_used_nothing(self):
+        """Its step is made once more. Of a dataset within whose change it lacked memory nothing is said."""
+        texts = [effect(line) for line in HELD[:9]]
+        sent = b"+PONG\r\n+OK\r\n+OK\r\n+FULLRESYNC %s 0\r\n$%d\r\n" % (b"a" * 40, sum(map(len, texts))) + b"".join(texts)
+        steps = ["begin 0", "feed " + (sent + b"".join(texts)).hex(), *["step"] * (5 + len(texts) + 1), "shows"]
+        script = ("follower " + ";".join(steps) + "\n").encode()
+        ample = subprocess.run([built("rehearse_values")], input=script, capture_output=True, timeout=LATE).stdout.splitlines()
+        self.assertEqual(ample[-2], b"idle")
+        refusals = set()
+
+        def check(ran, was_refused):
+            answers = ran.stdout.splitlines()
+            lacked = [it for it in answers if it.startswith(b"refuses")]
+            refusals.update(lacked[:1])
+            if ran.returncode:
+                self.assertEqual((was_refused, answers, ran.stderr), (True, [], b"rehearse_values: out of memory\n"))
+            elif not lacked:
+                self.assertEqual(answers, ample)
+            else:
+                at = answers.index(lacked[0])
+                self.assertTrue(was_refused)
+                self.assertEqual(answers[:at], ample[:at])
+                if lacked[0] == b"refuses: out of memory":
+                    self.assertEqual(answers[at + 1 :], [*ample[at:-2], ample[-1]])
+
+        self.assertGreater(self.each_refusal(script, check, built("rehearse_values")), 10)
+        self.assertEqual(refusals, {b"refuses: out of memory", b"refuses: out of memory, and the dataset is spent"})
 
 
 if __name__ == "__main__":

@@ -20,8 +20,10 @@ class Playing(unittest.TestCase):
         self.assertEqual((ran.returncode, ran.stderr), (0, ""))
         return ran.stdout.splitlines()
 
-    def plays(self, kind, steps):
-        """Steps on one fresh value of a kind, each with its answer."""
-        answers = self.answers_to(kind + " " + ";".join(step for step, _ in steps))
-        for (step, wanted), answer in zip(steps, answers, strict=True):
-            self.assertEqual(answer, wanted, (kind, step))
+    def plays(self, kind, *values):
+        """Steps on one fresh value of a kind, or on several one after another, each with its answer."""
+        answers = iter(self.answers_to(*(kind + " " + ";".join(step for step, _ in steps) for steps in values)))
+        for steps in values:
+            for step, wanted in steps:
+                self.assertEqual(next(answers, None), wanted, (kind, step, steps))
+        self.assertIsNone(next(answers, None))

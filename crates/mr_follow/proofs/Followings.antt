@@ -1,11 +1,10 @@
 -- A follower in its stream.
-use Rattle.std.proofs.Common.{◌≡◌, ℕ, ◌+◌, ◌<◌, ◌≤◌, ◌^◌, ◌⊎◌, inl, inr, List, [], ◌∷◌, ◌++◌, length, Some, Ok, refl, sym, ap, ◌∙◌, subst, arith, append_assoc, append-nil, length-append}
+use Rattle.std.proofs.Common.{◌≡◌, ℕ, ◌+◌, ◌<◌, ◌≤◌, ◌⊎◌, inl, inr, List, [], ◌∷◌, ◌++◌, length, Some, Ok, refl, sym, ap, ◌∙◌, subst, arith, append_assoc, append-nil, length-append}
 use Rattle.std.specs.Option.{option_and_then}
 use Rattle.std.proofs.lemmas.List.Elements.{All-head, All-tail}
 use Rattle.mr_inline.specs.Language.{IsDoomed}
 use Rattle.mr_resp.specs.Command.{IsCommand, IsCommandText}
 use Rattle.mr_resp.specs.Usual.{commands}
-use Rattle.mr_resp.proofs.Commands.{commands_apart}
 use Rattle.mr_data.specs.Meaning.{apply, apply_all}
 use Rattle.mr_effect.specs.Spelling.{text, texts, IsShort}
 use Rattle.mr_effect.specs.declared.effect.Effect.{Effect}
@@ -14,7 +13,10 @@ use Rattle.mr_effect.proofs.Texts.{one_text, command_text, short_effect}
 use Rattle.mr_entries.specs.Dataset.{Dataset}
 use Rattle.mr_lines.specs.Lines.{most_counted}
 use Rattle.mr_follow.specs.Handshake.{IsGreeting}
-use Rattle.mr_follow.specs.Loading.{Loads, Applies}
+use Rattle.mr_replay.specs.Effects.{IsGoodEffect}
+use Rattle.mr_replay.specs.Steps.{DoesWords}
+use Rattle.mr_replay.proofs.Commands.{refuses_first}
+use Rattle.std.proofs.Math.Seq.{take-append_seam}
 use Rattle.mr_follow.specs.State.{FollowState, heard}
 use Rattle.mr_follow.specs.Rows.{FollowRow, Stays, Follows}
 use Rattle.mr_follow.specs.Following.{Call, feed, step, fed_by, Runs, IsStream, HasFollowed, FollowsBy, FollowsTheStream, StreamIsTaken}
@@ -23,7 +25,7 @@ use Rattle.mr_follow.specs.declared.phase.Phase.TheVariants as phase
 use Rattle.mr_follow.specs.declared.heard.Heard.{Heard}
 use Rattle.mr_follow.specs.declared.heard.Heard.TheVariants as told
 use Rattle.mr_follow.specs.declared.heard.FollowFault.TheVariants as fault
-use Rattle.mr_follow.proofs.Loadings.{possible, then_some, text_of_words, short_of_words, some_text, short_small, front_command}
+use Rattle.mr_follow.proofs.Loadings.{possible, then_some, text_of_words, short_of_words, some_text, short_small}
 
 asked_no : (p : Phase) → p ≡ phase.Stream → p ≡ phase.Psync → ⊥
 asked_no p streams asked = let wrong : phase.Psync ≡ phase.Stream = sym asked ∙ streams in cc
@@ -114,9 +116,6 @@ follows (step ∷ calls) a b m n offset end es later streams s split (c, (k, (mi
     ]
 
 -- ---- nothing is refused
-stream_loads : (es : List Effect) (m : Dataset) (offset : ℕ) (s : IsStream es m offset) → Loads (texts es) m s.last
-stream_loads es m offset s = record { effects = es; spelled = refl; short = s.short; applied = s.applied }
-
 no_front : (xs ys : List ℕ) → xs ++ ys ≡ [] → xs ≡ []
 no_front [] ys e = refl
 no_front (x ∷ xs) ys e = absurd (omega (arith, ap length e))
@@ -131,16 +130,23 @@ not_doomed (e ∷ es) kept later m offset s split d =
     let p = possible e m parts.0 parts.1.0 in
     d.never later (text e) (texts es) (command_text e p.0 p.1 (All-head IsShort e es s.short)) (sym split)
 
+no_longer : (t rest xs : List ℕ) → 0 < length t → [] ≡ t ++ (rest ++ xs) → ⊥
+no_longer t rest xs some e = omega (arith, ap length e, length-append t (rest ++ xs), some)
+
 not_bad : (es : List Effect) (kept later : List ℕ) (m : Dataset) (offset : ℕ) (ws : List (List ℕ)) (t rest : List ℕ) → IsStream es m offset → texts es ≡ kept ++ later → kept ≡ t ++ rest → IsCommand commands t ws
-    → ((n : Dataset) → offset + length t ≤ most_counted → Applies ws m n → ⊥) → ⊥
-not_bad es kept later m offset ws t rest s split front c bad =
-    let all : texts es ≡ t ++ (rest ++ later) = split ∙ ap (λ (l : List ℕ). l ++ later) front ∙ append_assoc t rest later in
-    let sizes = ap length all in let size = length-append t (rest ++ later) in
-    let some : 0 < length (texts es) = omega (arith, sizes, size, some_text t ws c) in
-    let small : length (texts es) < 2 ^ 64 = omega (arith, s.within) in
-    let r = front_command (texts es) m s.last some small (stream_loads es m offset s) in
-    let both = commands_apart commands r.1.0 t r.1.1.0 (rest ++ later) r.0 ws r.1.1.1.1.1.0 c (sym r.1.1.1.1.0 ∙ all) in
-    bad r.1.1.1.0 (omega (arith, s.within, sizes, size)) (rw both.1 at r.1.1.1.1.1.1)
+    → ((n : Dataset) → offset + length t ≤ most_counted → DoesWords ws m n → ⊥) → ⊥
+not_bad [] kept later m offset ws t rest s split front c bad =
+    no_longer t rest later (some_text t ws c) (split ∙ ap (λ (l : List ℕ). l ++ later) front ∙ append_assoc t rest later)
+not_bad (e ∷ es) kept later m offset ws t rest s split front c bad =
+    let all : text e ++ texts es ≡ (t ++ rest) ++ later = split ∙ ap (λ (l : List ℕ). l ++ later) front in
+    let sizes = ap length all in let size = length-append t rest in let whole = length-append (t ++ rest) later in
+    let parts = then_some (apply e m) (apply_all es) s.last s.applied in
+    let p = possible e m parts.0 parts.1.0 in
+    let good : IsGoodEffect e = record { spelled = p.0; fits = p.1; short = All-head IsShort e es s.short } in
+    let few : offset + length t ≤ most_counted = omega (arith, s.within, sizes, size, whole) in
+    let command = subst (λ (l : List ℕ). IsCommand commands l ws) (sym (take-append_seam t rest)) c in
+    let stuck = refuses_first (t ++ rest) (length t) ws m (omega (arith, size)) (omega (arith, few)) command (λ f n spelled applied. bad n few (record { effect = f; spelled = spelled; applied = applied })) in
+    stuck later e parts.0 (texts es) good parts.1.0 (sym all)
 
 pub taken : StreamIsTaken
 taken a b m n offset es later said fault.BadLine streams s split row = row.0.wants streams

@@ -1,6 +1,5 @@
 -- The rows of a step, by what was found at the front of the unread bytes.
 use Rattle.std.proofs.Common.{◌≡◌, ℕ, ◌+◌, ◌-◌, ◌<◌, ◌≤◌, inl, inr, List, [], ◌++◌, length, take, drop, get_or, Option, Some, None, IsSome, Result, Ok, Err, refl, sym, ap, ◌∙◌, subst, arith, drop-drop, length-drop}
-use Rattle.std.specs.FinMap.{empty}
 use Rattle.std.specs.Prelude.{codes}
 use Rattle.std.proofs.lemmas.List.{take-append-drop, length-take-le, append-nil}
 use Rattle.mr_inline.specs.Language.{Continues}
@@ -13,7 +12,8 @@ use Rattle.mr_lines.specs.declared.psync.PsyncReply.TheVariants as reply
 use Rattle.mr_lines.proofs.Places.{rest_from}
 use Rattle.mr_follow.specs.Handshake.{IsGreeting, next_of, line_after}
 use Rattle.mr_follow.specs.Lines.{Begins, IsFront, HasSnapshot, IsShortOf, HearsAnswer, HearsSnapshot, HearsStatus}
-use Rattle.mr_follow.specs.Loading.{Loads, ReadsSnapshot}
+use Rattle.mr_replay.specs.Effects.{Makes}
+use Rattle.mr_follow.specs.Loading.{ReadsSnapshot}
 use Rattle.mr_follow.specs.State.{FollowState, Agrees}
 use Rattle.mr_follow.specs.Stream.{AppliesFront}
 use Rattle.mr_follow.specs.Rows.{Waits, WantsLine, IsOutOfPlace, IsWrongLine, FollowRow, Steps, StepsAside}
@@ -254,7 +254,7 @@ load_refused a fault.Memory id bytes o used announced h r out m offset = stays a
 load_refused a fault.Spent id bytes o used announced h r out m offset = absurd r
 
 pub load_whole : (a b : FollowState) (id bytes : List ℕ) (o used : ℕ) (loaded : Dataset) → a.phase ≡ phase.Snapshot id o → HasSnapshot a.kept bytes used
-    → Loads bytes empty loaded → b ≡ record a { phase = phase.Stream; kept = drop used a.kept } → (out : List ℕ) → StepsAside a (Ok (heard.Snapshot loaded)) b out out
+    → Makes bytes loaded → b ≡ record a { phase = phase.Stream; kept = drop used a.kept } → (out : List ℕ) → StepsAside a (Ok (heard.Snapshot loaded)) b out out
 load_whole a b id bytes o used loaded announced h loads is out m offset = record {
   told = [];
   put = sym (append-nil out);

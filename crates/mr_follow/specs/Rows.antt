@@ -1,6 +1,5 @@
 -- What a step of a follower may do, one row for each outcome.
 use Rattle.std.specs.Prelude.{◌≡◌, ◌≢◌, ℕ, ◌+◌, ◌≤◌, ◌⊎◌, List, [], ◌++◌, length, Option, None, IsSome, Result, Ok, Err}
-use Rattle.std.specs.FinMap.{empty}
 use Rattle.mr_inline.specs.Language.{Continues, IsDoomed}
 use Rattle.mr_resp.specs.Command.{IsCommand, IsCommandText}
 use Rattle.mr_resp.specs.Usual.{commands}
@@ -9,9 +8,10 @@ use Rattle.mr_lines.specs.Lines.{Line, status, refusal, size, IsLineText, most_c
 use Rattle.mr_lines.specs.Replies.{IsReplyText}
 use Rattle.mr_lines.specs.declared.psync.PsyncReply.{PsyncReply}
 use Rattle.mr_lines.specs.declared.psync.PsyncReply.TheVariants as reply
+use Rattle.mr_replay.specs.Effects.{Makes}
+use Rattle.mr_replay.specs.Steps.{DoesWords}
 use Rattle.mr_follow.specs.Handshake.{IsGreeting, next_of, line_after}
 use Rattle.mr_follow.specs.Lines.{Begins, IsNoLine, IsShortOf}
-use Rattle.mr_follow.specs.Loading.{Loads, Applies}
 use Rattle.mr_follow.specs.State.{FollowState, Moves}
 use Rattle.mr_follow.specs.declared.phase.Phase.{Phase}
 use Rattle.mr_follow.specs.declared.phase.Phase.TheVariants as phase
@@ -64,7 +64,7 @@ pub record Installs (a : FollowState) (u : List ℕ) (loaded : Dataset) (b : Fol
   pub bytes : List ℕ
   pub rest : List ℕ
   pub begins : Begins u (size (length bytes)) (bytes ++ rest)
-  pub loads : Loads bytes empty loaded
+  pub loads : Makes bytes loaded
   pub state : Moves a phase.Stream rest b
 
 -- The effect at the front of the stream is used and applied, and its text is put out.
@@ -74,7 +74,7 @@ pub record Follows (a : FollowState) (u : List ℕ) (m : Dataset) (offset : ℕ)
   pub rest : List ℕ
   pub begins : Commands u words told rest
   pub within : offset + length told ≤ most_counted
-  pub applies : Applies words m n
+  pub applies : DoesWords words m n
   pub state : Moves a phase.Stream rest b
 
 -- the line may not stand here: for a line of the handshake, as the answer to PSYNC, in the place of a snapshot's length
@@ -119,7 +119,7 @@ pub record IsBadSnapshot (a : FollowState) (u : List ℕ) : Type 0 where
   pub bytes : List ℕ
   pub rest : List ℕ
   pub begins : Begins u (size (length bytes)) (bytes ++ rest)
-  pub bad : (n : Dataset) → Loads bytes empty n → ⊥
+  pub bad : (n : Dataset) → Makes bytes n → ⊥
 
 -- the command text at the front is no effect that can be applied here, or leads past the offset limit
 pub record IsBadCommand (u : List ℕ) (m : Dataset) (offset : ℕ) : Type 0 where
@@ -127,7 +127,7 @@ pub record IsBadCommand (u : List ℕ) (m : Dataset) (offset : ℕ) : Type 0 whe
   pub text : List ℕ
   pub rest : List ℕ
   pub begins : Commands u words text rest
-  pub bad : (n : Dataset) → offset + length text ≤ most_counted → Applies words m n → ⊥
+  pub bad : (n : Dataset) → offset + length text ≤ most_counted → DoesWords words m n → ⊥
 
 pub record IsBadStream (a : FollowState) (u : List ℕ) (m : Dataset) (offset : ℕ) : Type 0 where
   pub streams : a.phase ≡ phase.Stream

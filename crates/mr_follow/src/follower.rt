@@ -81,6 +81,13 @@ impl Follower {
         self.phase
     }
 
+    /// The bytes that were fed and not used.
+    pub fn kept(&self) -> &[u8]
+        ensures { result.now ≡ self.now.kept }
+    {
+        self.inbox.unread()
+    }
+
     /// Takes bytes that the master sent.
     pub fn feed(&mut self, bytes: &[u8]) -> Result<(), AllocError>
         ensures ok { OnOk result (self.new ≡ heard self.old bytes.now) }

@@ -1,16 +1,12 @@
 //! A snapshot: its length on a line, and then the texts of effects.
-ghost use Rattle.std.specs.Prelude.{◌<◌, length, map};
-ghost use Rattle.std.specs.Cow.{cow_slice_items};
 ghost use Rattle.mr_follow.specs.Lines.{HearsSnapshot};
-ghost use Rattle.mr_follow.specs.Loading.{ReadsSnapshot, LoadsNext, LoadsWords};
+ghost use Rattle.mr_follow.specs.Loading.{ReadsSnapshot};
 
 use crate::FollowFault;
 use crate::status::length_at;
-use crate::words::apply_words;
 use mr_data::Dataset;
-use mr_resp::{Scan, next_command};
+use mr_replay::load;
 use std::alloc::Global;
-use std::borrow::CowSlice;
 use std::hash::RandomState;
 
 /// The bytes of a whole snapshot, and how many they are with the line of their length.
@@ -38,37 +34,8 @@ pub(crate) fn snapshot_at(input: &[u8]) -> Result<Option<Snapshot<'_>>, FollowFa
     }))
 }
 
-/// Does the effect with these words, whose text has so many bytes.
-fn load_words(
-    alloc: Global,
-    words: &[CowSlice<'_, u8>],
-    used: usize,
-    held: &mut Dataset,
-) -> Result<usize, FollowFault>
-    ensures { LoadsWords (map cow_slice_items words.now) used held.old result held.new }
-{
-    match apply_words(alloc, words, held) {
-        Ok(()) => Ok(used),
-        Err(FollowFault::Undecodable) => Err(FollowFault::Undecodable),
-        Err(_) => Err(FollowFault::Memory),
-    }
-}
-
-/// Does the first effect of a list of effect texts. Answers how many bytes its text has.
-fn load_next(alloc: Global, rest: &[u8], held: &mut Dataset) -> Result<usize, FollowFault>
-    requires { 0 < length rest.now }
-    ensures { LoadsNext rest.now held.old result held.new }
-{
-    match next_command(alloc, rest) {
-        Err(_) => Err(FollowFault::Memory),
-        Ok(Scan::Whole { words, used }) => load_words(alloc, words.as_slice(), used, held),
-        Ok(Scan::More) => Err(FollowFault::Undecodable),
-        Ok(Scan::Bad(_)) => Err(FollowFault::Undecodable),
-        Ok(Scan::Skip { used: _ }) => Err(FollowFault::Undecodable),
-    }
-}
-
-/// Makes the dataset of a snapshot, which is the texts of effects. Its look-ups go by a hash with this seed.
+/// Makes the dataset of a snapshot, which is the texts of effects and nothing else. Its look-ups go by a hash with this seed.
+#[tactic(auto, using(crate::proofs::Loadings::whole_read))]
 pub(crate) fn read_snapshot(
     alloc: Global,
     seed: RandomState,
@@ -76,11 +43,11 @@ pub(crate) fn read_snapshot(
 ) -> Result<Dataset, FollowFault>
     ensures { ReadsSnapshot bytes.now result }
 {
-    let mut held = Dataset::new(alloc, seed);
-    let mut at = 0;
-    while at < bytes.len() {
-        let used = load_next(alloc, &bytes[at..], &mut held)?;
-        at += used;
+    let Ok(loaded) = load(alloc, seed, bytes) else {
+        return Err(FollowFault::Memory);
+    };
+    if loaded.used < bytes.len() as u64 {
+        return Err(FollowFault::Undecodable);
     }
-    Ok(held)
+    Ok(loaded.dataset)
 }

@@ -1,5 +1,5 @@
 -- The row of each event: what it changes, and nothing else. An event that a world refuses has no row.
-use Rattle.std.specs.Prelude.{ℕ, List, [], ◌++◌, ◌+◌, ◌≤◌, ◌≡◌, ◌≢◌, ◌⊎◌, None, Some, Bool, true, false, length, ◌==◌}
+use Rattle.std.specs.Prelude.{ℕ, List, [], ◌++◌, ◌+◌, ◌-◌, ◌≤◌, ◌≡◌, ◌≢◌, ◌⊎◌, None, Some, Bool, true, false, length, ◌==◌}
 use Rattle.mr_history.specs.Language.{Language}
 use Rattle.mr_history.specs.Language.Request.{Handshake}
 use Rattle.mr_history.specs.Changes.{SetAt, Same}
@@ -168,7 +168,7 @@ pub record BreakOfClient {L : Language} (w : World L) (l : ℕ) (v : World L) : 
 pub record Beats {L : Language} (w v : World L) (n : ℕ) (a : Node L) (given : L.Given) : Type 0 where
   pub master : a.master ≡ true
   pub effects : List L.Effect
-  pub due : L.due a.held given effects
+  pub due : L.due (L.limit - a.offset) a.held given effects
   pub grown : Grown w v n a effects
   pub no_links : (l : ℕ) → w.link l ≡ None → v.link l ≡ None
   pub links : (l : ℕ) (k : Link) → w.link l ≡ Some k → v.link l ≡ Some (told_if (hears n k) k (texts L effects))

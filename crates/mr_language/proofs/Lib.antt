@@ -4,3 +4,4 @@ pub mod Ids
 pub mod Said
 pub mod Asked
 pub mod MiniredLaws
+pub mod Planned

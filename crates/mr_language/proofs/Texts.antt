@@ -1,18 +1,19 @@
 -- No effect's text begins another's, and no snapshot another.
 use Rattle.std.proofs.Common.{ℕ, List, [], ◌∷◌, ◌++◌, ◌≡◌, ◌≢◌, ◌<◌, ◌^◌, length, refl, ap, sym, ◌∙◌, subst, arith, append_assoc, All}
+use Rattle.std.proofs.lemmas.List.{append_cancel_left}
 use Rattle.std.proofs.lemmas.List.Elements.{All-head, All-tail}
 use Rattle.std.specs.FinMap.{empty}
-use Rattle.mr_resp.specs.Spelling.{number_line}
 use Rattle.mr_resp.specs.Usual.{commands-words}
-use Rattle.mr_resp.proofs.Words.{line_unique}
 use Rattle.mr_effect.specs.Spelling.{words, text, texts, IsShort}
 use Rattle.mr_effect.specs.declared.effect.Effect.{Effect}
 use Rattle.mr_effect.proofs.Texts.{one_text}
 use Rattle.mr_entries.specs.Dataset.{Dataset}
 use Rattle.mr_data.specs.Meaning.{apply_all}
-use Rattle.mr_language.specs.Effects.{IsGoodEffect, Makes}
-use Rattle.mr_language.specs.Snapshots.{IsSnapshot, snapshot_text}
+use Rattle.mr_lines.specs.Lines.{size}
+use Rattle.mr_replay.specs.Effects.{IsGoodEffect, Makes}
+use Rattle.mr_language.specs.Snapshots.{IsSnapshot}
 use Rattle.mr_language.proofs.Lists.{some_is, same_length}
+use Rattle.mr_language.proofs.Said.{same_said, line_some}
 
 few : (e : Effect) → IsShort e → length (words e) < 2 ^ 64
 few e s = omega (arith, s, commands-words)
@@ -43,17 +44,22 @@ made_is_one bytes m n p q =
     let s = same_effects p.effects q.effects p.good q.good (sym p.are_texts ∙ q.are_texts) in
     some_is m n (sym p.applied ∙ (ap (λ z. apply_all z empty) s ∙ q.applied))
 
-same_commands : (c d x y : List ℕ) → length c < 2 ^ 64 → length d < 2 ^ 64 → snapshot_text c ++ x ≡ snapshot_text d ++ y → c ≡ d
-same_commands c d x y p q e =
-    let inner : (number_line (length c) ++ c) ++ x ≡ (number_line (length d) ++ d) ++ y = cc in
-    let both = sym (append_assoc (number_line (length c)) c x) ∙ (inner ∙ append_assoc (number_line (length d)) d y) in
-    let r = line_unique (length c) (length d) (c ++ x) (d ++ y) p q both in
-    same_length c d x y r.0 r.1
+one_size : (n k : ℕ) → size n ≡ size k → n ≡ k
+one_size n k e = cc
 
 pub loads_cut : (s t : List ℕ) (m n : Dataset) (x y : List ℕ) → IsSnapshot s m → IsSnapshot t n → s ++ x ≡ t ++ y → (s ≡ t) × (m ≡ n)
 loads_cut s t m n x y p q e =
-    let c = same_commands p.commands q.commands x y (omega (arith, p.small)) (omega (arith, q.small)) (ap (λ z. z ++ x) (sym p.is) ∙ (e ∙ ap (λ z. z ++ y) q.is)) in
-    (p.is ∙ (ap (λ z. snapshot_text z) c ∙ sym q.is), made_is_one q.commands m n (subst (λ z. Makes z m) c p.made) q.made)
+    let c = p.commands in let d = q.commands in
+    let whole : p.line ++ (c ++ x) ≡ q.line ++ (d ++ y) =
+    sym (append_assoc p.line c x) ∙ (ap (λ z. z ++ x) (sym p.is) ∙ (e ∙ (ap (λ z. z ++ y) q.is ∙ append_assoc q.line d y))) in
+    let lines = same_said p.line q.line (size (length c)) (size (length d)) (c ++ x) (d ++ y) p.says q.says whole in
+    let behind = append_cancel_left q.line (c ++ x) (d ++ y) (ap (λ z. z ++ (c ++ x)) (sym lines.0) ∙ whole) in
+    let same : c ≡ d = same_length c d x y (one_size (length c) (length d) lines.1) behind in
+    (p.is ∙ ((λ i. lines.0 i ++ same i) ∙ sym q.is), made_is_one d m n (subst (λ z. Makes z m) same p.made) q.made)
 
 pub loads_some : (t : List ℕ) (m : Dataset) → IsSnapshot t m → t ≢ []
-loads_some t m p e = let h = sym p.is ∙ e in absurd (cc)
+loads_some t m p e = no_front p.line p.commands (line_some p.line (size (length p.commands)) p.says) (sym p.is ∙ e)
+  where
+    no_front : (l c : List ℕ) → l ≢ [] → l ++ c ≢ []
+    no_front [] c h q = h refl
+    no_front (b ∷ l) c h q = cc

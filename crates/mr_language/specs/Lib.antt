@@ -1,5 +1,5 @@
-pub mod Effects
-pub mod Snapshots
 pub mod Lines
+pub mod Snapshots
 pub mod Requests
+pub mod Changes
 pub mod Minired

@@ -10,12 +10,13 @@ use Rattle.mr_entries.specs.Dataset.{Dataset}
 use Rattle.mr_data.specs.Meaning.{apply}
 use Rattle.mr_data.specs.declared.given.Given.{Given}
 use Rattle.mr_history.specs.Language.{Language}
-use Rattle.mr_language.specs.Effects.{IsGoodEffect, IsReadAs}
-use Rattle.mr_language.specs.Lines.{Says, greatest}
+use Rattle.mr_lines.specs.Lines.{most_counted}
+use Rattle.mr_replay.specs.Effects.{IsGoodEffect}
+use Rattle.mr_language.specs.Changes.{HasEffects, IsDue}
+use Rattle.mr_language.specs.Lines.{Says}
 use Rattle.mr_language.specs.Requests.{IsAsked}
-use Rattle.mr_language.specs.Snapshots.{IsSnapshot}
+use Rattle.mr_language.specs.Snapshots.{IsSnapshot, IsReadAs}
 
--- Which effects a command has, and which are due, is left open here: whatever they are, so long as they apply.
 abbrev pub minired : Language
 minired = record {
   Id = List ℕ;
@@ -26,10 +27,10 @@ minired = record {
   apply = apply;
   text = text;
   IsGood = IsGoodEffect;
-  limit = greatest;
+  limit = most_counted;
   Given = Given;
-  effects = λ request m given effects. Unit {0};
-  due = λ m given effects. Unit {0};
+  effects = HasEffects;
+  due = IsDue;
   says = Says;
   asks = IsAsked;
   loads = IsSnapshot;

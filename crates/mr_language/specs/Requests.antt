@@ -7,6 +7,7 @@ use Rattle.mr_resp.specs.Usual.{usual}
 use Rattle.mr_value.specs.Number.{number_of}
 use Rattle.mr_words.specs.Names.{lowered}
 use Rattle.mr_repl.specs.ReplId.{IsId, digits_of}
+use Rattle.mr_plan.specs.Requests.{quits}
 use Rattle.mr_history.specs.Language.{Request}
 use Rattle.mr_history.specs.Language.Request.{Handshake, Psync, Ack, Command, ReplicaOfNoOne, ReplicaOf, Empty, Quit}
 
@@ -66,14 +67,17 @@ asked_by_replicaof (host ∷ (port ∷ rest)) =
     if named host (codes "no") && named port (codes "one") then asked_alone no_one rest
     else (if may_be_port (number_of port) then asked_alone (follow host port) rest else command)
 
-abbrev pub kind_of : List Bytes → Kind
-kind_of [] = command
-kind_of (name ∷ arguments) =
+abbrev pub asked_between_nodes : List Bytes → Kind
+asked_between_nodes [] = command
+asked_between_nodes (name ∷ arguments) =
     if named name (codes "ping") then asked_alone handshake arguments
     else (if named name (codes "replconf") then asked_by_replconf arguments
     else (if named name (codes "psync") then asked_by_psync arguments
-    else (if named name (codes "replicaof") || named name (codes "slaveof") then asked_by_replicaof arguments
-    else (if named name (codes "quit") then asked_alone quit arguments else command))))
+    else (if named name (codes "replicaof") || named name (codes "slaveof") then asked_by_replicaof arguments else command)))
+
+-- a client that asks that its link be closed is told so by no plan; each other request that isn't one between nodes has a plan
+abbrev pub kind_of : List Bytes → Kind
+kind_of words = if quits words then quit else asked_between_nodes words
 
 -- The two words of PSYNC want the stream of this id from this byte on.
 pub record Wants (id_text offset_text : Bytes) (id : List ℕ) (offset : ℕ) : Type 0 where

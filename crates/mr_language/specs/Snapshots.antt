@@ -1,15 +1,17 @@
--- The text of a snapshot: its length on a line of its own, and so many bytes of commands that make the dataset again.
-use Rattle.std.specs.Prelude.{◌≡◌, ℕ, ◌≤◌, List, ◌∷◌, ◌++◌, length}
-use Rattle.mr_resp.specs.Spelling.{number_line}
+-- What makes a dataset again: a snapshot, and a file.
+use Rattle.std.specs.Prelude.{◌≡◌, ℕ, List, ◌++◌, length}
+use Rattle.mr_lines.specs.Lines.{size, IsPeerLine}
+use Rattle.mr_replay.specs.Effects.{Makes, Loads}
 use Rattle.mr_entries.specs.Dataset.{Dataset}
-use Rattle.mr_language.specs.Effects.{Makes}
-use Rattle.mr_language.specs.Lines.{greatest}
 
-abbrev pub snapshot_text : List ℕ → List ℕ
-snapshot_text commands = 36 ∷ number_line (length commands) ++ commands
-
+-- The text is a length on a line of its own, and so many bytes of commands that make this dataset.
 pub record IsSnapshot (text : List ℕ) (m : Dataset) : Type 0 where
+  pub line : List ℕ
   pub commands : List ℕ
-  pub is : text ≡ snapshot_text commands
-  pub small : length commands ≤ greatest
+  pub is : text ≡ line ++ commands
+  pub says : IsPeerLine line (size (length commands))
   pub made : Makes commands m
+
+-- The longest beginning of a file that makes a dataset makes this one.
+abbrev pub IsReadAs : List ℕ → Dataset → Type 0
+IsReadAs file m = (used : ℕ) × Loads file used m

@@ -1,5 +1,5 @@
 -- Command texts among the requests.
-use Rattle.std.proofs.Common.{◌≡◌, ◌≢◌, ℕ, ◌<◌, ◌≤◌, ◌*◌, ◌⊎◌, inl, inr, List, [], ◌∷◌, ◌++◌, length, get_or, take, drop, map, All, Result, Ok, Err, IfOk, lit<, refl, sym, ap, ◌∙◌, subst, append_assoc, arith}
+use Rattle.std.proofs.Common.{◌≡◌, ◌≢◌, ℕ, ◌<◌, ◌≤◌, ◌*◌, ◌^◌, ◌⊎◌, inl, inr, List, [], ◌∷◌, ◌++◌, length, get_or, take, drop, map, All, Result, Ok, Err, IfOk, lit<, refl, sym, ap, ◌∙◌, subst, append_assoc, arith}
 use Rattle.std.specs.Fmt.{decimal}
 use Rattle.std.specs.List.{flat_map}
 use Rattle.std.specs.Cow.{cow_slice_items}
@@ -44,6 +44,13 @@ clear_no_empty text rest clear empty =
 pub command_of : (limits : Limits) (text : List ℕ) (words : List (List ℕ)) → IsArray limits text words → IsCommand limits text words
 command_of limits text words r = record { spelled = r.spelled; some = r.some; count = r.count; each = r.each }
 
+-- a number above 0 begins with no 0
+pub first_digit : (n b : ℕ) (x y : List ℕ) → 0 < n → n < 2 ^ 64 → number_line n ++ x ≡ b ∷ y → 48 < b
+first_digit n b x y pos small e =
+    let digits = is_of n (omega (arith, small)) in
+    let first : b ≡ get_or (decimal n ++ (line_end ++ x)) 0 0 = ap (λ (t : List ℕ). get_or t 0 0) (sym e ∙ append_assoc (decimal n) line_end x) in
+    omega (arith, first, get_or_append_left (decimal n) (line_end ++ x) 0 0 digits.some, digits.no_zero pos)
+
 pub map_ok : {T E : Type 0} (r : Result T E) (P Q : T → Type 0) → ((x : T) → P x → Q x) → IfOk r P → IfOk r Q
 map_ok (Ok x) P Q f h = f x h
 map_ok (Err e) P Q f h = tt
@@ -53,7 +60,7 @@ module _ (limits : Limits) (word : limits.word ≡ 16777216) (words : limits.wor
   word_size : (w : List ℕ) → length w ≤ limits.word → length (bulk w) ≤ 16777241
   word_size w le = omega (arith, length-bulk w, length-decimal-le 20 (length w) (lit< tt) (omega (arith, le, word)) (omega (arith, le, word)))
 
-  words_size : (ws : List (List ℕ)) → All (λ w. length w ≤ limits.word) ws → length (flat_map bulk ws) ≤ 16777241 * length ws
+  pub words_size : (ws : List (List ℕ)) → All (λ w. length w ≤ limits.word) ws → length (flat_map bulk ws) ≤ 16777241 * length ws
   words_size [] h = omega arith
   words_size (w ∷ ws) h = omega (arith, length-append (bulk w) (flat_map bulk ws), word_size w (All-head (λ w. length w ≤ limits.word) w ws h), words_size ws (All-tail (λ w. length w ≤ limits.word) w ws h))
 
@@ -77,14 +84,14 @@ module _ (limits : Limits) (word : limits.word ≡ 16777216) (words : limits.wor
   }
 
   -- a text that begins no empty request is a command
-  text_command : (t rest : List ℕ) → IsClear (t ++ rest) → IsArrayText limits t → IsCommandText limits t
+  pub text_command : (t rest : List ℕ) → IsClear (t ++ rest) → IsArrayText limits t → IsCommandText limits t
   text_command t rest clear (inl r) = (r.0, command_of limits t r.0 r.1)
   text_command t rest clear (inr e) = absurd (clear_no_empty t rest clear e)
 
   doomed_command : (y : List ℕ) → IsDoomed (IsArrayText limits) y → IsDoomed (IsCommandText limits) y
   doomed_command y d = record { never = λ more t rest c e. d.never more t rest (inl (c.0, request_of t c.0 c.1)) e }
 
-  one_command : IsCommand limits (array ([] ∷ [])) ([] ∷ [])
+  pub one_command : IsCommand limits (array ([] ∷ [])) ([] ∷ [])
   one_command = record { spelled = refl; some = lit< tt; count = omega (arith, words); each = All-cons (λ w. length w ≤ limits.word) [] [] (omega arith) (All-nil (λ w. length w ≤ limits.word)) }
 
   bytes_one : All (λ b. b < 256) (number_line 1 ++ flat_map bulk ([] ∷ []))
@@ -107,7 +114,7 @@ module _ (limits : Limits) (word : limits.word ≡ 16777216) (words : limits.wor
   }
 
   -- more bytes leave the second one as it is
-  clear_more : (a b : ℕ) (r more : List ℕ) → IsClear (a ∷ b ∷ r) → IsClear ((a ∷ b ∷ r) ++ more)
+  pub clear_more : (a b : ℕ) (r more : List ℕ) → IsClear (a ∷ b ∷ r) → IsClear ((a ∷ b ∷ r) ++ more)
   clear_more a b r more clear = λ c rest e.
       let both : a ∷ b ∷ (r ++ more) ≡ 42 ∷ c ∷ rest = e in
       let first : a ≡ 42 = cc both in
@@ -149,22 +156,17 @@ module _ (limits : Limits) (word : limits.word ≡ 16777216) (words : limits.wor
   reads_command input (Bad fault) clear p = fails_command input fault clear p
 
   -- the first digit of a count that isn't 0
-  second_byte : (b : ℕ) (x t rest : List ℕ) → IsCommandText limits t → 42 ∷ b ∷ x ≡ t ++ rest → 48 < b
+  pub second_byte : (b : ℕ) (x t rest : List ℕ) → IsCommandText limits t → 42 ∷ b ∷ x ≡ t ++ rest → 48 < b
   second_byte b x t rest c e =
       let ws : List (List ℕ) = c.0 in
-      let n = length ws in
-      let after : List ℕ = line_end ++ (flat_map bulk ws ++ rest) in
-      let is : 42 ∷ b ∷ x ≡ 42 ∷ (decimal n ++ after) =
-      e ∙ ap (λ (y : List ℕ). y ++ rest) c.1.spelled ∙ ap (λ (y : List ℕ). 42 ∷ y) (append_assoc (number_line n) (flat_map bulk ws) rest ∙ append_assoc (decimal n) line_end (flat_map bulk ws ++ rest)) in
-      let inner : b ∷ x ≡ decimal n ++ after = cc is in
-      let digits = is_of n (omega (arith, c.1.count, words)) in
-      let first : b ≡ get_or (decimal n ++ after) 0 0 = ap (λ (y : List ℕ). get_or y 0 0) inner in
-      omega (arith, first, get_or_append_left (decimal n) after 0 0 digits.some, digits.no_zero c.1.some)
+      let is : 42 ∷ b ∷ x ≡ 42 ∷ (number_line (length ws) ++ (flat_map bulk ws ++ rest)) = e ∙ ap (λ (y : List ℕ). y ++ rest) c.1.spelled ∙ array_parts ws rest in
+      let inner : number_line (length ws) ++ (flat_map bulk ws ++ rest) ≡ b ∷ x = cc is in
+      first_digit (length ws) b (flat_map bulk ws ++ rest) x c.1.some (few limits (length ws) c.1.count) inner
 
   line_begins : Continues (IsCountLine limits) (42 ∷ [])
   line_begins = record { more = 45 ∷ 49 ∷ line_end; some = lit< tt; are_bytes = bytes_cons 45 (49 ∷ line_end) (lit< tt) (bytes_cons 49 line_end (lit< tt) bytes_end); whole = inr refl }
 
-  no_number : IsNumber 42 (42 ∷ 45 ∷ []) → ⊥
+  pub no_number : IsNumber 42 (42 ∷ 45 ∷ []) → ⊥
   no_number n =
       let same : n.0 ≡ 45 ∷ [] = cc (n.1) in
       let digits = subst (λ (x : List ℕ). All (λ d. (48 ≤ d) × (d ≤ 57)) x) same n.2.each in

@@ -389,7 +389,7 @@ module _ (limits : Limits) where
     | inr l ↦ record { more = h.more; some = h.some; are_bytes = h.are_bytes; whole = l }
   ]
 
-  count_reason : (f : Fault) (front : List ℕ) (byte : ℕ) → Continues (IsCountLine limits) front → IsDoomed (IsArrayText limits) (front ++ byte ∷ []) → IsCountFault f front byte → IsReason limits f front byte
+  pub count_reason : (f : Fault) (front : List ℕ) (byte : ℕ) → Continues (IsCountLine limits) front → IsDoomed (IsArrayText limits) (front ++ byte ∷ []) → IsCountFault f front byte → IsReason limits f front byte
   count_reason MultibulkLength front byte h d k = bad_count front byte h d k
   count_reason TooManyWords front byte h d k = too_many front byte h d k
   count_reason BulkLength front byte h d k = absurd k
@@ -398,7 +398,7 @@ module _ (limits : Limits) where
   count_reason TooBigInline front byte h d k = absurd k
   count_reason WordTooBig front byte h d k = absurd k
 
-  word_reason : (f : Fault) (front part : List ℕ) (byte : ℕ) → IsInWord limits front part → Continues (IsArrayText limits) front → IsDoomed (IsArrayText limits) (front ++ byte ∷ []) → IsWordFault f part byte → IsReason limits f front byte
+  pub word_reason : (f : Fault) (front part : List ℕ) (byte : ℕ) → IsInWord limits front part → Continues (IsArrayText limits) front → IsDoomed (IsArrayText limits) (front ++ byte ∷ []) → IsWordFault f part byte → IsReason limits f front byte
   word_reason (ExpectedDollar x) front part byte w h d k = (k.1, lacks_mark front part byte w h d k.0)
   word_reason WordTooBig front part byte w h d k = too_long front part byte w h d k
   word_reason BulkLength front part byte w h d k = breaks_word front part byte w h d k.0 k.1

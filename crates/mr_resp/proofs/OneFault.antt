@@ -58,7 +58,7 @@ module _ (P : List ℕ → Type 0) where
   ]
 
 -- the two faults of a byte in the line of the count
-count_cases : (f : Fault) (front : List ℕ) (byte : ℕ) → IsCountFault f front byte → ((f ≡ TooManyWords) × IsNumber 42 (front ++ byte ∷ [])) ⊎ ((f ≡ MultibulkLength) × (IsNumber 42 (front ++ byte ∷ []) → ⊥))
+pub count_cases : (f : Fault) (front : List ℕ) (byte : ℕ) → IsCountFault f front byte → ((f ≡ TooManyWords) × IsNumber 42 (front ++ byte ∷ [])) ⊎ ((f ≡ MultibulkLength) × (IsNumber 42 (front ++ byte ∷ []) → ⊥))
 count_cases TooManyWords front byte h = inl (refl, h)
 count_cases MultibulkLength front byte h = inr (refl, h)
 count_cases BulkLength front byte h = absurd h

@@ -68,3 +68,25 @@ IsReason limits UnbalancedQuotes front byte = IsUnbalanced line_limit front byte
 IsReason limits TooBigInline front byte = IsTooBig line_limit front byte
 IsReason limits WordTooBig front byte = IsTooLong limits front byte
 IsReason limits TooManyWords front byte = CountsTooMany limits front byte
+
+-- a count of at least one word with its line end, without any other limit
+abbrev pub IsSomeWordCount : List ℕ → Type 0
+IsSomeWordCount text = (n : ℕ) × (0 < n) × (n < 2 ^ 64) × (text ≡ 42 ∷ number_line n)
+
+-- The length of a word passes the limit on words.
+pub record PassesWordLimit (limits : Limits) (front : List ℕ) (byte : ℕ) : Type 0 where
+  pub before : List ℕ
+  pub place : IsBeforeWord limits before
+  pub size : ℕ
+  pub is : front ++ byte ∷ [] ≡ before ++ 36 ∷ decimal size
+  pub past : limits.word < size
+
+-- Why no command text goes on with a byte: its count is of at least one word, the whole has no limit, and it is never a line.
+abbrev pub IsCommandReason : Limits → Fault → List ℕ → ℕ → Type 0
+IsCommandReason limits MultibulkLength front byte = IsDoomed IsSomeWordCount (front ++ byte ∷ [])
+IsCommandReason limits BulkLength front byte = BreaksWord limits front byte
+IsCommandReason limits (ExpectedDollar x) front byte = (x ≡ byte) × LacksMark limits front byte
+IsCommandReason limits UnbalancedQuotes front byte = ⊥
+IsCommandReason limits TooBigInline front byte = ⊥
+IsCommandReason limits WordTooBig front byte = PassesWordLimit limits front byte
+IsCommandReason limits TooManyWords front byte = CountsTooMany limits front byte

@@ -21,6 +21,7 @@
 //! | `ask` | `name WORD`: `name NAME` or `no name`; `group BYTES`: what the request is about, or `no command`; `one`, `minus-one`, `number NUMBER`, `opposite NUMBER`: `adds NUMBER` |
 //! | `part` | `words WORD`, `pairs NAME VALUE`, `scores MEMBER SCORE`: `list LENGTH fits LENGTH`, with `within` or `past` the limits of scores; `name WORD`: `name TEXT` or `no name` |
 //! | `dataset` | `set KEY VALUE`, `del KEY`, `no-texts`, `no-members`, `no-items`, `score SCORE`, `offset OFFSET`, `place PLACE`: whether the effect's words are within the limit (`fits`, `too long`), whether it has a spelling (`spelled`, `unspelled`), and `applied` or `refused`, by reference and then moved in; `nothing`: `applied`; `at KEY`: `entry value DEADLINE`, each with `no` before it where there is none; `keys`: `keys COUNT KEY ..`; `given NOW WORD`: `given NOW WORD` or `no moment` |
+//! | `follower` | `at OFFSET`: `stands`; `begin PORT`, `offer ID PORT`: `says LINE`, of one that wants all or offers to go on from where the replica stands; `feed BYTES`: `fed`; `step`: `idle`, `says LINE`, `announces ID OFFSET`, `continues ID OFFSET`, `installs`, `applies BYTES` or `refuses: FAULT`; `run`, steps as long as they apply: `applied COUNT`; `shows`: `shows PHASE OFFSET KEPT COMMANDS`, which make the dataset |
 //!
 //! Of what is counted, `empty` behind the counts says that there is none.
 #![tactic(auto)]
@@ -29,6 +30,7 @@ mod asks;
 mod backlog;
 mod dataset;
 mod fault;
+mod follower;
 mod ids;
 mod kind;
 mod lineage;
@@ -46,6 +48,7 @@ mod telling;
 use asks::Asks;
 use backlog::Stream;
 use fault::RehearsalFault;
+use follower::Replica;
 use ids::Ids;
 use kind::play;
 use lineage::NamedStream;
@@ -78,6 +81,7 @@ fn play_line(
         "sorted" => play(alloc, ZSet::new(alloc), steps, out),
         "keyed" => play(alloc, KeyedMap::<u64>::new(alloc, seed), steps, out),
         "dataset" => play(alloc, Dataset::new(alloc, seed), steps, out),
+        "follower" => play(alloc, Replica::new(alloc, seed), steps, out),
         "slices" => play(alloc, SliceMap::<'static, u64>::new(alloc), steps, out),
         _ => play_stateless(alloc, kind, steps, out),
     }

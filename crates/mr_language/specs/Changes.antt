@@ -1,0 +1,30 @@
+-- What changes a master's dataset: the effects of a request, and those of a tick.
+use Rattle.std.specs.Prelude.{◌≡◌, ℕ, List, [], ◌∷◌, ◌++◌, false, map, take}
+use Rattle.mr_map.specs.Bytes.{Bytes}
+use Rattle.mr_resp.specs.Replies.{Tree}
+use Rattle.mr_resp.specs.Request.{IsRequest}
+use Rattle.mr_resp.specs.Usual.{usual}
+use Rattle.mr_effect.specs.declared.effect.Effect.{Effect}
+use Rattle.mr_effect.specs.declared.effect.Effect.TheVariants as effect
+use Rattle.mr_entries.specs.Dataset.{Dataset}
+use Rattle.mr_data.specs.Due.{due}
+use Rattle.mr_data.specs.declared.given.Given.{Given}
+use Rattle.mr_node.specs.Served.{HasPlan}
+use Rattle.mr_node.specs.Ticks.{most_deleted, within, deletions}
+
+-- The text is a request, which has these effects at a master that holds this dataset.
+pub record HasEffects (text : List ℕ) (m : Dataset) (given : Given) (effects : List Effect) : Type 0 where
+  pub words : List Bytes
+  pub request : IsRequest usual text words
+  pub reply : Tree
+  pub plan : HasPlan false m words given reply effects
+
+-- These are due at a master's tick, where its stream has room for so many bytes: past keys go, and a PING may follow them. The tick ends
+-- before the first that has no room.
+pub data IsDue (room : ℕ) (m : Dataset) (given : Given) (effects : List Effect) : Type 0 where
+  deletes : effects ≡ deletions given.now m room → IsDue room m given effects
+  beats : effects ≡ within room (map (λ d. effect.Del d.0) (take most_deleted (due given.now m)) ++ effect.Ping ∷ []) → IsDue room m given effects
+
+-- At a dataset, a moment and a random word a request has one list of effects.
+abbrev pub RequestsHaveOneChange : Type 0
+RequestsHaveOneChange = (text : List ℕ) (m : Dataset) (given : Given) (one other : List Effect) → HasEffects text m given one → HasEffects text m given other → one ≡ other
