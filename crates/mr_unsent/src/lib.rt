@@ -1,0 +1,6 @@
+//! What waits to be sent on a link.
+#![tactic(auto)]
+
+mod unsent;
+
+pub use unsent::{MOST_UNSENT, Unsent};

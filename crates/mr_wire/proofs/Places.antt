@@ -1,0 +1,42 @@
+-- The links of a wire, as a map.
+use Rattle.std.proofs.Common.{◌≡◌, ℕ, ◌+◌, ◌≤◌, arith, true, false, cond, Option, Some, None, refl, sym, ap, ◌∙◌}
+use Rattle.std.specs.Ordering.{eq_by_cmp}
+use Rattle.std.specs.FinMap.{FinMap, get, insert, remove, get-insert, get-remove, same_map}
+use Rattle.std.proofs.lemmas.Map.Views.{tells_apart}
+use Rattle.mr_links.specs.LinkId.{id_cmp}
+use Rattle.mr_links.specs.Links.{Links}
+use Rattle.mr_links.specs.declared.link_id.LinkId.{LinkId}
+use Rattle.mr_links.proofs.LinkRows.{ids_total, exact_ids}
+use Rattle.mr_wire.specs.Wire.{LinkState, AcceptsNone}
+
+-- a link put in its own place
+pub put_same : (m : FinMap id_cmp LinkState) (l : LinkId) (e : LinkState) → get m l ≡ Some e → insert m l e ≡ m
+put_same m l e here = same_map ids_total exact_ids _ _ (λ q. get-insert ids_total m l e q ∙ (elim (eq_by_cmp id_cmp q l) as (λ v. eq_by_cmp id_cmp q l ≡ v → cond v (Some e) (get m q) ≡ get m q) [
+  | true ↦ λ h. sym (ap (get m) (tells_apart exact_ids q l h) ∙ here)
+  | false ↦ λ h. refl
+] refl))
+
+-- a link that came and went
+pub put_and_removed : (m : FinMap id_cmp LinkState) (l : LinkId) (e : LinkState) → get m l ≡ None → remove (insert m l e) l ≡ m
+put_and_removed m l e absent = same_map ids_total exact_ids _ _ (λ q. get-remove ids_total (insert m l e) l q ∙ (elim (eq_by_cmp id_cmp q l) as (λ v. eq_by_cmp id_cmp q l ≡ v → cond v None (get (insert m l e) q) ≡ get m q) [
+  | true ↦ λ h. sym (ap (get m) (tells_apart exact_ids q l h) ∙ absent)
+  | false ↦ λ h. get-insert ids_total m l e q ∙ ap (λ b. cond b (Some e) (get m q)) h
+] refl))
+
+abbrev with_links : Links LinkState → FinMap id_cmp LinkState → Links LinkState
+with_links a m = record a { open_links = m }
+
+-- the same of all links
+pub links_same : (a : Links LinkState) (l : LinkId) (e f : LinkState) → f ≡ e → get a.open_links l ≡ Some e → ◌≡◌ {A = Links LinkState} (record { open_links = insert a.open_links l f; opened = a.opened }) a
+links_same a l e f same here = ap (with_links a) (ap (λ x. insert a.open_links l x) same ∙ put_same a.open_links l e here)
+
+pub one_more : (m n : ℕ) → n ≡ m + 1 → m ≤ n
+one_more m n e = omega arith
+
+-- links of which one came and went
+pub came_and_went : (a n s b : Links LinkState) (l : LinkId) (e : LinkState) → get a.open_links l ≡ None → n.open_links ≡ insert a.open_links l e → n.opened ≡ a.opened + 1
+    → s ≡ n → b.open_links ≡ remove s.open_links l → b.opened ≡ s.opened → AcceptsNone a b
+came_and_went a n s b l e absent came more same went kept = record {
+  links = went ∙ (ap (λ (z : Links LinkState). remove z.open_links l) same ∙ (ap (λ z. remove z l) came ∙ put_and_removed a.open_links l e absent));
+  opened = one_more a.opened b.opened (kept ∙ (ap (λ (z : Links LinkState). z.opened) same ∙ more));
+}

@@ -1,0 +1,57 @@
+-- What a wire tells of its links, and what each call makes of them.
+use Rattle.std.specs.Prelude.{◌≡◌, ℕ, ◌+◌, ◌≤◌, List, [], ◌++◌, Bool, true, false, ◌||◌, Option, Some, None, take, if◌then◌else◌, IfSome}
+use Rattle.std.specs.FinMap as map
+use Rattle.mr_links.specs.declared.link_id.LinkId.{LinkId}
+use Rattle.mr_links.specs.Links.{Links}
+use Rattle.mr_wire.specs.declared.wire.Moved.{Moved}
+use Rattle.mr_wire.specs.declared.wire.Moved.TheVariants as moved
+
+-- what a wire tells of an open link
+pub record LinkState : Type 0 where
+  pub given : List ℕ  -- the bytes that its reads gave
+  pub moved : List ℕ  -- the bytes that its writes moved
+  pub ended : Bool  -- a read or a write of it answered that it ended or failed
+
+abbrev pub new_link : LinkState
+new_link = record { given = []; moved = []; ended = false }
+
+-- how many bytes a call moved
+abbrev pub count_of : Moved → ℕ
+count_of (moved.Bytes n) = n
+count_of moved.NotReady = 0
+count_of moved.End = 0
+count_of moved.Failed = 0
+
+-- whether it answered that the link ended or failed
+abbrev pub is_over : Moved → Bool
+is_over (moved.Bytes n) = false
+is_over moved.NotReady = false
+is_over moved.End = true
+is_over moved.Failed = true
+
+-- the bytes, of a wire that tells them
+abbrev pub told : Bool → List ℕ → List ℕ
+told tells bytes = if tells then bytes else []
+
+-- a link behind a read with this answer, which left these bytes in the buffer
+abbrev pub behind_read : Bool → Moved → List ℕ → LinkState → LinkState
+behind_read tells m buffer e = record e { given = e.given ++ told tells (take (count_of m) buffer); ended = e.ended || is_over m }
+
+-- a link behind a write of these bytes with this answer
+abbrev pub behind_write : Bool → Moved → List ℕ → LinkState → LinkState
+behind_write tells m bytes e = record e { moved = e.moved ++ told tells (take (count_of m) bytes); ended = e.ended || is_over m }
+
+-- the link is open, and becomes what this makes of it; and nothing else
+abbrev pub ChangesLink : Links LinkState → LinkId → (LinkState → LinkState) → Links LinkState → Type 0
+ChangesLink a l f b = IfSome (map.get a.open_links l) (λ e. b ≡ record a { open_links = map.insert a.open_links l (f e) })
+
+-- A new link under a name that was never given before, and nothing else.
+pub record Accepts (a : Links LinkState) (l : LinkId) (b : Links LinkState) : Type 0 where
+  pub generation : l.generation ≡ a.opened
+  pub fresh : map.get a.open_links l ≡ None
+  pub links : b ≡ record { open_links = map.insert a.open_links l new_link; opened = a.opened + 1 }
+
+-- Nothing is accepted. A name may be spent on a link that isn't there.
+pub record AcceptsNone (a b : Links LinkState) : Type 0 where
+  pub links : b.open_links ≡ a.open_links
+  pub opened : a.opened ≤ b.opened

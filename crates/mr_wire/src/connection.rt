@@ -1,0 +1,141 @@
+ghost use Rattle.std.specs.Prelude.{◌≡◌, ◌≤◌, ◌||◌, false, length, IfSome};
+ghost use Rattle.mr_wire.specs.Wire.{new_link, behind_read, behind_write, count_of, is_over};
+
+use crate::wire::Moved;
+use mio::event::Event;
+use mio::net::TcpStream;
+use mio::{Interest, Poll, Token};
+use std::io::{ErrorKind, Read, Write};
+use std::marker::Model;
+
+/// A socket, and what is known of it without asking the system.
+#[derive(Drop)]
+pub(crate) struct Connection {
+    stream: TcpStream,
+    /// A read may give bytes: an event said so, and no read has found less than it asked for since.
+    readable: bool,
+    /// A write may move bytes, likewise.
+    writable: bool,
+    /// The peer has sent its last byte, so that a read which finds less than it asked for isn't the last one.
+    closing: bool,
+    ended: bool,
+}
+
+impl Model for Connection {
+    ghost use Rattle.std.specs.Prelude.{[]};
+    ghost use Rattle.mr_wire.specs.Wire.{LinkState};
+
+    ghost Value = { LinkState };
+
+    ghost view = { λ c. record { given = []; moved = []; ended = c.ended } };
+}
+
+impl Connection {
+    pub(crate) fn new(stream: TcpStream) -> Connection
+        ensures { result ≡ new_link }
+    {
+        Connection {
+            stream,
+            readable: false,
+            writable: true,
+            closing: false,
+            ended: false,
+        }
+    }
+
+    /// Has the system tell what becomes of it. Whether it does.
+    pub(crate) fn register(&mut self, poll: &Poll, token: Token) -> bool
+        ensures { self.new ≡ self.old }
+    {
+        let both = Interest::READABLE | Interest::WRITABLE;
+        poll.registry()
+            .register(&mut self.stream, token, both)
+            .is_ok()
+    }
+
+    /// Remembers what an event says.
+    pub(crate) fn note(&mut self, event: &Event)
+        ensures { self.new ≡ self.old }
+    {
+        let ends = event.is_read_closed() || event.is_error();
+        self.closing = self.closing || ends;
+        self.readable = self.readable || event.is_readable() || ends;
+        self.writable = self.writable || event.is_writable() || ends;
+    }
+
+    /// Remembers an answer.
+    fn tell(&mut self, moved: Moved) -> Moved
+        ensures result { result ≡ moved }
+        ensures state { self.new ≡ record self.old { ended = self.old.ended || is_over moved } }
+    {
+        self.ended = self.ended || matches!(moved, Moved::End | Moved::Failed);
+        moved
+    }
+
+    /// What a read of the system comes to.
+    fn heard(&mut self, into: &mut [u8]) -> Moved
+        ensures within { count_of result ≤ length into.new }
+        ensures same { self.new ≡ self.old }
+    {
+        match self.stream.read(into) {
+            Ok(0) => Moved::End,
+            Ok(count) => {
+                self.readable = self.closing || count == into.len();
+                Moved::Bytes(count)
+            }
+            Err(error) => match error.kind() {
+                ErrorKind::Interrupted => Moved::NotReady,
+                ErrorKind::WouldBlock => {
+                    self.readable = false;
+                    Moved::NotReady
+                }
+                _ => Moved::Failed,
+            },
+        }
+    }
+
+    /// What a write of the system comes to.
+    fn sent(&mut self, bytes: &[u8]) -> Moved
+        ensures within { count_of result ≤ length bytes.now }
+        ensures same { self.new ≡ self.old }
+    {
+        match self.stream.write(bytes) {
+            Ok(count) => {
+                self.writable = count == bytes.len();
+                Moved::Bytes(count)
+            }
+            Err(error) => match error.kind() {
+                ErrorKind::Interrupted => Moved::NotReady,
+                ErrorKind::WouldBlock => {
+                    self.writable = false;
+                    Moved::NotReady
+                }
+                _ => Moved::Failed,
+            },
+        }
+    }
+
+    /// Reads into the front of a buffer. An empty buffer isn't handed to the system, whose answer would look like the end.
+    pub(crate) fn read(&mut self, into: &mut [u8]) -> Moved
+        ensures within { count_of result ≤ length into.new }
+        ensures state { self.new ≡ behind_read false result into.new self.old }
+    {
+        if into.is_empty() || !self.readable {
+            return Moved::NotReady;
+        }
+        let moved = self.heard(into);
+        self.tell(moved)
+    }
+
+    /// Writes a beginning of the bytes.
+    pub(crate) fn write(&mut self, bytes: &[u8]) -> Moved
+        ensures within { count_of result ≤ length bytes.now }
+        ensures state { self.new ≡ behind_write false result bytes.now self.old }
+    {
+        if bytes.is_empty() || !self.writable {
+            return Moved::NotReady;
+        }
+        let moved = self.sent(bytes);
+        self.tell(moved)
+    }
+}

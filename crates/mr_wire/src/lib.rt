@@ -1,0 +1,14 @@
+//! A wire: links that bytes come in and go out on. What one promises, one in memory, and one of the system's sockets.
+#![tactic(auto)]
+
+mod connection;
+mod failures;
+mod mem_link;
+mod mem_wire;
+mod socket_wire;
+mod wire;
+
+pub use mem_link::{MemLink, Reading, Writing};
+pub use mem_wire::{Accepting, MemWire, Waiting};
+pub use socket_wire::SocketWire;
+pub use wire::{Failed, Moved, Wire};

@@ -1,0 +1,153 @@
+ghost use Rattle.std.specs.Prelude.{◌≡◌, ◌≤◌, ◌↔◌, true, length, None, IfOk, IfSome, IsSome, IsNone, OnErr};
+ghost use Rattle.std.specs.FinMap as map;
+ghost use Rattle.mr_file.specs.LogFile.{Rose};
+ghost use Rattle.mr_wire.specs.Wire.{Accepts, ChangesLink, behind_read, behind_write, count_of, new_link};
+
+use crate::failures::Failures;
+use crate::mem_link::{MemLink, Reading, Writing};
+use crate::wire::{Failed, Moved, Wire};
+use mr_links::{LinkId, Links};
+use std::alloc::Global;
+use std::collections::VecDeque;
+
+/// What an accept is to come to.
+#[derive(Drop)]
+pub enum Accepting {
+    /// A peer opened a link, whose reads and writes come to these.
+    Link(VecDeque<Reading>, VecDeque<Writing>),
+    /// No peer has opened one.
+    NotReady,
+    /// The listener fails.
+    Failed,
+}
+
+/// What a wait is to come to.
+#[derive(Clone, Copy, Debug, PartialEq, Eq)]
+pub enum Waiting {
+    Done,
+    Failed,
+}
+
+/// No more links are opened in one run.
+const MOST_LINKS: u64 = 1 << 62;
+
+/// A wire in memory. Each wait and each accept takes the next of its list: at its end a wait succeeds, and nothing is accepted.
+/// Where memory runs out it fails.
+#[derive(Drop)]
+pub struct MemWire {
+    alloc: Global,
+    waits: VecDeque<Waiting>,
+    accepts: VecDeque<Accepting>,
+    links: Links<MemLink>,
+    failed: Failures,
+}
+
+impl MemWire {
+    /// A wire without links, whose waits and accepts come to these.
+    pub fn new(alloc: Global, waits: VecDeque<Waiting>, accepts: VecDeque<Accepting>) -> MemWire
+        ensures links { result.links.open_links ≡ map.empty }
+        ensures opened { result.links.opened ≡ 0 }
+        ensures failed { result.failed.count ≡ 0 }
+    {
+        MemWire {
+            alloc,
+            waits,
+            accepts,
+            links: Links::new(alloc),
+            failed: Failures::new(),
+        }
+    }
+
+    /// All bytes that the writes of an open link moved.
+    pub fn written(&self, link: LinkId) -> Option<&[u8]>
+        ensures there { IfSome (map.get self.now.links.open_links link) (λ e. IfSome result (λ bytes. bytes.now ≡ e.moved)) }
+        ensures absent { IsNone result ↔ (map.get self.now.links.open_links link ≡ None) }
+    {
+        match self.links.get(link) {
+            Some(end) => Some(end.written()),
+            None => None,
+        }
+    }
+
+    /// Opens a link.
+    fn open(&mut self, end: MemLink) -> Result<Option<LinkId>, Failed>
+        requires { end ≡ new_link }
+        ensures some { IfOk result (λ next. IfSome next (λ link. Accepts self.old.links link self.new.links)) }
+        ensures none { IfOk result IsSome }
+        ensures err { OnErr result (self.new.links ≡ self.old.links) }
+        ensures later { self.old.failed.count ≤ self.new.failed.count }
+        ensures cause { OnErr result (Rose self.old.failed.count self.new.failed.count) }
+    {
+        if self.links.opened() >= MOST_LINKS {
+            return Err(self.failed.failure());
+        }
+        match self.links.insert(end) {
+            Ok(link) => Ok(Some(link)),
+            Err(_refused) => Err(self.failed.failure()),
+        }
+    }
+
+    fn read_link(&mut self, link: LinkId, into: &mut [u8]) -> Moved
+        ensures within { count_of result ≤ length into.new }
+        ensures read { ChangesLink self.old.links link (behind_read true result into.new) self.new.links }
+        ensures absent { map.get self.old.links.open_links link ≡ None → (result ≡ Moved.Failed) × (self.new.links ≡ self.old.links) }
+        ensures failed { self.new.failed ≡ self.old.failed }
+    {
+        match self.links.get_mut(link) {
+            Some(end) => end.read(into),
+            None => Moved::Failed,
+        }
+    }
+
+    fn write_link(&mut self, link: LinkId, bytes: &[u8]) -> Moved
+        ensures within { count_of result ≤ length bytes.now }
+        ensures written { ChangesLink self.old.links link (behind_write true result bytes.now) self.new.links }
+        ensures absent { map.get self.old.links.open_links link ≡ None → (result ≡ Moved.Failed) × (self.new.links ≡ self.old.links) }
+        ensures failed { self.new.failed ≡ self.old.failed }
+    {
+        match self.links.get_mut(link) {
+            Some(end) => end.write(bytes),
+            None => Moved::Failed,
+        }
+    }
+}
+
+impl Wire for MemWire {
+    ghost tells = { true };
+
+    ghost links = { λ w. w.links };
+
+    ghost failures = { λ w. w.failed.count };
+
+    fn wait(&mut self, millis: u64) -> Result<(), Failed> {
+        let _ = millis;
+        match self.waits.pop_front() {
+            Some(Waiting::Failed) => Err(self.failed.failure()),
+            Some(Waiting::Done) | None => Ok(()),
+        }
+    }
+
+    fn accept(&mut self) -> Result<Option<LinkId>, Failed> {
+        match self.accepts.pop_front() {
+            Some(Accepting::Link(reads, writes)) => {
+                self.open(MemLink::new(self.alloc, reads, writes))
+            }
+            Some(Accepting::NotReady) | None => Ok(None),
+            Some(Accepting::Failed) => Err(self.failed.failure()),
+        }
+    }
+
+    fn read(&mut self, link: LinkId, into: &mut [u8]) -> Moved {
+        let moved = self.read_link(link, into);
+        self.failed.tell(moved)
+    }
+
+    fn write(&mut self, link: LinkId, bytes: &[u8]) -> Moved {
+        let moved = self.write_link(link, bytes);
+        self.failed.tell(moved)
+    }
+
+    fn close(&mut self, link: LinkId) {
+        let _closed = self.links.remove(link);
+    }
+}

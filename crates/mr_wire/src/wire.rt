@@ -1,0 +1,75 @@
+ghost use Rattle.std.specs.Prelude.{◌≡◌, ◌≤◌, Bool, ℕ, None, length, IfOk, IfSome, IfNone, OnErr};
+ghost use Rattle.std.specs.FinMap as map;
+ghost use Rattle.mr_links.specs.Links.{Links};
+ghost use Rattle.mr_file.specs.LogFile.{Rose};
+ghost use Rattle.mr_wire.specs.Wire.{LinkState, Accepts, AcceptsNone, ChangesLink, behind_read, behind_write, count_of};
+
+use mr_links::LinkId;
+use thiserror::Error;
+
+/// The wire answered that it failed.
+#[derive(Clone, Copy, Debug, PartialEq, Eq, Error)]
+#[error("socket failed")]
+pub struct Failed;
+
+/// What a read or a write came to.
+#[derive(Clone, Copy, Debug, PartialEq, Eq)]
+pub enum Moved {
+    /// So many bytes were moved. None says no more than `NotReady`.
+    Bytes(usize),
+    /// Nothing can be moved now.
+    NotReady,
+    /// The peer sends no more.
+    End,
+    /// The link failed, or isn't there.
+    Failed,
+}
+
+/// A wire has links, each under a name that is never given twice. One in memory tells the bytes that its reads gave and its
+/// writes moved; of one of the system they count as none. A failure is answered only where the count of failures rose, or
+/// stands at its greatest.
+pub trait Wire {
+    /// Whether it tells the bytes.
+    ghost tells: { Bool };
+
+    /// The open links, and how many there ever were.
+    ghost links: { Self → Links LinkState };
+
+    ghost failures: { Self → ℕ };
+
+    /// Waits until something is ready, and at most so many milliseconds.
+    fn wait(&mut self, millis: u64) -> Result<(), Failed>
+        ensures same { links self.new ≡ links self.old }
+        ensures later { failures self.old ≤ failures self.new }
+        ensures cause { OnErr result (Rose (failures self.old) (failures self.new)) };
+
+    /// The next link that a peer opened, if there is one.
+    fn accept(&mut self) -> Result<Option<LinkId>, Failed>
+        ensures some { IfOk result (λ next. IfSome next (λ link. Accepts (links self.old) link (links self.new))) }
+        ensures none { IfOk result (λ next. IfNone next (links self.new ≡ links self.old)) }
+        ensures err { OnErr result (AcceptsNone (links self.old) (links self.new)) }
+        ensures later { failures self.old ≤ failures self.new }
+        ensures cause { OnErr result (Rose (failures self.old) (failures self.new)) };
+
+    /// Reads the next bytes of a link into the front of a buffer.
+    fn read(&mut self, link: LinkId, into: &mut [u8]) -> Moved
+        ensures within { count_of result ≤ length into.new }
+        ensures read { ChangesLink (links self.old) link (behind_read tells result into.new) (links self.new) }
+        ensures absent { map.get (links self.old).open_links link ≡ None → (result ≡ Moved.Failed) × (links self.new ≡ links self.old) }
+        ensures later { failures self.old ≤ failures self.new }
+        ensures cause { result ≡ Moved.Failed → Rose (failures self.old) (failures self.new) };
+
+    /// Writes a beginning of the bytes on a link.
+    fn write(&mut self, link: LinkId, bytes: &[u8]) -> Moved
+        ensures within { count_of result ≤ length bytes.now }
+        ensures written { ChangesLink (links self.old) link (behind_write tells result bytes.now) (links self.new) }
+        ensures absent { map.get (links self.old).open_links link ≡ None → (result ≡ Moved.Failed) × (links self.new ≡ links self.old) }
+        ensures later { failures self.old ≤ failures self.new }
+        ensures cause { result ≡ Moved.Failed → Rose (failures self.old) (failures self.new) };
+
+    /// Closes a link. Where it isn't there nothing changes.
+    fn close(&mut self, link: LinkId)
+        ensures closed { (links self.new).open_links ≡ map.remove (links self.old).open_links link }
+        ensures opened { (links self.new).opened ≡ (links self.old).opened }
+        ensures failures { failures self.new ≡ failures self.old };
+}
