@@ -1,5 +1,4 @@
 pub mod Lists
-pub mod Members
 pub mod Number
 pub mod Texts
 pub mod Window

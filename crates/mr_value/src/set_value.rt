@@ -1,35 +1,30 @@
 // Sets of byte strings.
 ghost use Rattle.std.specs.Prelude.{◌≡◌, ◌==◌, ◌<◌, ◌^◌, not, drop, slice_get, IfOk, OnOk, OnErr, option_copied};
 ghost use Rattle.std.specs.FinMap as map;
-ghost use Rattle.mr_map.specs.Bytes.{bytes_cmp};
-ghost use Rattle.mr_order.specs.Standing.{IsPlaceOf};
 
 use crate::bytes::Bytes;
-use crate::members::Members;
-use mr_order::{Ordered, Steps};
+use mr_map::{ByteMap, Keys};
 use std::alloc::{AllocError, Global};
 use std::marker::Model;
 
 /// A set of byte strings, seen as a finite set: a finite map with nothing at each member.
 ///
-/// The members stand in byte order, each at its place: a look-up compares about log2 of the number of members, and a member
-/// is found by its place without a walk over those in front. Where memory runs out, a set is as it was.
+/// Where memory runs out, a set is as it was.
 #[derive(Drop)]
 pub struct SetValue {
-    members: Ordered<Vec<u8>>,
+    members: ByteMap<()>,
 }
 
 impl Model for SetValue {
     ghost use Rattle.std.specs.FinSet as set;
     ghost use Rattle.std.specs.Coded.{coded_ℕ, coded_list};
     ghost use Rattle.mr_map.specs.Bytes.{bytes_cmp};
-    ghost use Rattle.mr_value.specs.Members.{set_of};
 
     ghost Value = { set.FinSet bytes_cmp };
 
     ghost coded = { set.code (coded_list coded_ℕ) };
 
-    ghost view = { λ a. set_of a.members };
+    ghost view = { λ a. a.members };
 }
 
 impl SetValue {
@@ -38,7 +33,7 @@ impl SetValue {
         ensures { result ≡ map.empty }
     {
         SetValue {
-            members: Ordered::new(alloc),
+            members: ByteMap::new(alloc),
         }
     }
 
@@ -54,33 +49,36 @@ impl SetValue {
     pub fn is_empty(&self) -> bool
         ensures { result ≡ (map.len self.now == 0) }
     {
-        self.len() == 0
+        self.members.is_empty()
     }
 
     /// Whether these bytes are a member.
     pub fn contains(&self, member: &[u8]) -> bool
         ensures { result ≡ map.contains_key self.now member.now }
     {
-        search(&self.members, member).is_ok()
+        self.members.contains_key(member)
     }
 
     /// The members, in byte order. It takes no memory.
-    pub fn members(&self) -> Members<'_>
+    pub fn members(&self) -> Keys<'_, ()>
         ensures { result ≡ map.keys self.now }
     {
-        self.members_from(0)
+        self.members.keys()
     }
 
-    /// The members from a place in byte order on, counted from 0. It takes no memory.
-    pub fn members_from(&self, place: usize) -> Members<'_>
+    /// The members from a place in byte order on, counted from 0. It takes no memory, and walks to
+    /// that place.
+    pub fn members_from(&self, place: usize) -> Keys<'_, ()>
         ensures { result ≡ drop place (map.keys self.now) }
     {
-        let members = &self.members;
-        let from = place.min(members.len());
-        Members::new(members.iter_from(from))
+        let mut members = self.members();
+        for _ in 0..place.min(self.len()) {
+            let _ = members.next();
+        }
+        members
     }
 
-    /// The member at a place in byte order, counted from 0.
+    /// The member at a place in byte order, counted from 0. It walks to that place.
     pub fn nth(&self, place: usize) -> Option<&[u8]>
         ensures { option_copied result ≡ slice_get (map.keys self.now) place }
     {
@@ -93,14 +91,8 @@ impl SetValue {
         ensures ok { OnOk result (self.new ≡ map.insert self.old member tt) }
         ensures err { OnErr result (self.new ≡ self.old) }
     {
-        let member = member.into_vec();
-        match search(&self.members, member.as_slice()) {
-            Ok(_) => Ok(false),
-            Err(place) => {
-                self.members.insert_at(place, member)?;
-                Ok(true)
-            }
-        }
+        let before = self.members.insert(member.into_vec(), ())?;
+        Ok(before.is_none())
     }
 
     /// Removes a member, and answers whether it was one.
@@ -108,20 +100,6 @@ impl SetValue {
         ensures removed { result ≡ map.contains_key self.old member.now }
         ensures rest { self.new ≡ map.remove self.old member.now }
     {
-        match search(&self.members, member) {
-            Ok(place) => {
-                let _ = self.members.remove_at(place);
-                true
-            }
-            Err(_) => false,
-        }
+        self.members.remove(member).is_some()
     }
-}
-
-// The place of a member, or else the place where it would stand.
-fn search(members: &Ordered<Vec<u8>>, member: &[u8]) -> Result<usize, usize>
-    ensures { IsPlaceOf (λ x. bytes_cmp member.now x.items) members.now result }
-{
-    let mut steps = Steps { count: 0 };
-    members.search(member, &mut steps)
 }
