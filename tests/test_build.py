@@ -73,10 +73,10 @@ class Lanes(unittest.TestCase):
         ended = {task.name: value for task, value in in_lanes(self.tasks(failing=["value"]), 2, 9)}
         self.assertEqual(ended, {"map": True, "value": False, "sea": True, "glob": True})
 
-    def test_idle_processors_are_shared_among_those_that_are_ready(self):
-        self.assertEqual([share(4, 1, 4), share(4, 3, 4), share(4, 1, 2), share(1, 3, 4)], [4, 1, 2, 1])
+    def test_the_longest_chain_gets_the_processors_that_the_others_leave(self):
+        self.assertEqual([share(4, 1, 4), share(4, 2, 4), share(4, 3, 4), share(4, 1, 2), share(1, 3, 4)], [4, 3, 2, 2, 1])
         list(in_lanes(self.tasks(), 4, 90, most=4))
-        self.assertEqual((self.jobs["map"], self.jobs["node"]), (1, 4))
+        self.assertEqual((self.jobs["map"], self.jobs["glob"], self.jobs["node"]), (2, 1, 4))
 
     def test_an_error_in_a_task_comes_out(self):
         def fails(_):

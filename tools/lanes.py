@@ -34,8 +34,8 @@ def chains(tasks):
 
 
 def share(idle, ready, most):
-    """How many of the idle processors the next of so many ready tasks gets."""
-    return max(1, min(most, idle // ready))
+    """How many of the idle processors the next of so many ready tasks gets: all but one for each behind it, whose chains are shorter."""
+    return max(1, min(most, idle - (ready - 1)))
 
 
 def in_lanes(tasks, lanes, memory, most=1):

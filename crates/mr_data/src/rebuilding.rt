@@ -4,7 +4,7 @@ ghost use Rattle.std.specs.FinMap.{empty, get};
 ghost use Rattle.mr_value.specs.declared.ends.End.TheVariants.{Right};
 ghost use Rattle.mr_effect.specs.declared.effect.Effect.TheVariants as made;
 ghost use Rattle.mr_effect.specs.Effects.{has_spelling, words_fit};
-ghost use Rattle.mr_effect.specs.Spelling.{texts, IsShort};
+ghost use Rattle.mr_effect.specs.Spelling.{text, texts, IsShort};
 ghost use Rattle.mr_entries.specs.Cuts.{cut, most_items};
 ghost use Rattle.mr_entries.specs.declared.value.Value.TheVariants as stored;
 ghost use Rattle.mr_data.specs.Dataset.{IsDataset};
@@ -57,6 +57,13 @@ impl Dataset {
     }
 }
 
+// The text of one effect, which is dropped here: one function has to let go of every kind of effect.
+fn push_effect(effect: Effect<'_>, out: &mut Vec<u8>) -> Result<(), AllocError>
+    ensures { OnOk result (out.new.items ≡ out.old.items ++ text effect.entry) }
+{
+    encode(&effect, out)
+}
+
 fn push_deadline(key: &[u8], deadline: Option<i64>, out: &mut Vec<u8>) -> Result<(), AllocError>
     ensures { OnOk result (out.new.items ≡ out.old.items ++ texts (rebuilt_deadline key.now deadline)) }
 {
@@ -64,7 +71,7 @@ fn push_deadline(key: &[u8], deadline: Option<i64>, out: &mut Vec<u8>) -> Result
         return Ok(());
     };
     let key = Word::borrowed(key);
-    encode(&Effect::Expire { key, deadline }, out)
+    push_effect(Effect::Expire { key, deadline }, out)
 }
 
 fn push_value<'d>(
@@ -89,7 +96,7 @@ fn push_text<'d>(key: &'d [u8], text: &'d [u8], out: &mut Vec<u8>) -> Result<(),
 {
     let key = Word::borrowed(key);
     let value = Word::borrowed(text);
-    encode(&Effect::Set { key, value }, out)
+    push_effect(Effect::Set { key, value }, out)
 }
 
 fn push_hash<'d>(
@@ -120,7 +127,7 @@ fn push_fields<'d>(key: &'d [u8], pairs: Pairs<'d>, out: &mut Vec<u8>) -> Result
         return Ok(());
     }
     let key = Word::borrowed(key);
-    encode(&Effect::SetFields { key, pairs }, out)
+    push_effect(Effect::SetFields { key, pairs }, out)
 }
 
 fn push_list<'d>(
@@ -152,7 +159,7 @@ fn push_items<'d>(key: &'d [u8], items: Words<'d>, out: &mut Vec<u8>) -> Result<
     }
     let key = Word::borrowed(key);
     let end = End::Right;
-    encode(&Effect::Push { key, end, items }, out)
+    push_effect(Effect::Push { key, end, items }, out)
 }
 
 fn push_set<'d>(
@@ -183,7 +190,7 @@ fn push_members<'d>(key: &'d [u8], members: Words<'d>, out: &mut Vec<u8>) -> Res
         return Ok(());
     }
     let key = Word::borrowed(key);
-    encode(&Effect::AddMembers { key, members }, out)
+    push_effect(Effect::AddMembers { key, members }, out)
 }
 
 fn push_sorted_set<'d>(
@@ -214,5 +221,5 @@ fn push_scores<'d>(key: &'d [u8], scores: Scores<'d>, out: &mut Vec<u8>) -> Resu
         return Ok(());
     }
     let key = Word::borrowed(key);
-    encode(&Effect::SetScores { key, scores }, out)
+    push_effect(Effect::SetScores { key, scores }, out)
 }
