@@ -50,7 +50,7 @@ fn order(step: Step<'_>, out: &mut Vec<u8>) -> Result<(), RehearsalFault> {
 }
 
 /// An id as it is shown, the bytes of its digits, its own bytes, and whether it stands for none.
-fn tell_id(alloc: Global, id: ReplId, out: &mut Vec<u8>) -> Result<(), RehearsalFault> {
+pub fn tell_id(alloc: Global, id: ReplId, out: &mut Vec<u8>) -> Result<(), RehearsalFault> {
     tell(out, "id")?;
     tell_shown(alloc, id, out)?;
     tell_bytes(alloc, id.digits().as_slice(), out)?;

@@ -1,7 +1,7 @@
 //! Links under their ids, each a number.
 use crate::fault::RehearsalFault;
 use crate::kind::Kind;
-use crate::step::{Step, count_of};
+use crate::step::{Step, count_of, link_of};
 use crate::telling::{tell, tell_before, tell_shown, tell_whether};
 use mr_links::{LinkId, Links};
 use std::alloc::Global;
@@ -17,17 +17,9 @@ impl Kind for Links<u64> {
             "insert" => insert(alloc, self, step, out),
             "shows" => tell_links(alloc, self, out),
             "ids" => tell_ids(alloc, self, out),
-            _ => on_link(alloc, self, id_of(step)?, step, out),
+            _ => on_link(alloc, self, link_of(step)?, step, out),
         }
     }
-}
-
-/// The id that stands in front of a step's other arguments.
-fn id_of(step: Step<'_>) -> Result<LinkId, RehearsalFault> {
-    Ok(LinkId {
-        index: count_of(step.first)? as usize,
-        generation: count_of(step.second)?,
-    })
 }
 
 fn on_link(

@@ -21,6 +21,10 @@
 //! | `ask` | `name WORD`: `name NAME` or `no name`; `group BYTES`: what the request is about, or `no command`; `one`, `minus-one`, `number NUMBER`, `opposite NUMBER`: `adds NUMBER` |
 //! | `part` | `words WORD`, `pairs NAME VALUE`, `scores MEMBER SCORE`: `list LENGTH fits LENGTH`, with `within` or `past` the limits of scores; `name WORD`: `name TEXT` or `no name` |
 //! | `dataset` | `set KEY VALUE`, `del KEY`, `no-texts`, `no-members`, `no-items`, `score SCORE`, `offset OFFSET`, `place PLACE`: whether the effect's words are within the limit (`fits`, `too long`), whether it has a spelling (`spelled`, `unspelled`), and `applied` or `refused`, by reference and then moved in; `nothing`: `applied`; `at KEY`: `entry value DEADLINE`, each with `no` before it where there is none; `keys`: `keys COUNT KEY ..`; `given NOW WORD`: `given NOW WORD` or `no moment` |
+//! | `unsent` | `push BYTES`, `fill COUNT` of so many zeros: `pushed`; `advance COUNT`: `advanced`; `clear`: `cleared`; `waiting`: `waiting BYTES`; `shows`: `shows LENGTH`, with `too much` behind it where a client may not leave so much unread |
+//! | `source` | `now`, `word`: `now MILLIS`, `word NUMBER`; `id`: as of `id` |
+//! | `memory` | before `begin`, which answers `begun`, what the calls are to come to, each `listed`: `waits done`, `waits failed`; `reads BYTES`, `reads not-ready`, `reads end`, `reads failed` and `writes COUNT`, `writes not-ready`, `writes failed` of the next link; `accepts link`, `accepts not-ready`, `accepts failed`. Then `written LINK`: `written BYTES` or `none`; and as of `sockets` |
+//! | `sockets` | `listen PORT`: `listens PORT`; `wait MILLIS`: `waited`, `failed`; `accept`: `id PLACE BEFORE`, `none`, `failed`; `read LINK ROOM`: `bytes BYTES`, `not ready`, `end`, `failed`; `write LINK BYTES`: `moved COUNT`, `not ready`, `failed`; `close LINK`: `closed`. `accept-ready`, `read-ready`, `write-all` wait until they are answered otherwise; the last tells `moved all` in one call or `moved all in parts` |
 //! | `follower` | `at OFFSET`: `stands`; `begin PORT`, `offer ID PORT`: `says LINE`, of one that wants all or offers to go on from where the replica stands; `feed BYTES`: `fed`; `step`: `idle`, `says LINE`, `announces ID OFFSET`, `continues ID OFFSET`, `installs`, `applies BYTES` or `refuses: FAULT`; `run`, steps as long as they apply: `applied COUNT`; `shows`: `shows PHASE OFFSET KEPT COMMANDS`, which make the dataset |
 //!
 //! Of what is counted, `empty` behind the counts says that there is none.
@@ -37,13 +41,18 @@ mod lineage;
 mod links;
 mod list;
 mod maps;
+mod memory_wire;
 mod parts;
 mod peer;
 mod requests;
+mod sockets;
 mod sorted_set;
+mod source;
 mod standing;
 mod step;
 mod telling;
+mod unsent;
+mod wires;
 
 use asks::Asks;
 use backlog::Stream;
@@ -52,14 +61,18 @@ use follower::Replica;
 use ids::Ids;
 use kind::play;
 use lineage::NamedStream;
+use memory_wire::MemoryWire;
 use mr_data::Dataset;
 use mr_links::Links;
 use mr_map::{KeyedMap, SliceMap};
+use mr_source::SystemSource;
+use mr_unsent::Unsent;
 use mr_value::ListValue;
 use mr_zset::ZSet;
 use parts::Parts;
 use peer::PeerLines;
 use requests::Requests;
+use sockets::Sockets;
 use standing::play_place;
 use std::alloc::Global;
 use std::hash::RandomState;
@@ -68,7 +81,7 @@ use std::process::ExitCode;
 
 /// Makes the calls that a line names on a value of the kind that it begins with.
 fn play_line(
-    alloc: Global,
+    rt: &HostRuntime,
     seed: RandomState,
     line: &str,
     out: &mut Vec<u8>,
@@ -76,6 +89,20 @@ fn play_line(
     let Some((kind, steps)) = line.split_once(' ') else {
         return Err(RehearsalFault::Line);
     };
+    match kind {
+        "source" => play(rt.alloc(), SystemSource::new(rt.clone()?)?, steps, out),
+        "sockets" => play(rt.alloc(), Sockets::new(rt.clone()?), steps, out),
+        _ => play_value(rt.alloc(), seed, kind, steps, out),
+    }
+}
+
+fn play_value(
+    alloc: Global,
+    seed: RandomState,
+    kind: &str,
+    steps: &str,
+    out: &mut Vec<u8>,
+) -> Result<(), RehearsalFault> {
     match kind {
         "list" => play(alloc, ListValue::new(alloc), steps, out),
         "sorted" => play(alloc, ZSet::new(alloc), steps, out),
@@ -103,6 +130,8 @@ fn play_stateless(
         "links" => play(alloc, Links::<u64>::new(alloc), steps, out),
         "backlog" => play(alloc, Stream::new(), steps, out),
         "lineage" => play(alloc, NamedStream::new(), steps, out),
+        "unsent" => play(alloc, Unsent::new(alloc), steps, out),
+        "memory" => play(alloc, MemoryWire::new(alloc), steps, out),
         _ => Err(RehearsalFault::Line),
     }
 }
@@ -110,7 +139,7 @@ fn play_stateless(
 fn rehearse(rt: &HostRuntime, script: &str, out: &mut Vec<u8>) -> Result<(), RehearsalFault> {
     let seed = RandomState::new(rt)?;
     for line in script.lines() {
-        play_line(rt.alloc(), seed, line, out)?;
+        play_line(rt, seed, line, out)?;
     }
     Ok(())
 }

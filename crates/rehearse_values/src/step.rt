@@ -1,6 +1,7 @@
 //! The steps of a line.
 use crate::fault::RehearsalFault;
 use hex::FromHexError;
+use mr_links::LinkId;
 use mr_repl::ReplId;
 use std::alloc::Global;
 
@@ -64,4 +65,12 @@ pub fn id_of(word: &str) -> Result<ReplId, RehearsalFault> {
         Some(id) => Ok(id),
         None => Err(RehearsalFault::Line),
     }
+}
+
+/// The name of a link that stands in front of a step's other arguments: its place, and how many links were opened before it.
+pub fn link_of(step: Step<'_>) -> Result<LinkId, RehearsalFault> {
+    Ok(LinkId {
+        index: count_of(step.first)? as usize,
+        generation: count_of(step.second)?,
+    })
 }

@@ -1,0 +1,58 @@
+//! Wires over the system's sockets.
+use crate::fault::RehearsalFault;
+use crate::kind::Kind;
+use crate::step::{Step, count_of};
+use crate::telling::{tell, tell_shown};
+use crate::wires::on_wire;
+use mr_wire::SocketWire;
+use std::alloc::Global;
+use std::net::{Ipv4Addr, SocketAddr};
+
+/// A wire over sockets, once a step has one listen.
+#[derive(Drop)]
+pub struct Sockets {
+    rt: HostRuntime,
+    wire: Option<SocketWire>,
+}
+
+impl Sockets {
+    pub fn new(rt: HostRuntime) -> Sockets {
+        Sockets { rt, wire: None }
+    }
+
+    /// Listens on a port of this machine alone.
+    fn listen(
+        &mut self,
+        alloc: Global,
+        step: Step<'_>,
+        out: &mut Vec<u8>,
+    ) -> Result<(), RehearsalFault> {
+        let port = count_of(step.first)?;
+        if port > 65_535 {
+            return Err(RehearsalFault::Line);
+        }
+        let address = SocketAddr::from((Ipv4Addr::LOCALHOST, port as u16));
+        let wire = SocketWire::listen(&self.rt, alloc, address)?;
+        let bound = wire.address()?;
+        self.wire = Some(wire);
+        tell(out, "listens")?;
+        tell_shown(alloc, bound.port(), out)
+    }
+}
+
+impl Kind for Sockets {
+    fn make(
+        &mut self,
+        alloc: Global,
+        step: Step<'_>,
+        out: &mut Vec<u8>,
+    ) -> Result<(), RehearsalFault> {
+        if step.name == "listen" {
+            return self.listen(alloc, step, out);
+        }
+        match &mut self.wire {
+            Some(wire) => on_wire(alloc, wire, step, out),
+            None => Err(RehearsalFault::Line),
+        }
+    }
+}

@@ -1,0 +1,75 @@
+//! What waits to be sent on a link.
+use crate::fault::RehearsalFault;
+use crate::kind::Kind;
+use crate::step::{Step, bytes_of, count_of};
+use crate::telling::{tell, tell_bytes, tell_shown, tell_whether};
+use mr_unsent::Unsent;
+use std::alloc::Global;
+
+/// No more zeros wait by one step.
+const MOST: u64 = 1 << 30;
+
+impl Kind for Unsent {
+    fn make(
+        &mut self,
+        alloc: Global,
+        step: Step<'_>,
+        out: &mut Vec<u8>,
+    ) -> Result<(), RehearsalFault> {
+        match step.name {
+            "push" => {
+                let bytes = bytes_of(alloc, step.first)?;
+                push(self, bytes.as_slice(), out)
+            }
+            "fill" => fill(alloc, self, step, out),
+            "advance" => advance(self, step, out),
+            "clear" => {
+                self.clear();
+                tell(out, "cleared")
+            }
+            "waiting" => {
+                tell(out, "waiting")?;
+                tell_bytes(alloc, self.waiting(), out)
+            }
+            "shows" => tell_length(alloc, self, out),
+            _ => Err(RehearsalFault::Line),
+        }
+    }
+}
+
+fn push(unsent: &mut Unsent, bytes: &[u8], out: &mut Vec<u8>) -> Result<(), RehearsalFault> {
+    unsent.push(bytes)?;
+    tell(out, "pushed")
+}
+
+/// Puts so many zeros behind what waits.
+fn fill(
+    alloc: Global,
+    unsent: &mut Unsent,
+    step: Step<'_>,
+    out: &mut Vec<u8>,
+) -> Result<(), RehearsalFault> {
+    let count = count_of(step.first)?;
+    if count > MOST {
+        return Err(RehearsalFault::Line);
+    }
+    let zeros = Vec::from_elem(alloc, 0u8, count as usize)?;
+    push(unsent, zeros.as_slice(), out)
+}
+
+fn advance(unsent: &mut Unsent, step: Step<'_>, out: &mut Vec<u8>) -> Result<(), RehearsalFault> {
+    let count = count_of(step.first)? as usize;
+    if count > unsent.waiting().len() {
+        return Err(RehearsalFault::Line);
+    }
+    unsent.advance(count);
+    tell(out, "advanced")
+}
+
+/// How many bytes wait, whether none does, and whether more do than a client may leave unread.
+fn tell_length(alloc: Global, unsent: &Unsent, out: &mut Vec<u8>) -> Result<(), RehearsalFault> {
+    tell(out, "shows")?;
+    tell_shown(alloc, unsent.waiting().len(), out)?;
+    tell_whether(out, unsent.is_empty(), " empty", "")?;
+    tell_whether(out, unsent.is_too_much(), " too much", "")
+}

@@ -1,0 +1,205 @@
+//! Calls on a wire.
+ghost use Rattle.std.specs.Prelude.{◌≤◌, length};
+ghost use Rattle.mr_wire.specs.Wire as spec;
+
+use crate::fault::RehearsalFault;
+use crate::step::{Step, bytes_of, count_of, link_of};
+use crate::telling::{tell, tell_bytes, tell_shown};
+use mr_links::LinkId;
+use mr_wire::{Failed, Moved, Wire};
+use std::alloc::Global;
+
+/// So often a call is made again, each time once something is ready or a second is over.
+const MOST_TRIES: u32 = 100_000;
+
+const A_SECOND: u64 = 1000;
+
+/// No read has more room.
+const MOST_ROOM: u64 = 1 << 24;
+
+/// Makes the call on a wire that a step names.
+pub fn on_wire<W: Wire>(
+    alloc: Global,
+    wire: &mut W,
+    step: Step<'_>,
+    out: &mut Vec<u8>,
+) -> Result<(), RehearsalFault> {
+    match step.name {
+        "wait" => wait(wire, step, out),
+        "accept" => tell_accepted(alloc, wire.accept(), out),
+        "accept-ready" => tell_accepted(alloc, accept_ready(wire), out),
+        "read" => read(alloc, wire, step, out),
+        "read-ready" => read_once_ready(alloc, wire, step, out),
+        "write" => write(alloc, wire, step, out),
+        "write-all" => write_all(alloc, wire, step, out),
+        "close" => close(wire, step, out),
+        _ => Err(RehearsalFault::Line),
+    }
+}
+
+fn wait<W: Wire>(wire: &mut W, step: Step<'_>, out: &mut Vec<u8>) -> Result<(), RehearsalFault> {
+    let millis = count_of(step.first)?;
+    match wire.wait(millis) {
+        Ok(()) => tell(out, "waited"),
+        Err(_failed) => tell(out, "failed"),
+    }
+}
+
+fn close<W: Wire>(wire: &mut W, step: Step<'_>, out: &mut Vec<u8>) -> Result<(), RehearsalFault> {
+    let link = link_of(step)?;
+    wire.close(link);
+    tell(out, "closed")
+}
+
+/// The next link, once a peer has opened one.
+fn accept_ready<W: Wire>(wire: &mut W) -> Result<Option<LinkId>, Failed> {
+    for _ in 0..MOST_TRIES {
+        if let Some(link) = wire.accept()? {
+            return Ok(Some(link));
+        }
+        wire.wait(A_SECOND)?;
+    }
+    Ok(None)
+}
+
+fn tell_accepted(
+    alloc: Global,
+    accepted: Result<Option<LinkId>, Failed>,
+    out: &mut Vec<u8>,
+) -> Result<(), RehearsalFault> {
+    match accepted {
+        Ok(Some(link)) => {
+            tell(out, "id")?;
+            tell_shown(alloc, link.index, out)?;
+            tell_shown(alloc, link.generation, out)
+        }
+        Ok(None) => tell(out, "none"),
+        Err(_failed) => tell(out, "failed"),
+    }
+}
+
+/// A buffer for the bytes of a read.
+fn buffer_of(alloc: Global, word: &str) -> Result<Vec<u8>, RehearsalFault> {
+    let room = count_of(word)?;
+    if room > MOST_ROOM {
+        return Err(RehearsalFault::Line);
+    }
+    Ok(Vec::from_elem(alloc, 0u8, room as usize)?)
+}
+
+fn read<W: Wire>(
+    alloc: Global,
+    wire: &mut W,
+    step: Step<'_>,
+    out: &mut Vec<u8>,
+) -> Result<(), RehearsalFault> {
+    let link = link_of(step)?;
+    let mut buffer = buffer_of(alloc, step.third)?;
+    let moved = wire.read(link, &mut buffer);
+    tell_read(alloc, moved, buffer.as_slice(), out)
+}
+
+fn read_once_ready<W: Wire>(
+    alloc: Global,
+    wire: &mut W,
+    step: Step<'_>,
+    out: &mut Vec<u8>,
+) -> Result<(), RehearsalFault> {
+    let link = link_of(step)?;
+    let mut buffer = buffer_of(alloc, step.third)?;
+    let moved = read_ready(wire, link, &mut buffer);
+    tell_read(alloc, moved, buffer.as_slice(), out)
+}
+
+/// What a read comes to that something is ready for.
+fn read_ready<W: Wire>(wire: &mut W, link: LinkId, into: &mut [u8]) -> Moved
+    ensures { spec.count_of result ≤ length into.new }
+{
+    for _ in 0..MOST_TRIES {
+        let moved = wire.read(link, into);
+        if !matches!(moved, Moved::NotReady) {
+            return moved;
+        }
+        if wire.wait(A_SECOND).is_err() {
+            return Moved::Failed;
+        }
+    }
+    Moved::NotReady
+}
+
+fn tell_read(
+    alloc: Global,
+    moved: Moved,
+    buffer: &[u8],
+    out: &mut Vec<u8>,
+) -> Result<(), RehearsalFault>
+    requires { spec.count_of moved ≤ length buffer.now }
+{
+    match moved {
+        Moved::Bytes(count) => {
+            tell(out, "bytes")?;
+            tell_bytes(alloc, &buffer[..count], out)
+        }
+        Moved::NotReady => tell(out, "not ready"),
+        Moved::End => tell(out, "end"),
+        Moved::Failed => tell(out, "failed"),
+    }
+}
+
+fn write<W: Wire>(
+    alloc: Global,
+    wire: &mut W,
+    step: Step<'_>,
+    out: &mut Vec<u8>,
+) -> Result<(), RehearsalFault> {
+    let link = link_of(step)?;
+    let bytes = bytes_of(alloc, step.third)?;
+    match wire.write(link, bytes.as_slice()) {
+        Moved::Bytes(count) => {
+            tell(out, "moved")?;
+            tell_shown(alloc, count, out)
+        }
+        Moved::NotReady => tell(out, "not ready"),
+        Moved::End => tell(out, "end"),
+        Moved::Failed => tell(out, "failed"),
+    }
+}
+
+fn write_all<W: Wire>(
+    alloc: Global,
+    wire: &mut W,
+    step: Step<'_>,
+    out: &mut Vec<u8>,
+) -> Result<(), RehearsalFault> {
+    let link = link_of(step)?;
+    let bytes = bytes_of(alloc, step.third)?;
+    match parts_of(wire, link, bytes.as_slice()) {
+        Some(1) => tell(out, "moved all"),
+        Some(_) => tell(out, "moved all in parts"),
+        None => tell(out, "failed"),
+    }
+}
+
+/// In how many writes all of the bytes were moved, each once something was ready. None where one failed.
+fn parts_of<W: Wire>(wire: &mut W, link: LinkId, bytes: &[u8]) -> Option<u32> {
+    let mut rest = bytes;
+    let mut parts = 0u32;
+    for _ in 0..MOST_TRIES {
+        match wire.write(link, rest) {
+            Moved::Bytes(count) => {
+                rest = &rest[count..];
+                parts = parts.saturating_add(1);
+            }
+            Moved::NotReady => {
+                if wire.wait(A_SECOND).is_err() {
+                    return None;
+                }
+            }
+            Moved::End | Moved::Failed => return None,
+        }
+        if rest.is_empty() {
+            return Some(parts);
+        }
+    }
+    None
+}

@@ -1,0 +1,308 @@
+"""Wires in memory and over sockets, what waits to be sent on a link, and what the system gives, as the built `rehearse_values` plays them.
+
+What is expected of a socket is what its other end sent and received."""
+
+import socket
+import struct
+import subprocess
+import time
+import unittest
+
+from program import LATE, built
+from values import Playing, spelled
+
+# a client may leave so many bytes unread
+MOST_UNSENT = 64 << 20
+# more than the system keeps of a link whose peer doesn't read
+LONG = 12 << 20
+
+
+def listed(*lines):
+    return [(line, "listed") for line in lines]
+
+
+class Unsents(Playing):
+    def test_bytes_wait_in_order(self):
+        self.plays("unsent", [
+            ("shows", "shows 0 empty"),
+            ("waiting", "waiting -"),
+            ("push " + spelled("abc"), "pushed"),
+            ("push " + spelled("defgh"), "pushed"),
+            ("waiting", "waiting " + spelled("abcdefgh")),
+            ("advance 2", "advanced"),
+            ("waiting", "waiting " + spelled("cdefgh")),
+            ("advance 4", "advanced"),
+            # what was moved is more than what waits, and makes room
+            ("push " + spelled("ij"), "pushed"),
+            ("waiting", "waiting " + spelled("ghij")),
+            ("shows", "shows 4"),
+            ("advance 4", "advanced"),
+            ("shows", "shows 0 empty"),
+            ("push " + spelled("k"), "pushed"),
+            ("clear", "cleared"),
+            ("shows", "shows 0 empty"),
+            ("push " + spelled("l"), "pushed"),
+            ("waiting", "waiting " + spelled("l")),
+        ])
+
+    def test_a_client_may_leave_64_mib_unread(self):
+        self.plays("unsent", [
+            ("fill %d" % MOST_UNSENT, "pushed"),
+            ("shows", "shows %d" % MOST_UNSENT),
+            ("push " + spelled("a"), "pushed"),
+            ("shows", "shows %d too much" % (MOST_UNSENT + 1)),
+            ("advance 1", "advanced"),
+            ("shows", "shows %d" % MOST_UNSENT),
+            ("push " + spelled("bc"), "pushed"),
+            ("shows", "shows %d too much" % (MOST_UNSENT + 2)),
+            ("advance %d" % MOST_UNSENT, "advanced"),
+            ("shows", "shows 2"),
+            ("waiting", "waiting " + spelled("bc")),
+        ])
+
+
+class Sources(Playing):
+    def test_the_system_gives_time_chance_and_ids(self):
+        before = int(time.time() * 1000)
+        answers = [it.split(" ") for it in self.answers_to("source now;word;word;id;id;now")]
+        after = int(time.time() * 1000)
+        self.assertEqual([it[0] for it in answers], ["now", "word", "word", "id", "id", "now"])
+        first, last = int(answers[0][1]), int(answers[5][1])
+        self.assertLessEqual(before, first)
+        self.assertLessEqual(first, last)
+        self.assertLessEqual(last, after)
+        self.assertNotEqual(answers[1], answers[2])
+        ids = [it[1] for it in answers[3:5]]
+        self.assertNotEqual(*ids)
+        for shown in ids:
+            self.assertRegex(shown, "^[0-9a-f]{40}$")
+            self.assertNotEqual(shown, "0" * 40)
+
+    def test_another_run_draws_others(self):
+        one, other = (self.answers_to("source word;id") for _ in range(2))
+        self.assertNotEqual(one[0], other[0])
+        self.assertNotEqual(one[1], other[1])
+
+
+class MemoryWires(Playing):
+    def test_each_call_takes_the_next_of_its_list(self):
+        self.plays("memory", [
+            *listed("waits done", "waits failed"),
+            *listed("reads " + spelled("abcdef"), "reads not-ready", "reads " + spelled("g"), "reads end"),
+            *listed("writes 3", "writes not-ready", "writes 10", "writes failed"),
+            *listed("accepts link", "accepts not-ready", "accepts failed"),
+            ("begin", "begun"),
+            ("wait 100", "waited"),
+            ("wait 100", "failed"),
+            ("wait 100", "waited"),
+            ("accept", "id 0 0"),
+            ("accept", "none"),
+            ("accept", "failed"),
+            ("accept", "none"),
+            ("read 0 0 4", "bytes " + spelled("abcd")),
+            ("read 0 0 4", "bytes " + spelled("ef")),
+            ("read 0 0 4", "not ready"),
+            ("read 0 0 4", "bytes " + spelled("g")),
+            ("read 0 0 4", "end"),
+            ("read 0 0 4", "not ready"),
+            ("write 0 0 " + spelled("hello"), "moved 3"),
+            ("write 0 0 " + spelled("lo"), "not ready"),
+            ("write 0 0 " + spelled("lo"), "moved 2"),
+            ("write 0 0 " + spelled("x"), "failed"),
+            ("write 0 0 " + spelled("x"), "not ready"),
+            ("written 0 0", "written " + spelled("hello")),
+        ])
+
+    def test_a_call_moves_bytes_of_its_link_alone(self):
+        self.plays("memory", [
+            *listed("reads " + spelled("one"), "writes 9", "accepts link"),
+            *listed("reads " + spelled("two"), "reads failed", "writes 9", "accepts link"),
+            *listed("accepts link"),
+            ("begin", "begun"),
+            ("accept", "id 0 0"),
+            ("accept", "id 1 1"),
+            ("read 1 1 9", "bytes " + spelled("two")),
+            ("read 0 0 9", "bytes " + spelled("one")),
+            ("read 1 1 9", "failed"),
+            ("write 1 1 " + spelled("2"), "moved 1"),
+            ("write 0 0 " + spelled("11"), "moved 2"),
+            ("written 0 0", "written " + spelled("11")),
+            ("written 1 1", "written " + spelled("2")),
+            ("close 0 0", "closed"),
+            ("read 0 0 9", "failed"),
+            ("write 0 0 " + spelled("1"), "failed"),
+            ("written 0 0", "none"),
+            # the place is used again, the name isn't
+            ("accept", "id 0 2"),
+            ("close 0 0", "closed"),
+            ("written 0 2", "written -"),
+            ("written 1 1", "written " + spelled("2")),
+        ])
+
+    def test_calls_are_made_until_they_are_answered(self):
+        self.plays("memory", [
+            *listed("reads not-ready", "reads " + spelled("ab"), "writes not-ready", "writes 1", "writes 9", "writes 9"),
+            *listed("accepts not-ready", "accepts link"),
+            ("begin", "begun"),
+            ("accept-ready", "id 0 0"),
+            ("read-ready 0 0 9", "bytes " + spelled("ab")),
+            ("write-all 0 0 " + spelled("abc"), "moved all in parts"),
+            ("write-all 0 0 " + spelled("def"), "moved all"),
+            ("written 0 0", "written " + spelled("abcdef")),
+        ])
+
+
+def free_port():
+    """A port on which nobody listens."""
+    with socket.socket() as found:
+        found.bind(("127.0.0.1", 0))
+        return found.getsockname()[1]
+
+
+def connected(port, **options):
+    """A client of that port, once somebody listens there."""
+    late = time.monotonic() + LATE
+    while True:
+        client = socket.socket()
+        client.settimeout(LATE)
+        for option, value in options.items():
+            client.setsockopt(socket.SOL_SOCKET, getattr(socket, option), value)
+        try:
+            client.connect(("127.0.0.1", port))
+            return client
+        except ConnectionRefusedError:
+            client.close()
+            if time.monotonic() > late:
+                raise
+            time.sleep(0.01)
+
+
+def received(client, count):
+    """The next so many bytes, or all up to the end."""
+    data = b""
+    while len(data) < count:
+        piece = client.recv(count - len(data))
+        if not piece:
+            break
+        data += piece
+    return data
+
+
+class SocketWires(unittest.TestCase):
+    def plays_beside(self, steps, talk):
+        """Steps on a wire that listens, each with its answer, while this talks to its port."""
+        port = free_port()
+        steps = [("listen %d" % port, "listens %d" % port), *steps]
+        script = "sockets " + ";".join(step for step, _ in steps) + "\n"
+        program = subprocess.Popen([built("rehearse_values")], stdin=subprocess.PIPE, stdout=subprocess.PIPE, stderr=subprocess.PIPE, text=True)
+        try:
+            program.stdin.write(script)
+            program.stdin.close()
+            talk(port)
+            out, err = program.stdout.read(), program.stderr.read()
+            self.assertEqual((program.wait(LATE), err), (0, ""))
+        finally:
+            program.kill()
+            program.wait()
+            program.stdout.close()
+            program.stderr.close()
+        for (step, wanted), answer in zip(steps, out.splitlines(), strict=True):
+            self.assertEqual(answer, wanted, step)
+
+    def test_a_client_sends_in_pieces_and_closes_by_halves(self):
+        def talk(port):
+            with connected(port) as client:
+                client.sendall(b"abcdefghij")
+                self.assertEqual(received(client, 3), b"one")
+                client.sendall(b"klm")
+                client.shutdown(socket.SHUT_WR)
+                self.assertEqual(received(client, 9), b"two")
+
+        self.plays_beside([
+            ("accept", "none"),
+            ("accept-ready", "id 0 0"),
+            ("read 0 0 4", "not ready"),
+            ("read-ready 0 0 4", "bytes " + spelled("abcd")),
+            ("read-ready 0 0 4", "bytes " + spelled("efgh")),
+            # a read that finds less than it asked for has found all that came
+            ("read-ready 0 0 4", "bytes " + spelled("ij")),
+            ("read 0 0 4", "not ready"),
+            ("write-all 0 0 " + spelled("one"), "moved all"),
+            ("read-ready 0 0 64", "bytes " + spelled("klm")),
+            ("read-ready 0 0 64", "end"),
+            ("write 0 0 " + spelled("two"), "moved 3"),
+            ("close 0 0", "closed"),
+            ("read 0 0 4", "failed"),
+            ("write 0 0 " + spelled("x"), "failed"),
+        ], talk)
+
+    def test_a_name_is_not_used_again(self):
+        def talk(port):
+            with connected(port) as one:
+                self.assertEqual(received(one, 9), b"1")
+            with connected(port) as other:
+                self.assertEqual(received(other, 1), b"2")
+                # the peer is told that the link is gone, and not that it ended
+                other.setsockopt(socket.SOL_SOCKET, socket.SO_LINGER, struct.pack("ii", 1, 0))
+
+        self.plays_beside([
+            ("accept-ready", "id 0 0"),
+            ("write-all 0 0 " + spelled("1"), "moved all"),
+            ("close 0 0", "closed"),
+            ("accept-ready", "id 0 1"),
+            ("write-all 0 0 " + spelled("x"), "failed"),
+            ("write-all 0 1 " + spelled("2"), "moved all"),
+            ("read-ready 0 1 8", "failed"),
+            ("wait 0", "waited"),
+        ], talk)
+
+    def test_a_client_that_reads_slowly_gets_all_in_parts(self):
+        sent = bytes(range(256)) * (LONG // 256)
+
+        def talk(port):
+            with connected(port, SO_RCVBUF=65_536) as client:
+                self.assertEqual(received(client, LONG + 1), sent)
+
+        self.plays_beside([
+            ("accept-ready", "id 0 0"),
+            ("write-all 0 0 " + spelled(sent), "moved all in parts"),
+            ("close 0 0", "closed"),
+        ], talk)
+
+    def test_links_are_served_beside_each_other(self):
+        def talk(port):
+            with connected(port) as one:
+                one.sendall(b"a")
+                self.assertEqual(received(one, 1), b"A")
+                with connected(port) as other:
+                    other.sendall(b"b")
+                    self.assertEqual(received(other, 1), b"B")
+                    one.sendall(b"c")
+                    self.assertEqual(received(one, 1), b"C")
+                    self.assertEqual(received(other, 1), b"")
+
+        self.plays_beside([
+            ("accept-ready", "id 0 0"),
+            ("read-ready 0 0 8", "bytes " + spelled("a")),
+            ("write-all 0 0 " + spelled("A"), "moved all"),
+            ("accept-ready", "id 1 1"),
+            ("read-ready 1 1 8", "bytes " + spelled("b")),
+            ("read 0 0 8", "not ready"),
+            ("write-all 1 1 " + spelled("B"), "moved all"),
+            ("read-ready 0 0 8", "bytes " + spelled("c")),
+            ("write-all 0 0 " + spelled("C"), "moved all"),
+            ("close 1 1", "closed"),
+            ("read-ready 0 0 8", "end"),
+        ], talk)
+
+    def test_a_port_in_use_is_told(self):
+        with socket.socket() as taken:
+            taken.bind(("127.0.0.1", 0))
+            taken.listen()
+            script = "sockets listen %d\n" % taken.getsockname()[1]
+            ran = subprocess.run([built("rehearse_values")], input=script, capture_output=True, text=True, timeout=LATE)
+        self.assertEqual((ran.returncode, ran.stdout, ran.stderr), (1, "", "rehearse_values: file failed\n"))
+
+
+if __name__ == "__main__":
+    unittest.main()
