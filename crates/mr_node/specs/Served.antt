@@ -1,11 +1,13 @@
 -- What a request makes of a node, and what it is sent.
-use Rattle.std.specs.Prelude.{◌≡◌, ◌≤◌, ◌<◌, ◌+◌, ◌^◌, ℕ, List, [], Bool, false, Some, length, codes}
+use Rattle.std.specs.Prelude.{◌≡◌, ◌≤◌, ◌<◌, ◌+◌, ◌^◌, ℕ, List, [], All, Bool, false, Some, length, codes}
 use Rattle.mr_repl.specs.Backlog.{after_bytes}
 use Rattle.mr_resp.specs.Replies.{Tree, error, reply_text}
+use Rattle.mr_resp.specs.Command.{IsCommandText}
+use Rattle.mr_resp.specs.Usual.{commands}
 use Rattle.mr_entries.specs.Dataset.{Dataset}
 use Rattle.mr_data.specs.Meaning.{apply_all}
 use Rattle.mr_data.specs.declared.given.Given.{Given}
-use Rattle.mr_effect.specs.Spelling.{texts}
+use Rattle.mr_effect.specs.Spelling.{text, texts}
 use Rattle.mr_effect.specs.declared.effect.Effect.{Effect}
 use Rattle.mr_plan.specs.Requests.{IsPlanned, left, quits}
 use Rattle.mr_node.specs.State.{Core}
@@ -27,11 +29,12 @@ abbrev pub grown_by : List Effect → Dataset → Core → Core
 grown_by effects held c = record c { held = held; stream = after_bytes c.stream (texts effects) }
 
 -- A request other than QUIT: its answer at this dataset, on a master (false) or a replica (true), and its effects there. They lead to
--- what it leaves.
+-- what it leaves, and the text of each is a command text, so that whoever reads their texts finds them again.
 pub record HasPlan (replica : Bool) (m : Dataset) (words : List (List ℕ)) (given : Given) (reply : Tree) (effects : List Effect) : Type 0 where
   pub goes_on : quits words ≡ false
   pub planned : IsPlanned replica words given m reply effects
   pub leads : apply_all effects m ≡ Some (left replica words given m)
+  pub texts : All (λ e. IsCommandText commands (text e)) effects
 
 -- what a request leaves of a node's dataset
 abbrev pub left_of : Core → List (List ℕ) → Given → Dataset

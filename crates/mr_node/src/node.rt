@@ -14,6 +14,7 @@ ghost use Rattle.mr_node.specs.Parts.{Leads, HasAhead, HasRoom, Uses, Hears, las
 ghost use Rattle.mr_node.specs.Served.{offset_limit};
 ghost use Rattle.mr_node.specs.Rows.{StepRow, WhyStopped};
 
+mod file;
 mod ticking;
 
 use crate::config::Config;

@@ -1,13 +1,13 @@
 use Rattle.std.proofs.Common.{arith, ◌≤◌, ◌++◌, map, take, length, subst, sym, All, IsTrue}
-use Rattle.std.proofs.lemmas.List.{take-append-drop}
+use Rattle.std.proofs.lemmas.List.{take-append-drop, length-map}
 use Rattle.std.specs.Cow.{cow_slice_items}
 use Rattle.mr_resp.specs.Scans.{Reads}
 use Rattle.mr_resp.specs.declared.request.Scan.TheVariants.{Whole, More, Bad}
 use Rattle.mr_resp.specs.Resumed.{Agrees}
-use Rattle.mr_resp.specs.Usual.{usual-word}
+use Rattle.mr_resp.specs.Usual.{commands, usual-word, usual-words, commands-words}
 use Rattle.std.specs.List.{list_all}
 use Rattle.mr_value.specs.Words.{fits}
-use Rattle.mr_plan.specs.Requests.{IsAnswer, Leads, left}
+use Rattle.mr_plan.specs.Requests.{IsAnswer, Leads, HasTexts, left}
 use Rattle.mr_node.proofs.Answering.{answer_todo, answer_along}
 use Rattle.mr_node.proofs.Progressing.{agrees_now, not_le, all_fit}
 use Rattle.mr_node.proofs.todo.todo_of.Goals as goal
@@ -24,10 +24,13 @@ returns-in_ok-answer-in-Whole c =
     let ws = map cow_slice_items c.in-Whole.words.items in
     let slices = c.as_slice.ensures.value in
     let is = subst (λ xs. IsAnswer c.args.replica (map cow_slice_items xs) c.args.given c.args.held.now a) slices c.in_ok-answer-in-Whole.ensures.answer in
-    let leads = subst (λ xs. IsTrue (list_all fits (map cow_slice_items xs)) → Leads a c.args.held.now (left c.args.replica (map cow_slice_items xs) c.args.given c.args.held.now)) slices c.in_ok-answer-in-Whole.ensures.leads
-    (all_fit ws (subst (λ n. All (λ w. length w ≤ n) ws) usual-word (c.words_fit.ensures.each (take c.in-Whole.used input) ws r.1))) in
+    let whole = take c.in-Whole.used input in
+    let fit = all_fit ws (subst (λ n. All (λ w. length w ≤ n) ws) usual-word (c.words_fit.ensures.each whole ws r.1)) in
+    let few : length c.in-Whole.words.items ≤ commands.words = omega (arith, c.words_fit.ensures.count whole ws r.1, usual-words, commands-words, length-map c.in-Whole.words.items cow_slice_items) in
+    let leads = subst (λ xs. IsTrue (list_all fits (map cow_slice_items xs)) → Leads a c.args.held.now (left c.args.replica (map cow_slice_items xs) c.args.given c.args.held.now)) slices c.in_ok-answer-in-Whole.ensures.leads fit in
+    let told = subst (λ xs. IsTrue (list_all fits (map cow_slice_items xs)) → length xs ≤ commands.words → HasTexts a) slices c.in_ok-answer-in-Whole.ensures.texts fit few in
     rw c.carry_out.ensures (record {
-      todo = answer_todo c.args.replica input c.args.given c.args.held.now a c.in-Whole.used ws r.0 (record { text = take c.in-Whole.used input; begins = sym (take-append-drop c.in-Whole.used input); request = r.1 }) is leads;
+      todo = answer_todo c.args.replica input c.args.given c.args.held.now a c.in-Whole.used ws r.0 (record { text = whole; begins = sym (take-append-drop c.in-Whole.used input); request = r.1 }) is leads told;
       along = answer_along input a c.in-Whole.used;
     })
 
