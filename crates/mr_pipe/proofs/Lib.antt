@@ -1,3 +1,5 @@
 pub mod Serves
+pub mod Files
 pub mod Goings
+pub mod Deliveries
 pub mod Relaying

@@ -1,3 +1,4 @@
+pub mod Outside
 pub mod Sessions
 pub mod Serving
 pub mod Piped

@@ -3,9 +3,10 @@
 
 mod config;
 mod fault;
+mod keep;
 mod relay;
 mod serve;
 
 pub use config::PipeConfig;
 pub use fault::PipeFault;
-pub use relay::pipe;
+pub use relay::{pipe, pipe_with};
