@@ -12,7 +12,7 @@ use Rattle.std.specs.Prelude.{Err}
 use Rattle.std.specs.Io.KnownBytes.{Appends}
 use Rattle.std.proofs.KnownBytes.{Appends-nil}
 use Rattle.mr_pipe.specs.Outside.{Kept, Outside, Filed, IsSettled}
-use Rattle.mr_pipe.specs.Sessions.{AreServed, Gives, grown_of}
+use Rattle.mr_pipe.specs.Sessions.{Moment, AreServed, Gives, grown_of}
 use Rattle.mr_pipe.specs.Serving.{Settles, Going, Drained, Ended, Breaks, StepUsed, StepWaits, IsLeft, IsCutOff, IsCarriedOut}
 use Rattle.mr_pipe.specs.Faults.{fault_of}
 use Rattle.mr_pipe.specs.declared.fault.PipeFault.{PipeFault}
@@ -70,7 +70,7 @@ pub goes_on : (g : Given) (a : NodeState) (l : LinkId) (u : List ℕ) (x : Outsi
 goes_on g a l u x b y d z w t =
     let r = went b l w.done.rest g d t.outs t.row t.closes_is in
     let s = w.done in
-    let m = record { core = d.core; left = r.rest; grown = t.outs.grown; said = t.outs.reply } in
+    let m : Moment = record { core = d.core; left = r.rest; grown = t.outs.grown; said = t.outs.reply } in
     record {
       done = record {
         moments = s.moments ++ m ∷ [];

@@ -1,5 +1,6 @@
 -- One read after another.
 use Rattle.std.proofs.Common.{rules, ◌≡◌, ◌<◌, ℕ, List, [], ◌∷◌, ◌++◌, Bool, true, false, Option, refl, sym, ap, subst, ◌∙◌, append_assoc, inl, inr, All, lit<, Ok, Err, Result}
+use Rattle.std.specs.Prelude.{◌⊎◌, take, Some}
 use Rattle.std.specs.Io.KnownBytes.{Consumes, IsAtEnd, Appends, Keeps}
 use Rattle.std.proofs.KnownBytes.{Consumes-nil, Consumes-kept, Consumes-trans, Appends-trans}
 use Rattle.mr_links.specs.declared.link_id.LinkId.{LinkId}
@@ -9,7 +10,8 @@ use Rattle.mr_node.specs.Requests.{Waits}
 use Rattle.mr_pipe.specs.Outside.{Kept, Outside, Filed, IsSettled}
 use Rattle.mr_pipe.specs.Sessions.{AreServed, grown_of}
 use Rattle.mr_pipe.specs.Serving.{Settles, Going, Drained, Ended, Breaks, IsLeft, IsDrained}
-use Rattle.mr_pipe.specs.Piped.{Relays, RelaysEnd, RelaysClose, RelaysBreak, IsRound, IsPiped, Session, Broken, Answers}
+use Rattle.mr_pipe.specs.Reading.{IsRead}
+use Rattle.mr_pipe.specs.Piped.{Relays, RelaysEnd, RelaysClose, RelaysBreak, IsRound, IsPiped, IsPipedAlone, no_file, Session, Broken, Answers}
 use Rattle.mr_pipe.specs.declared.fault.PipeFault.{PipeFault}
 use Rattle.mr_pipe.specs.declared.fault.PipeFault.TheVariants as fault
 use Rattle.mr_pipe.specs.declared.relay.Round.{Round}
@@ -114,3 +116,30 @@ delivered_all g a l u x p q bytes b z c d = record { read = bytes; consumed = c;
 pub not_delivered : (g : Given) (a : NodeState) (l : LinkId) (u : List ℕ) (x : Outside) (p q : Option (List ℕ)) (bytes : List ℕ) (b : NodeState) (z : Outside) (why : PipeFault) → Consumes p q bytes → IsDrained g a l (u ++ bytes) x b z (Err why)
     → RelaysBreak g a.core u x p q why z
 not_delivered g a l u x p q bytes b z why c d = record { read = bytes; consumed = c; breaks = d }
+
+-- the input is at its end
+pub at_end_round : (g : Given) (a : NodeState) (l : LinkId) (u : List ℕ) (x : Outside) (p q : Option (List ℕ)) (b : NodeState) (y : Outside) (buffer : List ℕ) (n : ℕ) → n ≡ 0 → IsRead p q buffer (Some n) → Drained g a l u x b y
+    → RelaysEnd g a l u x p q b y
+at_end_round g a l u x p q b y buffer n none r d = record {
+  all = record {
+    read = [];
+    consumed = subst (λ k. Consumes p q (take k buffer)) none r.1;
+    drained = subst (λ z. Drained g a l z x b y) (sym (append_nil u)) d;
+  };
+  at_end = r.2 none;
+}
+
+-- the node did not begin
+pub not_begun : (g : Given) (c : Core) (x : Outside) (p : Option (List ℕ)) (why : PipeFault) → (why ≡ fault.Memory) ⊎ (why ≡ fault.Stopped) → Broken g c p p x why x
+not_begun g c x p why (inl is) = subst (λ w. Broken g c p p x w x) (sym is) (no_session g c x p fault.Memory (λ u. refl))
+not_begun g c x p why (inr is) = subst (λ w. Broken g c p p x w x) (sym is) (no_session g c x p fault.Stopped (λ u. refl))
+
+-- ---- where there is no file
+pub is_alone : (k : Kept) → k.told ≡ no_file.told → k.synced ≡ no_file.synced → k.failures ≡ 0 → k.mode ≡ no_file.mode → k.broken ≡ false → k ≡ no_file
+is_alone k t s f m b = λ i. record { told = t i; synced = s i; failures = f i; mode = m i; broken = b i }
+
+pub piped_alone : (g : Given) (c d : Core) (p q old new : Option (List ℕ)) (k n : Kept) (r : Result (Unit {0}) PipeFault) → c ≡ d → k ≡ no_file
+    → IsPiped g c p q (record { output = old; kept = k }) (record { output = new; kept = n }) r → IsPipedAlone g d p q old new r
+piped_alone g c d p q old new k n r same none h =
+    (n, subst (λ z. IsPiped g d p q (record { output = old; kept = z }) (record { output = new; kept = n }) r) none
+    (subst (λ z. IsPiped g z p q (record { output = old; kept = k }) (record { output = new; kept = n }) r) same h))

@@ -1,0 +1,22 @@
+use Rattle.std.proofs.Common.{rules, ◌≡◌, ℕ, List, [], ◌++◌, Bool, true, false, Ok, Err, refl, sym, subst, ap, ◌∙◌, take}
+use Rattle.mr_node.specs.State.{NodeState, Agrees}
+use Rattle.mr_pipe.specs.Outside.{Outside, outside}
+use Rattle.mr_pipe.specs.Serving.{Going, IsDrained}
+use Rattle.mr_pipe.proofs.Deliveries.{flushed, not_flushed}
+use Rattle.mr_pipe.proofs.serve.deliver.Goals as goal
+
+pub returns-then-is_err : goal.returns-then-is_err
+returns-then-is_err g c = λ a u x w.
+    let out = outside g.W.Write.contents g.F.LogFile.told g.F.LogFile.synced g.F.LogFile.failures in
+    let y = out c.serve_bytes.new.output c.serve_bytes.new.log in let z = out c.flush.new.self c.serve_bytes.new.log in
+    let v = u ++ c.args.bytes.now in
+    let d : IsDrained c.args.given a c.args.link v x c.serve_bytes.new.node y (Ok c.in_ok-goes_on.goes_on) = c.in_ok-goes_on.ensures a u x w in
+    not_flushed c.args.given a c.args.link v x c.serve_bytes.new.node y z c.in_ok-goes_on.goes_on d c.flush.ensures.bytes refl
+
+pub returns : goal.returns
+returns g c = λ a u x w.
+    let out = outside g.W.Write.contents g.F.LogFile.told g.F.LogFile.synced g.F.LogFile.failures in
+    let y = out c.serve_bytes.new.output c.serve_bytes.new.log in let z = out c.flush.new.self c.serve_bytes.new.log in
+    let v = u ++ c.args.bytes.now in
+    let d : IsDrained c.args.given a c.args.link v x c.serve_bytes.new.node y (Ok c.in_ok-goes_on.goes_on) = c.in_ok-goes_on.ensures a u x w in
+    flushed c.args.given a c.args.link v x c.serve_bytes.new.node y z c.in_ok-goes_on.goes_on d c.flush.ensures.bytes refl
