@@ -1,9 +1,8 @@
-"""The append-only file of `minired pipe --aof PATH`: what was answered is on the disk, and what is on the disk is read again."""
+"""The append-only file of `minired pipe --aof PATH`: what was answered is in it, and a start has the longest good beginning of it."""
 
 import os
 import random
 import resource
-import select
 import shutil
 import signal
 import subprocess
@@ -11,245 +10,257 @@ import tempfile
 import time
 import unittest
 
-from program import LATE, LAUNCHER, PROGRAM, request, run
+from program import LATE, LAUNCHER, PROGRAM, compiler, request, run
 
+SET_V, SET_W, SET_X = (request("SET", "k", value) for value in "vwx")
 OK = b"+OK\r\n"
-# as the description spells the effects: 27 bytes each
-SETS = [request("SET", "k", value) for value in ("v", "w", "x")]
+TORN = b"*3\r\n$3\r\nSE"
+# how often the program is killed in the middle of a stream of writes
+KILLS = 200
 
 
 def bulk(value):
-    """A bulk string as a reply."""
     return b"$%d\r\n%s\r\n" % (len(value), value)
 
 
-class WithFile(unittest.TestCase):
+def array(items):
+    return b"*%d\r\n" % len(items) + b"".join(map(bulk, items))
+
+
+class OfFile(unittest.TestCase):
+    """Tests on a file of their own in a folder of their own."""
+
     def setUp(self):
         folder = tempfile.TemporaryDirectory()
         self.addCleanup(folder.cleanup)
-        self.folder = folder.name
-        self.path = os.path.join(self.folder, "kept.aof")
+        self.folder, self.path = folder.name, os.path.join(folder.name, "data.aof")
 
-    def kept(self):
-        with open(self.path, "rb") as file:
-            return file.read()
-
-    def keep(self, data):
+    def write(self, data):
         with open(self.path, "wb") as file:
             file.write(data)
 
-    def answers(self, data, replies, *words):
-        ran = run(data, "pipe", "--aof", self.path, *words)
-        self.assertEqual((ran.returncode, ran.stdout, ran.stderr), (0, replies, b""))
+    def bytes(self):
+        with open(self.path, "rb") as file:
+            return file.read()
 
-    def refused(self, ran, path=None):
-        """Status 3, the line that says that a file failed, and one that says which."""
-        self.assertEqual((ran.returncode, ran.stdout), (3, b""))
-        lines = ran.stderr.split(b"\n")
-        self.assertEqual((lines[0], lines[2:]), (b"minired: file failed", [b""]))
-        self.assertTrue(lines[1].startswith((path or self.path).encode() + b": "), lines[1])
+    def asked(self, data, *words, **how):
+        """The program's run over the file."""
+        return run(data, "pipe", "--aof", self.path, *words, **how)
+
+    def answers(self, data, wanted, *words):
+        ran = self.asked(data, *words)
+        self.assertEqual((ran.returncode, ran.stderr, ran.stdout), (0, b"", wanted))
+
+    def fails(self, ran, wanted):
+        """The file failed, as the first line says; the second names the file. This was answered until then."""
+        first, second, rest = ran.stderr.split(b"\n")
+        self.assertEqual((ran.returncode, ran.stdout, first, rest), (3, wanted, b"minired: file failed", b""))
+        self.assertIn(os.fsencode(self.path), second)
 
 
-class Keeping(WithFile):
-    def test_a_set_is_kept_as_its_text(self):
-        self.answers(SETS[0] + request("GET", "k"), OK + bulk(b"v"))
-        self.assertEqual(self.kept(), SETS[0])
+class Starting(OfFile):
+    def test_what_was_answered_is_there_after_the_next_start(self):
+        self.answers(SET_V + SET_W + request("RPUSH", "l", "a", "b"), OK + OK + b":2\r\n")
+        self.answers(request("GET", "k") + request("LRANGE", "l", "0", "-1"), bulk(b"w") + array([b"a", b"b"]))
 
-    def test_a_restart_sees_what_was_answered(self):
-        self.answers(b"".join(SETS) + request("RPUSH", "l", "a", "b"), 3 * OK + b":2\r\n")
-        self.answers(request("GET", "k") + request("LRANGE", "l", "0", "-1"), bulk(b"x") + b"*2\r\n" + bulk(b"a") + bulk(b"b"))
-        self.answers(request("DEL", "k"), b":1\r\n")
-        self.answers(request("EXISTS", "k", "l"), b":1\r\n")
-        self.assertEqual(self.kept(), b"".join(SETS) + request("RPUSH", "l", "a", "b") + request("DEL", "k"))
+    def test_the_file_is_the_texts_of_the_effects(self):
+        self.answers(SET_V + SET_W, OK + OK)
+        self.assertEqual(self.bytes(), SET_V + SET_W)
+        self.assertEqual(len(self.bytes()), 54)
 
-    def test_what_changes_nothing_is_not_kept(self):
-        self.answers(request("PING") + request("GET", "k") + request("DEL", "k") + b"\r\n", b"+PONG\r\n$-1\r\n:0\r\n")
-        self.assertEqual(self.kept(), b"")
+    def test_what_changes_nothing_is_not_in_the_file(self):
+        asked = request("PING") + request("GET", "k") + request("SET", "k") + SET_V + SET_V + request("LPUSH", "k", "v") + request("DEL", "none")
+        ran = self.asked(asked)
+        self.assertEqual((ran.returncode, ran.stderr), (0, b""))
+        self.assertEqual(self.bytes(), SET_V)
 
-    def test_a_torn_end_is_cut(self):
-        self.keep(SETS[0] + b"*3\r\n$3\r\nSE")
+    def test_a_torn_end_is_cut_off(self):
+        self.write(SET_V + TORN)
         self.answers(request("GET", "k"), bulk(b"v"))
-        self.assertEqual(self.kept(), SETS[0])
+        self.assertEqual(self.bytes(), SET_V)
+        self.answers(SET_W, OK)
+        self.assertEqual(self.bytes(), SET_V + SET_W)
 
-    def test_deadlines_are_kept_as_moments(self):
-        self.answers(request("SET", "k", "v") + request("EXPIRE", "k", "10"), OK + b":1\r\n", "--now", "1000")
-        self.assertEqual(self.kept(), SETS[0] + request("PEXPIREAT", "k", "11000"))
-        self.answers(request("PTTL", "k"), b":5000\r\n", "--now", "6000")
-        self.answers(request("GET", "k"), b"$-1\r\n", "--now", "11000")
-        self.assertEqual(self.kept(), SETS[0] + request("PEXPIREAT", "k", "11000") + request("DEL", "k"))
+    def test_a_command_that_cannot_be_applied_ends_what_is_loaded(self):
+        for bad in (request("LPOP", "k", "1"), request("FOO"), request("GET", "k"), request("PING"), b"\0", b"SET k w\r\n"):
+            with self.subTest(bad=bad):
+                self.write(SET_V + bad + SET_W)
+                self.answers(request("GET", "k"), bulk(b"v"))
+                self.assertEqual(self.bytes(), SET_V)
 
-    def test_a_file_cut_at_each_byte_of_its_last_three_effects(self):
-        front = request("SET", "k", "u")
-        for at in range(len(b"".join(SETS)) + 1):
-            with self.subTest(at=at):
-                self.keep((front + b"".join(SETS))[: len(front) + at])
-                whole = at // len(SETS[0])
-                self.answers(request("GET", "k"), bulk(b"uvwx"[whole : whole + 1]))
-                self.assertEqual(self.kept(), front + b"".join(SETS[:whole]))
+    def test_any_beginning_of_a_file_loads_its_whole_texts(self):
+        texts = [SET_V, request("HSET", "h", "f", "v"), request("RPUSH", "l", "a"), request("SADD", "s", "m"), request("ZADD", "z", "1", "m")]
+        whole, sizes = b"".join(texts), [sum(map(len, texts[:count])) for count in range(len(texts) + 1)]
+        for cut in range(sizes[2], sizes[5] + 1):
+            with self.subTest(cut=cut):
+                self.write(whole[:cut])
+                count = max(count for count, size in enumerate(sizes) if size <= cut)
+                self.answers(request("DBSIZE"), b":%d\r\n" % count)
+                self.assertEqual(self.bytes(), whole[: sizes[count]])
 
-    def test_random_bytes_are_cut(self):
-        draws = random.Random(16)
-        for _ in range(20):
-            rest = draws.randbytes(draws.randrange(1, 3000))
-            with self.subTest(rest=rest[:8]):
-                # no effect's text begins so
-                rest = b"\xff" + rest
-                self.keep(SETS[0] + rest)
-                self.answers(request("DBSIZE") + SETS[1], b":1\r\n" + OK)
-                self.assertEqual(self.kept(), SETS[0] + SETS[1])
+    def test_random_bytes_load_nothing(self):
+        self.write(random.Random(16).randbytes(100_000))
+        self.answers(request("DBSIZE"), b":0\r\n")
+        self.assertEqual(self.bytes(), b"")
 
-    def test_a_bad_command_is_not_skipped(self):
-        self.keep(SETS[0] + request("LPUSH", "k", "a") + SETS[1])
-        self.answers(request("GET", "k"), bulk(b"v"))
-        self.assertEqual(self.kept(), SETS[0])
+    def test_deadlines_outlive_a_start(self):
+        self.answers(request("SET", "k", "v", "PX", "500"), OK, "--now", "1000")
+        self.answers(request("GET", "k"), bulk(b"v"), "--now", "1499")
+        self.answers(request("GET", "k"), b"$-1\r\n", "--now", "1500")
+
+    def test_a_large_value_outlives_a_start(self):
+        value = random.Random(5).randbytes(1 << 24)
+        self.answers(request("SET", "k", value), OK)
+        self.answers(request("GET", "k"), bulk(value))
 
 
-class Failing(WithFile):
-    def test_a_folder(self):
-        self.refused(run(SETS[0], "pipe", "--aof", self.folder), self.folder)
+class Failing(OfFile):
+    """Calls on the file fail, one at a time."""
 
-    def test_a_folder_that_is_not_there(self):
-        path = os.path.join(self.folder, "nowhere", "kept.aof")
-        self.refused(run(SETS[0], "pipe", "--aof", path), path)
+    @classmethod
+    def setUpClass(cls):
+        cls.room = tempfile.TemporaryDirectory()
+        cls.addClassCleanup(cls.room.cleanup)
+        cls.shim = os.path.join(cls.room.name, "failing_file.so")
+        source = os.path.join(os.path.dirname(os.path.abspath(__file__)), "failing_file.c")
+        subprocess.run([*compiler(), "-shared", "-fPIC", "-O1", "-nostdlib", "-o", cls.shim, source], check=True)
 
-    def test_two_programs_on_one_file(self):
-        first = subprocess.Popen([LAUNCHER, "pipe", "--aof", self.path], stdin=subprocess.PIPE, stdout=subprocess.PIPE)
-        first.stdin.write(SETS[0])
-        first.stdin.flush()
-        self.assertEqual(first.stdout.read(len(OK)), OK)
-        self.refused(run(SETS[1], "pipe", "--aof", self.path))
-        out, _ = first.communicate(SETS[2], timeout=LATE)
-        self.assertEqual((first.returncode, out), (0, OK))
-        self.assertEqual(self.kept(), SETS[0] + SETS[2])
-        self.answers(request("GET", "k"), bulk(b"x"))
+    def run_with(self, **variables):
+        env = {**os.environ, "LD_PRELOAD": self.shim, **variables}
+        words = [PROGRAM, "pipe", "--aof", self.path]
+        return subprocess.run(words, input=SET_V + SET_W + SET_X, capture_output=True, timeout=LATE, env=env)
+
+    def test_the_second_write_fails(self):
+        self.fails(self.run_with(FAIL_WRITE="2"), OK)
+        self.assertEqual(self.bytes(), SET_V)
+
+    def test_the_second_sync_fails(self):
+        self.fails(self.run_with(FAIL_SYNC="2"), OK)
+        self.assertEqual(self.bytes(), SET_V + SET_W)
+
+    def test_short_writes_are_gone_on_with(self):
+        ran = self.run_with(SHORT_WRITE="1")
+        self.assertEqual((ran.returncode, ran.stdout, ran.stderr), (0, 3 * OK, b""))
+        self.assertEqual(self.bytes(), SET_V + SET_W + SET_X)
+
+    def test_each_call_fails_in_turn(self):
+        texts = [SET_V, SET_W, SET_X]
+        for call in range(1, 100):
+            self.write(b"")
+            ran = self.run_with(FAIL_CALL=str(call))
+            if ran.returncode == 0:
+                break
+            with self.subTest(call=call):
+                count = len(ran.stdout) // len(OK)
+                self.fails(ran, count * OK)
+                # all that was answered is there, and of what wasn't at most the next text
+                self.assertIn(self.bytes(), [b"".join(texts[:count]), b"".join(texts[: count + 1])])
+        # a read at the start, and a write and a sync for each request
+        self.assertGreater(call, 6)
+        self.assertEqual((ran.stdout, self.bytes()), (3 * OK, b"".join(texts)))
 
     def test_a_full_disk(self):
-        """A write past the limit of a file's size fails: what was answered is there, and nothing more was answered."""
-        for most in range(0, 3 * len(SETS[0]) + 1, 9):
-            with self.subTest(most=most):
-                self.keep(b"")
-                limit = lambda: (signal.signal(signal.SIGXFSZ, signal.SIG_IGN), resource.setrlimit(resource.RLIMIT_FSIZE, (most, most)))
-                ran = subprocess.run(
-                    [PROGRAM, "pipe", "--aof", self.path], input=b"".join(SETS), capture_output=True, timeout=LATE, preexec_fn=limit
-                )
-                whole = most // len(SETS[0])
-                self.assertEqual(ran.stdout, whole * OK)
-                self.assertEqual(ran.returncode, 0 if whole == 3 else 3)
-                if whole < 3:
-                    self.assertEqual(ran.stderr.split(b"\n")[0], b"minired: file failed")
-                    self.assertIn(self.path.encode(), ran.stderr.split(b"\n")[1])
-                self.assertEqual(self.kept()[: whole * len(SETS[0])], b"".join(SETS[:whole]))
-                self.answers(request("GET", "k"), bulk(b"vwx"[whole - 1 : whole]) if whole else b"$-1\r\n")
+        def is_full():
+            signal.signal(signal.SIGXFSZ, signal.SIG_IGN)
+            resource.setrlimit(resource.RLIMIT_FSIZE, (40, 40))
+
+        ran = self.asked(SET_V + SET_W + SET_X, preexec_fn=is_full)
+        self.fails(ran, OK)
+        self.assertEqual(self.bytes(), (SET_V + SET_W)[:40])
+        self.answers(request("GET", "k"), bulk(b"v"))
 
 
-class Killed(WithFile):
+class Opening(OfFile):
+    def test_two_programs_never_write_one_file(self):
+        first = subprocess.Popen([LAUNCHER, "pipe", "--aof", self.path], stdin=subprocess.PIPE, stdout=subprocess.PIPE)
+        first.stdin.write(SET_V)
+        first.stdin.flush()
+        self.assertEqual(first.stdout.read(len(OK)), OK)
+        self.fails(self.asked(SET_W), b"")
+        self.assertEqual(self.bytes(), SET_V)
+        rest, _ = first.communicate(SET_X, timeout=LATE)
+        self.assertEqual((first.returncode, rest, self.bytes()), (0, OK, SET_V + SET_X))
+
+    def test_a_folder(self):
+        os.mkdir(self.path)
+        self.fails(self.asked(SET_V), b"")
+
+    def test_a_folder_that_is_not_there(self):
+        self.path = os.path.join(self.folder, "none", "data.aof")
+        self.fails(self.asked(SET_V), b"")
+
+    def test_the_empty_path(self):
+        ran = run(SET_V, "pipe", "--aof", "")
+        self.assertEqual((ran.returncode, ran.stdout), (3, b""))
+
+
+class Killing(OfFile):
+    def stream(self, sent, seconds):
+        """Pushes numbers from `sent` on until so many seconds are over and the program is killed: how many were sent and answered."""
+        words = [PROGRAM, "pipe", "--aof", self.path]
+        started = subprocess.Popen(words, stdin=subprocess.PIPE, stdout=subprocess.PIPE)
+        end, count = time.monotonic() + seconds, 0
+        while time.monotonic() < end:
+            os.write(started.stdin.fileno(), request("RPUSH", "l", str(sent + count)))
+            count += 1
+        started.kill()
+        out, _ = started.communicate(timeout=LATE)
+        return count, out.count(b"\n")
+
     def test_what_was_answered_is_there_after_a_kill(self):
-        """The program is killed at 200 random moments of a stream of writes. Each write answered is there, and what is there was sent."""
-        draws = random.Random(61)
-        kept = 0
-        for _ in range(200):
-            started = subprocess.Popen([PROGRAM, "pipe", "--aof", self.path], stdin=subprocess.PIPE, stdout=subprocess.PIPE, bufsize=0)
-            sent = 200
-            texts = b"".join(request("RPUSH", "l", str(kept + at)) for at in range(sent))
-            os.set_blocking(started.stdin.fileno(), False)
-            os.write(started.stdin.fileno(), texts)
-            late = time.monotonic() + draws.random() * 0.02
-            said = b""
-            while time.monotonic() < late:
-                if select.select([started.stdout], [], [], max(0, late - time.monotonic()))[0]:
-                    said += os.read(started.stdout.fileno(), 65536)
-            started.kill()
-            said += started.stdout.read()
-            started.stdin.close()
-            started.stdout.close()
-            started.wait()
-            answered = said.count(b"\r\n")
-            ran = run(request("LLEN", "l"), "pipe", "--aof", self.path)
-            self.assertEqual((ran.returncode, ran.stderr), (0, b""))
-            there = int(ran.stdout[1:])
-            self.assertGreaterEqual(there, kept + answered)
-            self.assertLessEqual(there, kept + sent)
-            kept = there
-        values = b"".join(bulk(str(at).encode()) for at in range(kept))
-        self.answers(request("LRANGE", "l", "0", "-1"), b"*%d\r\n" % kept + values)
+        chance, kept = random.Random(9), 0
+        for _ in range(KILLS):
+            sent, answered = self.stream(kept, chance.uniform(0, 0.03))
+            ran = self.asked(request("LLEN", "l") + request("LRANGE", "l", "-3", "-1"))
+            count = int(ran.stdout.split(b"\r\n")[0][1:])
+            self.assertTrue(kept + answered <= count <= kept + sent, (kept, answered, count, sent))
+            last = [b"%d" % number for number in range(max(0, count - 3), count)]
+            self.assertEqual(ran.stdout, b":%d\r\n" % count + array(last))
+            kept = count
+        self.answers(request("LRANGE", "l", "0", "-1"), array([b"%d" % number for number in range(kept)]))
+        self.assertGreater(kept, 0)
 
 
-class BesideRedis(WithFile):
-    WRITES = [
-        ("SET", "text", "a b"),
-        ("APPEND", "text", "c"),
-        ("INCRBY", "number", "41"),
-        ("HSET", "hash", "f", "1", "g", "2"),
-        ("RPUSH", "list", "a", "b", "a"),
-        ("LREM", "list", "1", "a"),
-        ("SADD", "set", "x", "y", "z"),
-        ("SREM", "set", "y"),
-        ("ZADD", "sorted", "2", "b", "1", "a"),
-        ("ZINCRBY", "sorted", "5", "a"),
-        ("SET", "gone", "v"),
-        ("DEL", "gone"),
-        ("RENAME", "number", "renamed"),
-    ]
-    READS = [
-        ("DBSIZE",),
-        ("GET", "text"),
-        ("GET", "renamed"),
-        ("HGET", "hash", "g"),
-        ("HLEN", "hash"),
-        ("LRANGE", "list", "0", "-1"),
-        ("SCARD", "set"),
-        ("SISMEMBER", "set", "z"),
-        ("ZRANGE", "sorted", "0", "-1", "WITHSCORES"),
-        ("EXISTS", "gone", "number"),
-    ]
-    # what the command reference says that these answer
-    REPLIES = (
-        b":6\r\n$4\r\na bc\r\n$2\r\n41\r\n$1\r\n2\r\n:2\r\n*2\r\n$1\r\nb\r\n$1\r\na\r\n:2\r\n:1\r\n*4\r\n$1\r\nb\r\n$1\r\n2\r\n$1\r\na\r\n$1\r\n6\r\n:0\r\n"
-    )
+class Leaving(OfFile):
+    """redis-server loads the file, where it is installed: a user can always leave."""
 
-    def test_a_user_can_leave(self):
-        """What was kept is read again as it was; where redis-server is installed, it reads the same in the file."""
-        ran = run(b"".join(request(*words) for words in self.WRITES), "pipe", "--aof", self.path)
-        self.assertEqual((ran.returncode, ran.stderr, ran.stdout.count(b"-")), (0, b"", 0))
-        reads = b"".join(request(*words) for words in self.READS)
-        self.answers(reads, self.REPLIES)
-        if shutil.which("redis-server") and shutil.which("redis-cli"):
-            self.assertEqual(self.asked_of_redis(reads), self.REPLIES)
-
-    def asked_of_redis(self, reads):
-        socket = os.path.join(self.folder, "socket")
-        words = ["--port", "0", "--unixsocket", socket, "--dir", self.folder, "--appendonly", "yes", "--appendfilename", "kept.aof", "--save", ""]
-        # it takes a file of this name in its folder as its own, from before it kept several
-        server = subprocess.Popen(["redis-server", *words], stdin=subprocess.DEVNULL, stdout=subprocess.DEVNULL)
-        try:
-            late = time.monotonic() + LATE
-            while time.monotonic() < late and not os.path.exists(socket):
-                time.sleep(0.05)
-            return self.replies_of(socket, reads)
-        finally:
-            server.kill()
-            server.wait()
-
-    def replies_of(self, path, reads):
-        import socket
-
+    def test_redis_server_loads_the_file(self):
+        if not shutil.which("redis-server"):
+            return
+        asked = [
+            ("SET", "text", "a value\r\n"), ("HSET", "hash", "f", "1", "g", "2"), ("RPUSH", "list", "a", "b", "c"), ("LPOP", "list"),
+            ("SADD", "set", "m", "n"), ("SREM", "set", "m"), ("ZADD", "zset", "3", "x", "-1", "y"), ("ZINCRBY", "zset", "5", "y"),
+            ("SET", "late", "v", "PX", "4102444800000"), ("INCR", "count"), ("APPEND", "text", "more"), ("RENAME", "count", "number"),
+        ]
+        self.asked(b"".join(request(*words) for words in asked), "--now", "0")
+        socket = os.path.join(self.folder, "redis")
+        words = ["--port", "0", "--unixsocket", socket, "--dir", self.folder, "--appendonly", "yes", "--appendfilename", "data.aof", "--save", ""]
+        server = subprocess.Popen(["redis-server", *words], stdout=subprocess.DEVNULL)
+        self.addCleanup(server.wait)
+        self.addCleanup(server.kill)
         late = time.monotonic() + LATE
-        with socket.socket(socket.AF_UNIX) as link:
-            link.connect(path)
-            while time.monotonic() < late:
-                link.sendall(request("PING"))
-                if link.recv(4096).startswith(b"+PONG"):
-                    break
-                time.sleep(0.05)
-            link.settimeout(LATE)
-            link.sendall(reads)
-            said = b""
-            while len(said) < len(self.REPLIES):
-                piece = link.recv(65536)
-                if not piece:
-                    break
-                said += piece
-            return said
+        while self.told(socket, "PING") != "PONG\n" and time.monotonic() < late:
+            time.sleep(0.01)
+        for words, wanted in WANTED.items():
+            with self.subTest(words=words):
+                self.assertEqual(self.told(socket, *words), wanted)
+
+    def told(self, socket, *words):
+        return subprocess.run(["redis-cli", "-s", socket, "--no-raw", *words], capture_output=True, text=True, timeout=LATE).stdout
+
+
+# as redis-cli prints them
+WANTED = {
+    ("GET", "text"): '"a value\\r\\nmore"\n',
+    ("HGET", "hash", "f"): '"1"\n',
+    ("HGET", "hash", "g"): '"2"\n',
+    ("LRANGE", "list", "0", "-1"): '1) "b"\n2) "c"\n',
+    ("SMEMBERS", "set"): '1) "n"\n',
+    ("ZRANGE", "zset", "0", "-1", "WITHSCORES"): '1) "x"\n2) "3"\n3) "y"\n4) "4"\n',
+    ("PEXPIRETIME", "late"): "(integer) 4102444800000\n",
+    ("GET", "number"): '"1"\n',
+    ("DBSIZE",): "(integer) 7\n",
+}
 
 
 if __name__ == "__main__":
