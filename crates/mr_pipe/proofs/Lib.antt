@@ -3,3 +3,4 @@ pub mod Files
 pub mod Goings
 pub mod Deliveries
 pub mod Relaying
+pub mod Folds

@@ -4,3 +4,4 @@ pub mod Serving
 pub mod Piped
 pub mod Reading
 pub mod Faults
+pub mod Folding

@@ -4,9 +4,11 @@
 mod config;
 mod fault;
 mod keep;
+mod laws;
 mod relay;
 mod serve;
 
 pub use config::PipeConfig;
 pub use fault::PipeFault;
+pub use laws::files_fold;
 pub use relay::{pipe, pipe_with};

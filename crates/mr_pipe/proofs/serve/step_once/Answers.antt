@@ -15,7 +15,7 @@ returns-in_err-carry_out-in-Done g c = λ u ag.
     let row : ClientRow c.args.node.now c.args.link u c.args.given c.step.new.self outs =
     subst (λ s. StepRow c.args.node.now c.args.link u c.args.given c.step.new.self s) c.in-Done.is (c.in_ok-step.ensures.row u ag) in
     let why = c.in_err-carry_out-in-Done.field-0.0 in
-    let told : c.from_residual.result ≡ Err why = search rules in
+    let told : c.from_residual-in_err-carry_out-in-Done.result ≡ Err why = search rules in
     let came : IsCarriedOut outs.grown outs.reply x y (Err why) = c.in_err-carry_out-in-Done.ensures in
     subst (λ r. IsStepped c.args.given c.args.node.now c.args.link u x c.step.new.self y r) (sym told)
     (left_out why c.args.given c.args.node.now.core u x y outs.grown outs.reply (gives c.args.node.now c.args.link u c.args.given c.step.new.self outs row) came)
