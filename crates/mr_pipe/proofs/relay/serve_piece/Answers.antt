@@ -22,7 +22,7 @@ returns-in_err-count g c = λ a u x d.
     let y = out c.args.output.now c.args.log.now in let p = g.R.Read.remaining c.args.input.now in let n = c.args.node.now in
     let q = g.R.Read.remaining c.read_piece.new.input in
     let why = c.in_err-count.field-0.0 in
-    let told : c.from_residual-in_err-count.result ≡ Err why = search rules in
+    let told : c.from_residual.result ≡ Err why = search rules in
     subst (λ r. IsRound c.args.given a c.args.link u x p q n y r) (sym told) (read_failed c.args.given a c.args.link u x p q n y why c.in_err-count.ensures.fault d c.in_err-count.ensures.failed)
 
 pub returns-in_default : goal.returns-in_default
