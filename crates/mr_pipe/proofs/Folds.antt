@@ -3,8 +3,8 @@ use Rattle.std.proofs.Common.{◌≡◌, ℕ, List, [], ◌∷◌, ◌++◌, Opt
 use Rattle.std.specs.Option.{option_and_then}
 use Rattle.std.specs.FinMap.{empty}
 use Rattle.mr_file.specs.LogFile.{AppendsSome}
-use Rattle.mr_effect.specs.Spelling.{texts}
-use Rattle.mr_effect.proofs.Folding.{texts-append}
+use Rattle.mr_effect.specs.Spelling.{text, texts}
+use Rattle.mr_effect.specs.declared.effect.Effect.{Effect}
 use Rattle.mr_entries.specs.Dataset.{Dataset}
 use Rattle.mr_data.specs.Meaning.{apply_all}
 use Rattle.mr_data.proofs.Folding.{apply_all-append}
@@ -14,7 +14,7 @@ use Rattle.mr_node.specs.Served.{Served, Answered}
 use Rattle.mr_pipe.specs.Outside.{Kept, Outside, Filed}
 use Rattle.mr_pipe.specs.Sessions.{Moment, AreServed, Gives, grown_of}
 use Rattle.mr_pipe.specs.Serving.{IsLeft, IsCutOff}
-use Rattle.mr_pipe.specs.Piped.{Session, Broken, Answers}
+use Rattle.mr_pipe.specs.Piped.{Answers}
 use Rattle.mr_pipe.specs.Folding.{Folds, FoldsTorn, FilesFold, FilesFoldTorn}
 use Rattle.mr_pipe.specs.declared.fault.PipeFault.{PipeFault}
 use Rattle.mr_pipe.specs.declared.fault.PipeFault.TheVariants as fault
@@ -23,10 +23,14 @@ use Rattle.mr_pipe.proofs.Serves.{append_nil}
 folds_none : (bytes : List ℕ) (c d : Core) → bytes ≡ [] → d ≡ c → Folds bytes c.held d.held
 folds_none bytes c d none same = record { effects = []; are_texts = none; applied = ap (λ (k : Core). Some k.held) (sym same) }
 
+texts_join : (es fs : List Effect) → texts (es ++ fs) ≡ texts es ++ texts fs
+texts_join [] fs = refl
+texts_join (e ∷ es) fs = ap (λ (t : List ℕ). text e ++ t) (texts_join es fs) ∙ sym (append_assoc (text e) (texts es) (texts fs))
+
 folds_join : (p q : List ℕ) (a b d : Dataset) → Folds p a b → Folds q b d → Folds (p ++ q) a d
 folds_join p q a b d f s = record {
   effects = f.effects ++ s.effects;
-  are_texts = ap (λ z. z ++ q) f.are_texts ∙ ap (λ z. texts f.effects ++ z) s.are_texts ∙ sym (texts-append f.effects s.effects);
+  are_texts = ap (λ z. z ++ q) f.are_texts ∙ ap (λ z. texts f.effects ++ z) s.are_texts ∙ sym (texts_join f.effects s.effects);
   applied = apply_all-append f.effects s.effects a ∙ ap (option_and_then (apply_all s.effects)) f.applied ∙ s.applied;
 }
 

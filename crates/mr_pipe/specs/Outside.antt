@@ -1,5 +1,5 @@
 -- What a pipe writes to, its output and its file, and what was written there.
-use Rattle.std.specs.Prelude.{◌≡◌, ◌⊎◌, ℕ, ◌≤◌, List, [], ◌++◌, Bool, true, false, Option, Some, None, IfSome, length, take}
+use Rattle.std.specs.Prelude.{◌≡◌, ◌⊎◌, ℕ, ◌≤◌, List, [], ◌++◌, Bool, true, false, Option, Some, IfSome, length, take}
 use Rattle.std.specs.Io.KnownBytes as known
 use Rattle.mr_file.specs.LogFile.{Rose, AppendsSome, IsSynced}
 use Rattle.mr_aof.specs.declared.log.Log.{Log}

@@ -1,7 +1,7 @@
 -- A whole input, answered.
-use Rattle.std.specs.Prelude.{◌≡◌, ℕ, List, [], ◌++◌, Option, None, false, Result, Ok, Err}
+use Rattle.std.specs.Prelude.{◌≡◌, ℕ, List, ◌++◌, Option, None, false, Result, Ok, Err}
 use Rattle.std.specs.FinMap.{empty}
-use Rattle.std.specs.Io.KnownBytes.{Appends, Consumes, IsAtEnd}
+use Rattle.std.specs.Io.KnownBytes.{Consumes, IsAtEnd}
 use Rattle.mr_aof.specs.declared.log.SyncMode.TheVariants.{No}
 use Rattle.mr_links.specs.declared.link_id.LinkId.{LinkId}
 use Rattle.mr_entries.specs.Dataset.{Dataset}
