@@ -1,5 +1,5 @@
 //! A pipe whose dataset is kept in a file.
-use crate::failure::{FileFault, Failure};
+use crate::failure::{Failure, FileFault};
 use mr_aof::{Loaded, Log, LogFault, SyncMode};
 use mr_data::Dataset;
 use mr_file::SystemFile;

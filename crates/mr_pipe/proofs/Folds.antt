@@ -70,17 +70,22 @@ left_folds fault.Write g c u x y xs h f (IsCutOff.in_reply grown said gives file
 left_folds fault.Write g c u x y xs h f (IsCutOff.in_flush k same) = (xs, (ap (λ (k : Kept). k.told) same ∙ h, not_torn xs c.held f))
 left_folds fault.File g c u x y xs h f l =
     let more = gives_folds g c u l.grown l.said l.gives in
-    let there = torn_told x.kept.told y.kept.told l.grown xs l.torn.told h in
-    (xs ++ take there.0 l.grown, (there.1, record {
-      front = xs;
-      torn = take there.0 l.grown;
-      is = refl;
-      mid = c.held;
-      folds = f;
-      more = drop there.0 l.grown;
-      new = more.0;
-      whole = subst (λ z. Folds z c.held more.0) (sym (take-append-drop there.0 l.grown)) more.1;
-    }))
+    let there = torn_told x.kept.told y.kept.told l.grown xs l.torn.told h in (
+      xs ++ take there.0 l.grown,
+      (
+        there.1,
+        record {
+          front = xs;
+          torn = take there.0 l.grown;
+          is = refl;
+          mid = c.held;
+          folds = f;
+          more = drop there.0 l.grown;
+          new = more.0;
+          whole = subst (λ z. Folds z c.held more.0) (sym (take-append-drop there.0 l.grown)) more.1;
+        },
+      ),
+    )
 
 pub files_fold : FilesFold
 files_fold g c before after x y s xs h f =

@@ -108,8 +108,10 @@ ended g a l u x b y d z w t = closes t.outs t.row t.closes_is t.settled
   where
     s : Settles g a.core u x b.core y
     s = w.done
+
     untouched : (p : List ℕ) → p ≡ [] → Filed y.kept z.kept p → Filed y.kept z.kept []
     untouched p e f = subst (λ q. Filed y.kept z.kept q) e f
+
     closes : (outs : OutsState) → ClientRow b l w.done.rest g d outs → outs.closes ≡ true → IsSettled y z outs.grown outs.reply → Ended g a l u x d z
     closes outs (ClientRow.serves r) e n = yes_close (sym (ap (λ (o : OutsState). o.closes) r.outs_are) ∙ e)
     closes outs (ClientRow.closes r) e n = record {

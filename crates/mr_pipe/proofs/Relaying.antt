@@ -140,6 +140,8 @@ is_alone k t s f m b = λ i. record { told = t i; synced = s i; failures = f i; 
 
 pub piped_alone : (g : Given) (c d : Core) (p q old new : Option (List ℕ)) (k n : Kept) (r : Result (Unit {0}) PipeFault) → c ≡ d → k ≡ no_file
     → IsPiped g c p q (record { output = old; kept = k }) (record { output = new; kept = n }) r → IsPipedAlone g d p q old new r
-piped_alone g c d p q old new k n r same none h =
-    (n, subst (λ z. IsPiped g d p q (record { output = old; kept = z }) (record { output = new; kept = n }) r) none
-    (subst (λ z. IsPiped g z p q (record { output = old; kept = k }) (record { output = new; kept = n }) r) same h))
+piped_alone g c d p q old new k n r same none h = (
+  n,
+  subst (λ z. IsPiped g d p q (record { output = old; kept = z }) (record { output = new; kept = n }) r) none
+      (subst (λ z. IsPiped g z p q (record { output = old; kept = k }) (record { output = new; kept = n }) r) same h),
+)
