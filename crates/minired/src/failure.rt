@@ -1,7 +1,22 @@
 //! Why the program ends with another status than 0.
+use mr_file::OpenFault;
 use mr_options::UsageFault;
 use mr_pipe::PipeFault;
 use thiserror::Error;
+
+/// What failed with the append-only file.
+#[derive(Debug, Drop, Error)]
+pub enum FileFault {
+    /// It can't be opened.
+    #[error("{0}")]
+    Open(OpenFault),
+    /// It can't be read, or what stands behind its last effect can't be cut off.
+    #[error("could not be read, or its end not be cut off")]
+    Load,
+    /// What was to be appended can't be written, or not be synced.
+    #[error("could not be written")]
+    Append,
+}
 
 /// Why the program fails. Its text stands on standard error, behind the program's name.
 #[derive(Debug, Drop, Error)]
@@ -10,6 +25,9 @@ pub enum Failure {
     Usage(UsageFault),
     #[error("{0}")]
     Pipe(PipeFault),
+    /// The append-only file at this path failed.
+    #[error("file failed\n{0}: {1}")]
+    File(String, FileFault),
 }
 
 impl Failure {
@@ -22,7 +40,7 @@ impl Failure {
     {
         match self {
             Failure::Usage(UsageFault::Line(_)) | Failure::Usage(UsageFault::BadValue) => 1,
-            Failure::Usage(UsageFault::Memory) | Failure::Pipe(_) => 3,
+            Failure::Usage(UsageFault::Memory) | Failure::Pipe(_) | Failure::File(_, _) => 3,
         }
     }
 }

@@ -4,8 +4,10 @@
 ghost use Rattle.mr_data.specs.Given.{IsMoment};
 
 mod failure;
+mod kept;
 
 use failure::Failure;
+use kept::run_kept;
 use mr_data::Given;
 use mr_options::{Options, PipeOptions, UsageFault, options};
 use mr_pipe::{PipeConfig, PipeFault, pipe};
@@ -33,7 +35,7 @@ fn words(rt: &HostRuntime) -> Result<Vec<String>, UsageFault> {
 }
 
 /// One node, asked by one client on standard input and answered on standard output.
-fn run_pipe(rt: &HostRuntime, options: &PipeOptions) -> Result<(), PipeFault>
+fn run_pipe(rt: &HostRuntime, options: &PipeOptions<'_>) -> Result<(), Failure>
     requires { IsMoment options.now.now }
 {
     let Some(given) = Given::new(options.now, options.word) else {
@@ -44,12 +46,16 @@ fn run_pipe(rt: &HostRuntime, options: &PipeOptions) -> Result<(), PipeFault>
         given,
     };
     let Ok(seed) = RandomState::new(rt) else {
-        return Err(PipeFault::Read);
+        return Err(Failure::Pipe(PipeFault::Read));
     };
     let Ok(mut output) = BufWriter::with_capacity(rt.alloc(), REPLIES, rt.stdout()) else {
-        return Err(PipeFault::Memory);
+        return Err(Failure::Pipe(PipeFault::Memory));
     };
-    pipe(rt.alloc(), &config, seed, &mut rt.stdin(), &mut output)
+    if let Some(path) = options.aof {
+        return run_kept(rt, path, &config, seed, &mut output);
+    }
+    pipe(rt.alloc(), &config, seed, &mut rt.stdin(), &mut output)?;
+    Ok(())
 }
 
 fn run(rt: &HostRuntime) -> Result<(), Failure> {

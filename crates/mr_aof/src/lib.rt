@@ -3,7 +3,9 @@
 
 mod fault;
 mod log;
+mod no_file;
 
 pub use fault::LogFault;
 pub use log::{Log, SyncMode};
 pub use mr_replay::{Loaded, load};
+pub use no_file::NoFile;

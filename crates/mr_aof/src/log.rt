@@ -1,9 +1,10 @@
-ghost use Rattle.std.specs.Prelude.{◌≡◌, ◌↔◌, ◌≤◌, true, length, IsErr, IsErrOf, OnOk, OnErr};
+ghost use Rattle.std.specs.Prelude.{◌≡◌, ◌↔◌, ◌≤◌, true, false, length, IsErr, IsErrOf, OnOk, OnErr};
 ghost use Rattle.mr_file.specs.LogFile.{Rose, Appends, AppendsSome, Replaces, IsOldOrNew, IsSynced};
 
 mod opening;
 
 use crate::fault::LogFault;
+use crate::no_file::NoFile;
 use mr_file::{Failed, LogFile};
 
 /// Whether each append is synced.
@@ -19,6 +20,20 @@ pub struct Log<F: LogFile> {
     file: F,
     mode: SyncMode,
     broken: bool,
+}
+
+impl Log<NoFile> {
+    /// A log for where there is no file: what is appended is dropped.
+    pub fn none() -> Self
+        ensures mode { result.mode ≡ SyncMode.No }
+        ensures whole { result.broken ≡ false }
+    {
+        Log {
+            file: NoFile,
+            mode: SyncMode::No,
+            broken: false,
+        }
+    }
 }
 
 impl<F: LogFile> Log<F> {
@@ -47,6 +62,7 @@ impl<F: LogFile> Log<F> {
         ensures err { OnErr result (AppendsSome (F.told self.old.file) (F.told self.new.file) piece.now) }
         ensures broken { IsErrOf result LogFault.Broken ↔ (self.old.broken ≡ true) }
         ensures untouched { self.old.broken ≡ true → self.new ≡ self.old }
+        ensures later { F.failures self.old.file ≤ F.failures self.new.file }
         ensures device { IsErrOf result LogFault.Device → Rose (F.failures self.old.file) (F.failures self.new.file) }
         ensures no_other { IsErrOf result LogFault.Memory → ⊥ }
         ensures after { (self.new.broken ≡ true) ↔ IsErr result }
@@ -71,6 +87,7 @@ impl<F: LogFile> Log<F> {
         ensures err { OnErr result (IsOldOrNew (F.told self.old.file) (F.told self.new.file) whole.now) }
         ensures broken { IsErrOf result LogFault.Broken ↔ (self.old.broken ≡ true) }
         ensures untouched { self.old.broken ≡ true → self.new ≡ self.old }
+        ensures later { F.failures self.old.file ≤ F.failures self.new.file }
         ensures device { IsErrOf result LogFault.Device → Rose (F.failures self.old.file) (F.failures self.new.file) }
         ensures no_other { IsErrOf result LogFault.Memory → ⊥ }
         ensures after { (self.new.broken ≡ true) ↔ IsErr result }

@@ -23,15 +23,22 @@ now_rule = one_valued (codes "now") (vp.Unsigned 0 (2 ^ 61))
 abbrev word_rule : Rule
 word_rule = one_valued (codes "word") (vp.Unsigned 0 (2 ^ 64 - 1))
 
+abbrev aof_rule : Rule
+aof_rule = one_valued (codes "aof") vp.String
+
 abbrev rules : List Rule
-rules = id_rule ∷ now_rule ∷ word_rule ∷ []
+rules = id_rule ∷ now_rule ∷ word_rule ∷ aof_rule ∷ []
 
 same_rule : (x y : Rule) → ◌≡◌ {A = Option Rule} (Some x) (Some y) → y ≡ x
 same_rule x y e = cc
 
-known_third : (b : Bool) (a : Rule) → cond b (Some word_rule) None ≡ Some a → IsKnown rules a
-known_third true a e = record { name = codes "word"; parser = vp.Unsigned 0 (2 ^ 64 - 1); is = same_rule word_rule a e; there = refl }
-known_third false a e = absurd (let wrong : ◌≡◌ {A = Option Rule} None (Some a) = e in cc)
+known_fourth : (b : Bool) (a : Rule) → cond b (Some aof_rule) None ≡ Some a → IsKnown rules a
+known_fourth true a e = record { name = codes "aof"; parser = vp.String; is = same_rule aof_rule a e; there = refl }
+known_fourth false a e = absurd (let wrong : ◌≡◌ {A = Option Rule} None (Some a) = e in cc)
+
+known_third : (b : Bool) (fourth : Option Rule) (a : Rule) → (fourth ≡ Some a → IsKnown rules a) → cond b (Some word_rule) fourth ≡ Some a → IsKnown rules a
+known_third true fourth a on e = record { name = codes "word"; parser = vp.Unsigned 0 (2 ^ 64 - 1); is = same_rule word_rule a e; there = refl }
+known_third false fourth a on e = on e
 
 known_second : (b : Bool) (third : Option Rule) (a : Rule) → (third ≡ Some a → IsKnown rules a) → cond b (Some now_rule) third ≡ Some a → IsKnown rules a
 known_second true third a on e = record { name = codes "now"; parser = vp.Unsigned 0 (2 ^ 61); is = same_rule now_rule a e; there = refl }
@@ -43,7 +50,7 @@ known_first false second a on e = on e
 
 are_options : AreOptions rules
 are_options = record {
-  known = λ q a e. known_first (q id_rule) _ a (known_second (q now_rule) _ a (known_third (q word_rule) a)) e;
+  known = λ q a e. known_first (q id_rule) _ a (known_second (q now_rule) _ a (known_third (q word_rule) _ a (known_fourth (q aof_rule) a))) e;
   no_short = λ x. refl;
   no_index = λ i. refl;
 }
@@ -51,11 +58,12 @@ are_options = record {
 no_default : (name : Text) (p : ValueParser) (rows : List Row) → with_default rows (one_valued name p) ≡ rows
 no_default name p rows = elim (has_row name rows) as (λ b. cond b rows rows ≡ rows) [ true ↦ refl | false ↦ refl ]
 
-no_defaults : (rows : List Row) → with_default (with_default (with_default rows id_rule) now_rule) word_rule ≡ rows
+no_defaults : (rows : List Row) → with_default (with_default (with_default (with_default rows id_rule) now_rule) word_rule) aof_rule ≡ rows
 no_defaults rows =
-    ap (λ (xs : List Row). with_default (with_default xs now_rule) word_rule) (no_default (codes "id") vp.String rows)
-    ∙ ap (λ (xs : List Row). with_default xs word_rule) (no_default (codes "now") (vp.Unsigned 0 (2 ^ 61)) rows)
-    ∙ no_default (codes "word") (vp.Unsigned 0 (2 ^ 64 - 1)) rows
+    ap (λ (xs : List Row). with_default (with_default (with_default xs now_rule) word_rule) aof_rule) (no_default (codes "id") vp.String rows)
+    ∙ ap (λ (xs : List Row). with_default (with_default xs word_rule) aof_rule) (no_default (codes "now") (vp.Unsigned 0 (2 ^ 61)) rows)
+    ∙ ap (λ (xs : List Row). with_default xs aof_rule) (no_default (codes "word") (vp.Unsigned 0 (2 ^ 64 - 1)) rows)
+    ∙ no_default (codes "aof") vp.String rows
 
 rows_pass : (words : List Text) → level_fault pipe_shape [] nothing_held words false [] ≡ [] → RowsFine rules (rows_after rules [] words)
 rows_pass words e =

@@ -11,12 +11,14 @@ text_rule name = record (new_rule name) { long = Some name }
 abbrev pub number_rule : Text → ℕ → Rule
 number_rule name most = record (new_rule name) { long = Some name; parser = Some (vp.Unsigned 0 most) }
 
--- `pipe [--id H] [--now N] [--word N]`
+-- `pipe [--id H] [--now N] [--word N] [--aof PATH]`
 abbrev pub pipe_line : App
 pipe_line =
     with_rule
+    (with_rule
     (with_rule (with_rule (new_app (codes "pipe")) (text_rule (codes "id"))) (number_rule (codes "now") (2 ^ 61)))
-    (number_rule (codes "word") (2 ^ 64 - 1))
+    (number_rule (codes "word") (2 ^ 64 - 1)))
+    (text_rule (codes "aof"))
 
 -- the program: one of its subcommands is named, and nothing answers with a help text
 abbrev pub bare : App

@@ -1,5 +1,5 @@
 -- What options say, and why a line is refused.
-use Rattle.std.specs.Prelude.{◌≡◌, ◌≢◌, ℕ, ◌≤◌, ◌≤ℤ◌, ◌<◌, ◌^◌, List, Option, None, [], ◌∷◌, pos, Some, Ok, codes, replicate, string_bytes}
+use Rattle.std.specs.Prelude.{◌≡◌, ◌≢◌, ℕ, ◌≤◌, ◌≤ℤ◌, ◌<◌, ◌^◌, List, Option, None, [], ◌∷◌, pos, Some, Ok, codes, replicate, string_bytes, option_map}
 use Rattle.std.specs.Str.Parse.{ParsesUnsigned}
 use Rattle.std.specs.Char.{is_control}
 use Rattle.std.specs.Str.{NoCharPasses}
@@ -15,9 +15,9 @@ use Rattle.mr_options.specs.declared.line.PipeOptions.{PipeOptions}
 use Rattle.mr_options.specs.declared.fault.UsageFault.{UsageFault}
 use Rattle.mr_options.specs.declared.fault.UsageFault.TheVariants.{Line, BadValue, Memory}
 
--- `pipe` with its usual values: the id of forty digits a, time 0, word 0
+-- `pipe` with its usual values: the id of forty digits a, time 0, word 0, no file
 abbrev pub usual_pipe : PipeOptions
-usual_pipe = record { id = replicate 20 170; now = pos 0; word = 0 }
+usual_pipe = record { id = replicate 20 170; now = pos 0; word = 0; aof = None }
 
 -- the number whose text this is, or the usual one where there is none
 abbrev pub IsNumber : Option Text → ℕ → ℕ → Type 0
@@ -37,11 +37,16 @@ IsIdText (Some text) id = IsId id × (digits_of id ≡ text)
 abbrev pub HasId : List Row → List ℕ → Type 0
 HasId rows id = IsIdText (first_of (codes "id") rows) id
 
+-- the path of the append-only file: the value of the option `aof`, or none
+abbrev pub HasPath : List Row → Option Text → Type 0
+HasPath rows path = path ≡ first_of (codes "aof") rows
+
 -- the values of the options of `pipe`: those that the line names, and else the usual ones
 pub record ArePipeOf (rows : List Row) (options : PipeOptions) : Type 0 where
   pub id : HasId rows options.id
   pub now : (n : ℕ) × ((options.now ≡ pos n) × HasNumber rows (codes "now") 0 n)
   pub word : HasNumber rows (codes "word") 0 options.word
+  pub aof : HasPath rows (option_map (λ s. s.now) options.aof)
 
 -- the parser lets through a number that is within its range, or none
 pub record NumbersPass (rows : List Row) : Type 0 where

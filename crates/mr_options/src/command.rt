@@ -34,10 +34,12 @@ fn pipe_command<'a>(alloc: Global) -> Result<Command<'a>, AllocError>
     let id = text_option(alloc, "id");
     let now = number_option(alloc, "now", MOST_NOW);
     let word = number_option(alloc, "word", u64::MAX);
+    let aof = text_option(alloc, "aof");
     let first = Command::new(alloc, "pipe").arg(id)?;
     let second = first.arg(now)?;
     let third = second.arg(word)?;
-    Ok(third)
+    let fourth = third.arg(aof)?;
+    Ok(fourth)
 }
 
 pub(crate) fn whole_command<'a>(alloc: Global) -> Result<Command<'a>, AllocError>

@@ -19,7 +19,7 @@ pub use fault::UsageFault;
 pub use line::{Options, PipeOptions};
 
 /// Reads the program's words, its name left out.
-pub fn options(alloc: Global, words: &[String]) -> Result<Options, UsageFault>
+pub fn options<'a>(alloc: Global, words: &'a [String]) -> Result<Options<'a>, UsageFault>
     ensures usual { words.now ≡ [] → result ≡ Ok (Options.Pipe usual_pipe) }
     ensures ok { IfOk result (AreOptionsOf (map string_bytes words.now)) }
     ensures range { IfOk result IsInRange }

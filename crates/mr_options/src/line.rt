@@ -3,33 +3,36 @@ use mr_repl::ReplId;
 
 /// The options of `pipe`: one node, asked by one client on standard input.
 #[derive(Clone, Copy, Debug, PartialEq, Eq)]
-pub struct PipeOptions {
+pub struct PipeOptions<'a> {
     /// The node's replication id.
     pub id: ReplId,
     /// The time that every command sees, in milliseconds from 0 to 2^61.
     pub now: i64,
     /// The random word that every command sees.
     pub word: u64,
+    /// The append-only file, where there is one.
+    pub aof: Option<&'a str>,
 }
 
-impl PipeOptions {
+impl<'a> PipeOptions<'a> {
     ghost use Rattle.std.specs.Prelude.{◌≡◌};
     ghost use Rattle.mr_options.specs.Values.{usual_pipe};
 
-    /// The usual values: the id of forty digits `a`, time 0 and word 0.
-    pub fn usual() -> PipeOptions
+    /// The usual values: the id of forty digits `a`, time 0 and word 0, and no file.
+    pub fn usual() -> PipeOptions<'a>
         ensures { result ≡ usual_pipe }
     {
         PipeOptions {
             id: ReplId::new([0xaa; 20]),
             now: 0,
             word: 0,
+            aof: None,
         }
     }
 }
 
 /// A subcommand with the values of its options.
 #[derive(Clone, Copy, Debug, PartialEq, Eq)]
-pub enum Options {
-    Pipe(PipeOptions),
+pub enum Options<'a> {
+    Pipe(PipeOptions<'a>),
 }

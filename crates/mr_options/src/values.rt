@@ -1,7 +1,7 @@
 //! The values of a subcommand's options.
-ghost use Rattle.std.specs.Prelude.{ℕ, IfSome, IfNone};
+ghost use Rattle.std.specs.Prelude.{ℕ, IfSome, IfNone, option_map};
 ghost use Rattle.clap.specs.Words.{found_of, rows_of};
-ghost use Rattle.mr_options.specs.Values.{ArePipeOf, HasId, HasNumber, IsInRange, NamesNoId, NumbersPass};
+ghost use Rattle.mr_options.specs.Values.{ArePipeOf, HasId, HasNumber, HasPath, IsInRange, NamesNoId, NumbersPass};
 ghost use Rattle.mr_options.specs.declared.line.Options.TheVariants.{Pipe};
 
 use crate::line::PipeOptions;
@@ -30,8 +30,15 @@ fn id_of(matches: &ArgMatches<'_>) -> Option<ReplId>
     }
 }
 
+/// The path of the append-only file, where the line names one.
+fn path_of<'a>(matches: &ArgMatches<'a>) -> Option<&'a str>
+    ensures { HasPath (rows_of (found_of matches.now)) (option_map (λ s. s.now) result) }
+{
+    matches.get_str("aof")
+}
+
 /// The values of `pipe`, or None where the line names an id that is none.
-pub(crate) fn pipe_of(matches: &ArgMatches<'_>) -> Option<PipeOptions>
+pub(crate) fn pipe_of<'a>(matches: &ArgMatches<'a>) -> Option<PipeOptions<'a>>
     requires { NumbersPass (rows_of (found_of matches.now)) }
     ensures some { IfSome result (ArePipeOf (rows_of (found_of matches.now))) }
     ensures range { IfSome result (λ options. IsInRange (Pipe options)) }
@@ -40,9 +47,11 @@ pub(crate) fn pipe_of(matches: &ArgMatches<'_>) -> Option<PipeOptions>
     let id = id_of(matches)?;
     let now = number_of(matches, "now", 0);
     let word = number_of(matches, "word", 0);
+    let aof = path_of(matches);
     Some(PipeOptions {
         id,
         now: now as i64,
         word,
+        aof,
     })
 }

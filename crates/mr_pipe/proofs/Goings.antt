@@ -1,22 +1,29 @@
--- A link that is served, step by step and piece by piece.
+-- A link that is served, step by step.
 use Rattle.std.proofs.Common.{◌≡◌, ℕ, List, [], ◌∷◌, ◌++◌, Bool, true, false, Option, refl, sym, ap, subst, ◌∙◌}
-use Rattle.std.specs.Io.KnownBytes.{Appends}
-use Rattle.std.proofs.KnownBytes.{Appends-nil, Appends-trans}
 use Rattle.mr_links.specs.declared.link_id.LinkId.{LinkId}
 use Rattle.mr_data.specs.declared.given.Given.{Given}
 use Rattle.mr_node.specs.State.{NodeState, Core, Agrees}
 use Rattle.mr_node.specs.Outs.{OutsState}
-use Rattle.mr_node.specs.Rows.{ClientRow}
+use Rattle.mr_node.specs.Rows.{ClientRow, Ends}
 use Rattle.mr_node.specs.Served.{Served}
-use Rattle.mr_pipe.specs.Sessions.{AreServed}
-use Rattle.mr_pipe.specs.Serving.{Going, Drained, Ended, StepUsed, StepWaits, IsDrained}
-use Rattle.mr_pipe.proofs.Serves.{append_nil, serves_then, serves_more, serves_join, more_moments}
+use Rattle.mr_node.specs.declared.fault.NodeFault.{NodeFault}
+use Rattle.mr_node.specs.declared.fault.NodeFault.TheVariants as refused
+use Rattle.std.specs.Prelude.{Err}
+use Rattle.std.specs.Io.KnownBytes.{Appends}
+use Rattle.std.proofs.KnownBytes.{Appends-nil}
+use Rattle.mr_pipe.specs.Outside.{Kept, Outside, Filed, IsSettled}
+use Rattle.mr_pipe.specs.Sessions.{Moment, AreServed, Gives, grown_of}
+use Rattle.mr_pipe.specs.Serving.{Settles, Going, Drained, Ended, Breaks, StepUsed, StepWaits, IsLeft, IsCutOff, IsCarriedOut}
+use Rattle.mr_pipe.specs.Faults.{fault_of}
+use Rattle.mr_pipe.specs.declared.fault.PipeFault.{PipeFault}
+use Rattle.mr_pipe.specs.declared.fault.PipeFault.TheVariants as fault
+use Rattle.mr_pipe.proofs.Serves.{append_nil, serves_then, grown_of_then}
+use Rattle.mr_pipe.proofs.Files.{nothing_settled, settled_join}
 
 -- a row that goes on, without the links
 record Went (a : NodeState) (l : LinkId) (u : List ℕ) (g : Given) (b : NodeState) (outs : OutsState) : Type 0 where
   pub rest : List ℕ
-  pub grown : List ℕ
-  pub served : Served a.core u g b.core rest grown outs.reply
+  pub served : Served a.core u g b.core rest outs.grown outs.reply
   pub agrees : Agrees b l rest
 
 no_close : {A : Type 0} → true ≡ false → A
@@ -28,81 +35,100 @@ yes_close e = absurd (cc)
 went : (a : NodeState) (l : LinkId) (u : List ℕ) (g : Given) (b : NodeState) (outs : OutsState) → ClientRow a l u g b outs → outs.closes ≡ false → Went a l u g b outs
 went a l u g b outs (ClientRow.serves r) e = record {
   rest = r.rest;
-  grown = r.grown;
-  served = subst (λ z. Served a.core u g b.core r.rest r.grown z) (sym (ap (λ (o : OutsState). o.reply) r.outs_are)) r.served;
+  served = subst (λ (o : OutsState). Served a.core u g b.core r.rest o.grown o.reply) (sym r.outs_are) r.served;
   agrees = r.leaves.agrees;
 }
 went a l u g b outs (ClientRow.closes r) e = no_close (sym (ap (λ (o : OutsState). o.closes) r.outs_are) ∙ e)
 
-abbrev pub starts : (g : Given) (a : NodeState) (l : LinkId) (u : List ℕ) (old : Option (List ℕ)) → Agrees a l u → Going g a l u old a old
-starts g a l u old ag = record { moments = []; rest = u; said = []; serves = (refl, refl, refl); told = Appends-nil old; agrees = ag }
+-- what a row gives
+pub gives : (a : NodeState) (l : LinkId) (u : List ℕ) (g : Given) (b : NodeState) (outs : OutsState) → ClientRow a l u g b outs → Gives g a.core u outs.grown outs.reply
+gives a l u g b outs (ClientRow.serves r) = subst (λ (o : OutsState). Gives g a.core u o.grown o.reply) (sym r.outs_are) (Gives.serves b.core r.rest r.served)
+gives a l u g b outs (ClientRow.closes r) = subst (λ (o : OutsState). Gives g a.core u o.grown o.reply) (sym r.outs_are) (Gives.ends refl r.ends)
 
-pub goes_on : (g : Given) (a : NodeState) (l : LinkId) (u : List ℕ) (old : Option (List ℕ)) (b : NodeState) (mid : Option (List ℕ)) (d : NodeState) (new : Option (List ℕ))
-    → (w : Going g a l u old b mid) → StepUsed b l w.rest g mid d new false → Going g a l u old d new
-goes_on g a l u old b mid d new w t =
-    let r = went b l w.rest g d t.outs t.row t.closes_is in
+-- a step whose outs could not be carried out
+pub left_out : (why : PipeFault) (g : Given) (c : Core) (u : List ℕ) (x y : Outside) (grown said : List ℕ) → Gives g c u grown said → IsCarriedOut grown said x y (Err why) → IsLeft why g c u x y
+left_out fault.Write g c u x y grown said gave h = IsCutOff.in_reply grown said gave h.0 h.1
+left_out fault.File g c u x y grown said gave h = record { grown = grown; said = said; gives = gave; torn = h.0; output = h.1 }
+left_out fault.Read g c u x y grown said gave h = absurd h
+left_out fault.Stopped g c u x y grown said gave h = absurd h
+left_out fault.Memory g c u x y grown said gave h = absurd h
+
+-- a refusal of the node leaves nothing
+pub refuses : (e : NodeFault) (g : Given) (c : Core) (u : List ℕ) (x : Outside) → IsLeft (fault_of e) g c u x x
+refuses refused.Stopped g c u x = refl
+refuses refused.Memory g c u x = refl
+refuses refused.InputFull g c u x = refl
+refuses refused.NoLink g c u x = refl
+
+-- nothing was served yet
+abbrev pub starts : (g : Given) (a : NodeState) (l : LinkId) (u : List ℕ) (x : Outside) → Agrees a l u → Going g a l u x a x
+starts g a l u x ag = record { done = record { moments = []; rest = u; said = []; serves = (refl, refl, refl); settled = nothing_settled x }; agrees = ag }
+
+-- .. and one more
+pub goes_on : (g : Given) (a : NodeState) (l : LinkId) (u : List ℕ) (x : Outside) (b : NodeState) (y : Outside) (d : NodeState) (z : Outside)
+    → (w : Going g a l u x b y) → StepUsed g b l w.done.rest y d z false → Going g a l u x d z
+goes_on g a l u x b y d z w t =
+    let r = went b l w.done.rest g d t.outs t.row t.closes_is in
+    let s = w.done in
+    let m : Moment = record { core = d.core; left = r.rest; grown = t.outs.grown; said = t.outs.reply } in
     record {
-      moments = w.moments ++ record { core = d.core; left = r.rest; grown = r.grown; said = t.outs.reply } ∷ [];
-      rest = r.rest;
-      said = w.said ++ t.outs.reply;
-      serves = serves_then g a.core u w.moments b.core w.rest w.said d.core r.rest r.grown t.outs.reply w.serves r.served;
-      told = Appends-trans old mid new w.said t.outs.reply w.told t.told;
+      done = record {
+        moments = s.moments ++ m ∷ [];
+        rest = r.rest;
+        said = s.said ++ t.outs.reply;
+        serves = serves_then g a.core u s.moments b.core s.rest s.said d.core r.rest t.outs.grown t.outs.reply s.serves r.served;
+        settled = subst (λ p. IsSettled x z p (s.said ++ t.outs.reply)) (sym (grown_of_then s.moments m))
+            (settled_join x y z (grown_of s.moments) t.outs.grown s.said t.outs.reply s.settled t.settled);
+      };
       agrees = r.agrees;
     }
 
-pub drained : (g : Given) (a : NodeState) (l : LinkId) (u : List ℕ) (old : Option (List ℕ)) (b : NodeState) (mid : Option (List ℕ)) (d : NodeState) (new : Option (List ℕ))
-    → (w : Going g a l u old b mid) → StepWaits b w.rest mid d new → Drained g a l u old d new
-drained g a l u old b mid d new w t =
-    let s = t.idles.same in
+pub drained : (g : Given) (a : NodeState) (l : LinkId) (u : List ℕ) (x : Outside) (b : NodeState) (y : Outside) (d : NodeState) (z : Outside)
+    → (w : Going g a l u x b y) → StepWaits b w.done.rest y d z → Drained g a l u x d z
+drained g a l u x b y d z w t =
+    let s = w.done in
     record {
       going = record {
-        moments = w.moments;
-        rest = w.rest;
-        said = w.said;
-        serves = subst (λ (z : NodeState). AreServed g a.core u w.moments z.core w.rest w.said) (sym s) w.serves;
-        told = subst (λ z. Appends old new z) (append_nil w.said) (Appends-trans old mid new w.said [] w.told t.told);
-        agrees = subst (λ z. Agrees z l w.rest) (sym s) w.agrees;
+        done = record {
+          moments = s.moments;
+          rest = s.rest;
+          said = s.said;
+          serves = subst (λ (n : NodeState). AreServed g a.core u s.moments n.core s.rest s.said) (sym t.idles.same) s.serves;
+          settled = subst (λ (o : Outside). IsSettled x o (grown_of s.moments) s.said) (sym t.same) s.settled;
+        };
+        agrees = subst (λ n. Agrees n l s.rest) (sym t.idles.same) w.agrees;
       };
       waits = t.idles.waits;
     }
 
-pub ended : (g : Given) (a : NodeState) (l : LinkId) (u : List ℕ) (old : Option (List ℕ)) (b : NodeState) (mid : Option (List ℕ)) (d : NodeState) (new : Option (List ℕ))
-    → (w : Going g a l u old b mid) → (outs : OutsState) → ClientRow b l w.rest g d outs → outs.closes ≡ true → Appends mid new outs.reply → Ended g a l u old d new
-ended g a l u old b mid d new w outs (ClientRow.closes r) e n = record {
-  mid = b;
-  before = mid;
-  going = w;
-  last = r.last;
-  ends = r.ends;
-  core = r.core;
-  told = subst (λ (o : OutsState). Appends mid new o.reply) r.outs_are n;
-  shut = r.shut;
-}
-ended g a l u old b mid d new w outs (ClientRow.serves r) e n = yes_close (sym (ap (λ (o : OutsState). o.closes) r.outs_are) ∙ e)
+-- what closes a link says its last, and has no texts
+pub ended : (g : Given) (a : NodeState) (l : LinkId) (u : List ℕ) (x : Outside) (b : NodeState) (y : Outside) (d : NodeState) (z : Outside)
+    → (w : Going g a l u x b y) → StepUsed g b l w.done.rest y d z true → Ended g a l u x d z
+ended g a l u x b y d z w t = closes t.outs t.row t.closes_is t.settled
+  where
+    s : Settles g a.core u x b.core y
+    s = w.done
 
-abbrev pub going_join : (g : Given) (a : NodeState) (l : LinkId) (u : List ℕ) (old : Option (List ℕ)) (bytes : List ℕ) (n : NodeState) (m : Option (List ℕ)) (n1 b : NodeState) (new : Option (List ℕ))
-    → (w : Going g a l u old n m) → n1.core ≡ n.core → Going g n1 l (w.rest ++ bytes) m b new → Going g a l (u ++ bytes) old b new
-going_join g a l u old bytes n m n1 b new w same d = record {
-  moments = more_moments bytes w.moments ++ d.moments;
-  rest = d.rest;
-  said = w.said ++ d.said;
-  serves = serves_join g a.core (u ++ bytes) (more_moments bytes w.moments) n.core (w.rest ++ bytes) w.said d.moments b.core d.rest d.said
-      (serves_more g bytes a.core u w.moments n.core w.rest w.said w.serves) (subst (λ z. AreServed g z (w.rest ++ bytes) d.moments b.core d.rest d.said) same d.serves);
-  told = Appends-trans old m new w.said d.said w.told d.told;
-  agrees = d.agrees;
-}
+    untouched : (p : List ℕ) → p ≡ [] → Filed y.kept z.kept p → Filed y.kept z.kept []
+    untouched p e f = subst (λ q. Filed y.kept z.kept q) e f
 
--- what was served before, and what is served of the bytes that came
-pub drained_join : (g : Given) (a : NodeState) (l : LinkId) (u : List ℕ) (old : Option (List ℕ)) (bytes : List ℕ) (n : NodeState) (m : Option (List ℕ)) (n1 b : NodeState) (new : Option (List ℕ))
-    → (w : Going g a l u old n m) → n1.core ≡ n.core → (goes : Bool) → IsDrained g n1 l (w.rest ++ bytes) m b new goes → IsDrained g a l (u ++ bytes) old b new goes
-drained_join g a l u old bytes n m n1 b new w same true d = record { going = going_join g a l u old bytes n m n1 b new w same d.going; waits = d.waits }
-drained_join g a l u old bytes n m n1 b new w same false d = record {
-  mid = d.mid;
-  before = d.before;
-  going = going_join g a l u old bytes n m n1 d.mid d.before w same d.going;
-  last = d.last;
-  ends = d.ends;
-  core = d.core;
-  told = d.told;
-  shut = d.shut;
-}
+    closes : (outs : OutsState) → ClientRow b l w.done.rest g d outs → outs.closes ≡ true → IsSettled y z outs.grown outs.reply → Ended g a l u x d z
+    closes outs (ClientRow.serves r) e n = yes_close (sym (ap (λ (o : OutsState). o.closes) r.outs_are) ∙ e)
+    closes outs (ClientRow.closes r) e n = record {
+      before = record y { kept = z.kept };
+      done = record {
+        moments = s.moments;
+        rest = s.rest;
+        said = s.said;
+        serves = subst (λ (k : Core). AreServed g a.core u s.moments k s.rest s.said) (sym r.core) s.serves;
+        settled = subst (λ p. IsSettled x (record y { kept = z.kept }) p s.said) (append_nil (grown_of s.moments))
+            (subst (λ q. IsSettled x (record y { kept = z.kept }) (grown_of s.moments ++ []) q) (append_nil s.said)
+            (settled_join x y (record y { kept = z.kept }) (grown_of s.moments) [] s.said [] s.settled
+            (record { filed = untouched outs.grown (ap (λ (o : OutsState). o.grown) r.outs_are) n.filed; told = Appends-nil y.output })));
+      };
+      last = r.last;
+      ends = r.ends;
+      told = subst (λ (o : OutsState). Appends y.output z.output o.reply) r.outs_are n.told;
+      kept = refl;
+      shut = r.shut;
+    }

@@ -1,3 +1,6 @@
 pub mod Serves
+pub mod Files
 pub mod Goings
+pub mod Deliveries
 pub mod Relaying
+pub mod Folds

@@ -3,7 +3,7 @@ use Rattle.std.proofs.Common.{◌≡◌, ℕ, List, [], ◌∷◌, ◌++◌, ref
 use Rattle.mr_data.specs.declared.given.Given.{Given}
 use Rattle.mr_node.specs.State.{Core}
 use Rattle.mr_node.specs.Served.{Served}
-use Rattle.mr_pipe.specs.Sessions.{Moment, AreServed}
+use Rattle.mr_pipe.specs.Sessions.{Moment, AreServed, grown_of}
 
 pub append_nil : (xs : List ℕ) → xs ++ [] ≡ xs
 append_nil [] = refl
@@ -45,3 +45,16 @@ serves_join g c u [] d rest out ss e left said s r =
     subst (λ o. AreServed g c u ss e left (o ++ said)) (sym s.2) (subst (λ z. AreServed g z u ss e left said) s.0 (subst (λ z. AreServed g d z ss e left said) s.1 r))
 serves_join g c u (t ∷ ts) d rest out ss e left said s r =
     (s.0, (s.1.0 ++ said, serves_join g t.core t.left ts d rest s.1.0 ss e left said s.1.1 r, ap (λ z. z ++ said) s.1.2 ∙ append_assoc t.said s.1.0 said))
+
+-- what the stream grows by, one session after another
+pub grown_of_join : (ts ss : List Moment) → grown_of (ts ++ ss) ≡ grown_of ts ++ grown_of ss
+grown_of_join [] ss = refl
+grown_of_join (t ∷ ts) ss = ap (λ z. t.grown ++ z) (grown_of_join ts ss) ∙ sym (append_assoc t.grown (grown_of ts) (grown_of ss))
+
+pub grown_of_then : (ts : List Moment) (t : Moment) → grown_of (ts ++ t ∷ []) ≡ grown_of ts ++ t.grown
+grown_of_then ts t = grown_of_join ts (t ∷ []) ∙ ap (λ z. grown_of ts ++ z) (append_nil t.grown)
+
+pub grown_of_more : (m : List ℕ) (ts : List Moment) → grown_of (more_moments m ts) ≡ grown_of ts
+unfolding more_moments
+grown_of_more m [] = refl
+grown_of_more m (t ∷ ts) = ap (λ z. t.grown ++ z) (grown_of_more m ts)

@@ -1,5 +1,7 @@
+pub mod Outside
 pub mod Sessions
 pub mod Serving
 pub mod Piped
 pub mod Reading
 pub mod Faults
+pub mod Folding

@@ -1,58 +1,105 @@
 -- A link that is served, and what was written for it.
-use Rattle.std.specs.Prelude.{◌≡◌, ℕ, List, [], ◌++◌, Bool, true, false, Option}
-use Rattle.std.specs.Io.KnownBytes.{Appends}
+use Rattle.std.specs.Prelude.{◌≡◌, ℕ, List, Bool, true, false, Result, Ok, Err}
+use Rattle.std.specs.Io.KnownBytes.{Appends, Keeps}
 use Rattle.mr_links.specs.declared.link_id.LinkId.{LinkId}
 use Rattle.mr_data.specs.declared.given.Given.{Given}
-use Rattle.mr_node.specs.State.{NodeState, Agrees, IsShut}
+use Rattle.mr_node.specs.State.{NodeState, Core, Agrees, IsShut}
 use Rattle.mr_node.specs.Outs.{OutsState}
 use Rattle.mr_node.specs.Requests.{Waits}
 use Rattle.mr_node.specs.Rows.{ClientRow, Ends, Idles}
-use Rattle.mr_pipe.specs.Sessions.{Moment, AreServed}
+use Rattle.mr_pipe.specs.Outside.{Outside, Filed, IsTorn, IsBegun, IsSettled}
+use Rattle.mr_pipe.specs.Sessions.{Moment, AreServed, Gives, grown_of}
+use Rattle.mr_pipe.specs.declared.fault.PipeFault.{PipeFault}
+use Rattle.mr_pipe.specs.declared.fault.PipeFault.TheVariants as fault
 use Rattle.mr_pipe.specs.declared.serve.Stepped.{Stepped}
 use Rattle.mr_pipe.specs.declared.serve.Stepped.TheVariants as stepped
 
--- Of the bytes u the requests in front were served, what is left is unread, and what was sent is written.
-pub record Going (g : Given) (a : NodeState) (l : LinkId) (u : List ℕ) (old : Option (List ℕ)) (b : NodeState) (new : Option (List ℕ)) : Type 0 where
+-- Of the bytes u the requests in front were served, one after another. The texts of their effects stand in the file, and their
+-- replies in the output.
+pub record Settles (g : Given) (c : Core) (u : List ℕ) (x : Outside) (d : Core) (y : Outside) : Type 0 where
   pub moments : List Moment
   pub rest : List ℕ
   pub said : List ℕ
-  pub serves : AreServed g a.core u moments b.core rest said
-  pub told : Appends old new said
-  pub agrees : Agrees b l rest
+  pub serves : AreServed g c u moments d rest said
+  pub settled : IsSettled x y (grown_of moments) said
 
--- All requests in front were served, and no whole one is left.
-pub record Drained (g : Given) (a : NodeState) (l : LinkId) (u : List ℕ) (old : Option (List ℕ)) (b : NodeState) (new : Option (List ℕ)) : Type 0 where
-  pub going : Going g a l u old b new
-  pub waits : Waits going.rest
+-- .. and what is left is unread on the link.
+pub record Going (g : Given) (a : NodeState) (l : LinkId) (u : List ℕ) (x : Outside) (b : NodeState) (y : Outside) : Type 0 where
+  pub done : Settles g a.core u x b.core y
+  pub agrees : Agrees b l done.rest
+
+-- .. which is less than a request.
+pub record Drained (g : Given) (a : NodeState) (l : LinkId) (u : List ℕ) (x : Outside) (b : NodeState) (y : Outside) : Type 0 where
+  pub going : Going g a l u x b y
+  pub waits : Waits going.done.rest
 
 -- All requests were served before one that ends the link or before doomed bytes, the last was told, and the link is closed.
-pub record Ended (g : Given) (a : NodeState) (l : LinkId) (u : List ℕ) (old : Option (List ℕ)) (b : NodeState) (new : Option (List ℕ)) : Type 0 where
-  pub mid : NodeState
-  pub before : Option (List ℕ)
-  pub going : Going g a l u old mid before
+pub record Ended (g : Given) (a : NodeState) (l : LinkId) (u : List ℕ) (x : Outside) (b : NodeState) (y : Outside) : Type 0 where
+  pub before : Outside
+  pub done : Settles g a.core u x b.core before
   pub last : List ℕ
-  pub ends : Ends going.rest last
-  pub core : b.core ≡ mid.core
-  pub told : Appends before new last
+  pub ends : Ends done.rest last
+  pub told : Appends before.output y.output last
+  pub kept : y.kept ≡ before.kept
   pub shut : IsShut b l
 
-abbrev pub IsDrained : Given → NodeState → LinkId → List ℕ → Option (List ℕ) → NodeState → Option (List ℕ) → Bool → Type 0
-IsDrained g a l u old b new true = Drained g a l u old b new
-IsDrained g a l u old b new false = Ended g a l u old b new
+-- A write to the output failed: of a reply a beginning is written, and the texts of its step stand in the file. Or all was
+-- written, and the flush failed.
+pub data IsCutOff (g : Given) (c : Core) (u : List ℕ) (x y : Outside) : Type 0 where
+  in_reply : (grown said : List ℕ) → Gives g c u grown said → Filed x.kept y.kept grown → IsBegun x.output y.output said → IsCutOff g c u x y
+  in_flush : Keeps x.output y.output → y.kept ≡ x.kept → IsCutOff g c u x y
 
--- A step used something, and what it sends is written.
-pub record StepUsed (a : NodeState) (l : LinkId) (u : List ℕ) (g : Given) (old : Option (List ℕ)) (b : NodeState) (new : Option (List ℕ)) (closes : Bool) : Type 0 where
+-- An append to the file failed: of the step's texts a beginning may be there, and nothing of its reply is written.
+pub record Tears (g : Given) (c : Core) (u : List ℕ) (x y : Outside) : Type 0 where
+  pub grown : List ℕ
+  pub said : List ℕ
+  pub gives : Gives g c u grown said
+  pub torn : IsTorn x.kept y.kept grown
+  pub output : y.output ≡ x.output
+
+-- what a fault leaves of the step in which it came. Only one of the file or of the output leaves anything
+abbrev pub IsLeft : PipeFault → Given → Core → List ℕ → Outside → Outside → Type 0
+IsLeft fault.Read g c u x y = y ≡ x
+IsLeft fault.Write g c u x y = IsCutOff g c u x y
+IsLeft fault.File g c u x y = Tears g c u x y
+IsLeft fault.Stopped g c u x y = y ≡ x
+IsLeft fault.Memory g c u x y = y ≡ x
+
+-- Of the bytes u requests were served, until a fault came.
+pub record Breaks (g : Given) (c : Core) (u : List ℕ) (x : Outside) (why : PipeFault) (y : Outside) : Type 0 where
+  pub core : Core
+  pub before : Outside
+  pub done : Settles g c u x core before
+  pub left : IsLeft why g core done.rest before y
+
+abbrev pub IsDrained : Given → NodeState → LinkId → List ℕ → Outside → NodeState → Outside → Result Bool PipeFault → Type 0
+IsDrained g a l u x b y (Ok true) = Drained g a l u x b y
+IsDrained g a l u x b y (Ok false) = Ended g a l u x b y
+IsDrained g a l u x b y (Err why) = Breaks g a.core u x why y
+
+-- A step used something, and what it gives is settled.
+pub record StepUsed (g : Given) (a : NodeState) (l : LinkId) (u : List ℕ) (x : Outside) (b : NodeState) (y : Outside) (closes : Bool) : Type 0 where
   pub outs : OutsState
   pub row : ClientRow a l u g b outs
   pub closes_is : outs.closes ≡ closes
-  pub told : Appends old new outs.reply
+  pub settled : IsSettled x y outs.grown outs.reply
 
 -- A step found no whole request.
-pub record StepWaits (a : NodeState) (u : List ℕ) (old : Option (List ℕ)) (b : NodeState) (new : Option (List ℕ)) : Type 0 where
+pub record StepWaits (a : NodeState) (u : List ℕ) (x : Outside) (b : NodeState) (y : Outside) : Type 0 where
   pub idles : Idles a u b
-  pub told : Appends old new []
+  pub same : y ≡ x
 
-abbrev pub IsStepped : NodeState → LinkId → List ℕ → Given → Option (List ℕ) → NodeState → Option (List ℕ) → Stepped → Type 0
-IsStepped a l u g old b new stepped.Waits = StepWaits a u old b new
-IsStepped a l u g old b new stepped.On = StepUsed a l u g old b new false
-IsStepped a l u g old b new stepped.Shut = StepUsed a l u g old b new true
+abbrev pub IsStepped : Given → NodeState → LinkId → List ℕ → Outside → NodeState → Outside → Result Stepped PipeFault → Type 0
+IsStepped g a l u x b y (Ok stepped.Waits) = StepWaits a u x b y
+IsStepped g a l u x b y (Ok stepped.On) = StepUsed g a l u x b y false
+IsStepped g a l u x b y (Ok stepped.Shut) = StepUsed g a l u x b y true
+IsStepped g a l u x b y (Err why) = IsLeft why g a.core u x y
+
+-- what the outs of a step come to outside
+abbrev pub IsCarriedOut : List ℕ → List ℕ → Outside → Outside → Result (Unit {0}) PipeFault → Type 0
+IsCarriedOut grown said x y (Ok _) = IsSettled x y grown said
+IsCarriedOut grown said x y (Err fault.Write) = Filed x.kept y.kept grown × IsBegun x.output y.output said
+IsCarriedOut grown said x y (Err fault.File) = IsTorn x.kept y.kept grown × (y.output ≡ x.output)
+IsCarriedOut grown said x y (Err fault.Read) = ⊥
+IsCarriedOut grown said x y (Err fault.Stopped) = ⊥
+IsCarriedOut grown said x y (Err fault.Memory) = ⊥

@@ -3,9 +3,12 @@
 
 mod config;
 mod fault;
+mod keep;
+mod laws;
 mod relay;
 mod serve;
 
 pub use config::PipeConfig;
 pub use fault::PipeFault;
-pub use relay::pipe;
+pub use laws::files_fold;
+pub use relay::{pipe, pipe_with};

@@ -1,17 +1,21 @@
 // A whole input, answered.
-ghost use Rattle.std.specs.Prelude.{◌≡◌, ◌++◌, ◌<◌, ℕ, List, [], Option, IfOk, OnOk, length, take};
-ghost use Rattle.std.specs.Io.KnownBytes.{Consumes, IsAtEnd};
+ghost use Rattle.std.specs.Prelude.{◌≡◌, ◌⊎◌, ◌++◌, ◌<◌, ℕ, List, [], Option, IfOk, IfErr, OnErr, IsErrOf, length, take};
+ghost use Rattle.std.specs.Io.KnownBytes.{Consumes, IsAtEnd, Keeps};
 ghost use Rattle.mr_node.specs.State.{NodeState, Agrees};
+ghost use Rattle.mr_pipe.specs.Outside.{Outside, outside};
 ghost use Rattle.mr_pipe.specs.Serving.{Drained};
-ghost use Rattle.mr_pipe.specs.Piped.{IsRound, Session, fresh_core};
+ghost use Rattle.mr_pipe.specs.Piped.{IsRound, IsPiped, IsPipedAlone, core_with, fresh_core};
 ghost use Rattle.mr_pipe.specs.Reading.{IsRead};
 
 use crate::config::PipeConfig;
 use crate::fault::PipeFault;
 use crate::serve::deliver;
+use mr_aof::Log;
 use mr_data::{Dataset, Given};
+use mr_file::LogFile;
 use mr_links::LinkId;
 use mr_node::{Config, Node};
+use mr_repl::ReplId;
 use std::alloc::Global;
 use std::hash::RandomState;
 use std::io::{ErrorKind, Read, Write};
@@ -36,7 +40,9 @@ pub(crate) enum Round {
 /// Reads once; None where the read was interrupted.
 fn read_piece<R: Read>(input: &mut R, buffer: &mut [u8]) -> Result<Option<usize>, PipeFault>
     requires { 0 < length buffer.old }
-    ensures { IfOk result (λ count. IsRead (R.remaining input.old) (R.remaining input.new) buffer.new count) }
+    ensures read { IfOk result (λ count. IsRead (R.remaining input.old) (R.remaining input.new) buffer.new count) }
+    ensures failed { OnErr result (Keeps (R.remaining input.old) (R.remaining input.new)) }
+    ensures fault { IfErr result (λ e. e ≡ PipeFault.Read) }
 {
     match input.read(buffer) {
         Ok(count) => Ok(Some(count)),
@@ -50,17 +56,18 @@ fn read_piece<R: Read>(input: &mut R, buffer: &mut [u8]) -> Result<Option<usize>
 }
 
 /// Reads once, and serves what came. What was written goes out before the next read.
-fn serve_piece<R: Read, W: Write>(
+fn serve_piece<F: LogFile, R: Read, W: Write>(
     node: &mut Node,
     link: LinkId,
     given: Given,
+    log: &mut Log<F>,
     input: &mut R,
     buffer: &mut [u8],
     output: &mut W,
 ) -> Result<Round, PipeFault>
     requires { 0 < length buffer.old }
-    ensures { IfOk result (λ t. (a : NodeState) (u : List ℕ) (old : Option (List ℕ)) → Drained given a link u old node.old (W.contents output.old)
-        → IsRound given a link u old (R.remaining input.old) (R.remaining input.new) node.new (W.contents output.new) t) }
+    ensures { (a : NodeState) (u : List ℕ) (x : Outside) → Drained given a link u x node.old (outside W.contents F.told F.synced F.failures output.old log.old)
+        → IsRound given a link u x (R.remaining input.old) (R.remaining input.new) node.new (outside W.contents F.told F.synced F.failures output.new log.new) result }
 {
     let room = node.room(link).unwrap_or(0);
     let most = room.min(buffer.len());
@@ -74,10 +81,7 @@ fn serve_piece<R: Read, W: Write>(
     if count == 0 {
         return Ok(Round::End);
     }
-    let goes_on = deliver(node, link, given, &piece[..count], output)?;
-    if output.flush().is_err() {
-        return Err(PipeFault::Write);
-    }
+    let goes_on = deliver(node, link, given, &piece[..count], log, output)?;
     if goes_on {
         return Ok(Round::On);
     }
@@ -85,19 +89,21 @@ fn serve_piece<R: Read, W: Write>(
 }
 
 /// Reads to the end, or until the node closes the link, and serves all.
-fn relay<R: Read, W: Write>(
+fn relay<F: LogFile, R: Read, W: Write>(
     node: &mut Node,
     link: LinkId,
     given: Given,
+    log: &mut Log<F>,
     input: &mut R,
     buffer: &mut [u8],
     output: &mut W,
 ) -> Result<(), PipeFault>
     requires { 0 < length buffer.old }
-    ensures { OnOk result (Agrees node.old link [] → Session given node.old.core (R.remaining input.old) (R.remaining input.new) (W.contents output.old) (W.contents output.new)) }
+    ensures { Agrees node.old link [] → IsPiped given node.old.core (R.remaining input.old) (R.remaining input.new)
+        (outside W.contents F.told F.synced F.failures output.old log.old) (outside W.contents F.told F.synced F.failures output.new log.new) result }
 {
     for _round in 0..u64::MAX {
-        match serve_piece(node, link, given, input, buffer, output)? {
+        match serve_piece(node, link, given, log, input, buffer, output)? {
             Round::On => {}
             Round::End => return Ok(()),
             Round::Shut => return Ok(()),
@@ -106,9 +112,54 @@ fn relay<R: Read, W: Write>(
     Err(PipeFault::Read)
 }
 
-/// Answers the requests that the input has, one after another, as one client's of a fresh node: each reply is written before the
-/// next step, and out before the next read. Where it answers `Ok`, the input was read to its end, or to the request that broke
-/// the protocol, and what was written is exactly the replies to it.
+/// A node with this dataset, and a client's link of it.
+fn begin(alloc: Global, id: ReplId, dataset: Dataset) -> Result<(Node, LinkId), PipeFault>
+    ensures core { IfOk result (λ begun. begun.0.core ≡ core_with id dataset) }
+    ensures agrees { IfOk result (λ begun. Agrees begun.0 begun.1 []) }
+    ensures fault { IfErr result (λ e. (e ≡ PipeFault.Memory) ⊎ (e ≡ PipeFault.Stopped)) }
+{
+    let Some(start) = Config::new(false, 0, BACKLOG) else {
+        unreachable!()
+    };
+    let Ok(mut node) = Node::start(alloc, id, dataset, start) else {
+        return Err(PipeFault::Memory);
+    };
+    let link = node.open()?;
+    Ok((node, link))
+}
+
+/// Answers the requests that the input has, one after another, as one client's of a node that begins with this dataset. The texts of
+/// a request's effects are in the log's file before its reply is written, synced in the mode `Always`; each reply is written
+/// before the next step, and out before the next read. Where it answers `Ok`, the input was read to its end, or to the request that
+/// broke the protocol, and what was written is exactly the replies to it. After a fault it is a beginning of them: nothing of
+/// the reply to a request whose texts aren't in the file.
+pub fn pipe_with<F: LogFile, R: Read, W: Write>(
+    alloc: Global,
+    config: &PipeConfig,
+    dataset: Dataset,
+    log: &mut Log<F>,
+    input: &mut R,
+    output: &mut W,
+) -> Result<(), PipeFault>
+    ensures { IsPiped config.now.given (core_with config.now.id dataset) (R.remaining input.old) (R.remaining input.new)
+        (outside W.contents F.told F.synced F.failures output.old log.old) (outside W.contents F.told F.synced F.failures output.new log.new) result }
+{
+    let Ok(mut buffer) = vec![in alloc; 0u8; PIECE] else {
+        return Err(PipeFault::Memory);
+    };
+    let (mut node, link) = begin(alloc, config.id, dataset)?;
+    relay(
+        &mut node,
+        link,
+        config.given,
+        log,
+        input,
+        buffer.as_mut_slice(),
+        output,
+    )
+}
+
+/// `pipe_with` for a node that begins with an empty dataset and keeps no file.
 pub fn pipe<R: Read, W: Write>(
     alloc: Global,
     config: &PipeConfig,
@@ -116,24 +167,16 @@ pub fn pipe<R: Read, W: Write>(
     input: &mut R,
     output: &mut W,
 ) -> Result<(), PipeFault>
-    ensures { OnOk result (Session config.now.given (fresh_core config.now.id) (R.remaining input.old) (R.remaining input.new) (W.contents output.old) (W.contents output.new)) }
+    ensures piped { IsPipedAlone config.now.given (fresh_core config.now.id) (R.remaining input.old) (R.remaining input.new) (W.contents output.old) (W.contents output.new) result }
+    ensures no_file { IsErrOf result PipeFault.File → ⊥ }
 {
-    let Ok(mut buffer) = vec![in alloc; 0u8; PIECE] else {
-        return Err(PipeFault::Memory);
-    };
-    let Some(start) = Config::new(false, 0, BACKLOG) else {
-        unreachable!()
-    };
-    let Ok(mut node) = Node::start(alloc, config.id, Dataset::new(alloc, seed), start) else {
-        return Err(PipeFault::Memory);
-    };
-    let link = node.open()?;
-    relay(
-        &mut node,
-        link,
-        config.given,
+    let mut log = Log::none();
+    pipe_with(
+        alloc,
+        config,
+        Dataset::new(alloc, seed),
+        &mut log,
         input,
-        buffer.as_mut_slice(),
         output,
     )
 }

@@ -1,12 +1,16 @@
 // All that stands on a link, served one request after another.
-ghost use Rattle.std.specs.Prelude.{◌≡◌, ◌++◌, ℕ, List, Option, IfOk};
+ghost use Rattle.std.specs.Prelude.{◌≡◌, ◌++◌, ℕ, List, OnOk, OnErr, IfErr};
 ghost use Rattle.mr_node.specs.State.{NodeState, Agrees};
-ghost use Rattle.mr_pipe.specs.Serving.{Going, IsStepped, IsDrained};
+ghost use Rattle.mr_pipe.specs.Outside.{Outside, outside};
+ghost use Rattle.mr_pipe.specs.Serving.{Going, IsCarriedOut, IsDrained, IsStepped};
 
 use crate::fault::PipeFault;
+use crate::keep::{append, write_out};
+use mr_aof::Log;
 use mr_data::Given;
+use mr_file::LogFile;
 use mr_links::LinkId;
-use mr_node::{Node, Step};
+use mr_node::{Node, Outs, Step};
 use mr_repl::ReplId;
 use std::io::Write;
 
@@ -21,22 +25,33 @@ pub(crate) enum Stepped {
     Shut,
 }
 
-/// One step, whose reply is written.
-fn step_once<W: Write>(
+/// The texts of a step go to the file, and then its reply is written.
+fn carry_out<F: LogFile, W: Write>(
+    outs: &Outs,
+    log: &mut Log<F>,
+    output: &mut W,
+) -> Result<(), PipeFault>
+    ensures { IsCarriedOut outs.now.grown outs.now.reply (outside W.contents F.told F.synced F.failures output.old log.old) (outside W.contents F.told F.synced F.failures output.new log.new) result }
+{
+    append(log, outs.grown())?;
+    write_out(output, outs.reply())
+}
+
+/// One step, whose texts are in the file before its reply is written.
+fn step_once<F: LogFile, W: Write>(
     node: &mut Node,
     link: LinkId,
     given: Given,
+    log: &mut Log<F>,
     output: &mut W,
 ) -> Result<Stepped, PipeFault>
-    ensures { IfOk result (λ t. (u : List ℕ) → Agrees node.old link u → IsStepped node.old link u given (W.contents output.old) node.new (W.contents output.new) t) }
+    ensures { (u : List ℕ) → Agrees node.old link u → IsStepped given node.old link u (outside W.contents F.told F.synced F.failures output.old log.old) node.new (outside W.contents F.told F.synced F.failures output.new log.new) result }
 {
     match node.step(link, given, ReplId::numbered(1))? {
         Step::Idle => Ok(Stepped::Waits),
         Step::Closed => Ok(Stepped::Shut),
         Step::Done(outs) => {
-            if output.write_all(outs.reply()).is_err() {
-                return Err(PipeFault::Write);
-            }
+            carry_out(&outs, log, output)?;
             let closes = outs.closes();
             node.reuse(outs);
             if closes {
@@ -47,17 +62,18 @@ fn step_once<W: Write>(
     }
 }
 
-/// AreServed requests until none is whole, or the link is closed (false).
-fn drain<W: Write>(
+/// Serves requests until none is whole, or the link is closed (false).
+fn drain<F: LogFile, W: Write>(
     node: &mut Node,
     link: LinkId,
     given: Given,
+    log: &mut Log<F>,
     output: &mut W,
 ) -> Result<bool, PipeFault>
-    ensures { IfOk result (λ goes_on. (u : List ℕ) → Agrees node.old link u → IsDrained given node.old link u (W.contents output.old) node.new (W.contents output.new) goes_on) }
+    ensures { (u : List ℕ) → Agrees node.old link u → IsDrained given node.old link u (outside W.contents F.told F.synced F.failures output.old log.old) node.new (outside W.contents F.told F.synced F.failures output.new log.new) result }
 {
     for _step in 0..u64::MAX {
-        match step_once(node, link, given, output)? {
+        match step_once(node, link, given, log, output)? {
             Stepped::Waits => return Ok(true),
             Stepped::Shut => return Ok(false),
             Stepped::On => {}
@@ -68,15 +84,36 @@ fn drain<W: Write>(
 
 /// Bytes come, and are served; false once the link is closed. However they were cut before, the answer is that of all of them
 /// together.
-pub(crate) fn deliver<W: Write>(
+fn serve_bytes<F: LogFile, W: Write>(
     node: &mut Node,
     link: LinkId,
     given: Given,
     bytes: &[u8],
+    log: &mut Log<F>,
     output: &mut W,
 ) -> Result<bool, PipeFault>
-    ensures { IfOk result (λ goes_on. (a : NodeState) (u : List ℕ) (old : Option (List ℕ)) → Going given a link u old node.old (W.contents output.old) → IsDrained given a link (u ++ bytes.now) old node.new (W.contents output.new) goes_on) }
+    ensures { (a : NodeState) (u : List ℕ) (x : Outside) → Going given a link u x node.old (outside W.contents F.told F.synced F.failures output.old log.old)
+        → IsDrained given a link (u ++ bytes.now) x node.new (outside W.contents F.told F.synced F.failures output.new log.new) result }
 {
     node.feed(link, bytes)?;
-    drain(node, link, given, output)
+    drain(node, link, given, log, output)
+}
+
+/// Bytes come, and are served; false once the link is closed. What was written goes out.
+pub(crate) fn deliver<F: LogFile, W: Write>(
+    node: &mut Node,
+    link: LinkId,
+    given: Given,
+    bytes: &[u8],
+    log: &mut Log<F>,
+    output: &mut W,
+) -> Result<bool, PipeFault>
+    ensures { (a : NodeState) (u : List ℕ) (x : Outside) → Going given a link u x node.old (outside W.contents F.told F.synced F.failures output.old log.old)
+        → IsDrained given a link (u ++ bytes.now) x node.new (outside W.contents F.told F.synced F.failures output.new log.new) result }
+{
+    let goes_on = serve_bytes(node, link, given, bytes, log, output)?;
+    if output.flush().is_err() {
+        return Err(PipeFault::Write);
+    }
+    Ok(goes_on)
 }

@@ -1,18 +1,16 @@
-use Rattle.std.proofs.Common.{rules, ◌≡◌, ℕ, List, [], Option, sym, subst, ap, ◌∙◌}
-use Rattle.mr_node.specs.State.{Agrees, Core}
-use Rattle.mr_pipe.specs.Piped.{Session, fresh_core}
-use Rattle.mr_pipe.proofs.Relaying.{on_ok_map}
+use Rattle.std.proofs.Common.{rules, ◌≡◌, refl}
+use Rattle.std.specs.Prelude.{None}
+use Rattle.mr_pipe.specs.Outside.{Kept, kept_of}
+use Rattle.mr_pipe.specs.Piped.{core_with, fresh_core, no_file}
+use Rattle.mr_pipe.proofs.Relaying.{is_alone, piped_alone}
 use Rattle.mr_pipe.proofs.relay.pipe.Goals as goal
 
-pub returns : goal.returns
-returns g c =
-    let told = g.W.Write.contents in let left = g.R.Read.remaining in
-    let n = c.open.new.self in
-    let given = c.args.config.now.given in
-    let core : n.core ≡ fresh_core c.args.config.now.id = search rules in
-    let agrees : Agrees n c.in_ok-link.link [] = search rules in
-    on_ok_map c.relay.result
-    (Agrees n c.in_ok-link.link [] → Session given n.core (left c.args.input.now) (left c.relay.new.input) (told c.args.output.now) (told c.relay.new.output))
-    (Session given (fresh_core c.args.config.now.id) (left c.args.input.now) (left c.relay.new.input) (told c.args.output.now) (told c.relay.new.output))
-    c.relay.ensures
-    (λ s. subst (λ (k : Core). Session given k (left c.args.input.now) (left c.relay.new.input) (told c.args.output.now) (told c.relay.new.output)) core (s agrees))
+pub returns-clause-piped : goal.returns-clause-piped
+returns-clause-piped g c =
+    let left = g.R.Read.remaining in let told = g.W.Write.contents in
+    let id = c.args.config.now.id in
+    let k : Kept = kept_of (λ _. None) (λ _. None) (λ _. 0) c.none-log.result in
+    let n : Kept = kept_of (λ _. None) (λ _. None) (λ _. 0) c.pipe_with.new.log in
+    let none : k ≡ no_file = is_alone k refl refl refl c.none-log.ensures.mode c.none-log.ensures.whole in
+    let fresh : core_with id c.new.result ≡ fresh_core id = search rules in
+    piped_alone c.args.config.now.given (core_with id c.new.result) (fresh_core id) (left c.args.input.now) (left c.pipe_with.new.input) (told c.args.output.now) (told c.pipe_with.new.output) k n c.pipe_with.result fresh none c.pipe_with.ensures

@@ -1,44 +1,75 @@
-use Rattle.std.proofs.Common.{rules, ◌≡◌, ℕ, List, [], ◌++◌, Option, Some, None, true, false, take, sym, subst, ap, ◌∙◌}
-use Rattle.std.specs.Io.KnownBytes.{Consumes, Appends}
-use Rattle.std.proofs.KnownBytes.{Consumes-nil, Consumes-kept}
-use Rattle.mr_node.specs.State.{NodeState}
-use Rattle.mr_pipe.specs.Serving.{Drained, IsDrained}
+use Rattle.std.proofs.Common.{rules, ◌≡◌, ℕ, List, [], ◌++◌, Bool, true, false, Ok, Err, refl, sym, subst, ap, ◌∙◌, take}
+use Rattle.mr_node.specs.State.{NodeState, Agrees}
+use Rattle.mr_pipe.specs.Outside.{Outside, outside}
+use Rattle.std.specs.Io.KnownBytes.{Keeps}
+use Rattle.std.proofs.KnownBytes.{Keeps-refl}
 use Rattle.mr_pipe.specs.Reading.{IsRead}
-use Rattle.mr_pipe.proofs.Serves.{append_nil}
-use Rattle.mr_pipe.proofs.Relaying.{drained_kept, ended_kept}
+use Rattle.mr_pipe.specs.Serving.{Drained, IsDrained}
+use Rattle.mr_pipe.specs.Piped.{IsRound}
+use Rattle.mr_pipe.specs.declared.fault.PipeFault.TheVariants as fault
+use Rattle.mr_pipe.proofs.Relaying.{no_more, broken_round, read_failed, delivered, delivered_all, not_delivered, at_end_round}
 use Rattle.mr_pipe.proofs.relay.serve_piece.Goals as goal
 
+pub returns-then-most-eq0 : goal.returns-then-most-eq0
+returns-then-most-eq0 g c = λ a u x d.
+    let out = outside g.W.Write.contents g.F.LogFile.told g.F.LogFile.synced g.F.LogFile.failures in
+    let y = out c.args.output.now c.args.log.now in let p = g.R.Read.remaining c.args.input.now in let n = c.args.node.now in
+    broken_round c.args.given a c.args.link u x p p n y fault.Memory d (Keeps-refl p) (λ k v. refl)
+
+pub returns-in_err-count : goal.returns-in_err-count
+returns-in_err-count g c = λ a u x d.
+    let out = outside g.W.Write.contents g.F.LogFile.told g.F.LogFile.synced g.F.LogFile.failures in
+    let y = out c.args.output.now c.args.log.now in let p = g.R.Read.remaining c.args.input.now in let n = c.args.node.now in
+    let q = g.R.Read.remaining c.read_piece.new.input in
+    let why = c.in_err-count.field-0.0 in
+    let told : c.from_residual.result ≡ Err why = search rules in
+    subst (λ r. IsRound c.args.given a c.args.link u x p q n y r) (sym told) (read_failed c.args.given a c.args.link u x p q n y why c.in_err-count.ensures.fault d c.in_err-count.ensures.failed)
+
 pub returns-in_default : goal.returns-in_default
-returns-in_default g c = λ a u old d.
-    let left = g.R.Read.remaining in
-    let x = left c.args.input.now in let y = left c.read_piece.new.input in
-    let kept = subst (λ r. IsRead x y c.read_piece.new.buffer r) c.in_default.is c.in_ok-count.ensures in
-    record {
-      read = [];
-      consumed = Consumes-kept x x y [] (Consumes-nil x) kept;
-      drained = subst (λ z. Drained c.args.given a c.args.link z old c.args.node.now (g.W.Write.contents c.args.output.now)) (sym (append_nil u)) d;
-    }
+returns-in_default g c = λ a u x d.
+    let out = outside g.W.Write.contents g.F.LogFile.told g.F.LogFile.synced g.F.LogFile.failures in
+    let y = out c.args.output.now c.args.log.now in let p = g.R.Read.remaining c.args.input.now in let n = c.args.node.now in
+    let q = g.R.Read.remaining c.read_piece.new.input in
+    let kept : Keeps p q = subst (λ r. IsRead p q c.read_piece.new.buffer r) c.in_default.is c.in_ok-count.ensures.read in
+    no_more c.args.given a c.args.link u x p q n y d kept
+
+pub returns-then-count-eq0 : goal.returns-then-count-eq0
+returns-then-count-eq0 g c = λ a u x d.
+    let out = outside g.W.Write.contents g.F.LogFile.told g.F.LogFile.synced g.F.LogFile.failures in
+    let y = out c.args.output.now c.args.log.now in let p = g.R.Read.remaining c.args.input.now in let n = c.args.node.now in
+    let q = g.R.Read.remaining c.read_piece.new.input in
+    let came = subst (λ r. IsRead p q c.read_piece.new.buffer r) c.in-Some.is c.in_ok-count.ensures.read in
+    let none : c.in-Some.count ≡ 0 = search rules in
+    at_end_round c.args.given a c.args.link u x p q n y c.read_piece.new.buffer c.in-Some.count none came d
+
+pub returns-in_err-goes_on : goal.returns-in_err-goes_on
+returns-in_err-goes_on g c = λ a u x d.
+    let out = outside g.W.Write.contents g.F.LogFile.told g.F.LogFile.synced g.F.LogFile.failures in
+    let y = out c.args.output.now c.args.log.now in let p = g.R.Read.remaining c.args.input.now in let n = c.args.node.now in
+    let q = g.R.Read.remaining c.read_piece.new.input in
+    let z = out c.deliver.new.output c.deliver.new.log in let m = c.deliver.new.node in
+    let bytes = take c.in-Some.count c.read_piece.new.buffer in
+    let came = subst (λ r. IsRead p q c.read_piece.new.buffer r) c.in-Some.is c.in_ok-count.ensures.read in
+    let why = c.in_err-goes_on.field-0.0 in
+    let told : c.from_residual-in_err-goes_on.result ≡ Err why = search rules in
+    subst (λ r. IsRound c.args.given a c.args.link u x p q m z r) (sym told) (not_delivered c.args.given a c.args.link u x p q bytes m z why came.1 (c.in_err-goes_on.ensures a u x d.going))
 
 pub returns-then-goes_on : goal.returns-then-goes_on
-returns-then-goes_on g c = λ a u old d.
-    let left = g.R.Read.remaining in let told = g.W.Write.contents in
+returns-then-goes_on g c = λ a u x d.
+    let out = outside g.W.Write.contents g.F.LogFile.told g.F.LogFile.synced g.F.LogFile.failures in
+    let y = out c.args.output.now c.args.log.now in let p = g.R.Read.remaining c.args.input.now in let n = c.args.node.now in
+    let q = g.R.Read.remaining c.read_piece.new.input in
+    let z = out c.deliver.new.output c.deliver.new.log in let m = c.deliver.new.node in
     let bytes = take c.in-Some.count c.read_piece.new.buffer in
-    let came = subst (λ r. IsRead (left c.args.input.now) (left c.read_piece.new.input) c.read_piece.new.buffer r) c.in-Some.is c.in_ok-count.ensures in
-    record {
-      read = bytes;
-      consumed = came.1;
-      drained = drained_kept c.args.given a c.args.link (u ++ bytes) old c.deliver.new.node (told c.deliver.new.output) (told c.flush.new.self)
-          (subst (λ b. IsDrained c.args.given a c.args.link (u ++ bytes) old c.deliver.new.node (told c.deliver.new.output) b) c.if-goes_on.true (c.in_ok-goes_on.ensures a u old d.going)) c.flush.ensures.bytes;
-    }
+    let came = subst (λ r. IsRead p q c.read_piece.new.buffer r) c.in-Some.is c.in_ok-count.ensures.read in
+    delivered c.args.given a c.args.link u x p q bytes m z came.1 (subst (λ b. IsDrained c.args.given a c.args.link (u ++ bytes) x m z (Ok b)) c.if-goes_on.true (c.in_ok-goes_on.ensures a u x d.going))
 
 pub returns : goal.returns
-returns g c = λ a u old d.
-    let left = g.R.Read.remaining in let told = g.W.Write.contents in
+returns g c = λ a u x d.
+    let out = outside g.W.Write.contents g.F.LogFile.told g.F.LogFile.synced g.F.LogFile.failures in
+    let y = out c.args.output.now c.args.log.now in let p = g.R.Read.remaining c.args.input.now in let n = c.args.node.now in
+    let q = g.R.Read.remaining c.read_piece.new.input in
+    let z = out c.deliver.new.output c.deliver.new.log in let m = c.deliver.new.node in
     let bytes = take c.in-Some.count c.read_piece.new.buffer in
-    let came = subst (λ r. IsRead (left c.args.input.now) (left c.read_piece.new.input) c.read_piece.new.buffer r) c.in-Some.is c.in_ok-count.ensures in
-    record {
-      read = bytes;
-      consumed = came.1;
-      ended = ended_kept c.args.given a c.args.link (u ++ bytes) old c.deliver.new.node (told c.deliver.new.output) (told c.flush.new.self)
-          (subst (λ b. IsDrained c.args.given a c.args.link (u ++ bytes) old c.deliver.new.node (told c.deliver.new.output) b) c.if-goes_on.false (c.in_ok-goes_on.ensures a u old d.going)) c.flush.ensures.bytes;
-    }
+    let came = subst (λ r. IsRead p q c.read_piece.new.buffer r) c.in-Some.is c.in_ok-count.ensures.read in
+    delivered_all c.args.given a c.args.link u x p q bytes m z came.1 (subst (λ b. IsDrained c.args.given a c.args.link (u ++ bytes) x m z (Ok b)) c.if-goes_on.false (c.in_ok-goes_on.ensures a u x d.going))

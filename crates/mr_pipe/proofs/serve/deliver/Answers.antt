@@ -1,26 +1,22 @@
-use Rattle.std.proofs.Common.{rules, ◌≡◌, ◌++◌, ℕ, List, Option, Bool, Ok, Err, Result, IfOk}
+use Rattle.std.proofs.Common.{rules, ◌≡◌, ℕ, List, [], ◌++◌, Bool, true, false, Ok, Err, refl, sym, subst, ap, ◌∙◌, take}
 use Rattle.mr_node.specs.State.{NodeState, Agrees}
+use Rattle.mr_pipe.specs.Outside.{Outside, outside}
 use Rattle.mr_pipe.specs.Serving.{Going, IsDrained}
-use Rattle.mr_pipe.proofs.Goings.{drained_join}
+use Rattle.mr_pipe.proofs.Deliveries.{flushed, not_flushed}
 use Rattle.mr_pipe.proofs.serve.deliver.Goals as goal
 
-ok_map : {A E : Type 0} (r : Result A E) (P Q : A → Type 0) → IfOk r P → ((x : A) → P x → Q x) → IfOk r Q
-ok_map (Ok x) P Q h f = f x h
-ok_map (Err e) P Q h f = h
+pub returns-then-is_err : goal.returns-then-is_err
+returns-then-is_err g c = λ a u x w.
+    let out = outside g.W.Write.contents g.F.LogFile.told g.F.LogFile.synced g.F.LogFile.failures in
+    let y = out c.serve_bytes.new.output c.serve_bytes.new.log in let z = out c.flush.new.self c.serve_bytes.new.log in
+    let v = u ++ c.args.bytes.now in
+    let d : IsDrained c.args.given a c.args.link v x c.serve_bytes.new.node y (Ok c.in_ok-goes_on.goes_on) = c.in_ok-goes_on.ensures a u x w in
+    not_flushed c.args.given a c.args.link v x c.serve_bytes.new.node y z c.in_ok-goes_on.goes_on d c.flush.ensures.bytes refl
 
 pub returns : goal.returns
-returns g c =
-    let told = g.W.Write.contents in
-    let l = c.args.link in
-    let n = c.args.node.now in
-    let n1 = c.feed.new.self in
-    let before = told c.args.output.now in
-    let after = told c.drain.new.output in
-    let heard : (v : List ℕ) → Agrees n l v → Agrees n1 l (v ++ c.args.bytes.now) = search rules in
-    let same : n1.core ≡ n.core = search rules in
-    ok_map c.drain.result
-    (λ goes. (v : List ℕ) → Agrees n1 l v → IsDrained c.args.given n1 l v before c.drain.new.node after goes)
-    (λ goes. (a : NodeState) (u : List ℕ) (old : Option (List ℕ)) → Going c.args.given a l u old n before → IsDrained c.args.given a l (u ++ c.args.bytes.now) old c.drain.new.node after goes)
-    c.drain.ensures
-    (λ goes d a u old w. drained_join c.args.given a l u old c.args.bytes.now n before n1 c.drain.new.node after w same goes
-    (d (w.rest ++ c.args.bytes.now) (heard w.rest w.agrees)))
+returns g c = λ a u x w.
+    let out = outside g.W.Write.contents g.F.LogFile.told g.F.LogFile.synced g.F.LogFile.failures in
+    let y = out c.serve_bytes.new.output c.serve_bytes.new.log in let z = out c.flush.new.self c.serve_bytes.new.log in
+    let v = u ++ c.args.bytes.now in
+    let d : IsDrained c.args.given a c.args.link v x c.serve_bytes.new.node y (Ok c.in_ok-goes_on.goes_on) = c.in_ok-goes_on.ensures a u x w in
+    flushed c.args.given a c.args.link v x c.serve_bytes.new.node y z c.in_ok-goes_on.goes_on d c.flush.ensures.bytes refl

@@ -1,7 +1,24 @@
-use Rattle.std.proofs.Common.{rules, ◌≡◌, ℕ, List, true, false, subst, sym, ap, ◌∙◌}
-use Rattle.std.specs.Io.KnownBytes.{Appends}
+use Rattle.std.proofs.Common.{rules, ◌≡◌, ℕ, List, [], ◌++◌, Bool, true, false, Ok, Err, refl, sym, subst, ap, ◌∙◌, take}
+use Rattle.mr_node.specs.State.{NodeState, Agrees}
+use Rattle.mr_pipe.specs.Outside.{Outside, outside}
 use Rattle.mr_node.specs.Rows.{ClientRow, StepRow}
+use Rattle.mr_pipe.specs.Serving.{IsStepped, IsCarriedOut}
+use Rattle.mr_pipe.proofs.Goings.{gives, left_out}
 use Rattle.mr_pipe.proofs.serve.step_once.Goals as goal
+
+pub returns-in_err-carry_out-in-Done : goal.returns-in_err-carry_out-in-Done
+returns-in_err-carry_out-in-Done g c = λ u ag.
+    let out = outside g.W.Write.contents g.F.LogFile.told g.F.LogFile.synced g.F.LogFile.failures in
+    let x = out c.args.output.now c.args.log.now in
+    let y = out c.carry_out.new.output c.carry_out.new.log in
+    let outs = c.in-Done.outs in
+    let row : ClientRow c.args.node.now c.args.link u c.args.given c.step.new.self outs =
+    subst (λ s. StepRow c.args.node.now c.args.link u c.args.given c.step.new.self s) c.in-Done.is (c.in_ok-step.ensures.row u ag) in
+    let why = c.in_err-carry_out-in-Done.field-0.0 in
+    let told : c.from_residual-in_err-carry_out-in-Done.result ≡ Err why = search rules in
+    let came : IsCarriedOut outs.grown outs.reply x y (Err why) = c.in_err-carry_out-in-Done.ensures in
+    subst (λ r. IsStepped c.args.given c.args.node.now c.args.link u x c.step.new.self y r) (sym told)
+    (left_out why c.args.given c.args.node.now.core u x y outs.grown outs.reply (gives c.args.node.now c.args.link u c.args.given c.step.new.self outs row) came)
 
 pub returns-then-closes : goal.returns-then-closes
 returns-then-closes g c = λ u ag. record {
@@ -9,7 +26,7 @@ returns-then-closes g c = λ u ag. record {
   row = subst (λ z. ClientRow c.args.node.now c.args.link u c.args.given z c.in-Done.outs) (sym c.reuse.ensures)
       (subst (λ s. StepRow c.args.node.now c.args.link u c.args.given c.step.new.self s) c.in-Done.is (c.in_ok-step.ensures.row u ag));
   closes_is = search rules;
-  told = search rules;
+  settled = c.in_ok-carry_out-in-Done.ensures;
 }
 
 pub returns-else-closes : goal.returns-else-closes
@@ -18,5 +35,5 @@ returns-else-closes g c = λ u ag. record {
   row = subst (λ z. ClientRow c.args.node.now c.args.link u c.args.given z c.in-Done.outs) (sym c.reuse.ensures)
       (subst (λ s. StepRow c.args.node.now c.args.link u c.args.given c.step.new.self s) c.in-Done.is (c.in_ok-step.ensures.row u ag));
   closes_is = search rules;
-  told = search rules;
+  settled = c.in_ok-carry_out-in-Done.ensures;
 }

@@ -1,0 +1,67 @@
+//! A pipe whose dataset is kept in a file.
+use crate::failure::{Failure, FileFault};
+use mr_aof::{Loaded, Log, LogFault, SyncMode};
+use mr_data::Dataset;
+use mr_file::SystemFile;
+use mr_pipe::{PipeConfig, PipeFault, pipe_with};
+use std::hash::RandomState;
+use std::io::Write;
+
+/// The failure of the file at this path.
+fn file_failure(rt: &HostRuntime, path: &str, fault: FileFault) -> Failure {
+    match String::from_str(rt.alloc(), path) {
+        Ok(path) => Failure::File(path, fault),
+        Err(_refused) => Failure::Pipe(PipeFault::Memory),
+    }
+}
+
+/// The log of the file at this path, and the dataset that is kept there.
+fn opened(
+    rt: &HostRuntime,
+    path: &str,
+    seed: RandomState,
+) -> Result<(Log<SystemFile>, Dataset), Failure> {
+    let Ok(of_file) = rt.clone() else {
+        return Err(Failure::Pipe(PipeFault::Memory));
+    };
+    let file = match SystemFile::open(of_file, path) {
+        Ok(file) => file,
+        Err(fault) => return Err(file_failure(rt, path, FileFault::Open(fault))),
+    };
+    match Log::open(rt.alloc(), seed, file, SyncMode::Always) {
+        Ok((log, loaded)) => {
+            let Loaded { dataset, used: _ } = loaded;
+            Ok((log, dataset))
+        }
+        Err((LogFault::Memory, _file)) => Err(Failure::Pipe(PipeFault::Memory)),
+        Err((LogFault::Device, _file)) | Err((LogFault::Broken, _file)) => {
+            Err(file_failure(rt, path, FileFault::Load))
+        }
+    }
+}
+
+/// One node, which begins with the dataset that the file at this path keeps, and keeps its own there.
+pub fn run_kept<W: Write>(
+    rt: &HostRuntime,
+    path: &str,
+    config: &PipeConfig,
+    seed: RandomState,
+    output: &mut W,
+) -> Result<(), Failure> {
+    let (mut log, dataset) = opened(rt, path, seed)?;
+    let ended = pipe_with(
+        rt.alloc(),
+        config,
+        dataset,
+        &mut log,
+        &mut rt.stdin(),
+        output,
+    );
+    // After a failed append too the replies before it are due.
+    let _ = output.flush();
+    match ended {
+        Err(PipeFault::File) => Err(file_failure(rt, path, FileFault::Append)),
+        Err(fault) => Err(Failure::Pipe(fault)),
+        Ok(()) => Ok(()),
+    }
+}

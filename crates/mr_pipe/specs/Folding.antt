@@ -1,0 +1,39 @@
+-- What the file of a pipe folds to.
+use Rattle.std.specs.Prelude.{◌≡◌, ℕ, List, ◌++◌, Option, Some}
+use Rattle.std.specs.FinMap.{empty}
+use Rattle.mr_effect.specs.Spelling.{texts}
+use Rattle.mr_effect.specs.declared.effect.Effect.{Effect}
+use Rattle.mr_entries.specs.Dataset.{Dataset}
+use Rattle.mr_data.specs.Meaning.{apply_all}
+use Rattle.mr_data.specs.declared.given.Given.{Given}
+use Rattle.mr_node.specs.State.{Core}
+use Rattle.mr_pipe.specs.Outside.{Outside}
+use Rattle.mr_pipe.specs.Piped.{Session, Broken}
+use Rattle.mr_pipe.specs.declared.fault.PipeFault.{PipeFault}
+
+-- The bytes are the texts of effects, which lead from one dataset to another.
+pub record Folds (bytes : List ℕ) (old new : Dataset) : Type 0 where
+  pub effects : List Effect
+  pub are_texts : bytes ≡ texts effects
+  pub applied : apply_all effects old ≡ Some new
+
+-- .. and behind them stands a beginning of the texts of effects that lead on.
+pub record FoldsTorn (bytes : List ℕ) (old : Dataset) : Type 0 where
+  pub front : List ℕ
+  pub torn : List ℕ
+  pub is : bytes ≡ front ++ torn
+  pub mid : Dataset
+  pub folds : Folds front old mid
+  pub more : List ℕ
+  pub new : Dataset
+  pub whole : Folds (torn ++ more) mid new
+
+-- where a file's bytes fold to the dataset that a pipe began with, they fold to its node's dataset at the end
+abbrev pub FilesFold : Type 0
+FilesFold = (g : Given) (c : Core) (before after : Option (List ℕ)) (x y : Outside) → (s : Session g c before after x y) → (xs : List ℕ) → x.kept.told ≡ Some xs → Folds xs empty c.held
+    → (ys : List ℕ) × ((y.kept.told ≡ Some ys) × Folds ys empty s.core.held)
+
+-- .. and after a fault they are texts of effects of which at most the last step's are torn
+abbrev pub FilesFoldTorn : Type 0
+FilesFoldTorn = (g : Given) (c : Core) (before after : Option (List ℕ)) (x : Outside) (why : PipeFault) (y : Outside) → Broken g c before after x why y → (xs : List ℕ) → x.kept.told ≡ Some xs → Folds xs empty c.held
+    → (ys : List ℕ) × ((y.kept.told ≡ Some ys) × FoldsTorn ys empty)

@@ -1,0 +1,59 @@
+// What one step has kept: its texts in the file, and its reply in the output.
+ghost use Rattle.std.specs.Prelude.{◌≡◌, ◌≤◌, [], length, take, IfOk, IfErr, OnOk, OnErr};
+ghost use Rattle.std.specs.Io.KnownBytes as known;
+ghost use Rattle.mr_pipe.specs.Outside.{Filed, IsTorn, IsBegun, kept_of};
+
+use crate::fault::PipeFault;
+use mr_aof::Log;
+use mr_file::LogFile;
+use std::io::{ErrorKind, Write};
+
+/// Appends texts to the file, where there are some.
+pub(crate) fn append<F: LogFile>(log: &mut Log<F>, texts: &[u8]) -> Result<(), PipeFault>
+    ensures filed { OnOk result (Filed (kept_of F.told F.synced F.failures log.old) (kept_of F.told F.synced F.failures log.new) texts.now) }
+    ensures torn { OnErr result (IsTorn (kept_of F.told F.synced F.failures log.old) (kept_of F.told F.synced F.failures log.new) texts.now) }
+    ensures fault { IfErr result (λ e. e ≡ PipeFault.File) }
+{
+    if texts.is_empty() {
+        return Ok(());
+    }
+    match log.append(texts) {
+        Ok(()) => Ok(()),
+        Err(_fault) => Err(PipeFault::File),
+    }
+}
+
+/// Writes once. None is written where the write was interrupted.
+fn write_some<W: Write>(output: &mut W, bytes: &[u8]) -> Result<usize, PipeFault>
+    ensures within { IfOk result (λ n. n ≤ length bytes.now) }
+    ensures written { IfOk result (λ n. known.Appends (W.contents output.old) (W.contents output.new) (take n bytes.now)) }
+    ensures failed { OnErr result (known.Appends (W.contents output.old) (W.contents output.new) []) }
+    ensures fault { IfErr result (λ e. e ≡ PipeFault.Write) }
+{
+    match output.write(bytes) {
+        Ok(0) => Err(PipeFault::Write),
+        Ok(count) => Ok(count),
+        Err(error) => {
+            if error.kind() == ErrorKind::Interrupted {
+                return Ok(0);
+            }
+            Err(PipeFault::Write)
+        }
+    }
+}
+
+/// Writes all bytes, in as many writes as it takes. After a fault a beginning of them is written.
+pub(crate) fn write_out<W: Write>(output: &mut W, bytes: &[u8]) -> Result<(), PipeFault>
+    ensures written { OnOk result (known.Appends (W.contents output.old) (W.contents output.new) bytes.now) }
+    ensures begun { OnErr result (IsBegun (W.contents output.old) (W.contents output.new) bytes.now) }
+    ensures fault { IfErr result (λ e. e ≡ PipeFault.Write) }
+{
+    let mut at = 0;
+    for _turn in 0..u64::MAX {
+        if at >= bytes.len() {
+            return Ok(());
+        }
+        at += write_some(output, &bytes[at..])?;
+    }
+    Err(PipeFault::Write)
+}

@@ -1,0 +1,89 @@
+/* Put before the C library by LD_PRELOAD, it has calls on files fail, and writes be short. Only descriptors above 2 count. The
+   variables count from 1: FAIL_CALL names a call of any of these kinds, FAIL_WRITE and FAIL_SYNC one of its kind, and SHORT_WRITE
+   the most bytes that a write takes. The failed call does nothing. It is written without headers, so that a compiler alone makes it. */
+typedef unsigned long size_t;
+typedef long ssize_t;
+typedef long off_t;
+
+extern long syscall(long, ...);
+extern char *getenv(const char *);
+extern int *__errno_location(void);
+
+enum { WRITE = 1, PREAD = 17, FSYNC = 74, FDATASYNC = 75, FTRUNCATE = 77, NO_SPACE = 28 };
+
+static unsigned long call_left, write_left, sync_left, most;
+
+static unsigned long number(const char *text)
+{
+    unsigned long value = 0;
+    while (text && *text >= '0' && *text <= '9')
+        value = value * 10 + (unsigned long)(*text++ - '0');
+    return value;
+}
+
+__attribute__((constructor)) static void begin(void)
+{
+    call_left = number(getenv("FAIL_CALL"));
+    write_left = number(getenv("FAIL_WRITE"));
+    sync_left = number(getenv("FAIL_SYNC"));
+    most = number(getenv("SHORT_WRITE"));
+}
+
+static int comes(unsigned long *left)
+{
+    return *left != 0 && --*left == 0;
+}
+
+static int fails(int file, unsigned long *kind)
+{
+    if (file <= 2)
+        return 0;
+    int any = comes(&call_left), one = kind && comes(kind);
+    if (any || one)
+        *__errno_location() = NO_SPACE;
+    return any || one;
+}
+
+ssize_t write(int file, const void *from, size_t size)
+{
+    if (fails(file, &write_left))
+        return -1;
+    if (file > 2 && most && size > most)
+        size = most;
+    return syscall(WRITE, file, from, size);
+}
+
+ssize_t __write(int file, const void *from, size_t size)
+{
+    return write(file, from, size);
+}
+
+ssize_t pread(int file, void *to, size_t size, off_t at)
+{
+    return fails(file, 0) ? -1 : syscall(PREAD, file, to, size, at);
+}
+
+ssize_t pread64(int file, void *to, size_t size, off_t at)
+{
+    return pread(file, to, size, at);
+}
+
+int fsync(int file)
+{
+    return fails(file, &sync_left) ? -1 : (int)syscall(FSYNC, file);
+}
+
+int fdatasync(int file)
+{
+    return fails(file, &sync_left) ? -1 : (int)syscall(FDATASYNC, file);
+}
+
+int ftruncate(int file, off_t size)
+{
+    return fails(file, 0) ? -1 : (int)syscall(FTRUNCATE, file, size);
+}
+
+int ftruncate64(int file, off_t size)
+{
+    return ftruncate(file, size);
+}
