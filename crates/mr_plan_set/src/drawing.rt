@@ -12,10 +12,10 @@ use crate::grouping::{Write, push_groups, push_member};
 use crate::replies::set_at;
 use mr_ask::Argument;
 use mr_data::Entry;
-use mr_map::{Keys, SliceMap};
+use mr_map::SliceMap;
 use mr_resp::Reply;
 use mr_turn::{Effects, bulk, wrong_kind};
-use mr_value::SetValue;
+use mr_value::{Members, SetValue};
 use std::alloc::{AllocError, Global};
 
 // The place that a random word names.
@@ -45,7 +45,7 @@ struct Drawn<'d> {
 
 impl<'d> Drawn<'d> {
     // Takes the next members, at most so many.
-    fn extend(&mut self, members: Keys<'d, ()>, count: usize) -> Result<(), AllocError>
+    fn extend(&mut self, members: Members<'d>, count: usize) -> Result<(), AllocError>
         ensures { OnOk result (texts self.new.items.items ≡ texts self.old.items.items ++ take count members.entry) }
     {
         let mut members = members;
