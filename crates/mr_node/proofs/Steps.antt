@@ -11,7 +11,7 @@ use Rattle.mr_node.specs.Outs.{no_outs}
 use Rattle.mr_node.specs.Requests.{IsDoomedBy}
 use Rattle.mr_resp.specs.Replies.{error, reply_text}
 use Rattle.mr_resp.specs.Faults.{fault_text}
-use Rattle.mr_turn.specs.Turns.{done}
+use Rattle.mr_planning.specs.Turns.{done}
 use Rattle.mr_effect.specs.Spelling.{texts}
 use Rattle.mr_node.specs.Served.{Served, Answered, left_of, grown_by, limit_text}
 use Rattle.mr_node.specs.Rows.{ClientRow, StepRow, Leaves, Ends, Stops}

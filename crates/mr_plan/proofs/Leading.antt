@@ -16,7 +16,7 @@ use Rattle.mr_ask.specs.declared.ask.Ask.{Ask}
 use Rattle.mr_plan.specs.PlannedCommands.{command_of}
 use Rattle.mr_plan.specs.Requests.{IsPlannedAs, Leads, left_by, told}
 use Rattle.mr_plan.specs.declared.requests.Answer.{Answer}
-use Rattle.mr_turn.specs.Commands.{Command, effects, after, IsPlan, IsFaithful, HasCommandTexts}
+use Rattle.mr_planning.specs.Commands.{Command, effects, after, IsPlan, IsFaithful, HasCommandTexts}
 
 pub planned_leads : (c : Command) (now : ℤ) (m : Dataset) (r : Tree) (list : List Effect) → IsPlan c now m r list → IsFaithful c now m → apply_all list m ≡ Some (after c now m)
 planned_leads c now m r list p f = ap (λ (xs : List Effect). apply_all xs m) p.effects_are ∙ f.leads

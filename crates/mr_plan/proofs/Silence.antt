@@ -5,8 +5,8 @@ use Rattle.mr_entries.specs.Dataset.{Dataset}
 use Rattle.mr_entries.specs.Steps.{Kind, held, hashes, lists, sets, sorted_sets}
 use Rattle.mr_entries.specs.declared.value.Entry.{Entry}
 use Rattle.mr_data.specs.declared.given.Given.{Given}
-use Rattle.mr_turn.specs.Collections.{Change, told, changed}
-use Rattle.mr_turn.specs.Commands.{own_effects}
+use Rattle.mr_planning.specs.Collections.{Change, told, changed}
+use Rattle.mr_planning.specs.Commands.{own_effects}
 use Rattle.mr_plan_list.specs.Lists.{of_list}
 use Rattle.mr_ask.specs.declared.ask.Ask.TheVariants as ask
 use Rattle.mr_ask.specs.declared.text_ask.TextAsk.{TextAsk}

@@ -2,7 +2,7 @@
 use Rattle.std.specs.Prelude.{◌<◌, length}
 use Rattle.mr_resp.specs.Usual.{commands}
 use Rattle.mr_data.specs.declared.given.Given.{Given}
-use Rattle.mr_turn.specs.Commands.{Command}
+use Rattle.mr_planning.specs.Commands.{Command}
 use Rattle.mr_ask.specs.Carried.{text_words}
 use Rattle.mr_ask.specs.declared.ask.Ask.{Ask}
 use Rattle.mr_ask.specs.declared.ask.Ask.TheVariants as ask

@@ -15,7 +15,7 @@ use Rattle.mr_ask.specs.declared.ask.Ask.{Ask}
 use Rattle.mr_ask.specs.declared.ask.Ask.TheVariants as ask
 use Rattle.mr_ask.specs.declared.server_ask.ServerAsk.TheVariants as server
 use Rattle.mr_words.specs.declared.fault.AskFault.{AskFault}
-use Rattle.mr_turn.specs.Commands.{IsPlan, answer, after}
+use Rattle.mr_planning.specs.Commands.{IsPlan, answer, after}
 use Rattle.mr_plan.specs.PlannedCommands.{command_of}
 use Rattle.mr_plan.specs.Writes.{writes}
 use Rattle.mr_plan.specs.declared.requests.Answer.{Answer}

@@ -16,7 +16,7 @@ use Rattle.mr_ask_coll.specs.declared.set_ask.SetAsk.{SetAsk}
 use Rattle.mr_ask_coll.specs.declared.set_ask.SetAsk.TheVariants as set
 use Rattle.mr_ask_zset.specs.declared.zset_ask.ZSetAsk.{ZSetAsk}
 use Rattle.mr_ask_zset.specs.declared.zset_ask.ZSetAsk.TheVariants as zset
-use Rattle.mr_turn.specs.Commands.{own_effects}
+use Rattle.mr_planning.specs.Commands.{own_effects}
 use Rattle.mr_plan.specs.PlannedCommands.{command_of}
 
 -- on strings: all but GET, STRLEN, GETRANGE and MGET

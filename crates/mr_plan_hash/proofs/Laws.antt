@@ -27,14 +27,14 @@ use Rattle.mr_ask_coll.specs.Carried.{hash_words}
 use Rattle.mr_ask_coll.specs.declared.hash_ask.HashAsk.{HashAsk}
 use Rattle.mr_ask_coll.specs.declared.hash_ask.HashAsk.TheVariants as ask
 use Rattle.mr_entries.specs.Cuts.{cut}
-use Rattle.mr_turn.specs.Keys.{purged}
+use Rattle.mr_planning.specs.Keys.{purged}
 use Rattle.mr_entries.proofs.Cutting.{cut_whole, no_cut, IsGroup, cut_groups}
 use Rattle.mr_data.proofs.Folds.{setting_fields, set_fields_is_step}
 use Rattle.mr_data.proofs.Running.{IsStep, steps_of, IsKept, IsFold, groups_run}
 use Rattle.mr_data.proofs.KindLaws.{hashes_are, hashes_kept}
-use Rattle.mr_turn.proofs.Laws.{faithful, at_key_faithful, IsLawful}
-use Rattle.mr_turn.proofs.Changing.{IsFaithfulChange, changing_faithful}
-use Rattle.mr_turn.proofs.PlanLemmas.{purged_at}
+use Rattle.mr_planning.proofs.Laws.{faithful, at_key_faithful, IsLawful}
+use Rattle.mr_planning.proofs.Changing.{IsFaithfulChange, changing_faithful}
+use Rattle.mr_planning.proofs.PlanLemmas.{purged_at}
 use Rattle.mr_plan_hash.specs.Hashes.{Hash, unchanged, last_values, changed, set_pairs, count_reply, set_new_field, number_at, overflow, no_integer, set_number, increase_from, increase_field, removed, remove_fields, fields_reply, count_new}
 use Rattle.mr_plan_hash.specs.Commands.{key_of, change, turn, command}
 use Rattle.mr_plan_hash.proofs.Fields.{all_map, own_entries, with_changed, none_changed}

@@ -11,7 +11,7 @@ use Rattle.mr_resp.specs.Replies as reply
 use Rattle.mr_resp.specs.ReplyView.{trees_of}
 use Rattle.mr_entries.specs.Collections.{with_fields, without_fields, with_members}
 use Rattle.mr_entries.proofs.Maps.{got}
-use Rattle.mr_turn.specs.Taken.{is_key}
+use Rattle.mr_planning.specs.Taken.{is_key}
 use Rattle.mr_plan_hash.specs.Hashes.{Hash, count_reply, value_reply, get_field, last_values, count_new, set_pairs, unchanged, overflow, number_at, increase_from, removed}
 use Rattle.mr_plan_hash.specs.Laws.{SetCountsNewFields, SetIsRead, RemoveCountsFields, IncreaseIsRead, GetFieldsIsGetOfEach}
 use Rattle.mr_plan_hash.proofs.Fields.{Pair, AreApart, entries_apart, with_entries}

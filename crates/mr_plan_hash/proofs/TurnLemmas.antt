@@ -5,9 +5,9 @@ use Rattle.mr_effect.specs.declared.effect.Effect.{Effect}
 use Rattle.mr_entries.specs.Steps.{hashes, held}
 use Rattle.mr_entries.specs.declared.value.Entry.{Entry}
 use Rattle.mr_ask_coll.specs.declared.hash_ask.HashAsk.{HashAsk}
-use Rattle.mr_turn.specs.Turns.{Turn, Takes, wrong_kind}
-use Rattle.mr_turn.specs.Collections.{changed}
-use Rattle.mr_turn.proofs.PlanLemmas.{told}
+use Rattle.mr_planning.specs.Turns.{Turn, Takes, wrong_kind}
+use Rattle.mr_planning.specs.Collections.{changed}
+use Rattle.mr_planning.proofs.PlanLemmas.{told}
 use Rattle.mr_plan_hash.specs.Hashes.{Hash}
 use Rattle.mr_plan_hash.specs.Commands.{change, turn, Makes}
 

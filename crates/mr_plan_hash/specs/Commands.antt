@@ -7,9 +7,9 @@ use Rattle.mr_entries.specs.Steps.{hashes}
 use Rattle.mr_entries.specs.declared.value.Entry.{Entry}
 use Rattle.mr_ask_coll.specs.declared.hash_ask.HashAsk.{HashAsk}
 use Rattle.mr_ask_coll.specs.declared.hash_ask.HashAsk.TheVariants as ask
-use Rattle.mr_turn.specs.Turns.{Turn}
-use Rattle.mr_turn.specs.Collections.{Change, changing}
-use Rattle.mr_turn.specs.Commands.{Command, on_key}
+use Rattle.mr_planning.specs.Turns.{Turn}
+use Rattle.mr_planning.specs.Collections.{Change, changing}
+use Rattle.mr_planning.specs.Commands.{Command, on_key}
 use Rattle.mr_plan_hash.specs.Hashes.{Hash, set_fields, set_new_field, get_field, get_fields, list_hash, remove_fields, has_field, count_fields, field_length, increase_field}
 
 -- the key that a command names

@@ -17,8 +17,8 @@ use Rattle.mr_ask_coll.specs.declared.hash_ask.FieldsReply.TheVariants as answer
 use Rattle.mr_ask_coll.specs.declared.hash_ask.HashPart.{HashPart}
 use Rattle.mr_ask_coll.specs.declared.hash_ask.HashPart.TheVariants as part
 use Rattle.mr_entries.specs.Cuts.{cut}
-use Rattle.mr_turn.specs.Turns.{done}
-use Rattle.mr_turn.specs.Collections.{Change}
+use Rattle.mr_planning.specs.Turns.{done}
+use Rattle.mr_planning.specs.Collections.{Change}
 
 abbrev pub Hash : Type 0
 Hash = ByteMap Bytes

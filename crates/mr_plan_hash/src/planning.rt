@@ -7,14 +7,14 @@ ghost use Rattle.mr_value.specs.Words.{fits};
 ghost use Rattle.mr_data.specs.Dataset.{IsDataset};
 ghost use Rattle.mr_entries.specs.Steps.{hashes, held};
 ghost use Rattle.mr_ask_coll.specs.Carried.{hash_words};
-ghost use Rattle.mr_turn.specs.Commands.{IsPlan, IsFaithful, HasCommandTexts};
+ghost use Rattle.mr_planning.specs.Commands.{IsPlan, IsFaithful, HasCommandTexts};
 ghost use Rattle.mr_plan_hash.specs.Commands.{key_of, change, command, Makes};
 
 use crate::{reading, removing, setting};
 use mr_ask::{Argument, HashAsk};
 use mr_data::{Dataset, Entry, Given, Plan, Value};
 use mr_resp::Reply;
-use mr_turn::{Effects, look, wrong_kind};
+use mr_planning::{Effects, look, wrong_kind};
 use mr_value::Hash;
 use std::alloc::{AllocError, Global};
 

@@ -5,7 +5,7 @@ ghost use Rattle.mr_plan_hash.specs.Hashes.{value_reply, get_field, get_fields, 
 
 use mr_ask::{Argument, HashPart, Words};
 use mr_resp::Reply;
-use mr_turn::{count, integer};
+use mr_planning::{count, integer};
 use mr_value::Hash;
 use std::alloc::{AllocError, Global};
 

@@ -12,7 +12,7 @@ use crate::groups::{FieldGroup, end_fields};
 use mr_ask::{Argument, Words};
 use mr_map::SliceMap;
 use mr_resp::Reply;
-use mr_turn::{Effects, count};
+use mr_planning::{Effects, count};
 use mr_value::Hash;
 use std::alloc::{AllocError, Global};
 

@@ -13,7 +13,7 @@ use itoa::Buffer;
 use mr_ask::{Argument, FieldsReply, Pairs};
 use mr_map::SliceMap;
 use mr_resp::Reply;
-use mr_turn::{Effects, count, done, integer};
+use mr_planning::{Effects, count, done, integer};
 use mr_value::{Hash, read_i64};
 use std::alloc::{AllocError, Global};
 

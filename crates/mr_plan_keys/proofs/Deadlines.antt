@@ -16,7 +16,7 @@ use Rattle.mr_entries.specs.Steps.{expire_step, persist_step}
 use Rattle.mr_entries.specs.declared.value.Entry.{Entry}
 use Rattle.mr_data.specs.Dataset.{IsDataset, IsLifetime, live, is_past}
 use Rattle.mr_data.specs.Meaning.{apply, apply_all}
-use Rattle.mr_turn.proofs.Laws.{IsFaithfulTurn, if_faithful, kept_faithful, one_short}
+use Rattle.mr_planning.proofs.Laws.{IsFaithfulTurn, if_faithful, kept_faithful, one_short}
 use Rattle.mr_ask.specs.declared.key_ask.ExpireCondition.{ExpireCondition}
 use Rattle.mr_plan_keys.specs.Expiring.{allows, with_deadline, is_until, lasting, ended, expire_turn, endless, persist_turn, CanBeNamed}
 

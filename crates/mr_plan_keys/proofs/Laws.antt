@@ -12,10 +12,10 @@ use Rattle.mr_ask.specs.Expiry.{deadline_at}
 use Rattle.mr_ask.specs.declared.key_ask.KeyAsk.{KeyAsk}
 use Rattle.mr_ask.specs.declared.key_ask.KeyAsk.TheVariants as ask
 use Rattle.mr_ask.specs.declared.server_ask.ServerAsk.{ServerAsk}
-use Rattle.mr_turn.specs.Keys.{chosen, without, dels}
-use Rattle.mr_turn.specs.Commands.{on_keys}
-use Rattle.mr_turn.proofs.KeyLists.{dels_lead, chosen_fits, without_chosen, none_chosen}
-use Rattle.mr_turn.proofs.Laws.{faithful, IsFaithfulAt, by_turn, by_telling, keys_told, none_told, IsLawful, dels_short}
+use Rattle.mr_planning.specs.Keys.{chosen, without, dels}
+use Rattle.mr_planning.specs.Commands.{on_keys}
+use Rattle.mr_planning.proofs.KeyLists.{dels_lead, chosen_fits, without_chosen, none_chosen}
+use Rattle.mr_planning.proofs.Laws.{faithful, IsFaithfulAt, by_turn, by_telling, keys_told, none_told, IsLawful, dels_short}
 use Rattle.mr_plan_keys.specs.Turns.{type_reply}
 use Rattle.mr_plan_keys.specs.Outcomes.{deleted, present}
 use Rattle.mr_plan_keys.specs.Listing.{listed, bulks, scan_reply, from_cursor}

@@ -9,10 +9,10 @@ use Rattle.mr_entries.specs.Dataset.{Dataset}
 use Rattle.mr_data.specs.Dataset.{live, seen}
 use Rattle.mr_data.proofs.Seeing.{get-seen}
 use Rattle.mr_effect.specs.declared.effect.Effect.{Effect}
-use Rattle.mr_turn.specs.Keys.{chosen, dels, is_stored, past}
-use Rattle.mr_turn.specs.Commands.{IsPlan, on_keys}
-use Rattle.mr_turn.proofs.KeyLists.{present_seen, present_purged, more_words}
-use Rattle.mr_turn.proofs.PlanLemmas.{keys_plan}
+use Rattle.mr_planning.specs.Keys.{chosen, dels, is_stored, past}
+use Rattle.mr_planning.specs.Commands.{IsPlan, on_keys}
+use Rattle.mr_planning.proofs.KeyLists.{present_seen, present_purged, more_words}
+use Rattle.mr_planning.proofs.PlanLemmas.{keys_plan}
 use Rattle.mr_plan_keys.specs.Outcomes.{one_if, present, present_at, deleted, counted}
 
 pub del_plan : (ks : List Bytes) (now : ℤ) (m : Dataset) (n : ℤ) (none first second list : List Effect) → none ≡ [] → first ≡ none ++ dels (chosen (is_stored now true) ks m) → n ≡ pos (length (chosen (is_stored now false) ks m)) → second ≡ first ++ dels (chosen (is_stored now false) ks m) → list ≡ second → IsPlan (on_keys ks (deleted ks)) now m (reply.int n) list

@@ -21,15 +21,15 @@ use Rattle.mr_entries.specs.declared.value.Entry.{Entry}
 use Rattle.mr_data.proofs.Seeing.{get-seen}
 use Rattle.mr_effect.specs.declared.effect.Effect.{Effect}
 use Rattle.mr_effect.specs.declared.effect.Effect.TheVariants as effect
-use Rattle.mr_turn.specs.Taken.{is_key, has}
-use Rattle.mr_turn.specs.Keys.{past, purged, dels, is_stored}
-use Rattle.mr_turn.specs.Turns.{done}
-use Rattle.mr_turn.specs.Outcomes.{Outcome, answered}
-use Rattle.mr_turn.specs.Commands.{Command, on_keys, on_none, before, IsPlan}
+use Rattle.mr_planning.specs.Taken.{is_key, has}
+use Rattle.mr_planning.specs.Keys.{past, purged, dels, is_stored}
+use Rattle.mr_planning.specs.Turns.{done}
+use Rattle.mr_planning.specs.Outcomes.{Outcome, answered}
+use Rattle.mr_planning.specs.Commands.{Command, on_keys, on_none, before, IsPlan}
 use Rattle.mr_entries.proofs.Maps.{same_key}
 use Rattle.mr_entries.proofs.Puts.{is_key_itself, get_remove, removed}
-use Rattle.mr_turn.proofs.KeyLists.{get_purged}
-use Rattle.mr_turn.proofs.Laws.{faithful, IsFaithfulAt, answered_faithful, IsLawful, one_short}
+use Rattle.mr_planning.proofs.KeyLists.{get_purged}
+use Rattle.mr_planning.proofs.Laws.{faithful, IsFaithfulAt, answered_faithful, IsLawful, one_short}
 use Rattle.mr_plan_keys.specs.Renaming.{no_key, carried, carried_if, renamed, renamed_new, cleared, Gives}
 use Rattle.mr_effect.proofs.Texts.{short_effect}
 

@@ -7,7 +7,7 @@ use Rattle.mr_resp.specs.Replies as reply
 use Rattle.mr_effect.specs.Effects.{is_deadline}
 use Rattle.mr_effect.specs.declared.effect.Effect.TheVariants as effect
 use Rattle.mr_entries.specs.declared.value.Entry.{Entry}
-use Rattle.mr_turn.specs.Turns.{Turn, kept}
+use Rattle.mr_planning.specs.Turns.{Turn, kept}
 use Rattle.mr_ask.specs.declared.key_ask.ExpireCondition.{ExpireCondition}
 use Rattle.mr_ask.specs.declared.key_ask.ExpireCondition.TheVariants as condition
 use Rattle.mr_plan_keys.specs.declared.expiring.DeadlineForm.{DeadlineForm}

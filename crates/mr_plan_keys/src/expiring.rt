@@ -2,13 +2,13 @@
 ghost use Rattle.std.specs.Prelude.{◌≡◌, ◌≤ℤ◌, ◌^◌, pos, IfOk, IfSome, option_copied};
 ghost use Rattle.mr_resp.specs.ReplyView.{view};
 ghost use Rattle.mr_data.specs.Dataset.{IsLifetime};
-ghost use Rattle.mr_turn.specs.Turns.{Takes};
+ghost use Rattle.mr_planning.specs.Turns.{Takes};
 ghost use Rattle.mr_plan_keys.specs.Expiring.{allows, deadline_in, expire_turn, in_seconds, is_until, lifetime_in, persist_turn, told_in};
 
 use mr_ask::{Argument, ExpireCondition};
 use mr_data::{Effect, Entry, Given};
 use mr_resp::Reply;
-use mr_turn::{Effects, count};
+use mr_planning::{Effects, count};
 use mr_value::Word;
 use std::alloc::{AllocError, Global};
 

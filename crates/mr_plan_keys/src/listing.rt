@@ -8,7 +8,7 @@ use mr_ask::{Cursor, KindName};
 use mr_data::{Dataset, Given};
 use mr_glob::glob;
 use mr_resp::Reply;
-use mr_turn::{bulk, see};
+use mr_planning::{bulk, see};
 use std::alloc::{AllocError, Global};
 
 /// The keys that match and are of the kind, in byte order.

@@ -5,7 +5,7 @@ ghost use Rattle.mr_value.specs.Words.{fits};
 ghost use Rattle.mr_resp.specs.ReplyView.{view};
 ghost use Rattle.mr_ask.specs.Carried.{key_words};
 ghost use Rattle.mr_ask.specs.Expiry.{deadline_at};
-ghost use Rattle.mr_turn.specs.Commands.{IsPlan, IsFaithful, HasCommandTexts, on_key, on_keys, on_none};
+ghost use Rattle.mr_planning.specs.Commands.{IsPlan, IsFaithful, HasCommandTexts, on_key, on_keys, on_none};
 ghost use Rattle.mr_plan_keys.specs.Commands.{command, HasDeadline};
 ghost use Rattle.mr_plan_keys.specs.Turns.{type_turn};
 ghost use Rattle.mr_plan_keys.specs.Expiring.{expire_turn, persist_turn, deadline_turn};
@@ -19,7 +19,7 @@ use crate::renaming::{rename, rename_new};
 use crate::{expiring, kinds, listing};
 use mr_ask::{Argument, Cursor, ExpireCondition, Expiry, KeyAsk, KindName, Words};
 use mr_data::{Dataset, Effect, Given, Plan};
-use mr_turn::{Effects, count, done, integer, look, push_dels};
+use mr_planning::{Effects, count, done, integer, look, push_dels};
 use std::alloc::{AllocError, Global};
 
 /// What a command on keys is answered, and its effects. The dataset isn't changed, and the plan owns what it holds.

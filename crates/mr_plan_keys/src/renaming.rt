@@ -5,14 +5,14 @@ ghost use Rattle.std.specs.Str.{bytes_eq};
 ghost use Rattle.mr_resp.specs.ReplyView.{view};
 ghost use Rattle.mr_data.specs.Dataset.{live};
 ghost use Rattle.mr_entries.specs.Dataset.{Dataset as Map};
-ghost use Rattle.mr_turn.specs.Keys.{dels, past};
-ghost use Rattle.mr_turn.specs.Commands.{IsPlan, on_keys};
+ghost use Rattle.mr_planning.specs.Keys.{dels, past};
+ghost use Rattle.mr_planning.specs.Commands.{IsPlan, on_keys};
 ghost use Rattle.mr_plan_keys.specs.Renaming.{Gives, carried_if, no_key, renamed, renamed_new};
 
 use mr_ask::Argument;
 use mr_data::{Dataset, Effect, Entry, Given, Plan};
 use mr_resp::Reply;
-use mr_turn::{Effects, count, done, look};
+use mr_planning::{Effects, count, done, look};
 use mr_value::Word;
 use std::alloc::{AllocError, Global};
 use std::borrow::CowSlice;

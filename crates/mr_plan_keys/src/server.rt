@@ -1,14 +1,14 @@
 // Commands to the server itself.
 ghost use Rattle.std.specs.Prelude.{◌≡◌, IfOk};
 ghost use Rattle.mr_resp.specs.ReplyView.{view};
-ghost use Rattle.mr_turn.specs.Commands.{IsPlan, IsFaithful, HasCommandTexts};
+ghost use Rattle.mr_planning.specs.Commands.{IsPlan, IsFaithful, HasCommandTexts};
 ghost use Rattle.mr_plan_keys.specs.Commands.{server_command};
 ghost use Rattle.mr_plan_keys.specs.Server.{server_reply};
 
 use mr_ask::ServerAsk;
 use mr_data::{Dataset, Given, Plan};
 use mr_resp::Reply;
-use mr_turn::{Effects, bulk, done};
+use mr_planning::{Effects, bulk, done};
 use std::alloc::{AllocError, Global};
 use std::borrow::CowSlice;
 

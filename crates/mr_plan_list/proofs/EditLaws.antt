@@ -20,7 +20,7 @@ use Rattle.mr_entries.specs.Changes.{change}
 use Rattle.mr_entries.specs.declared.value.Entry.{Entry}
 use Rattle.mr_effect.specs.declared.effect.Effect.TheVariants as effect
 use Rattle.mr_data.proofs.Running.{IsStep}
-use Rattle.mr_turn.proofs.Changing.{IsFaithfulChange}
+use Rattle.mr_planning.proofs.Changing.{IsFaithfulChange}
 use Rattle.mr_plan_list.specs.Edits.{is_item, with_item, with_inserted, without_equal, is_whole, trimmed}
 use Rattle.mr_plan_list.proofs.Sizes.{not_both, both, three, small, positive, none_of, same_bytes, bytes_itself, place_within, window_within}
 use Rattle.mr_plan_list.proofs.OneEffect.{no_effect, by_step, one_effect, unless_same}

@@ -20,14 +20,14 @@ use Rattle.mr_ask_coll.specs.declared.list_ask.ListAsk.{ListAsk}
 use Rattle.mr_ask_coll.specs.declared.list_ask.ListAsk.TheVariants as ask
 use Rattle.mr_ask_coll.specs.declared.list_ask.PushTo.{PushTo}
 use Rattle.mr_ask_coll.specs.declared.list_ask.PushTo.TheVariants.{AnyKey, ExistingKey}
-use Rattle.mr_turn.specs.Taken.{has}
-use Rattle.mr_turn.specs.Keys.{purged}
-use Rattle.mr_turn.specs.Turns.{Turn}
-use Rattle.mr_turn.specs.Outcomes.{at_key}
-use Rattle.mr_turn.specs.Commands.{on_key}
-use Rattle.mr_turn.proofs.KeyLists.{get_purged}
-use Rattle.mr_turn.proofs.PlanLemmas.{purged_at}
-use Rattle.mr_turn.proofs.Laws.{faithful, IsFaithfulAt, IsFaithfulTurn, at_key_faithful, IsLawful}
+use Rattle.mr_planning.specs.Taken.{has}
+use Rattle.mr_planning.specs.Keys.{purged}
+use Rattle.mr_planning.specs.Turns.{Turn}
+use Rattle.mr_planning.specs.Outcomes.{at_key}
+use Rattle.mr_planning.specs.Commands.{on_key}
+use Rattle.mr_planning.proofs.KeyLists.{get_purged}
+use Rattle.mr_planning.proofs.PlanLemmas.{purged_at}
+use Rattle.mr_planning.proofs.Laws.{faithful, IsFaithfulAt, IsFaithfulTurn, at_key_faithful, IsLawful}
 use Rattle.mr_data.proofs.KindLaws.{lists_kept}
 use Rattle.mr_plan_list.specs.Numbers.{HasFewItems, IsShort, IsShortFor, IsNumberFor, HasNumbersIn}
 use Rattle.mr_plan_list.specs.Pushes.{push_change, push_turn}

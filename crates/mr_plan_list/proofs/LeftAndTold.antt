@@ -22,9 +22,9 @@ use Rattle.mr_entries.specs.declared.value.Entry.{Entry}
 use Rattle.mr_entries.proofs.Ends.{no_end}
 use Rattle.mr_entries.proofs.Puts.{get_put}
 use Rattle.mr_ask_coll.specs.declared.list_ask.PushTo.TheVariants.{AnyKey, ExistingKey}
-use Rattle.mr_turn.specs.Collections.{told, changed}
-use Rattle.mr_turn.specs.Outcomes.{at_key}
-use Rattle.mr_turn.specs.Turns.{wrong_kind}
+use Rattle.mr_planning.specs.Collections.{told, changed}
+use Rattle.mr_planning.specs.Outcomes.{at_key}
+use Rattle.mr_planning.specs.Turns.{wrong_kind}
 use Rattle.mr_plan_list.specs.Laws.{PushAnswersLength, PushIsRead, PopTakesTheEnd, MoveTakesTheEnd, MovePutsAtTheEnd, with_pushed, end_index}
 use Rattle.mr_plan_list.specs.Lists.{of_list, item_reply, items_reply}
 use Rattle.mr_plan_list.specs.Moves.{rotate_turn, with_rotated, carry, carry_from, carry_to, carry_item, carried}

@@ -20,12 +20,12 @@ use Rattle.mr_entries.specs.declared.value.Entry.{Entry}
 use Rattle.mr_entries.proofs.Ends.{turned_same, turned_right_left}
 use Rattle.mr_effect.specs.declared.effect.Effect.{Effect}
 use Rattle.mr_effect.specs.declared.effect.Effect.TheVariants as effect
-use Rattle.mr_turn.specs.Taken.{is_key}
+use Rattle.mr_planning.specs.Taken.{is_key}
 use Rattle.mr_entries.proofs.Puts.{is_key_symm, get_put, get_put_other, put_same}
-use Rattle.mr_turn.proofs.Laws.{IsFaithfulAt, none_short, one_short}
+use Rattle.mr_planning.proofs.Laws.{IsFaithfulAt, none_short, one_short}
 use Rattle.mr_data.proofs.Running.{IsStep, same_collection}
 use Rattle.mr_data.proofs.KindLaws.{lists_are}
-use Rattle.mr_turn.proofs.Changing.{IsFaithfulChange}
+use Rattle.mr_planning.proofs.Changing.{IsFaithfulChange}
 use Rattle.mr_plan_list.specs.Moves.{is_same_end, with_rotated, Carry, carry, carry_from, carry_to, carry_item, carried}
 use Rattle.mr_plan_list.proofs.Sizes.{not_both, both, bytes_itself, end_some, may_take_some, popped_less}
 use Rattle.mr_plan_list.proofs.MoveLemmas.{apart_key}

@@ -13,13 +13,13 @@ use Rattle.mr_data.proofs.Seeing.{get-seen}
 use Rattle.mr_entries.specs.declared.value.Entry.{Entry}
 use Rattle.mr_effect.specs.declared.effect.Effect.{Effect}
 use Rattle.mr_effect.specs.declared.effect.Effect.TheVariants as effect
-use Rattle.mr_turn.specs.Taken.{is_key}
-use Rattle.mr_turn.specs.Keys.{chosen, dels, past, purged, without, is_stored}
-use Rattle.mr_turn.specs.Outcomes.{Outcome, at_key}
-use Rattle.mr_turn.specs.Commands.{on_key, IsPlan}
+use Rattle.mr_planning.specs.Taken.{is_key}
+use Rattle.mr_planning.specs.Keys.{chosen, dels, past, purged, without, is_stored}
+use Rattle.mr_planning.specs.Outcomes.{Outcome, at_key}
+use Rattle.mr_planning.specs.Commands.{on_key, IsPlan}
 use Rattle.mr_entries.proofs.Maps.{same_key}
 use Rattle.mr_entries.proofs.Puts.{is_key_itself, get_remove, removed}
-use Rattle.mr_turn.proofs.KeyLists.{get_purged}
+use Rattle.mr_planning.proofs.KeyLists.{get_purged}
 use Rattle.mr_plan_list.proofs.Sizes.{same_bytes, bytes_itself}
 use Rattle.mr_plan_list.specs.Moves.{rotate_turn, carry, carried, moved, moving}
 

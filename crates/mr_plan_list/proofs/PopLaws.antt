@@ -11,7 +11,7 @@ use Rattle.mr_entries.specs.Changes.{change}
 use Rattle.mr_entries.specs.declared.value.Entry.{Entry}
 use Rattle.mr_effect.specs.declared.effect.Effect.TheVariants as effect
 use Rattle.mr_data.proofs.Running.{IsStep}
-use Rattle.mr_turn.proofs.Changing.{IsFaithfulChange}
+use Rattle.mr_planning.proofs.Changing.{IsFaithfulChange}
 use Rattle.mr_plan_list.specs.Pops.{without_item, without_items}
 use Rattle.mr_plan_list.proofs.Sizes.{both, small, positive, none_of, end_some, may_take_some, popped_none, popped_less}
 use Rattle.mr_plan_list.proofs.OneEffect.{no_effect, one_effect, unless_same}

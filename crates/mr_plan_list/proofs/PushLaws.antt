@@ -15,7 +15,7 @@ use Rattle.mr_entries.proofs.Cutting.{cut_groups, cut_whole, no_cut}
 use Rattle.mr_data.proofs.Folds.{pushing, push_is_step}
 use Rattle.mr_data.proofs.Running.{steps_of, groups_run}
 use Rattle.mr_data.proofs.KindLaws.{lists_are}
-use Rattle.mr_turn.proofs.Changing.{IsFaithfulChange}
+use Rattle.mr_planning.proofs.Changing.{IsFaithfulChange}
 use Rattle.mr_plan_list.specs.Pushes.{push_effects, push_change}
 
 -- ---- one after another

@@ -4,8 +4,8 @@ use Rattle.mr_value.specs.declared.ends.End.TheVariants.{Left, Right}
 use Rattle.mr_entries.specs.declared.value.Entry.{Entry}
 use Rattle.mr_ask_coll.specs.declared.list_ask.ListAsk.{ListAsk}
 use Rattle.mr_ask_coll.specs.declared.list_ask.ListAsk.TheVariants as ask
-use Rattle.mr_turn.specs.Turns.{Turn}
-use Rattle.mr_turn.specs.Commands.{Command, on_key}
+use Rattle.mr_planning.specs.Turns.{Turn}
+use Rattle.mr_planning.specs.Commands.{Command, on_key}
 use Rattle.mr_plan_list.specs.Telling.{length_turn, range_turn, index_turn}
 use Rattle.mr_plan_list.specs.Pushes.{push_turn}
 use Rattle.mr_plan_list.specs.Pops.{pop_turn}

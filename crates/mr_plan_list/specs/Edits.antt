@@ -9,8 +9,8 @@ use Rattle.mr_value.specs.declared.ends.Side.{Side}
 use Rattle.mr_entries.specs.Collections.{place_beside}
 use Rattle.mr_entries.specs.declared.value.Entry.{Entry}
 use Rattle.mr_effect.specs.declared.effect.Effect.TheVariants as effect
-use Rattle.mr_turn.specs.Turns.{Turn, done}
-use Rattle.mr_turn.specs.Collections.{Change}
+use Rattle.mr_planning.specs.Turns.{Turn, done}
+use Rattle.mr_planning.specs.Collections.{Change}
 use Rattle.mr_plan_list.specs.Lists.{on_list, unchanged, unless, no_such_key, out_of_range}
 
 -- ---- LSET key index item: OK, or why not

@@ -11,7 +11,7 @@ use Rattle.mr_entries.specs.Steps.{lists, held}
 use Rattle.mr_entries.specs.declared.value.Entry.{Entry}
 use Rattle.mr_ask_coll.specs.declared.list_ask.PushTo.{PushTo}
 use Rattle.mr_ask_coll.specs.declared.list_ask.PushTo.TheVariants.{AnyKey}
-use Rattle.mr_turn.specs.Turns.{wrong_kind}
+use Rattle.mr_planning.specs.Turns.{wrong_kind}
 use Rattle.mr_plan_list.specs.Lists.{items_reply}
 use Rattle.mr_plan_list.specs.Telling.{length_turn, range_turn, index_turn}
 use Rattle.mr_plan_list.specs.Pushes.{push_turn}

@@ -14,10 +14,10 @@ use Rattle.mr_entries.specs.Steps.{lists, held, entry_of, deadline_of}
 use Rattle.mr_entries.specs.declared.value.Entry.{Entry}
 use Rattle.mr_effect.specs.declared.effect.Effect.{Effect}
 use Rattle.mr_effect.specs.declared.effect.Effect.TheVariants as effect
-use Rattle.mr_turn.specs.Turns.{Turn, wrong_kind}
-use Rattle.mr_turn.specs.Outcomes.{Outcome, at_key}
-use Rattle.mr_turn.specs.Commands.{Command}
-use Rattle.mr_turn.specs.Collections.{Change}
+use Rattle.mr_planning.specs.Turns.{Turn, wrong_kind}
+use Rattle.mr_planning.specs.Outcomes.{Outcome, at_key}
+use Rattle.mr_planning.specs.Commands.{Command}
+use Rattle.mr_planning.specs.Collections.{Change}
 use Rattle.mr_plan_list.specs.Lists.{on_list, unchanged, unless}
 
 -- ---- onto itself: the item, nil where the key is absent

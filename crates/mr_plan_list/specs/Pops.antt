@@ -7,8 +7,8 @@ use Rattle.mr_value.specs.declared.ends.End.TheVariants.{Left, Right}
 use Rattle.mr_entries.specs.Collections.{end_item, popped}
 use Rattle.mr_entries.specs.declared.value.Entry.{Entry}
 use Rattle.mr_effect.specs.declared.effect.Effect.TheVariants as effect
-use Rattle.mr_turn.specs.Turns.{Turn}
-use Rattle.mr_turn.specs.Collections.{Change}
+use Rattle.mr_planning.specs.Turns.{Turn}
+use Rattle.mr_planning.specs.Collections.{Change}
 use Rattle.mr_plan_list.specs.Lists.{on_list, unchanged, unless, items_reply}
 
 abbrev pub without_item : Bytes → End → Option Bytes → List Bytes → Change (List Bytes)

@@ -10,9 +10,9 @@ use Rattle.mr_effect.specs.declared.effect.Effect.{Effect}
 use Rattle.mr_effect.specs.declared.effect.Effect.TheVariants as effect
 use Rattle.mr_ask_coll.specs.declared.list_ask.PushTo.{PushTo}
 use Rattle.mr_ask_coll.specs.declared.list_ask.PushTo.TheVariants.{AnyKey, ExistingKey}
-use Rattle.mr_turn.specs.Turns.{Turn}
+use Rattle.mr_planning.specs.Turns.{Turn}
 use Rattle.mr_entries.specs.Cuts.{cut}
-use Rattle.mr_turn.specs.Collections.{Change, changing}
+use Rattle.mr_planning.specs.Collections.{Change, changing}
 use Rattle.mr_plan_list.specs.Lists.{on_list}
 
 -- one effect for each group of items

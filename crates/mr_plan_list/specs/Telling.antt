@@ -6,7 +6,7 @@ use Rattle.mr_resp.specs.Replies as reply
 use Rattle.mr_resp.specs.Replies.{Tree}
 use Rattle.mr_value.specs.Window.{named_place, window_of, windowed}
 use Rattle.mr_entries.specs.declared.value.Entry.{Entry}
-use Rattle.mr_turn.specs.Turns.{Turn}
+use Rattle.mr_planning.specs.Turns.{Turn}
 use Rattle.mr_plan_list.specs.Lists.{of_list, item_reply, items_reply}
 
 -- LLEN key: how many items there are, 0 where the key is absent

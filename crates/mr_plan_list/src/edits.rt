@@ -2,7 +2,7 @@
 ghost use Rattle.std.specs.Prelude.{◌≡◌, ◌<◌, ◌^◌, IfOk, option_copied};
 ghost use Rattle.mr_resp.specs.ReplyView.{view};
 ghost use Rattle.mr_value.specs.Lists.{removed_count, count_of};
-ghost use Rattle.mr_turn.specs.Turns.{Takes};
+ghost use Rattle.mr_planning.specs.Turns.{Takes};
 ghost use Rattle.mr_plan_list.specs.Numbers.{IsShort, IsNumberFor};
 ghost use Rattle.mr_plan_list.specs.Edits.{set_turn, insert_turn, remove_turn, trim_turn, is_item};
 
@@ -10,7 +10,7 @@ use crate::replies::{no_such_key, out_of_range};
 use mr_ask::Argument;
 use mr_data::{Effect, Entry, Value};
 use mr_resp::Reply;
-use mr_turn::{Effects, done, integer, wrong_kind};
+use mr_planning::{Effects, done, integer, wrong_kind};
 use mr_value::{ListValue, Side, Word, place, window};
 use std::alloc::{AllocError, Global};
 

@@ -4,15 +4,15 @@ ghost use Rattle.std.specs.Str.{bytes_eq};
 ghost use Rattle.mr_resp.specs.ReplyView.{view};
 ghost use Rattle.mr_data.specs.Dataset.{IsDataset};
 ghost use Rattle.mr_entries.specs.Steps.{lists, held};
-ghost use Rattle.mr_turn.specs.Turns.{Takes};
-ghost use Rattle.mr_turn.specs.Commands.{IsPlan};
+ghost use Rattle.mr_planning.specs.Turns.{Takes};
+ghost use Rattle.mr_planning.specs.Commands.{IsPlan};
 ghost use Rattle.mr_plan_list.specs.Moves.{rotate_turn, carry, moving};
 
 use crate::ends::{end_item, is_same_end};
 use mr_ask::Argument;
 use mr_data::{Dataset, Effect, Entry, Given, Plan, Value};
 use mr_resp::Reply;
-use mr_turn::{Effects, bulk, look, wrong_kind};
+use mr_planning::{Effects, bulk, look, wrong_kind};
 use mr_value::{End, Word};
 use std::alloc::{AllocError, Global};
 

@@ -6,8 +6,8 @@ ghost use Rattle.mr_value.specs.Words.{fits};
 ghost use Rattle.mr_resp.specs.ReplyView.{view};
 ghost use Rattle.mr_data.specs.Dataset.{IsDataset, live};
 ghost use Rattle.mr_ask_coll.specs.Carried.{list_words};
-ghost use Rattle.mr_turn.specs.Turns.{Takes};
-ghost use Rattle.mr_turn.specs.Commands.{on_key, IsPlan, IsFaithful, HasCommandTexts};
+ghost use Rattle.mr_planning.specs.Turns.{Takes};
+ghost use Rattle.mr_planning.specs.Commands.{on_key, IsPlan, IsFaithful, HasCommandTexts};
 ghost use Rattle.mr_plan_list.specs.Numbers.{HasNumbers, HasNumbersIn};
 ghost use Rattle.mr_plan_list.specs.Commands.{turn, command};
 
@@ -15,7 +15,7 @@ use crate::{edits, moves, pops, pushes, telling};
 use mr_ask::{Argument, ListAsk};
 use mr_data::{Dataset, Entry, Given, Plan};
 use mr_resp::Reply;
-use mr_turn::{Effects, look};
+use mr_planning::{Effects, look};
 use mr_value::End;
 use std::alloc::{AllocError, Global};
 

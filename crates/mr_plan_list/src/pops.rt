@@ -1,7 +1,7 @@
 // Items taken from an end of a list.
 ghost use Rattle.std.specs.Prelude.{◌≡◌, ◌≤◌, min, length, map, IfOk, option_copied};
 ghost use Rattle.mr_resp.specs.ReplyView.{view};
-ghost use Rattle.mr_turn.specs.Turns.{Takes};
+ghost use Rattle.mr_planning.specs.Turns.{Takes};
 ghost use Rattle.mr_plan_list.specs.Lists.{items_reply};
 ghost use Rattle.mr_plan_list.specs.Numbers.{IsShort, IsShortFor};
 ghost use Rattle.mr_plan_list.specs.Pops.{pop_turn, taken_items};
@@ -10,7 +10,7 @@ use crate::ends::end_item;
 use mr_ask::Argument;
 use mr_data::{Effect, Entry, Value};
 use mr_resp::Reply;
-use mr_turn::{Effects, bulk, wrong_kind};
+use mr_planning::{Effects, bulk, wrong_kind};
 use mr_value::{End, ListValue, Word};
 use std::alloc::{AllocError, Global};
 

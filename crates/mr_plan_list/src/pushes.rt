@@ -4,13 +4,13 @@ ghost use Rattle.std.specs.Cow.{cow_slice_items};
 ghost use Rattle.mr_resp.specs.Replies.{int};
 ghost use Rattle.mr_resp.specs.ReplyView.{view};
 ghost use Rattle.mr_entries.specs.Cuts.{cut};
-ghost use Rattle.mr_turn.specs.Turns.{Takes};
+ghost use Rattle.mr_planning.specs.Turns.{Takes};
 ghost use Rattle.mr_plan_list.specs.Pushes.{push_turn, push_effects};
 
 use mr_ask::{Argument, PushTo, Words};
 use mr_data::{Effect, Entry, Value};
 use mr_resp::Reply;
-use mr_turn::{Effects, integer, wrong_kind};
+use mr_planning::{Effects, integer, wrong_kind};
 use mr_value::{End, Word};
 use std::alloc::{AllocError, Global};
 use std::borrow::CowSlice;

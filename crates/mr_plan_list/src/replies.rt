@@ -4,7 +4,7 @@ ghost use Rattle.mr_resp.specs.ReplyView.{view};
 ghost use Rattle.mr_plan_list.specs.Lists.{items_reply, no_such_key, out_of_range};
 
 use mr_resp::Reply;
-use mr_turn::bulk;
+use mr_planning::bulk;
 use mr_value::Items;
 use std::alloc::{AllocError, Global};
 use std::borrow::CowSlice;

@@ -6,7 +6,7 @@ ghost use Rattle.mr_plan_list.specs.Telling.{length_turn, range_turn, index_turn
 use crate::replies::{listed, none_listed};
 use mr_data::{Entry, Value};
 use mr_resp::Reply;
-use mr_turn::{bulk, integer, wrong_kind};
+use mr_planning::{bulk, integer, wrong_kind};
 use mr_value::{place, window};
 use std::alloc::{AllocError, Global};
 

@@ -8,8 +8,8 @@ use Rattle.mr_entries.specs.Dataset.{Dataset}
 use Rattle.mr_ask_coll.specs.Carried.{set_words}
 use Rattle.mr_ask_coll.specs.declared.set_ask.SetAsk.{SetAsk}
 use Rattle.mr_ask_coll.specs.declared.set_ask.SetAsk.TheVariants as ask
-use Rattle.mr_turn.specs.Commands.{before}
-use Rattle.mr_turn.proofs.Laws.{faithful, answered_faithful, IsLawful}
+use Rattle.mr_planning.specs.Commands.{before}
+use Rattle.mr_planning.proofs.Laws.{faithful, answered_faithful, IsLawful}
 use Rattle.mr_plan_set.specs.declared.grouping.Write.TheVariants as write
 use Rattle.mr_plan_set.specs.Members.{as_set}
 use Rattle.mr_plan_set.specs.Turns.{added, adding, removed, removing, taken, taking, drawn_reply, flag, flags, bulks, number}

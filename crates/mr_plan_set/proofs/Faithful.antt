@@ -12,16 +12,16 @@ use Rattle.mr_entries.specs.Steps.{sets, held, set_of}
 use Rattle.mr_entries.specs.declared.value.Value.{Value}
 use Rattle.mr_entries.specs.declared.value.Value.TheVariants as value
 use Rattle.mr_entries.specs.declared.value.Entry.{Entry}
-use Rattle.mr_turn.specs.Taken.{is_key, has}
-use Rattle.mr_turn.specs.Keys.{purged}
-use Rattle.mr_turn.specs.Collections.{Change, changing}
-use Rattle.mr_turn.specs.Commands.{on_key, before}
+use Rattle.mr_planning.specs.Taken.{is_key, has}
+use Rattle.mr_planning.specs.Keys.{purged}
+use Rattle.mr_planning.specs.Collections.{Change, changing}
+use Rattle.mr_planning.specs.Commands.{on_key, before}
 use Rattle.mr_entries.proofs.Maps.{same_key}
 use Rattle.mr_entries.proofs.Puts.{is_key_itself}
-use Rattle.mr_turn.proofs.KeyLists.{get_purged}
-use Rattle.mr_turn.proofs.Laws.{faithful, at_key_faithful, IsLawful}
+use Rattle.mr_planning.proofs.KeyLists.{get_purged}
+use Rattle.mr_planning.proofs.Laws.{faithful, at_key_faithful, IsLawful}
 use Rattle.mr_data.proofs.KindLaws.{sets_are, sets_kept}
-use Rattle.mr_turn.proofs.Changing.{IsFaithfulChange, changing_faithful}
+use Rattle.mr_planning.proofs.Changing.{IsFaithfulChange, changing_faithful}
 use Rattle.mr_plan_set.specs.Members.{Members, as_set, from_place}
 use Rattle.mr_plan_set.specs.Turns.{added, removed, taken, count_or_one}
 use Rattle.mr_plan_set.proofs.Sets.{same_set, contains_empty, contains_with, contains_without, contains_retain, contains_as_set, has_keys}

@@ -17,7 +17,7 @@ use Rattle.mr_entries.proofs.Cutting.{IsGroup, cut_groups, cut_whole, no_cut}
 use Rattle.mr_data.proofs.Folds.{adding_members, add_members_is_step}
 use Rattle.mr_data.proofs.Running.{IsStep, steps_of, IsFold, group_step, groups_run}
 use Rattle.mr_data.proofs.KindLaws.{sets_are}
-use Rattle.mr_turn.proofs.Changing.{IsFaithfulChange}
+use Rattle.mr_planning.proofs.Changing.{IsFaithfulChange}
 use Rattle.mr_plan_set.specs.declared.grouping.Write.{Write}
 use Rattle.mr_plan_set.specs.declared.grouping.Write.TheVariants as write
 use Rattle.mr_plan_set.specs.Members.{Members}

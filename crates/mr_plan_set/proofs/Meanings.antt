@@ -13,7 +13,7 @@ use Rattle.mr_map.specs.Bytes.{Bytes, bytes_cmp}
 use Rattle.mr_ask_coll.specs.declared.set_ask.SetOperation.TheVariants as operation
 use Rattle.mr_plan_set.specs.Members.{Members, common, minus, joined, from_place, drawn}
 use Rattle.mr_plan_set.specs.Combining.{of_all}
-use Rattle.mr_turn.specs.Taken.{is_key}
+use Rattle.mr_planning.specs.Taken.{is_key}
 use Rattle.mr_entries.proofs.Maps.{same_key}
 use Rattle.mr_plan_set.proofs.Pushing.{names}
 use Rattle.mr_plan_set.proofs.Sets.{contains_retain, contains_with, has_keys, len_keys}

@@ -21,14 +21,14 @@ use Rattle.mr_entries.specs.declared.value.Entry.{Entry}
 use Rattle.mr_data.proofs.Seeing.{get-seen}
 use Rattle.mr_effect.specs.declared.effect.Effect.{Effect}
 use Rattle.mr_effect.specs.declared.effect.Effect.TheVariants as effect
-use Rattle.mr_turn.specs.Taken.{is_key, has}
-use Rattle.mr_turn.specs.Keys.{past, purged, dels, is_stored}
-use Rattle.mr_turn.specs.Outcomes.{answered}
-use Rattle.mr_turn.specs.Commands.{Command, before, IsPlan}
+use Rattle.mr_planning.specs.Taken.{is_key, has}
+use Rattle.mr_planning.specs.Keys.{past, purged, dels, is_stored}
+use Rattle.mr_planning.specs.Outcomes.{answered}
+use Rattle.mr_planning.specs.Commands.{Command, before, IsPlan}
 use Rattle.mr_entries.proofs.Maps.{same_key}
 use Rattle.mr_entries.proofs.Puts.{is_key_itself, get_put, get_put_other, get_remove}
-use Rattle.mr_turn.proofs.KeyLists.{get_purged}
-use Rattle.mr_turn.proofs.Laws.{faithful, IsFaithfulAt, IsLawful, answered_faithful, one_short}
+use Rattle.mr_planning.proofs.KeyLists.{get_purged}
+use Rattle.mr_planning.proofs.Laws.{faithful, IsFaithfulAt, IsLawful, answered_faithful, one_short}
 use Rattle.mr_data.proofs.Running.{held_entry}
 use Rattle.mr_data.proofs.KindLaws.{sets_are}
 use Rattle.mr_plan_set.specs.Members.{Members}

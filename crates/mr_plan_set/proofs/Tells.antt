@@ -11,12 +11,12 @@ use Rattle.mr_data.specs.Dataset.{live}
 use Rattle.mr_entries.specs.Steps.{sets, held}
 use Rattle.mr_entries.specs.declared.value.Entry.{Entry}
 use Rattle.mr_effect.specs.declared.effect.Effect.{Effect}
-use Rattle.mr_turn.specs.Keys.{dels, past}
-use Rattle.mr_turn.specs.Collections.{telling, told}
-use Rattle.mr_turn.specs.Commands.{on_key, before, IsPlan}
-use Rattle.mr_turn.proofs.PlanLemmas.{key_plan, told as takes_none}
-use Rattle.mr_turn.proofs.Laws.{faithful, at_key_faithful, IsLawful}
-use Rattle.mr_turn.proofs.Changing.{telling_faithful}
+use Rattle.mr_planning.specs.Keys.{dels, past}
+use Rattle.mr_planning.specs.Collections.{telling, told}
+use Rattle.mr_planning.specs.Commands.{on_key, before, IsPlan}
+use Rattle.mr_planning.proofs.PlanLemmas.{key_plan, told as takes_none}
+use Rattle.mr_planning.proofs.Laws.{faithful, at_key_faithful, IsLawful}
+use Rattle.mr_planning.proofs.Changing.{telling_faithful}
 use Rattle.mr_plan_set.specs.Members.{Members}
 
 no_effects : (answer : Members → Tree) (o : Option Entry) → (telling sets answer o).effects ≡ []

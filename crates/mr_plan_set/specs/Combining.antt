@@ -8,8 +8,8 @@ use Rattle.mr_ask_coll.specs.declared.set_ask.SetOperation.{SetOperation}
 use Rattle.mr_ask_coll.specs.declared.set_ask.SetOperation.TheVariants as operation
 use Rattle.mr_entries.specs.Dataset.{Dataset}
 use Rattle.mr_entries.specs.Steps.{sets, held}
-use Rattle.mr_turn.specs.Turns.{wrong_kind}
-use Rattle.mr_turn.specs.Outcomes.{Outcome, answered}
+use Rattle.mr_planning.specs.Turns.{wrong_kind}
+use Rattle.mr_planning.specs.Outcomes.{Outcome, answered}
 use Rattle.mr_plan_set.specs.Members.{Members, common, minus, joined}
 use Rattle.mr_plan_set.specs.Turns.{bulks}
 

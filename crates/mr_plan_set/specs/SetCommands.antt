@@ -4,7 +4,7 @@ use Rattle.mr_ask_coll.specs.declared.set_ask.SetAsk.{SetAsk}
 use Rattle.mr_ask_coll.specs.declared.set_ask.SetAsk.TheVariants as ask
 use Rattle.mr_entries.specs.Dataset.{Dataset}
 use Rattle.mr_data.specs.Dataset.{IsDataset}
-use Rattle.mr_turn.specs.Commands.{Command, on_key}
+use Rattle.mr_planning.specs.Commands.{Command, on_key}
 use Rattle.mr_plan_set.specs.Turns.{has_member_turn, have_members_turn, list_members_turn, count_members_turn, add_members_turn, remove_members_turn, take_members_turn, draw_members_turn}
 use Rattle.mr_plan_set.specs.Moving.{move_member}
 use Rattle.mr_plan_set.specs.Combining.{combine}

@@ -9,8 +9,8 @@ use Rattle.mr_entries.specs.Collections.{with_members, without_members}
 use Rattle.mr_entries.specs.Steps.{sets}
 use Rattle.mr_entries.specs.declared.value.Entry.{Entry}
 use Rattle.mr_effect.specs.declared.effect.Effect.TheVariants as effect
-use Rattle.mr_turn.specs.Turns.{Turn}
-use Rattle.mr_turn.specs.Collections.{Change, telling, changing}
+use Rattle.mr_planning.specs.Turns.{Turn}
+use Rattle.mr_planning.specs.Collections.{Change, telling, changing}
 use Rattle.mr_entries.specs.Cuts.{cut}
 use Rattle.mr_plan_set.specs.Members.{Members, as_set, common, minus, drawn}
 

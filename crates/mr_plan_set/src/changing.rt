@@ -1,7 +1,7 @@
 // Commands that put named members to a set, or take them out.
 ghost use Rattle.std.specs.Prelude.{IfOk, option_copied};
 ghost use Rattle.mr_resp.specs.ReplyView.{view};
-ghost use Rattle.mr_turn.specs.Turns.{Takes};
+ghost use Rattle.mr_planning.specs.Turns.{Takes};
 ghost use Rattle.mr_plan_set.specs.Turns.{add_members_turn, remove_members_turn};
 
 use crate::grouping::{Write, push_changes};
@@ -9,7 +9,7 @@ use crate::replies::set_at;
 use mr_ask::{Argument, Words};
 use mr_data::Entry;
 use mr_resp::Reply;
-use mr_turn::{Effects, count, wrong_kind};
+use mr_planning::{Effects, count, wrong_kind};
 use mr_value::SetValue;
 use std::alloc::{AllocError, Global};
 

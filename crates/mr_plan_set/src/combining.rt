@@ -5,7 +5,7 @@ ghost use Rattle.std.specs.FinMap as map;
 ghost use Rattle.mr_resp.specs.ReplyView.{view};
 ghost use Rattle.mr_data.specs.Dataset.{seen};
 ghost use Rattle.mr_ask_coll.specs.declared.set_ask.SetOperation.TheVariants as operation;
-ghost use Rattle.mr_turn.specs.Keys.{dels, past};
+ghost use Rattle.mr_planning.specs.Keys.{dels, past};
 ghost use Rattle.mr_plan_set.specs.Combining.{sets_at, combined, of_all};
 ghost use Rattle.mr_plan_set.specs.Finding.{HasFound};
 ghost use Rattle.mr_plan_set.specs.Members.{joined};
@@ -17,7 +17,7 @@ use mr_ask::{SetOperation, Words};
 use mr_data::{Dataset, Given};
 use mr_map::SliceMap;
 use mr_resp::Reply;
-use mr_turn::{Effects, bulk, push_dels, see};
+use mr_planning::{Effects, bulk, push_dels, see};
 use mr_value::SetValue;
 use std::alloc::{AllocError, Global};
 

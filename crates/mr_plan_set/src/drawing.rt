@@ -2,7 +2,7 @@
 ghost use Rattle.std.specs.Prelude.{◌≡◌, ◌++◌, ◌%◌, ◌<◌, [], ◌∷◌, take, IfOk, OnOk, IfSome, IfNone, option_copied};
 ghost use Rattle.std.specs.FinMap as map;
 ghost use Rattle.mr_resp.specs.ReplyView.{view};
-ghost use Rattle.mr_turn.specs.Turns.{Takes};
+ghost use Rattle.mr_planning.specs.Turns.{Takes};
 ghost use Rattle.mr_plan_set.specs.Members.{drawn, as_set};
 ghost use Rattle.mr_plan_set.specs.Grouping.{texts, group_effects};
 ghost use Rattle.mr_plan_set.specs.declared.grouping.Write.TheVariants as write;
@@ -14,7 +14,7 @@ use mr_ask::Argument;
 use mr_data::Entry;
 use mr_map::{Keys, SliceMap};
 use mr_resp::Reply;
-use mr_turn::{Effects, bulk, wrong_kind};
+use mr_planning::{Effects, bulk, wrong_kind};
 use mr_value::SetValue;
 use std::alloc::{AllocError, Global};
 

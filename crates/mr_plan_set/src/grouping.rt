@@ -6,7 +6,7 @@ ghost use Rattle.mr_plan_set.specs.Grouping.{changed_by, changes, group_effect, 
 use mr_ask::{Argument, Words as Arguments};
 use mr_data::{Effect, Words};
 use mr_map::SliceMap;
-use mr_turn::Effects;
+use mr_planning::Effects;
 use mr_value::{SetValue, Word};
 use std::alloc::{AllocError, Global};
 

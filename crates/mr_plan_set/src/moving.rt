@@ -10,7 +10,7 @@ use crate::replies::set_at;
 use mr_ask::Argument;
 use mr_data::{Effect, Entry};
 use mr_resp::Reply;
-use mr_turn::{Effects, count, wrong_kind};
+use mr_planning::{Effects, count, wrong_kind};
 use mr_value::{SetValue, Word};
 use std::alloc::{AllocError, Global};
 

@@ -6,7 +6,7 @@ ghost use Rattle.mr_resp.specs.ReplyView.{view};
 ghost use Rattle.mr_data.specs.Dataset.{IsDataset};
 ghost use Rattle.mr_ask_coll.specs.Carried.{set_words};
 ghost use Rattle.mr_ask_coll.specs.declared.set_ask.SetAsk.TheVariants as asks;
-ghost use Rattle.mr_turn.specs.Commands.{IsPlan, IsFaithful, HasCommandTexts};
+ghost use Rattle.mr_planning.specs.Commands.{IsPlan, IsFaithful, HasCommandTexts};
 ghost use Rattle.mr_plan_set.specs.SetCommands.{command, RestsOn};
 
 use crate::combining::{combined, look_at_all};
@@ -14,7 +14,7 @@ use crate::moving::{moved, same};
 use crate::{changing, drawing, telling};
 use mr_ask::{Argument, SetAsk, SetOperation, Words};
 use mr_data::{Dataset, Given, Plan};
-use mr_turn::{Effects, look, wrong_kind};
+use mr_planning::{Effects, look, wrong_kind};
 use mr_value::SetValue;
 use std::alloc::{AllocError, Global};
 

@@ -7,7 +7,7 @@ ghost use Rattle.mr_plan_set.specs.Turns.{flag, bulks};
 
 use mr_data::{Entry, Value};
 use mr_resp::Reply;
-use mr_turn::bulk;
+use mr_planning::bulk;
 use mr_value::SetValue;
 use std::alloc::{AllocError, Global};
 

@@ -7,7 +7,7 @@ use crate::replies::{bulks_of, flag, set_at};
 use mr_ask::{Argument, Words};
 use mr_data::Entry;
 use mr_resp::Reply;
-use mr_turn::{count, wrong_kind};
+use mr_planning::{count, wrong_kind};
 use mr_value::SetValue;
 use std::alloc::{AllocError, Global};
 

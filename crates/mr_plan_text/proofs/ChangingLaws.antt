@@ -24,7 +24,7 @@ use Rattle.mr_entries.specs.declared.value.Value.TheVariants as value
 use Rattle.mr_entries.specs.declared.value.Entry.{Entry}
 use Rattle.mr_entries.proofs.Puts.{put_same}
 use Rattle.mr_data.proofs.Running.{one_step}
-use Rattle.mr_turn.proofs.Laws.{IsFaithfulTurn, stays_faithful, none_short, one_short}
+use Rattle.mr_planning.proofs.Laws.{IsFaithfulTurn, stays_faithful, none_short, one_short}
 use Rattle.mr_plan_text.specs.Changing.{holds, rewritten, length_of, too_long, lengthened, appended, append_turn, put_over, set_range_turn, overflow, increase_from, increase_text, increase_turn}
 use Rattle.mr_plan_text.proofs.SameTexts.{is_this_text, bytes_itself, both}
 use Rattle.mr_effect.proofs.Texts.{short_effect}

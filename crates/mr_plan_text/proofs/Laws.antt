@@ -33,10 +33,10 @@ use Rattle.mr_ask.specs.declared.text_ask.TextAsk.TheVariants as ask
 use Rattle.mr_ask.specs.declared.text_ask.SetCondition.{SetCondition}
 use Rattle.mr_ask.specs.declared.text_ask.SetReply.{SetReply}
 use Rattle.mr_ask.specs.declared.text_ask.SetReply.TheVariants as asked
-use Rattle.mr_turn.specs.Turns.{Turn, done}
-use Rattle.mr_turn.specs.Commands.{IsFaithful, on_key, HasCommandTexts}
+use Rattle.mr_planning.specs.Turns.{Turn, done}
+use Rattle.mr_planning.specs.Commands.{IsFaithful, on_key, HasCommandTexts}
 use Rattle.mr_entries.proofs.Puts.{put_same}
-use Rattle.mr_turn.proofs.Laws.{IsFaithfulTurn, kept_faithful, stays_faithful, if_faithful, by_turn, by_telling, keys_told, IsLawful, none_short, one_short}
+use Rattle.mr_planning.proofs.Laws.{IsFaithfulTurn, kept_faithful, stays_faithful, if_faithful, by_turn, by_telling, keys_told, IsLawful, none_short, one_short}
 use Rattle.mr_plan_text.specs.Texts.{get_reply, length_reply, range_reply, found}
 use Rattle.mr_plan_text.specs.Setting.{said_at, until, set_effect, text_until, holds_until, put, plain, allows, holds_other, set_turn, set_for_turn, set_new_turn, get_and_set_turn, taken, get_and_delete_turn}
 use Rattle.mr_plan_text.specs.declared.deadlines.NewDeadline.{NewDeadline}

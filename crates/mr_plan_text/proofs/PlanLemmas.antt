@@ -10,9 +10,9 @@ use Rattle.mr_entries.specs.Dataset.{Dataset}
 use Rattle.mr_data.specs.Dataset.{seen}
 use Rattle.mr_data.proofs.Seeing.{get-seen}
 use Rattle.mr_effect.specs.declared.effect.Effect.{Effect}
-use Rattle.mr_turn.specs.Keys.{dels, past}
-use Rattle.mr_turn.specs.Commands.{IsPlan, on_keys}
-use Rattle.mr_turn.proofs.PlanLemmas.{keys_plan}
+use Rattle.mr_planning.specs.Keys.{dels, past}
+use Rattle.mr_planning.specs.Commands.{IsPlan, on_keys}
+use Rattle.mr_planning.proofs.PlanLemmas.{keys_plan}
 use Rattle.mr_plan_text.specs.Texts.{found, texts, texts_at}
 
 -- ---- the texts at several keys

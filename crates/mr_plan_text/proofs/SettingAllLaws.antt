@@ -24,13 +24,13 @@ use Rattle.mr_entries.specs.declared.value.Entry.{Entry}
 use Rattle.mr_data.proofs.Fitting.{no_fields, with_fields_fit}
 use Rattle.mr_entries.proofs.Maps.{insert_same}
 use Rattle.mr_words.specs.Pairing.{unpaired}
-use Rattle.mr_turn.specs.Taken.{is_key}
-use Rattle.mr_turn.specs.Turns.{done}
-use Rattle.mr_turn.specs.Outcomes.{answered}
-use Rattle.mr_turn.specs.Commands.{Command, on_keys, before, IsFaithful, HasCommandTexts}
+use Rattle.mr_planning.specs.Taken.{is_key}
+use Rattle.mr_planning.specs.Turns.{done}
+use Rattle.mr_planning.specs.Outcomes.{answered}
+use Rattle.mr_planning.specs.Commands.{Command, on_keys, before, IsFaithful, HasCommandTexts}
 use Rattle.mr_entries.proofs.Maps.{same_key}
 use Rattle.mr_entries.proofs.Puts.{is_key_itself, is_key_symm}
-use Rattle.mr_turn.proofs.Laws.{answered_faithful, IsLeadingAt, leading_at, leading, sent, none_short, one_short}
+use Rattle.mr_planning.proofs.Laws.{answered_faithful, IsLeadingAt, leading_at, leading, sent, none_short, one_short}
 use Rattle.mr_plan_text.specs.Setting.{plain, is_plain}
 use Rattle.mr_plan_text.specs.SettingAll.{names, last_texts, changed, set_effects, put_all, set_all, is_any_there, set_all_new}
 use Rattle.mr_plan_text.specs.Laws.{SetAllIsNoLonger, SetAllNewIsNoLonger}

@@ -22,8 +22,8 @@ use Rattle.mr_entries.specs.Steps.{texts as strings, held, text_of}
 use Rattle.mr_entries.specs.declared.value.Value.{Value}
 use Rattle.mr_entries.specs.declared.value.Value.TheVariants as value
 use Rattle.mr_entries.specs.declared.value.Entry.{Entry}
-use Rattle.mr_turn.specs.Turns.{Takes}
-use Rattle.mr_turn.proofs.PlanLemmas.{told}
+use Rattle.mr_planning.specs.Turns.{Takes}
+use Rattle.mr_planning.proofs.PlanLemmas.{told}
 use Rattle.mr_plan_text.specs.Setting.{is_text}
 use Rattle.mr_plan_text.specs.Changing.{holds, rewritten, length_of, too_long, lengthened, put_over, set_range_turn, overflow, increase_from, increase_text, increase_turn}
 use Rattle.mr_plan_text.proofs.SameTexts.{same_bytes, bytes_itself}

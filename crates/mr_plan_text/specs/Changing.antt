@@ -12,7 +12,7 @@ use Rattle.mr_effect.specs.declared.effect.Effect.TheVariants as effect
 use Rattle.mr_entries.specs.Steps.{texts as strings, held, deadline_of}
 use Rattle.mr_entries.specs.declared.value.Value.TheVariants as value
 use Rattle.mr_entries.specs.declared.value.Entry.{Entry}
-use Rattle.mr_turn.specs.Turns.{Turn, kept, wrong_kind}
+use Rattle.mr_planning.specs.Turns.{Turn, kept, wrong_kind}
 use Rattle.mr_plan_text.specs.Setting.{is_text}
 
 -- the key is there and holds this text

@@ -9,7 +9,7 @@ use Rattle.mr_entries.specs.Steps.{deadline_of}
 use Rattle.mr_entries.specs.declared.value.Value.{Value}
 use Rattle.mr_entries.specs.declared.value.Value.TheVariants as value
 use Rattle.mr_entries.specs.declared.value.Entry.{Entry}
-use Rattle.mr_turn.specs.Turns.{Turn, kept, wrong_kind, done}
+use Rattle.mr_planning.specs.Turns.{Turn, kept, wrong_kind, done}
 use Rattle.mr_effect.specs.declared.effect.Effect.{Effect}
 use Rattle.mr_effect.specs.declared.effect.Effect.TheVariants as effect
 use Rattle.mr_ask.specs.Expiry.{deadline_at}

@@ -11,8 +11,8 @@ use Rattle.mr_data.specs.Dataset.{live}
 use Rattle.mr_entries.specs.declared.value.Value.{Value}
 use Rattle.mr_entries.specs.declared.value.Value.TheVariants as value
 use Rattle.mr_entries.specs.declared.value.Entry.{Entry}
-use Rattle.mr_turn.specs.Turns.{Turn, kept, wrong_kind}
-use Rattle.mr_turn.specs.Outcomes.{Outcome, answered}
+use Rattle.mr_planning.specs.Turns.{Turn, kept, wrong_kind}
+use Rattle.mr_planning.specs.Outcomes.{Outcome, answered}
 
 -- ---- What a command tells of the text at a key. A value of another kind is refused.
 abbrev pub of_value : (Bytes → Tree) → Value → Tree

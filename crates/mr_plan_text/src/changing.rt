@@ -5,14 +5,14 @@ ghost use Rattle.std.specs.Str.{bytes_eq};
 ghost use Rattle.mr_resp.specs.ReplyView.{view};
 ghost use Rattle.mr_value.specs.Texts.{overwritten};
 ghost use Rattle.mr_entries.specs.Steps.{texts as strings, held};
-ghost use Rattle.mr_turn.specs.Turns.{Takes};
+ghost use Rattle.mr_planning.specs.Turns.{Takes};
 ghost use Rattle.mr_plan_text.specs.Changing.{append_turn, set_range_turn, increase_turn};
 
 use crate::replies::{no_integer, overflow, too_long};
 use mr_ask::Argument;
 use mr_data::{Effect, Entry, Value};
 use mr_resp::Reply;
-use mr_turn::{Effects, count, integer, wrong_kind};
+use mr_planning::{Effects, count, integer, wrong_kind};
 use mr_value::{Bytes, Word, read_i64};
 use std::alloc::{AllocError, Global};
 

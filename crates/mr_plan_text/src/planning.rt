@@ -7,7 +7,7 @@ ghost use Rattle.mr_resp.specs.ReplyView.{view};
 ghost use Rattle.mr_resp.specs.Usual.{commands};
 ghost use Rattle.mr_data.specs.Given.{IsMoment};
 ghost use Rattle.mr_ask.specs.Carried.{text_words, IsTimed};
-ghost use Rattle.mr_turn.specs.Commands.{IsPlan, IsFaithful, HasCommandTexts, on_key, on_keys};
+ghost use Rattle.mr_planning.specs.Commands.{IsPlan, IsFaithful, HasCommandTexts, on_key, on_keys};
 ghost use Rattle.mr_plan_text.specs.Commands.{command, HasNumber, HasLimit};
 ghost use Rattle.mr_plan_text.specs.Texts.{get_turn, length_turn, range_turn, texts};
 ghost use Rattle.mr_plan_text.specs.Setting.{said_at, set_turn, set_for_turn, set_new_turn, get_and_set_turn, get_and_delete_turn};
@@ -20,7 +20,7 @@ use crate::setting_all::{set_all, set_all_new};
 use crate::{changing, setting, texts};
 use mr_ask::{Argument, Expiry, Lifetime, SetReply, TextAsk, Words};
 use mr_data::{Dataset, Given, Plan};
-use mr_turn::{Effects, look, push_dels};
+use mr_planning::{Effects, look, push_dels};
 use std::alloc::{AllocError, Global};
 
 /// What a command on strings is answered, and its effects. The dataset isn't changed, and the plan owns what it holds.

@@ -3,7 +3,7 @@ ghost use Rattle.std.specs.Prelude.{◌≡◌, [], ◌∷◌, ◌++◌, IfOk, On
 ghost use Rattle.mr_resp.specs.Replies.{bytes};
 ghost use Rattle.mr_resp.specs.ReplyView.{view};
 ghost use Rattle.mr_effect.specs.declared.effect.Effect.TheVariants as effect;
-ghost use Rattle.mr_turn.specs.Turns.{Takes};
+ghost use Rattle.mr_planning.specs.Turns.{Takes};
 ghost use Rattle.mr_ask.specs.declared.text_ask.SetReply.TheVariants as asked;
 ghost use Rattle.mr_plan_text.specs.Setting.{put, set_turn, set_new_turn, get_and_set_turn, get_and_delete_turn, allows, is_text, is_plain, holds_until, is_other, holds_other};
 
@@ -12,7 +12,7 @@ use crate::texts::get;
 use mr_ask::{Argument, SetCondition, SetReply};
 use mr_data::{Effect, Entry, Value};
 use mr_resp::Reply;
-use mr_turn::{Effects, bulk, count, done, wrong_kind};
+use mr_planning::{Effects, bulk, count, done, wrong_kind};
 use mr_value::Word;
 use std::alloc::{AllocError, Global};
 

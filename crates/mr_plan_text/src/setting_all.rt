@@ -2,8 +2,8 @@
 ghost use Rattle.std.specs.Prelude.{◌≡◌, ◌++◌, map, IfOk, OnOk};
 ghost use Rattle.std.specs.FinMap.{entries};
 ghost use Rattle.mr_resp.specs.ReplyView.{view};
-ghost use Rattle.mr_turn.specs.Keys.{dels, past};
-ghost use Rattle.mr_turn.specs.Commands.{IsPlan, on_keys};
+ghost use Rattle.mr_planning.specs.Keys.{dels, past};
+ghost use Rattle.mr_planning.specs.Commands.{IsPlan, on_keys};
 ghost use Rattle.mr_plan_text.specs.SettingAll.{names, last_texts, set_effects, set_all, set_all_new};
 ghost use Rattle.mr_plan_text.specs.Finding.{is_any_live, is_any_past, changed_at};
 
@@ -11,7 +11,7 @@ use crate::setting::is_plain;
 use mr_ask::{Argument, Pairs, Words};
 use mr_data::{Dataset, Effect, Given, Pairs as Texts, Plan};
 use mr_map::SliceMap;
-use mr_turn::{Effects, count, done, push_dels, see};
+use mr_planning::{Effects, count, done, push_dels, see};
 use mr_value::Word;
 use std::alloc::{AllocError, Global};
 use std::borrow::CowSlice;

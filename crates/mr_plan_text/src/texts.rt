@@ -9,7 +9,7 @@ ghost use Rattle.mr_plan_text.specs.Texts.{get_reply, length_reply, range_reply,
 use mr_ask::Words;
 use mr_data::{Dataset, Entry, Given, Value};
 use mr_resp::Reply;
-use mr_turn::{bulk, count, see, wrong_kind};
+use mr_planning::{bulk, count, see, wrong_kind};
 use mr_value::window;
 use std::alloc::{AllocError, Global};
 

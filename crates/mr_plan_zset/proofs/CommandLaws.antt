@@ -19,10 +19,10 @@ use Rattle.mr_ask_zset.specs.declared.zset_ask.ZSetAsk.{ZSetAsk}
 use Rattle.mr_ask_zset.specs.declared.zset_ask.ZSetAsk.TheVariants as ask
 use Rattle.mr_ask_zset.specs.declared.zset_ask.ScoreCondition.{ScoreCondition}
 use Rattle.mr_ask_zset.specs.declared.zset_ask.Comparison.{Comparison}
-use Rattle.mr_turn.specs.Collections.{telling}
-use Rattle.mr_turn.specs.Commands.{on_key, before}
-use Rattle.mr_turn.proofs.Laws.{faithful, at_key_faithful, IsLawful}
-use Rattle.mr_turn.proofs.Changing.{IsFaithfulChange, telling_faithful}
+use Rattle.mr_planning.specs.Collections.{telling}
+use Rattle.mr_planning.specs.Commands.{on_key, before}
+use Rattle.mr_planning.proofs.Laws.{faithful, at_key_faithful, IsLawful}
+use Rattle.mr_planning.proofs.Changing.{IsFaithfulChange, telling_faithful}
 use Rattle.mr_plan_zset.specs.Scores.{Scores, score_reply, unchanged, set_to}
 use Rattle.mr_plan_zset.specs.Adding.{is_set, with_pair, with_pairs, add_scores, increase_score, set_score, out_of_range, score_or_0}
 use Rattle.mr_plan_zset.specs.Removing.{members_of as names_of, taken, remove_members, take_pairs, remove_ranks, remove_scores}

@@ -13,8 +13,8 @@ use Rattle.mr_zset.specs.declared.pair.Pair.{Pair}
 use Rattle.mr_zset.specs.Pairs.{pairs_of, shown}
 use Rattle.mr_entries.specs.Steps.{sorted_sets, held}
 use Rattle.mr_entries.specs.declared.value.Entry.{Entry}
-use Rattle.mr_turn.specs.Turns.{wrong_kind}
-use Rattle.mr_turn.specs.Collections.{telling, told}
+use Rattle.mr_planning.specs.Turns.{wrong_kind}
+use Rattle.mr_planning.specs.Collections.{telling, told}
 use Rattle.mr_ask_zset.specs.declared.zset_ask.Order.{Order}
 use Rattle.mr_ask_zset.specs.declared.zset_ask.Order.TheVariants.{Ascending, Descending}
 use Rattle.mr_ask_zset.specs.declared.zset_ask.RangeReply.TheVariants.{Members, WithScores}

@@ -22,9 +22,9 @@ use Rattle.mr_ask_zset.specs.declared.zset_ask.Order.{Order}
 use Rattle.mr_ask_zset.specs.declared.zset_ask.Order.TheVariants as order
 use Rattle.mr_ask_zset.specs.declared.zset_ask.RangeReply.TheVariants.{WithScores}
 use Rattle.mr_entries.specs.Collections.{with_members, without_scores}
-use Rattle.mr_turn.specs.Taken.{is_key, has}
+use Rattle.mr_planning.specs.Taken.{is_key, has}
 use Rattle.mr_entries.proofs.Maps.{same_key}
-use Rattle.mr_turn.proofs.KeyLists.{more_words}
+use Rattle.mr_planning.proofs.KeyLists.{more_words}
 use Rattle.mr_plan_zset.specs.Scores.{Scores, number, lost, pairs_in, reduced_to, Makes}
 use Rattle.mr_plan_zset.specs.Removing.{members_of, as_set, remove_all}
 use Rattle.mr_plan_zset.specs.Ranges.{pairs_reply}

@@ -4,9 +4,9 @@ use Rattle.mr_resp.specs.Replies.{Tree}
 use Rattle.mr_effect.specs.declared.effect.Effect.{Effect}
 use Rattle.mr_entries.specs.Steps.{sorted_sets, held}
 use Rattle.mr_entries.specs.declared.value.Entry.{Entry}
-use Rattle.mr_turn.specs.Turns.{Turn, Takes, wrong_kind}
-use Rattle.mr_turn.specs.Collections.{Change, changed, changing, telling, told as tells}
-use Rattle.mr_turn.proofs.PlanLemmas.{told}
+use Rattle.mr_planning.specs.Turns.{Turn, Takes, wrong_kind}
+use Rattle.mr_planning.specs.Collections.{Change, changed, changing, telling, told as tells}
+use Rattle.mr_planning.proofs.PlanLemmas.{told}
 use Rattle.mr_plan_zset.specs.Scores.{Scores, Makes}
 
 -- at a key of another kind

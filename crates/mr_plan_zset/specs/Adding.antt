@@ -11,7 +11,7 @@ use Rattle.mr_ask_zset.specs.declared.zset_ask.Comparison.{Comparison}
 use Rattle.mr_ask_zset.specs.declared.zset_ask.Comparison.TheVariants as comparison
 use Rattle.mr_ask_zset.specs.declared.zset_ask.ScoresReply.{ScoresReply}
 use Rattle.mr_ask_zset.specs.declared.zset_ask.ScoresReply.TheVariants as answer
-use Rattle.mr_turn.specs.Collections.{Change}
+use Rattle.mr_planning.specs.Collections.{Change}
 use Rattle.mr_plan_zset.specs.Scores.{Scores, number, score_reply, is_same, unchanged, set_to}
 
 -- ---- which scores are set

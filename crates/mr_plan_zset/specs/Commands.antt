@@ -7,9 +7,9 @@ use Rattle.mr_entries.specs.declared.value.Entry.{Entry}
 use Rattle.mr_ask_zset.specs.Scored.{is_scored}
 use Rattle.mr_ask_zset.specs.declared.zset_ask.ZSetAsk.{ZSetAsk}
 use Rattle.mr_ask_zset.specs.declared.zset_ask.ZSetAsk.TheVariants as ask
-use Rattle.mr_turn.specs.Turns.{Turn}
-use Rattle.mr_turn.specs.Collections.{changing}
-use Rattle.mr_turn.specs.Commands.{Command, on_key}
+use Rattle.mr_planning.specs.Turns.{Turn}
+use Rattle.mr_planning.specs.Collections.{changing}
+use Rattle.mr_planning.specs.Commands.{Command, on_key}
 use Rattle.mr_plan_zset.specs.Adding.{add_scores, increase_score}
 use Rattle.mr_plan_zset.specs.Removing.{remove_members, take_pairs, remove_ranks, remove_scores}
 use Rattle.mr_plan_zset.specs.Telling.{count_members_turn, count_scores_turn, score_turn, scores_turn, rank_turn}

@@ -8,7 +8,7 @@ use Rattle.mr_zset.specs.declared.bound.Bound.{Bound}
 use Rattle.mr_entries.specs.Collections.{with_members, without_scores}
 use Rattle.mr_ask_zset.specs.declared.zset_ask.Order.{Order}
 use Rattle.mr_ask_zset.specs.declared.zset_ask.RangeReply.TheVariants.{WithScores}
-use Rattle.mr_turn.specs.Collections.{Change}
+use Rattle.mr_planning.specs.Collections.{Change}
 use Rattle.mr_plan_zset.specs.Scores.{Scores, number, pairs_in, lost, reduced_to}
 use Rattle.mr_plan_zset.specs.Ranges.{pairs_reply}
 

@@ -13,7 +13,7 @@ use Rattle.mr_entries.specs.Collections.{with_scores}
 use Rattle.mr_ask_zset.specs.declared.zset_ask.Order.{Order}
 use Rattle.mr_ask_zset.specs.declared.zset_ask.Order.TheVariants as order
 use Rattle.mr_entries.specs.Cuts.{cut}
-use Rattle.mr_turn.specs.Collections.{Change}
+use Rattle.mr_planning.specs.Collections.{Change}
 
 abbrev pub Scores : Type 0
 Scores = ByteMap ℤ

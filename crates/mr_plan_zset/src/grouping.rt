@@ -7,7 +7,7 @@ ghost use Rattle.mr_plan_zset.specs.Scores.{changed, changed_alone};
 
 use crate::groups::{MemberGroup, ScoreGroup, end_members, end_scores};
 use mr_map::SliceMap;
-use mr_turn::Effects;
+use mr_planning::Effects;
 use mr_words::Argument;
 use mr_zset::ZSet;
 use std::alloc::{AllocError, Global};

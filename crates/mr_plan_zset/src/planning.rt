@@ -5,8 +5,8 @@ ghost use Rattle.mr_value.specs.Words.{fits};
 ghost use Rattle.mr_resp.specs.ReplyView.{view};
 ghost use Rattle.mr_data.specs.Dataset.{IsDataset};
 ghost use Rattle.mr_ask_zset.specs.Carried.{zset_words};
-ghost use Rattle.mr_turn.specs.Turns.{Takes};
-ghost use Rattle.mr_turn.specs.Commands.{IsPlan, IsFaithful, HasCommandTexts};
+ghost use Rattle.mr_planning.specs.Turns.{Takes};
+ghost use Rattle.mr_planning.specs.Commands.{IsPlan, IsFaithful, HasCommandTexts};
 ghost use Rattle.mr_plan_zset.specs.Commands.{key_of, turn, command, HasScores};
 
 use crate::rules::Rules;
@@ -14,7 +14,7 @@ use crate::{adding, ranges, removing, telling};
 use mr_ask_zset::ZSetAsk;
 use mr_data::{Dataset, Entry, Given, Plan};
 use mr_resp::Reply;
-use mr_turn::{Effects, look};
+use mr_planning::{Effects, look};
 use mr_words::Argument;
 use std::alloc::{AllocError, Global};
 

@@ -10,7 +10,7 @@ use crate::replies::{score_bulk, set_at};
 use mr_ask_zset::{Limit, Order, RangeReply};
 use mr_data::Entry;
 use mr_resp::Reply;
-use mr_turn::{bulk, wrong_kind};
+use mr_planning::{bulk, wrong_kind};
 use mr_value::window;
 use mr_zset::{Bound, Pair, ZSet};
 use std::alloc::{AllocError, Global};

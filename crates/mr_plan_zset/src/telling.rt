@@ -7,7 +7,7 @@ use crate::replies::{score_bulk, set_at};
 use mr_ask_zset::Order;
 use mr_data::Entry;
 use mr_resp::Reply;
-use mr_turn::{count, wrong_kind};
+use mr_planning::{count, wrong_kind};
 use mr_words::{Argument, Words};
 use mr_zset::{Bound, ZSet};
 use std::alloc::{AllocError, Global};

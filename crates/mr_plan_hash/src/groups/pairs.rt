@@ -3,11 +3,11 @@ ghost use Rattle.std.specs.Prelude.{◌≡◌, ◌≤◌, [], ◌∷◌, ◌++�
 ghost use Rattle.mr_effect.specs.declared.effect.Effect.TheVariants as made;
 ghost use Rattle.mr_entries.specs.Cuts.{cut, most_items};
 ghost use Rattle.mr_plan_hash.specs.Hashes.{is_value};
-ghost use Rattle.mr_turn.specs.Groups.{TakesItems};
+ghost use Rattle.mr_planning.specs.Groups.{TakesItems};
 
 use crate::groups::MOST_ITEMS;
 use mr_data::{Effect, Pairs};
-use mr_turn::Effects;
+use mr_planning::Effects;
 use mr_value::Word;
 use std::alloc::{AllocError, Global};
 use std::mem::replace;

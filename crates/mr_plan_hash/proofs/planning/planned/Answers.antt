@@ -3,8 +3,8 @@ use Rattle.std.specs.FinMap.{get}
 use Rattle.mr_resp.specs.ReplyView.{view}
 use Rattle.mr_data.specs.Dataset.{live}
 use Rattle.mr_entries.specs.Steps.{hashes, held}
-use Rattle.mr_turn.specs.Keys.{dels, past}
-use Rattle.mr_turn.proofs.PlanLemmas.{key_plan}
+use Rattle.mr_planning.specs.Keys.{dels, past}
+use Rattle.mr_planning.proofs.PlanLemmas.{key_plan}
 use Rattle.mr_plan_hash.specs.Commands.{key_of, turn}
 use Rattle.mr_plan_hash.proofs.TurnLemmas.{takes_wrong, takes_made}
 use Rattle.mr_plan_hash.proofs.planning.planned.Goals as goal

@@ -2,7 +2,7 @@ use Rattle.std.proofs.Common.{rules, ◌≡◌, ◌∙◌, ap, refl, option_copi
 use Rattle.std.proofs.lemmas.Int.{to_z-of_z}
 use Rattle.mr_resp.specs.Replies as reply
 use Rattle.mr_resp.specs.ReplyView.{view}
-use Rattle.mr_turn.proofs.PlanLemmas.{key_plan, told}
+use Rattle.mr_planning.proofs.PlanLemmas.{key_plan, told}
 use Rattle.mr_plan_keys.specs.Expiring.{deadline_turn, told_in}
 use Rattle.mr_plan_keys.proofs.Deadlines.{live_lifetime}
 use Rattle.mr_plan_keys.proofs.planning.deadline.Goals as goal

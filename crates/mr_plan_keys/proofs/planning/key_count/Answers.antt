@@ -3,7 +3,7 @@ use Rattle.std.specs.FinMap.{len}
 use Rattle.mr_resp.specs.Replies as reply
 use Rattle.mr_resp.specs.ReplyView.{view}
 use Rattle.mr_plan_keys.proofs.Listed.{len_seen}
-use Rattle.mr_turn.proofs.PlanLemmas.{none_plan}
+use Rattle.mr_planning.proofs.PlanLemmas.{none_plan}
 use Rattle.mr_plan_keys.proofs.planning.key_count.Goals as goal
 
 pub returns : goal.returns

@@ -1,6 +1,6 @@
 use Rattle.std.proofs.Common.{◌∙◌, ap, refl}
 use Rattle.mr_resp.specs.ReplyView.{view}
-use Rattle.mr_turn.proofs.PlanLemmas.{key_plan, told}
+use Rattle.mr_planning.proofs.PlanLemmas.{key_plan, told}
 use Rattle.mr_plan_keys.specs.Turns.{type_turn}
 use Rattle.mr_plan_keys.proofs.planning.key_type.Goals as goal
 

@@ -1,4 +1,4 @@
-use Rattle.mr_turn.proofs.PlanLemmas.{key_plan}
+use Rattle.mr_planning.proofs.PlanLemmas.{key_plan}
 use Rattle.mr_plan_keys.specs.Expiring.{persist_turn}
 use Rattle.mr_plan_keys.proofs.planning.persist.Goals as goal
 

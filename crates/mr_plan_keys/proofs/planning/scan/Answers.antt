@@ -2,7 +2,7 @@ use Rattle.std.proofs.Common.{◌∙◌, ap, sym}
 use Rattle.mr_resp.specs.ReplyView.{view}
 use Rattle.mr_plan_keys.specs.Listing.{scan_reply, from_cursor, listed, listed_at}
 use Rattle.mr_plan_keys.proofs.Listed.{listed_seen}
-use Rattle.mr_turn.proofs.PlanLemmas.{none_plan}
+use Rattle.mr_planning.proofs.PlanLemmas.{none_plan}
 use Rattle.mr_plan_keys.proofs.planning.scan.Goals as goal
 
 pub returns : goal.returns

@@ -1,6 +1,6 @@
 use Rattle.std.proofs.Common.{◌∙◌, ap, sym}
 use Rattle.mr_resp.specs.ReplyView.{view}
-use Rattle.mr_turn.proofs.PlanLemmas.{key_plan}
+use Rattle.mr_planning.proofs.PlanLemmas.{key_plan}
 use Rattle.mr_plan_list.specs.Moves.{rotate_turn}
 use Rattle.mr_plan_list.proofs.MoveLemmas.{turned_plan, carried_plan}
 use Rattle.mr_plan_list.proofs.moves.move_item.Goals as goal

@@ -1,6 +1,6 @@
 use Rattle.std.proofs.Common.{◌∙◌, ap}
 use Rattle.mr_resp.specs.ReplyView.{view}
-use Rattle.mr_turn.proofs.PlanLemmas.{key_plan}
+use Rattle.mr_planning.proofs.PlanLemmas.{key_plan}
 use Rattle.mr_plan_list.specs.Commands.{turn}
 use Rattle.mr_plan_list.proofs.NumberLemmas.{nothing_seen}
 use Rattle.mr_plan_list.proofs.planning.at_key.Goals as goal

@@ -4,7 +4,7 @@ use Rattle.std.proofs.lemmas.List.{nil_from_length}
 use Rattle.mr_resp.specs.ReplyView.{views}
 use Rattle.mr_resp.specs.Replies as reply
 use Rattle.mr_resp.proofs.ViewLemmas.{view-Array}
-use Rattle.mr_turn.proofs.PlanLemmas.{if_ok}
+use Rattle.mr_planning.proofs.PlanLemmas.{if_ok}
 use Rattle.mr_plan_set.specs.Turns.{bulks}
 use Rattle.mr_plan_set.specs.Grouping.{members_of}
 use Rattle.mr_plan_set.specs.Combining.{combined}

@@ -1,4 +1,4 @@
-use Rattle.mr_turn.proofs.PlanLemmas.{key_plan}
+use Rattle.mr_planning.proofs.PlanLemmas.{key_plan}
 use Rattle.mr_plan_set.specs.Turns.{remove_members_turn}
 use Rattle.mr_plan_set.proofs.planning.remove_members.Goals as goal
 

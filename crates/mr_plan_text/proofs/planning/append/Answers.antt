@@ -1,4 +1,4 @@
-use Rattle.mr_turn.proofs.PlanLemmas.{key_plan}
+use Rattle.mr_planning.proofs.PlanLemmas.{key_plan}
 use Rattle.mr_plan_text.specs.Changing.{append_turn}
 use Rattle.mr_plan_text.proofs.planning.append.Goals as goal
 

@@ -1,6 +1,6 @@
 use Rattle.std.proofs.Common.{◌∙◌, ap, refl}
 use Rattle.mr_resp.specs.ReplyView.{view}
-use Rattle.mr_turn.proofs.PlanLemmas.{key_plan, told}
+use Rattle.mr_planning.proofs.PlanLemmas.{key_plan, told}
 use Rattle.mr_plan_text.specs.Texts.{get_turn}
 use Rattle.mr_plan_text.proofs.planning.get.Goals as goal
 

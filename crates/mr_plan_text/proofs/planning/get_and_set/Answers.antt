@@ -1,4 +1,4 @@
-use Rattle.mr_turn.proofs.PlanLemmas.{key_plan}
+use Rattle.mr_planning.proofs.PlanLemmas.{key_plan}
 use Rattle.mr_plan_text.specs.Setting.{get_and_set_turn}
 use Rattle.mr_plan_text.proofs.planning.get_and_set.Goals as goal
 

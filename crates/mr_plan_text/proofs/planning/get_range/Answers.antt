@@ -2,7 +2,7 @@ use Rattle.std.proofs.Common.{◌∙◌, ap, refl, w64, to_z, of_z}
 use Rattle.std.proofs.lemmas.Int.{to_z-of_z}
 use Rattle.std.specs.Option.{option_copied}
 use Rattle.mr_resp.specs.ReplyView.{view}
-use Rattle.mr_turn.proofs.PlanLemmas.{key_plan, told}
+use Rattle.mr_planning.proofs.PlanLemmas.{key_plan, told}
 use Rattle.mr_plan_text.specs.Texts.{range_reply, range_turn}
 use Rattle.mr_plan_text.proofs.planning.get_range.Goals as goal
 

@@ -1,6 +1,6 @@
 use Rattle.std.proofs.Common.{w64}
 use Rattle.std.proofs.lemmas.Int.{to_z-of_z}
-use Rattle.mr_turn.proofs.PlanLemmas.{key_plan}
+use Rattle.mr_planning.proofs.PlanLemmas.{key_plan}
 use Rattle.mr_plan_text.specs.Changing.{increase_turn}
 use Rattle.mr_plan_text.proofs.planning.increase.Goals as goal
 

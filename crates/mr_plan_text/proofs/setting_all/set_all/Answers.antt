@@ -1,6 +1,6 @@
 use Rattle.std.proofs.Common.{◌≡◌, ◌∙◌, ◌++◌, ap, sym, rules}
 use Rattle.std.specs.FinMap.{entries}
-use Rattle.mr_turn.specs.Keys.{dels, past}
+use Rattle.mr_planning.specs.Keys.{dels, past}
 use Rattle.mr_plan_text.specs.SettingAll.{names, last_texts, set_effects}
 use Rattle.mr_plan_text.specs.Finding.{changed_at, is_any_past}
 use Rattle.mr_plan_text.proofs.SettingAllPlans.{set_all_plan, none_of_texts}

@@ -1,6 +1,6 @@
 use Rattle.std.proofs.Common.{◌≡◌, ◌∙◌, ◌++◌, ap, sym, rules}
 use Rattle.std.specs.FinMap.{entries}
-use Rattle.mr_turn.specs.Keys.{dels, past}
+use Rattle.mr_planning.specs.Keys.{dels, past}
 use Rattle.mr_plan_text.specs.SettingAll.{names, last_texts, set_effects}
 use Rattle.mr_plan_text.proofs.SettingAllPlans.{some_there, none_there, none_of_pairs}
 use Rattle.mr_plan_text.proofs.setting_all.set_all_new.Goals as goal

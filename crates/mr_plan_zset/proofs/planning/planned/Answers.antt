@@ -1,8 +1,8 @@
 use Rattle.std.proofs.Common.{◌≡◌, ◌∷◌, [], ◌++◌, option_copied}
 use Rattle.std.specs.FinMap.{get}
 use Rattle.mr_data.specs.Dataset.{live}
-use Rattle.mr_turn.specs.Keys.{dels, past}
-use Rattle.mr_turn.proofs.PlanLemmas.{key_plan}
+use Rattle.mr_planning.specs.Keys.{dels, past}
+use Rattle.mr_planning.proofs.PlanLemmas.{key_plan}
 use Rattle.mr_plan_zset.specs.Commands.{key_of, turn}
 use Rattle.mr_plan_zset.proofs.planning.planned.Goals as goal
 

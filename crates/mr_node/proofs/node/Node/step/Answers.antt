@@ -3,7 +3,7 @@ use Rattle.mr_node.specs.State.{NodeState, end_of}
 use Rattle.mr_node.specs.Rows.{StepRow, WhyStopped}
 use Rattle.mr_resp.specs.Faults.{fault_text}
 use Rattle.mr_resp.specs.Replies.{error, reply_text}
-use Rattle.mr_turn.specs.Turns.{done}
+use Rattle.mr_planning.specs.Turns.{done}
 use Rattle.mr_node.specs.Parts.{last_outs, Passes, Quits, Runs}
 use Rattle.mr_node.specs.Requests.{IsDoomedBy}
 use Rattle.mr_node.specs.declared.step.Step.TheVariants.{Done}
