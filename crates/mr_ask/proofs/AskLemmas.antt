@@ -15,7 +15,7 @@ use Rattle.mr_ask.specs.Server.{ping, echo, select, quit, command, client}
 use Rattle.mr_ask.specs.Asks.{asked, asked_by, reading}
 use Rattle.mr_ask.specs.Carried.{text_words, key_words, server_words, AskFits}
 use Rattle.mr_words.specs.Spelling.{Part, Word, Number, in_a_row}
-use Rattle.mr_ask.specs.Expiry.{number_said}
+use Rattle.mr_expiry.specs.Expiry.{number_said}
 use Rattle.mr_ask.specs.Spelled.{cursor_part, expire_part, scan_option, server_parts, AreOfTexts, AreOfKeys, SpellsNamed, Spells}
 use Rattle.mr_words.proofs.FitLemmas.{carried, carried-words, first, second, both, parts_fit, OptionFits, others_fit, of_parts_fit}
 use Rattle.mr_words.proofs.NameLemmas.{named_is}
@@ -33,7 +33,7 @@ use Rattle.mr_ask_zset.specs.declared.zset_ask.Order.TheVariants.{Ascending, Des
 use Rattle.mr_ask.proofs.ServerLemmas.{ping_carries, echo_carries, select_carries, quit_carries, command_carries, client_carries}
 use Rattle.mr_words.specs.declared.name.Name.{Name}
 use Rattle.mr_words.specs.declared.name.Name.TheVariants as name
-use Rattle.mr_ask.specs.declared.expiry.ExpiryUnit.TheVariants as unit
+use Rattle.mr_expiry.specs.declared.expiry.ExpiryUnit.TheVariants as unit
 use Rattle.mr_ask.specs.declared.options.ScanOption.TheVariants as scans
 use Rattle.mr_ask.specs.declared.key_ask.Cursor.{Cursor}
 use Rattle.mr_ask.specs.declared.key_ask.Cursor.TheVariants.{Start, Behind}

@@ -7,7 +7,7 @@ use Rattle.mr_value.specs.Number.{number_of}
 use Rattle.mr_value.specs.declared.ends.End.TheVariants.{Left, Right}
 use Rattle.mr_words.specs.Names.{lowered, named}
 use Rattle.mr_words.specs.Pairing.{are_pairs, paired}
-use Rattle.mr_words.specs.Parts.{with, integer, count, offset}
+use Rattle.mr_words.specs.Parts.{with, integer, count, offset, not_below_1}
 use Rattle.mr_words.specs.FaultOrder.{counted, first_of, in_reading, told}
 use Rattle.mr_words.proofs.FaultPlaces.{ComesBefore, ComesLater, no_other, OnlyFault}
 use Rattle.mr_words.specs.declared.name.Name.{Name}
@@ -28,14 +28,14 @@ use Rattle.mr_ask_zset.specs.Reading.{range_by_score, zadd, zrange, zrevrange}
 use Rattle.mr_ask_zset.specs.declared.zset_ask.Order.TheVariants.{Ascending, Descending}
 use Rattle.mr_ask_zset.specs.declared.zset_ask.ZSetAsk.TheVariants as zset
 use Rattle.mr_ask.specs.Asks.{asked, asked_by, of_kind, reading}
-use Rattle.mr_ask.specs.Expiry.{expiry_of}
+use Rattle.mr_expiry.specs.Expiry.{expiry_of}
 use Rattle.mr_ask.specs.Options.{condition_if_any, expire_condition, no_set_options, scan_options, set_options}
-use Rattle.mr_ask.specs.Parts.{cursor_at, cursor_of, expiring, key_expiry, kind_of, lifetime_if_any, milliseconds, not_below_1, opposite, positive_if_any, seconds, timing_of}
+use Rattle.mr_ask.specs.Parts.{cursor_at, cursor_of, expiring, key_expiry, kind_of, lifetime_if_any, milliseconds, opposite, positive_if_any, seconds, timing_of}
 use Rattle.mr_ask.proofs.OrderLemmas.{scan_options_only}
 use Rattle.mr_ask.specs.Server.{database, setinfo, setname}
 use Rattle.mr_ask.specs.WordFaults.{argument_faults, faults_behind, in_scan_options, in_set_options, word_faults}
-use Rattle.mr_ask.specs.declared.expiry.ExpiryUnit.{ExpiryUnit}
-use Rattle.mr_ask.specs.declared.expiry.ExpiryUnit.TheVariants as unit
+use Rattle.mr_expiry.specs.declared.expiry.ExpiryUnit.{ExpiryUnit}
+use Rattle.mr_expiry.specs.declared.expiry.ExpiryUnit.TheVariants as unit
 use Rattle.mr_ask.specs.declared.options.ScanOptions.{ScanOptions}
 use Rattle.mr_ask.specs.declared.options.SetOptions.{SetOptions}
 use Rattle.mr_ask.specs.declared.key_ask.Cursor.{Cursor}

@@ -5,7 +5,7 @@ use Rattle.std.proofs.lemmas.List.Sorted.{IsPermutation-refl, IsPermutation-midd
 use Rattle.mr_words.specs.Pairing.{unpaired}
 use Rattle.std.specs.Fmt.{signed_decimal}
 use Rattle.mr_ask.specs.Parts.{positive_if_any, key_expiry}
-use Rattle.mr_ask.specs.Expiry.{said, number_said}
+use Rattle.mr_expiry.specs.Expiry.{said, number_said}
 use Rattle.mr_words.specs.Options.{added}
 use Rattle.mr_ask.specs.Options.{scan_text, no_scan_options, scan_also, scan_pair, scan_options, condition_if_any}
 use Rattle.mr_ask.specs.Options as options
@@ -16,7 +16,8 @@ use Rattle.mr_ask.specs.Spelled.{scan_option}
 use Rattle.mr_words.proofs.FitLemmas.{all_words}
 use Rattle.mr_ask.proofs.Carries.{KeyCarries}
 use Rattle.mr_words.proofs.PartLemmas.{with_ok, if_with, if_ok, with_pairs}
-use Rattle.mr_ask.proofs.PartLemmas.{with_cursor, with_timing, positive_count, scan_option_text, condition_read, key_expiry_read, number_is}
+use Rattle.mr_ask.proofs.PartLemmas.{with_cursor, with_timing, positive_count, scan_option_text, condition_read, key_expiry_read}
+use Rattle.mr_expiry.proofs.ExpiryLemmas.{number_is}
 use Rattle.mr_words.proofs.OptionLemmas.{all_added, from_none, each_pair}
 use Rattle.mr_words.specs.declared.name.Name.{Name}
 use Rattle.mr_words.specs.declared.name.Name.TheVariants as name
@@ -24,8 +25,8 @@ use Rattle.mr_ask.specs.declared.key_ask.Databases.{Databases}
 use Rattle.mr_ask.specs.declared.key_ask.Timing.{Timing}
 use Rattle.mr_ask.specs.declared.key_ask.KeyAsk.TheVariants as key
 use Rattle.mr_ask.specs.declared.key_ask.ExpireCondition.{ExpireCondition}
-use Rattle.mr_ask.specs.declared.expiry.Expiry.{Expiry}
-use Rattle.mr_ask.specs.declared.expiry.ExpiryUnit.{ExpiryUnit}
+use Rattle.mr_expiry.specs.declared.expiry.Expiry.{Expiry}
+use Rattle.mr_expiry.specs.declared.expiry.ExpiryUnit.{ExpiryUnit}
 use Rattle.mr_words.specs.declared.fault.AskFault.TheVariants.{Syntax}
 use Rattle.mr_ask.specs.declared.options.ScanOption.{ScanOption}
 use Rattle.mr_ask.specs.declared.options.ScanOption.TheVariants as scans

@@ -19,19 +19,20 @@ use Rattle.mr_words.specs.declared.name.Name.{Name}
 use Rattle.mr_words.specs.declared.name.Name.TheVariants as name
 use Rattle.mr_words.specs.declared.fault.AskFault.{AskFault}
 use Rattle.mr_words.specs.declared.fault.AskFault.TheVariants.{Syntax}
-use Rattle.mr_ask.specs.Askable.{IsAmount, KeyIsAskable}
+use Rattle.mr_expiry.specs.Askable.{IsAmount}
+use Rattle.mr_ask.specs.Askable.{KeyIsAskable}
 use Rattle.mr_ask.specs.Asks.{of_kind, reading}
 use Rattle.mr_ask.specs.Called.{key_name}
 use Rattle.mr_ask.specs.Carried.{key_words}
-use Rattle.mr_ask.specs.Expiry.{number_said, unit_said}
+use Rattle.mr_expiry.specs.Expiry.{number_said, unit_said}
 use Rattle.mr_ask.specs.Keys.{clear, expire}
 use Rattle.mr_ask.specs.Options.{all_expire_conditions, condition_if_any, expire_text, is_expire_condition, no_scan_options, scan_also, scan_options, scan_pair, scan_text}
 use Rattle.mr_ask.specs.Parts.{cursor_of, key_expiry, kind_of, positive, positive_if_any, timing_text}
-use Rattle.mr_ask.specs.Spelled.{cursor_part, expire_part, key_parts, AreOfKeys, AreOfScan}
+use Rattle.mr_ask.specs.Spelled.{cursor_part, expire_part, key_parts, AreOfKeys}
 use Rattle.mr_ask.specs.Spelled as spelled
 use Rattle.mr_ask.proofs.OrderLemmas.{scan_alike, scan_also_only}
-use Rattle.mr_ask.specs.declared.expiry.Expiry.{Expiry}
-use Rattle.mr_ask.specs.declared.expiry.Expiry.TheVariants.{Seconds, Milliseconds, AtSecond, AtMillisecond}
+use Rattle.mr_expiry.specs.declared.expiry.Expiry.{Expiry}
+use Rattle.mr_expiry.specs.declared.expiry.Expiry.TheVariants.{Seconds, Milliseconds, AtSecond, AtMillisecond}
 use Rattle.mr_ask.specs.declared.key_ask.Cursor.{Cursor}
 use Rattle.mr_ask.specs.declared.key_ask.Cursor.TheVariants.{Start, Behind}
 use Rattle.mr_ask.specs.declared.key_ask.Databases.{Databases}

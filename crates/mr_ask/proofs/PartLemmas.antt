@@ -1,7 +1,7 @@
 -- What was read of an argument is what its word spells.
 use Rattle.mr_words.proofs.PartLemmas.{with_ok, integer_read, number_part, number_part_read, found_passes, ok_found}
 use Rattle.std.proofs.Common.{arith, ℕ, zero, suc, ℤ, pos, negsuc, ◌≡◌, List, [], ◌∷◌, Bool, true, false, Option, Some, None, refl, sym, ◌∙◌, ap, subst}
-use Rattle.std.specs.Prelude.{neg_ℤ, int_lt, IsTrue, IfOk, IfSome, if◌then◌else◌, Result, Ok, Err}
+use Rattle.std.specs.Prelude.{neg_ℤ, IsTrue, IfOk, IfSome, if◌then◌else◌, Result, Ok, Err}
 use Rattle.std.specs.Option.{ok_or}
 use Rattle.std.proofs.Math.IntN.{neg_ℤ-neg_ℤ}
 use Rattle.std.specs.Fmt.{signed_decimal}
@@ -10,22 +10,19 @@ use Rattle.mr_value.specs.Number.{number_of, is_i64}
 use Rattle.std.proofs.lemmas.Bool.{ltb-true}
 use Rattle.mr_value.proofs.Numbers.{same_bytes, number_text}
 use Rattle.mr_words.specs.Names.{lowered}
-use Rattle.mr_words.specs.Parts.{with, integer}
-use Rattle.mr_ask.specs.Parts.{not_below_1, positive, positive_if_any, cursor_at, cursor_of, opposite, timing_text, timing_of, expiring, within_limit, key_expiry, seconds, milliseconds, set_expiry, lifetime_if_any}
-use Rattle.mr_ask.specs.Amounts.{is_amount, of_seconds, seconds_of, milliseconds_of}
-use Rattle.mr_ask.specs.Expiry.{said, unit_said, number_said}
-use Rattle.mr_ask.specs.Expiry as expiries
+use Rattle.mr_words.specs.Parts.{with, integer, not_below_1}
+use Rattle.mr_ask.specs.Parts.{positive, positive_if_any, cursor_at, cursor_of, opposite, timing_text, timing_of, expiring, key_expiry, seconds, milliseconds, set_expiry, lifetime_if_any}
+use Rattle.mr_expiry.specs.Expiry.{within_limit, said, number_said}
+use Rattle.mr_expiry.specs.Amounts.{is_amount, of_seconds, seconds_of, milliseconds_of}
 use Rattle.mr_ask.specs.Options.{set_text, unit_text, expire_text, scan_text, is_set_option, all_set_options, set_option, is_unit, all_units, unit_of, is_expire_condition, all_expire_conditions, expire_condition, condition_if_any, scan_option}
 use Rattle.mr_words.specs.Spelling.{Part, Number, Keyword, IsPart, IsPositive, AreParts}
 use Rattle.mr_ask.specs.Spelled.{cursor_part, expire_part, lifetime_option}
 use Rattle.mr_words.specs.declared.fault.AskFault.{AskFault}
 use Rattle.mr_words.specs.declared.fault.AskFault.TheVariants.{Syntax, ExpireTime, Other}
 use Rattle.mr_words.specs.declared.fault.BadValue.TheVariants as bad
-use Rattle.mr_words.specs.declared.fault.ExpiringCommand.{ExpiringCommand}
 use Rattle.mr_words.specs.declared.fault.ExpiringCommand.TheVariants.{Set, SetEx, PSetEx}
-use Rattle.mr_ask.specs.declared.expiry.Expiry.{Expiry}
-use Rattle.mr_ask.specs.declared.expiry.ExpiryUnit.{ExpiryUnit}
-use Rattle.mr_ask.specs.declared.expiry.ExpiryUnit.TheVariants as unit
+use Rattle.mr_expiry.specs.declared.expiry.Expiry.{Expiry}
+use Rattle.mr_expiry.specs.declared.expiry.ExpiryUnit.{ExpiryUnit}
 use Rattle.mr_ask.specs.declared.text_ask.Lifetime.{Lifetime}
 use Rattle.mr_ask.specs.declared.text_ask.Lifetime.TheVariants.{Endless, Kept, Until}
 use Rattle.mr_ask.specs.declared.key_ask.ExpireCondition.{ExpireCondition}
@@ -99,37 +96,10 @@ condition_read (w ∷ []) c h =
     subst (λ x. AreParts (w ∷ []) (expire_part x)) same (condition_named w found.0 found.1.0, tt)
 condition_read (w ∷ v ∷ ws) c h = cc
 
--- what is said in a unit has that unit and that number
-pub unit_is : (u : ExpiryUnit) (n : ℤ) → unit_said (said u n) ≡ u
-unit_is unit.Seconds n = refl
-unit_is unit.Milliseconds n = refl
-unit_is unit.AtSecond n = refl
-unit_is unit.AtMillisecond n = refl
-
-pub number_is : (u : ExpiryUnit) (n : ℤ) → number_said (said u n) ≡ n
-number_is unit.Seconds n = refl
-number_is unit.Milliseconds n = refl
-number_is unit.AtSecond n = refl
-number_is unit.AtMillisecond n = refl
-
--- what is within the limit is what was said
-pub limit_passed : {A : Type 0} (b : Bool) (f : AskFault) (x y : A) → ok_or (if b then Some x else None) f ≡ Ok y → x ≡ y
-limit_passed true f x y h = cc
-limit_passed false f x y h = cc
-
-pub within_read : (c : ExpiringCommand) (u : ExpiryUnit) (n : ℤ) (e : Expiry) → within_limit c u n ≡ Ok e → said u n ≡ e
-within_read c u n e h = limit_passed (is_amount (expiries.milliseconds (said u n))) (ExpireTime c) (said u n) e h
-
 pub key_expiry_read : (u : ExpiryUnit) (w : List ℕ) (e : Expiry) → key_expiry u w ≡ Ok e → (n : ℤ) × ((said u n ≡ e) × (w ≡ signed_decimal n))
 key_expiry_read u w e h =
     let x = with_ok (integer w) (within_limit (expiring u) u) e h in
     (x.0, (within_read (expiring u) u x.0 e x.1.1, (number_text w x.0 (integer_read w x.0 x.1.0)).0))
-
-pub not_below_1_is : (f : AskFault) (n m : ℤ) → not_below_1 f n ≡ Ok m → n ≡ m
-not_below_1_is f n m h = elim (int_lt n (pos 1)) as (λ b. (if b then Err f else Ok n) ≡ Ok m → n ≡ m) [
-  | true ↦ λ e. cc
-  | false ↦ λ e. cc
-] h
 
 pub seconds_read : (n m : ℤ) → seconds n ≡ Ok m → n ≡ m
 seconds_read n m h =

@@ -26,7 +26,7 @@ use Rattle.mr_ask.specs.declared.options.SetOption.TheVariants as option
 use Rattle.mr_ask.specs.declared.options.SetOptions.{SetOptions}
 use Rattle.mr_ask.specs.declared.options.LifetimeOption.{LifetimeOption}
 use Rattle.mr_ask.specs.declared.options.LifetimeOption.TheVariants as lifetime
-use Rattle.mr_ask.specs.declared.expiry.ExpiryUnit.{ExpiryUnit}
+use Rattle.mr_expiry.specs.declared.expiry.ExpiryUnit.{ExpiryUnit}
 
 pub get_carries : (ws : List (List ℕ)) → IfOk (get ws) (TextCarries name.Get ws)
 get_carries (k ∷ []) = record { name_is = refl; parts = (refl, tt) }

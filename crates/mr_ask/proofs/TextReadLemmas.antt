@@ -19,15 +19,15 @@ use Rattle.mr_ask.specs.Askable.{IsLifetime, TextIsAskable}
 use Rattle.mr_ask.specs.Asks.{of_kind, reading}
 use Rattle.mr_ask.specs.Called.{text_name}
 use Rattle.mr_ask.specs.Carried.{text_words}
-use Rattle.mr_ask.specs.Expiry.{number_said, unit_said}
+use Rattle.mr_expiry.specs.Expiry.{number_said, unit_said}
 use Rattle.mr_ask.specs.Options.{all_set_options, all_units, is_set_option, is_unit, lifetime_also, no_set_options, set_also, set_options, set_text, unit_of, unit_text, until}
 use Rattle.mr_ask.specs.Parts.{lifetime_if_any}
 use Rattle.mr_ask.specs.Spelled.{condition_option, lifetime_option, reply_option, text_parts, AreOfTexts}
 use Rattle.mr_ask.proofs.PartLemmas.{lifetime_words}
 use Rattle.mr_ask.proofs.SetOrderLemmas.{alike, lifetime_alike, one_step}
-use Rattle.mr_ask.specs.declared.expiry.Expiry.TheVariants.{Seconds, Milliseconds, AtSecond, AtMillisecond}
-use Rattle.mr_ask.specs.declared.expiry.ExpiryUnit.{ExpiryUnit}
-use Rattle.mr_ask.specs.declared.expiry.ExpiryUnit.TheVariants as unit
+use Rattle.mr_expiry.specs.declared.expiry.Expiry.TheVariants.{Seconds, Milliseconds, AtSecond, AtMillisecond}
+use Rattle.mr_expiry.specs.declared.expiry.ExpiryUnit.{ExpiryUnit}
+use Rattle.mr_expiry.specs.declared.expiry.ExpiryUnit.TheVariants as unit
 use Rattle.mr_ask.specs.declared.options.LifetimeOption.{LifetimeOption}
 use Rattle.mr_ask.specs.declared.options.LifetimeOption.TheVariants as lifetime
 use Rattle.mr_ask.specs.declared.options.SetOption.{SetOption}

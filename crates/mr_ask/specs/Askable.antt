@@ -2,10 +2,9 @@
 use Rattle.std.specs.Prelude.{◌≢◌, pos, neg_ℤ, [], int_le, IsTrue}
 use Rattle.mr_words.specs.Askable.{IsI64, IsCount}
 use Rattle.mr_ask_zset.specs.Askable.{ZSetIsAskable}
-use Rattle.mr_ask.specs.Amounts.{is_amount}
-use Rattle.mr_ask.specs.Expiry.{milliseconds, number_said}
-use Rattle.mr_ask.specs.declared.expiry.Expiry.{Expiry}
-use Rattle.mr_ask.specs.declared.expiry.Expiry.TheVariants.{Seconds, Milliseconds}
+use Rattle.mr_expiry.specs.Expiry.{number_said}
+use Rattle.mr_expiry.specs.declared.expiry.Expiry.{Expiry}
+use Rattle.mr_expiry.specs.declared.expiry.Expiry.TheVariants.{Seconds, Milliseconds}
 use Rattle.mr_ask.specs.declared.text_ask.Amount.TheVariants as amount
 use Rattle.mr_ask.specs.declared.text_ask.Lifetime.TheVariants.{Until}
 use Rattle.mr_ask.specs.declared.text_ask.TextAsk.{TextAsk}
@@ -20,10 +19,6 @@ use Rattle.mr_ask_coll.specs.declared.set_ask.SetAsk.{SetAsk}
 use Rattle.mr_ask_coll.specs.declared.set_ask.SetAsk.TheVariants as set
 use Rattle.mr_ask.specs.declared.ask.Ask.{Ask}
 use Rattle.mr_ask.specs.declared.ask.Ask.TheVariants as ask
-
--- an amount of time within the limit, whose number has 64 bits
-abbrev pub IsAmount : Expiry → Type 0
-IsAmount expiry = IsI64 (number_said expiry) × IsTrue (is_amount (milliseconds expiry))
 
 -- .. from 1 on
 abbrev pub IsLifetime : Expiry → Type 0

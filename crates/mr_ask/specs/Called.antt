@@ -1,7 +1,7 @@
 -- The names of commands.
 use Rattle.mr_words.specs.declared.name.Name.{Name}
 use Rattle.mr_words.specs.declared.name.Name.TheVariants as name
-use Rattle.mr_ask.specs.declared.expiry.Expiry.TheVariants as expiry
+use Rattle.mr_expiry.specs.declared.expiry.Expiry.TheVariants as expiry
 use Rattle.mr_ask.specs.declared.text_ask.Amount.TheVariants as amount
 use Rattle.mr_ask.specs.declared.key_ask.Databases.TheVariants as databases
 use Rattle.mr_ask.specs.declared.text_ask.TextAsk.{TextAsk}

@@ -5,9 +5,9 @@ use Rattle.mr_value.specs.Words.{fits}
 use Rattle.mr_words.specs.Pairing.{unpaired}
 use Rattle.mr_ask_coll.specs.Carried.{hash_words, list_words, set_words}
 use Rattle.mr_ask_zset.specs.Carried.{zset_words}
-use Rattle.mr_ask.specs.Expiry.{milliseconds}
-use Rattle.mr_ask.specs.declared.expiry.Expiry.{Expiry}
-use Rattle.mr_ask.specs.declared.expiry.Expiry.TheVariants.{Seconds, Milliseconds}
+use Rattle.mr_expiry.specs.Expiry.{milliseconds}
+use Rattle.mr_expiry.specs.declared.expiry.Expiry.{Expiry}
+use Rattle.mr_expiry.specs.declared.expiry.Expiry.TheVariants.{Seconds, Milliseconds}
 use Rattle.mr_ask.specs.declared.text_ask.Lifetime.TheVariants.{Until}
 use Rattle.mr_ask.specs.declared.text_ask.TextAsk.{TextAsk}
 use Rattle.mr_ask.specs.declared.text_ask.TextAsk.TheVariants as text

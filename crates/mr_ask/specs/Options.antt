@@ -8,8 +8,8 @@ use Rattle.mr_words.specs.Pairing.{pairs_of}
 use Rattle.mr_words.specs.Parts.{with}
 use Rattle.mr_words.specs.declared.fault.AskFault.{AskFault}
 use Rattle.mr_words.specs.declared.fault.AskFault.TheVariants.{Syntax}
-use Rattle.mr_ask.specs.declared.expiry.ExpiryUnit.{ExpiryUnit}
-use Rattle.mr_ask.specs.declared.expiry.ExpiryUnit.TheVariants as unit
+use Rattle.mr_expiry.specs.declared.expiry.ExpiryUnit.{ExpiryUnit}
+use Rattle.mr_expiry.specs.declared.expiry.ExpiryUnit.TheVariants as unit
 use Rattle.mr_ask.specs.declared.key_ask.ExpireCondition.{ExpireCondition}
 use Rattle.mr_ask.specs.declared.key_ask.ExpireCondition.TheVariants as expire
 use Rattle.mr_ask.specs.declared.text_ask.SetCondition.{SetCondition}

@@ -1,6 +1,6 @@
 -- What single arguments say.
 use Rattle.mr_words.specs.Parts.{with, integer}
-use Rattle.std.specs.Prelude.{ℕ, zero, suc, ℤ, pos, negsuc, neg_ℤ, int_lt, List, [], Bool, if◌then◌else◌, Option, Some, None, Result, Ok, Err, codes}
+use Rattle.std.specs.Prelude.{ℕ, zero, suc, ℤ, pos, negsuc, neg_ℤ, List, [], Bool, if◌then◌else◌, Option, Some, None, Result, Ok, Err, codes}
 use Rattle.std.specs.Option.{ok_or}
 use Rattle.std.specs.Str.{bytes_eq}
 use Rattle.mr_value.specs.Number.{number_of, is_i64}
@@ -10,11 +10,10 @@ use Rattle.mr_words.specs.declared.fault.AskFault.TheVariants.{Syntax, ExpireTim
 use Rattle.mr_words.specs.declared.fault.BadValue.TheVariants as bad
 use Rattle.mr_words.specs.declared.fault.ExpiringCommand.{ExpiringCommand}
 use Rattle.mr_words.specs.declared.fault.ExpiringCommand.TheVariants.{Set, SetEx, PSetEx, Expire, PExpire, ExpireAt, PExpireAt}
-use Rattle.mr_ask.specs.Amounts.{seconds_of, milliseconds_of}
-use Rattle.mr_ask.specs.Expiry.{expiry_of}
-use Rattle.mr_ask.specs.declared.expiry.Expiry.{Expiry}
-use Rattle.mr_ask.specs.declared.expiry.ExpiryUnit.{ExpiryUnit}
-use Rattle.mr_ask.specs.declared.expiry.ExpiryUnit.TheVariants as unit
+use Rattle.mr_expiry.specs.Amounts.{seconds_of, milliseconds_of}
+use Rattle.mr_expiry.specs.declared.expiry.Expiry.{Expiry}
+use Rattle.mr_expiry.specs.declared.expiry.ExpiryUnit.{ExpiryUnit}
+use Rattle.mr_expiry.specs.declared.expiry.ExpiryUnit.TheVariants as unit
 use Rattle.mr_ask.specs.declared.options.LifetimeOption.{LifetimeOption}
 use Rattle.mr_ask.specs.declared.options.LifetimeOption.TheVariants as option
 use Rattle.mr_ask.specs.declared.text_ask.Lifetime.{Lifetime}
@@ -27,10 +26,6 @@ use Rattle.mr_ask.specs.declared.key_ask.Timing.{Timing}
 use Rattle.mr_ask.specs.declared.key_ask.Timing.TheVariants.{Later, Now}
 use Rattle.mr_ask.specs.declared.text_ask.Amount.{Amount}
 use Rattle.mr_ask.specs.declared.text_ask.Amount.TheVariants as amount
-
--- a number from 1 on, or else that fault
-abbrev pub not_below_1 : AskFault → ℤ → Result ℤ AskFault
-not_below_1 otherwise n = if int_lt n (pos 1) then Err otherwise else Ok n
 
 abbrev pub positive : List ℕ → Result ℤ AskFault
 positive word = with (integer word) (not_below_1 Syntax)
@@ -96,10 +91,6 @@ expiring unit.Seconds = Expire
 expiring unit.Milliseconds = PExpire
 expiring unit.AtSecond = ExpireAt
 expiring unit.AtMillisecond = PExpireAt
-
--- so many of a unit, which are within the limit
-abbrev pub within_limit : ExpiringCommand → ExpiryUnit → ℤ → Result Expiry AskFault
-within_limit command unit n = ok_or (expiry_of unit n) (ExpireTime command)
 
 -- what the number of EXPIRE says, and of its kin
 abbrev pub key_expiry : ExpiryUnit → List ℕ → Result Expiry AskFault

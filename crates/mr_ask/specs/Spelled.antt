@@ -8,7 +8,7 @@ use Rattle.mr_ask_zset.specs.Spelled.{ZSetSpells}
 use Rattle.mr_ask.specs.Called.{text_name, key_name, server_name}
 use Rattle.mr_ask.specs.Carried.{text_words, key_words, server_words}
 use Rattle.mr_ask.specs.Parts.{timing_text, kind_of}
-use Rattle.mr_ask.specs.Expiry.{unit_said, number_said}
+use Rattle.mr_expiry.specs.Expiry.{unit_said, number_said}
 use Rattle.mr_ask.specs.Options.{set_text, unit_text, expire_text, scan_text}
 use Rattle.mr_ask.specs.Server.{setname, setinfo}
 use Rattle.mr_ask.specs.declared.options.SetOption.TheVariants as option

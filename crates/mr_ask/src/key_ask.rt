@@ -1,5 +1,5 @@
 // Commands on keys of any kind, with their arguments.
-use crate::expiry::Expiry;
+use mr_expiry::Expiry;
 use mr_words::{Argument, Words};
 
 /// A command on keys of any kind, with its arguments.

@@ -2,7 +2,6 @@
 #![tactic(auto)]
 
 mod ask;
-mod expiry;
 mod group;
 mod key_ask;
 mod laws;
@@ -13,7 +12,7 @@ mod server_ask;
 mod text_ask;
 
 pub use ask::Ask;
-pub use expiry::{Expiry, Milliseconds, Seconds};
+pub use mr_expiry::{Expiry, Milliseconds, Seconds};
 pub use group::Group;
 pub use key_ask::{Cursor, Databases, ExpireCondition, KeyAsk, KindName, Timing};
 pub use laws::{first_fault_is_told, options_stand_in_any_order, spelled_is_read};

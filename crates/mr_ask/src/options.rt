@@ -5,9 +5,9 @@ ghost use Rattle.std.specs.Str.{bytes_eq};
 ghost use Rattle.mr_words.specs.Names.{lowered};
 ghost use Rattle.mr_ask.specs.Options.{set_option, is_set_option, unit_of, is_unit, no_set_options, set_also, until, set_options, number_then, expire_condition, is_expire_condition, condition_if_any, scan_text, scan_option, no_scan_options, scan_also, scan_options};
 
-use crate::expiry::ExpiryUnit;
 use crate::key_ask::ExpireCondition;
 use crate::text_ask::{SetCondition, SetReply};
+use mr_expiry::ExpiryUnit;
 use mr_words::{Argument, Arguments, AskFault, Pairs};
 use std::borrow::CowSlice;
 

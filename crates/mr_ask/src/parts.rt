@@ -4,14 +4,16 @@ ghost use Rattle.std.specs.Cow.{cow_slice_items};
 ghost use Rattle.std.specs.Option.{option_map};
 ghost use Rattle.std.specs.Str.{bytes_eq};
 ghost use Rattle.mr_words.specs.Names.{lowered};
-ghost use Rattle.mr_ask.specs.Parts.{not_below_1, positive, positive_if_any, cursor_at, cursor_of, opposite, timing_of, timing_text, is_kind, kind_of, expiring, key_expiry, lifetime_if_any, milliseconds, seconds, set_expiry, within_limit};
+ghost use Rattle.mr_words.specs.Parts.{not_below_1};
+ghost use Rattle.mr_ask.specs.Parts.{positive, positive_if_any, cursor_at, cursor_of, opposite, timing_of, timing_text, is_kind, kind_of, expiring, key_expiry, lifetime_if_any, milliseconds, seconds, set_expiry};
+ghost use Rattle.mr_expiry.specs.Expiry.{within_limit};
 
-use crate::expiry::{Expiry, ExpiryUnit, Milliseconds, Seconds};
 use crate::key_ask::{Cursor, KindName, Timing};
 use crate::options::LifetimeOption;
 use crate::text_ask::Lifetime;
+use mr_expiry::{Expiry, ExpiryUnit, Milliseconds, Seconds};
 use mr_value::read_i64;
-use mr_words::{Argument, AskFault, BadValue, ExpiringCommand, integer};
+use mr_words::{Argument, AskFault, BadValue, ExpiringCommand, integer, not_below_1};
 use std::borrow::CowSlice;
 
 /// A number from 1 on, where there is one.
@@ -28,16 +30,6 @@ fn positive(text: &[u8]) -> Result<i64, AskFault>
     ensures { result ≡ positive text.now }
 {
     not_below_1(AskFault::Syntax, read_i64(text).ok_or(AskFault::Integer)?)
-}
-
-fn not_below_1(otherwise: AskFault, number: i64) -> Result<i64, AskFault>
-    ensures { result ≡ not_below_1 otherwise number }
-{
-    if number < 1 {
-        Err(otherwise)
-    } else {
-        Ok(number)
-    }
 }
 
 /// Where a scan goes on at a cursor, which is a number that isn't below 0.
@@ -141,13 +133,6 @@ fn expiring(unit: ExpiryUnit) -> ExpiringCommand
         ExpiryUnit::AtSecond => ExpiringCommand::ExpireAt,
         ExpiryUnit::AtMillisecond => ExpiringCommand::PExpireAt,
     }
-}
-
-// So many of a unit, which are within the limit.
-fn within_limit(command: ExpiringCommand, unit: ExpiryUnit, number: i64) -> Result<Expiry, AskFault>
-    ensures { result ≡ within_limit command unit number }
-{
-    unit.expiry(number).ok_or(AskFault::ExpireTime(command))
 }
 
 /// What the number of `EXPIRE` says, and of its kin.

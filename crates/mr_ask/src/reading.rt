@@ -13,10 +13,10 @@ mod server;
 mod texts;
 
 use crate::ask::Ask;
-use crate::expiry::ExpiryUnit;
 use crate::key_ask::{Databases, KeyAsk};
 use crate::server_ask::ServerAsk;
 use crate::text_ask::{Amount, TextAsk};
+use mr_expiry::ExpiryUnit;
 use mr_ask_coll::{
     FieldsReply, HashAsk, HashPart, ListAsk, PushTo, SetAsk, SetOperation, hashes, lists, sets,
 };

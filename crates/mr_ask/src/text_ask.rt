@@ -2,7 +2,7 @@
 ghost use Rattle.std.specs.Prelude.{◌≡◌};
 ghost use Rattle.mr_ask.specs.Parts.{amount_number};
 
-use crate::expiry::{Expiry, Milliseconds, Seconds};
+use mr_expiry::{Expiry, Milliseconds, Seconds};
 use mr_words::{Argument, Pairs, Words};
 
 /// A command on strings, with its arguments.

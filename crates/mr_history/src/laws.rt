@@ -1,23 +1,8 @@
 //! What holds of every run and of every event, at each language. No function here does anything: each is the law that it
 //! ensures.
-ghost use Rattle.mr_history.specs.EachEvent.{
-  AnswersAreOfOneMoment,
-  AsksFromWhereItStands,
-  BookChangesByThreeWays,
-  DialledLinksAreEmpty,
-  MastersTakeNewIds,
-  PartsChangeNothing,
-  RestartsUnderNewIds,
-  StreamsAreFollowed,
-};
+ghost use Rattle.mr_history.specs.EachEvent.{AnswersAreOfOneMoment, AsksFromWhereItStands, BookChangesByThreeWays, DialledLinksAreEmpty, MastersTakeNewIds, PartsChangeNothing, RestartsUnderNewIds, StreamsAreFollowed, };
 ghost use Rattle.mr_history.specs.Language.{Language, Laws};
-ghost use Rattle.mr_history.specs.Promises.{
-  CaughtUpIsLevel,
-  HistoriesStay,
-  InvariantHolds,
-  NoSilentDifference,
-  TrueToHistory,
-};
+ghost use Rattle.mr_history.specs.Promises.{CaughtUpIsLevel, HistoriesStay, InvariantHolds, NoSilentDifference, TrueToHistory, };
 
 /// What replicas hold and how they write to one another, with the proof that of each kind of text none begins another.
 pub trait Replicated {

@@ -8,7 +8,7 @@ use Rattle.mr_value.specs.Words.{fits}
 use Rattle.mr_resp.specs.Replies as reply
 use Rattle.mr_entries.specs.Dataset.{Dataset}
 use Rattle.mr_ask.specs.Carried.{key_words}
-use Rattle.mr_ask.specs.Expiry.{deadline_at}
+use Rattle.mr_expiry.specs.Expiry.{deadline_at}
 use Rattle.mr_ask.specs.declared.key_ask.KeyAsk.{KeyAsk}
 use Rattle.mr_ask.specs.declared.key_ask.KeyAsk.TheVariants as ask
 use Rattle.mr_ask.specs.declared.server_ask.ServerAsk.{ServerAsk}

@@ -2,7 +2,7 @@
 use Rattle.std.specs.Prelude.{ℤ, [], ◌∷◌}
 use Rattle.mr_planning.specs.Outcomes.{answered}
 use Rattle.mr_planning.specs.Commands.{Command, on_key, on_keys, on_none}
-use Rattle.mr_ask.specs.Expiry.{deadline_at}
+use Rattle.mr_expiry.specs.Expiry.{deadline_at}
 use Rattle.mr_ask.specs.declared.key_ask.KeyAsk.{KeyAsk}
 use Rattle.mr_ask.specs.declared.key_ask.KeyAsk.TheVariants as ask
 use Rattle.mr_ask.specs.declared.server_ask.ServerAsk.{ServerAsk}

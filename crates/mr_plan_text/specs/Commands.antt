@@ -5,10 +5,10 @@ use Rattle.mr_planning.specs.Commands.{Command, on_key, on_keys}
 use Rattle.mr_ask.specs.declared.text_ask.TextAsk.{TextAsk}
 use Rattle.mr_ask.specs.declared.text_ask.TextAsk.TheVariants as ask
 use Rattle.mr_ask.specs.Parts.{amount_number}
-use Rattle.mr_ask.specs.Amounts.{is_amount}
-use Rattle.mr_ask.specs.Expiry.{milliseconds}
-use Rattle.mr_ask.specs.declared.expiry.Expiry.{Expiry}
-use Rattle.mr_ask.specs.declared.expiry.Expiry.TheVariants.{Seconds, Milliseconds}
+use Rattle.mr_expiry.specs.Amounts.{is_amount}
+use Rattle.mr_expiry.specs.Expiry.{milliseconds}
+use Rattle.mr_expiry.specs.declared.expiry.Expiry.{Expiry}
+use Rattle.mr_expiry.specs.declared.expiry.Expiry.TheVariants.{Seconds, Milliseconds}
 use Rattle.mr_ask.specs.declared.text_ask.Lifetime.TheVariants.{Until}
 use Rattle.mr_plan_text.specs.Texts.{get_turn, length_turn, range_turn, texts}
 use Rattle.mr_plan_text.specs.Setting.{said_at, set_turn, set_for_turn, set_new_turn, get_and_set_turn, get_and_delete_turn}

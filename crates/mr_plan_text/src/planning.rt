@@ -1,5 +1,5 @@
 // The plan of a command on strings.
-ghost use Rattle.std.specs.Prelude.{◌≡◌, ◌<◌, length, IfOk, IsTrue};
+ghost use Rattle.std.specs.Prelude.{◌<◌, length, IfOk, IsTrue};
 ghost use Rattle.std.specs.List.{list_all};
 ghost use Rattle.mr_value.specs.Number.{is_i64};
 ghost use Rattle.mr_value.specs.Words.{fits};
@@ -18,8 +18,9 @@ use crate::deadlines::NewDeadline;
 use crate::setting::SetRules;
 use crate::setting_all::{set_all, set_all_new};
 use crate::{changing, setting, texts};
-use mr_ask::{Argument, Expiry, Lifetime, SetReply, TextAsk, Words};
+use mr_ask::{Argument, Lifetime, SetReply, TextAsk, Words};
 use mr_data::{Dataset, Given, Plan};
+use mr_expiry::Expiry;
 use mr_planning::{Effects, look, push_dels};
 use std::alloc::{AllocError, Global};
 

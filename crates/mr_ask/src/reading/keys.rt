@@ -3,10 +3,10 @@ ghost use Rattle.std.specs.Prelude.{◌≡◌, map};
 ghost use Rattle.std.specs.Cow.{cow_slice_items};
 ghost use Rattle.mr_ask.specs.Keys.{del, unlink, exists, key_type, matching_keys, scan, dbsize, rename, renamenx, clear, expire, ttl, pttl, expiretime, pexpiretime, persist};
 
-use crate::expiry::ExpiryUnit;
 use crate::key_ask::{Databases, ExpireCondition, KeyAsk};
 use crate::options::ScanOptions;
 use crate::parts::{cursor_of, key_expiry, kind_if_any, positive_if_any, timing_of};
+use mr_expiry::ExpiryUnit;
 use mr_words::{Argument, Arguments, AskFault, Name, Words};
 
 type Reading<'a, 't> = Result<KeyAsk<'a, 't>, AskFault>;

@@ -1,7 +1,7 @@
 use Rattle.std.proofs.Common.{rules, option_copied}
 use Rattle.std.proofs.lemmas.Int.{to_z-of_z}
 use Rattle.mr_resp.specs.ReplyView.{view}
-use Rattle.mr_ask.specs.Expiry.{deadline_at}
+use Rattle.mr_expiry.specs.Expiry.{deadline_at}
 use Rattle.mr_planning.specs.Turns.{Takes}
 use Rattle.mr_planning.proofs.PlanLemmas.{key_plan}
 use Rattle.mr_plan_keys.specs.Expiring.{expire_turn}

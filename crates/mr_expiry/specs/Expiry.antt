@@ -1,10 +1,14 @@
 -- When a key becomes past, as a request says it.
-use Rattle.std.specs.Prelude.{ℤ, ◌+ℤ◌, if◌then◌else◌, Option, Some, None}
-use Rattle.mr_ask.specs.Amounts.{is_amount, of_seconds}
-use Rattle.mr_ask.specs.declared.expiry.Expiry.{Expiry}
-use Rattle.mr_ask.specs.declared.expiry.Expiry.TheVariants.{Seconds, Milliseconds, AtSecond, AtMillisecond}
-use Rattle.mr_ask.specs.declared.expiry.ExpiryUnit.{ExpiryUnit}
-use Rattle.mr_ask.specs.declared.expiry.ExpiryUnit.TheVariants as unit
+use Rattle.std.specs.Prelude.{ℤ, ◌+ℤ◌, if◌then◌else◌, Option, Some, None, Result}
+use Rattle.mr_expiry.specs.Amounts.{is_amount, of_seconds}
+use Rattle.mr_expiry.specs.declared.expiry.Expiry.{Expiry}
+use Rattle.mr_expiry.specs.declared.expiry.Expiry.TheVariants.{Seconds, Milliseconds, AtSecond, AtMillisecond}
+use Rattle.mr_expiry.specs.declared.expiry.ExpiryUnit.{ExpiryUnit}
+use Rattle.mr_expiry.specs.declared.expiry.ExpiryUnit.TheVariants as unit
+use Rattle.std.specs.Option.{ok_or}
+use Rattle.mr_words.specs.declared.fault.AskFault.{AskFault}
+use Rattle.mr_words.specs.declared.fault.AskFault.TheVariants.{ExpireTime}
+use Rattle.mr_words.specs.declared.fault.ExpiringCommand.{ExpiringCommand}
 
 -- in milliseconds
 abbrev pub milliseconds : Expiry → ℤ
@@ -44,3 +48,7 @@ number_said (Seconds n) = n
 number_said (Milliseconds n) = n
 number_said (AtSecond n) = n
 number_said (AtMillisecond n) = n
+
+-- so many of a unit, which are within the limit
+abbrev pub within_limit : ExpiringCommand → ExpiryUnit → ℤ → Result Expiry AskFault
+within_limit command unit n = ok_or (expiry_of unit n) (ExpireTime command)

@@ -1,8 +1,9 @@
 // When keys become past.
 ghost use Rattle.std.specs.Prelude.{◌≡◌, ◌≤ℤ◌, ◌^◌, pos, IsTrue};
-ghost use Rattle.mr_ask.specs.Amounts.{is_amount, milliseconds_of, of_seconds, seconds_of};
-ghost use Rattle.mr_ask.specs.Expiry.{deadline_at, expiry_of, milliseconds};
+ghost use Rattle.mr_expiry.specs.Amounts.{is_amount, milliseconds_of, of_seconds, seconds_of};
+ghost use Rattle.mr_expiry.specs.Expiry.{deadline_at, expiry_of, milliseconds, within_limit};
 
+use mr_words::{AskFault, ExpiringCommand};
 use std::marker::Model;
 
 /// The most milliseconds that a request may name. The least is its negative.
@@ -50,7 +51,7 @@ impl Expiry {
 
 /// What a number of a request says of a deadline.
 #[derive(Clone, Copy)]
-pub(crate) enum ExpiryUnit {
+pub enum ExpiryUnit {
     /// So many seconds from now on.
     Seconds,
     /// So many milliseconds from now on.
@@ -63,7 +64,7 @@ pub(crate) enum ExpiryUnit {
 
 impl ExpiryUnit {
     /// So many of this unit, if they are within the limit.
-    pub(crate) fn expiry(self, number: i64) -> Option<Expiry>
+    pub fn expiry(self, number: i64) -> Option<Expiry>
         ensures { result ≡ expiry_of self number }
     {
         match self {
@@ -75,6 +76,17 @@ impl ExpiryUnit {
     }
 }
 
+/// So many of a unit, which are within the limit, or else the fault of this command.
+pub fn within_limit(
+    command: ExpiringCommand,
+    unit: ExpiryUnit,
+    number: i64,
+) -> Result<Expiry, AskFault>
+    ensures { result ≡ within_limit command unit number }
+{
+    unit.expiry(number).ok_or(AskFault::ExpireTime(command))
+}
+
 /// Seconds that a request names, seen as their number. In milliseconds they are from -2^61 to 2^61.
 #[derive(Clone, Copy)]
 pub struct Seconds {
@@ -83,7 +95,7 @@ pub struct Seconds {
 
 impl Model for Seconds {
     ghost use Rattle.std.specs.Prelude.{ℤ, IsTrue};
-    ghost use Rattle.mr_ask.specs.Amounts.{is_amount, of_seconds};
+    ghost use Rattle.mr_expiry.specs.Amounts.{is_amount, of_seconds};
 
     ghost Value = { ℤ };
 
@@ -96,7 +108,7 @@ impl Model for Seconds {
 
 impl Seconds {
     /// So many seconds, if they are within the limit.
-    pub(crate) fn new(number: i64) -> Option<Seconds>
+    pub fn new(number: i64) -> Option<Seconds>
         ensures { result ≡ seconds_of number }
     {
         if are_seconds(number) {
@@ -121,8 +133,6 @@ pub struct Milliseconds {
 }
 
 impl Model for Milliseconds {
-    ghost use Rattle.std.specs.Prelude.{ℤ, IsTrue};
-    ghost use Rattle.mr_ask.specs.Amounts.{is_amount};
 
     ghost Value = { ℤ };
 
@@ -135,7 +145,7 @@ impl Model for Milliseconds {
 
 impl Milliseconds {
     /// So many milliseconds, if they are within the limit.
-    pub(crate) fn new(number: i64) -> Option<Milliseconds>
+    pub fn new(number: i64) -> Option<Milliseconds>
         ensures { result ≡ milliseconds_of number }
     {
         if is_amount(number) {
