@@ -133,6 +133,8 @@ pub struct Milliseconds {
 }
 
 impl Model for Milliseconds {
+    ghost use Rattle.std.specs.Prelude.{ℤ, IsTrue};
+    ghost use Rattle.mr_expiry.specs.Amounts.{is_amount};
 
     ghost Value = { ℤ };
 
