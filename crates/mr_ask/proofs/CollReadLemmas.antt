@@ -39,11 +39,11 @@ use Rattle.mr_ask_zset.specs.declared.zset_ask.ZSetAsk.{ZSetAsk}
 use Rattle.mr_ask_zset.specs.declared.zset_ask.ZSetAsk.TheVariants as zset
 use Rattle.mr_ask.specs.Askable.{HashIsAskable, ListIsAskable, SetIsAskable}
 use Rattle.mr_ask.specs.Asks.{of_kind, reading}
-use Rattle.mr_ask.specs.Called.{server_name}
-use Rattle.mr_ask.specs.Server.{setinfo, setname}
-use Rattle.mr_ask.specs.Spelled.{server_parts}
-use Rattle.mr_ask.specs.declared.server_ask.ServerAsk.{ServerAsk}
-use Rattle.mr_ask.specs.declared.server_ask.ServerAsk.TheVariants as server
+use Rattle.mr_cmd_server.specs.Called.{server_name}
+use Rattle.mr_cmd_server.specs.Arguments.{setinfo, setname}
+use Rattle.mr_cmd_server.specs.Spelled.{server_parts}
+use Rattle.mr_cmd_server.specs.declared.server_ask.ServerAsk.{ServerAsk}
+use Rattle.mr_cmd_server.specs.declared.server_ask.ServerAsk.TheVariants as server
 use Rattle.mr_ask.specs.declared.ask.Ask.TheVariants as ask
 
 -- ---- hashes

@@ -9,10 +9,10 @@ use Rattle.mr_planning.specs.Collections.{Change, told, changed}
 use Rattle.mr_planning.specs.Commands.{own_effects}
 use Rattle.mr_plan_list.specs.Lists.{of_list}
 use Rattle.mr_ask.specs.declared.ask.Ask.TheVariants as ask
-use Rattle.mr_ask.specs.declared.text_ask.TextAsk.{TextAsk}
-use Rattle.mr_ask.specs.declared.text_ask.TextAsk.TheVariants as text
-use Rattle.mr_ask.specs.declared.key_ask.KeyAsk.{KeyAsk}
-use Rattle.mr_ask.specs.declared.key_ask.KeyAsk.TheVariants as key
+use Rattle.mr_cmd_string.specs.declared.text_ask.TextAsk.{TextAsk}
+use Rattle.mr_cmd_string.specs.declared.text_ask.TextAsk.TheVariants as text
+use Rattle.mr_cmd_key.specs.declared.key_ask.KeyAsk.{KeyAsk}
+use Rattle.mr_cmd_key.specs.declared.key_ask.KeyAsk.TheVariants as key
 use Rattle.mr_ask_coll.specs.declared.hash_ask.HashAsk.{HashAsk}
 use Rattle.mr_ask_coll.specs.declared.hash_ask.HashAsk.TheVariants as hash
 use Rattle.mr_ask_coll.specs.declared.list_ask.ListAsk.{ListAsk}

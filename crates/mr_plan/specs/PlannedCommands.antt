@@ -3,11 +3,11 @@ use Rattle.std.specs.Prelude.{◌<◌, length}
 use Rattle.mr_resp.specs.Usual.{commands}
 use Rattle.mr_data.specs.declared.given.Given.{Given}
 use Rattle.mr_planning.specs.Commands.{Command}
-use Rattle.mr_ask.specs.Carried.{text_words}
+use Rattle.mr_cmd_string.specs.Carried.{text_words}
 use Rattle.mr_ask.specs.declared.ask.Ask.{Ask}
 use Rattle.mr_ask.specs.declared.ask.Ask.TheVariants as ask
-use Rattle.mr_plan_text.specs.Commands as texts
-use Rattle.mr_plan_keys.specs.Commands as keys
+use Rattle.mr_cmd_string.specs.Commands as texts
+use Rattle.mr_cmd_key.specs.Commands as keys
 use Rattle.mr_plan_hash.specs.Commands as hashes
 use Rattle.mr_plan_list.specs.Commands as lists
 use Rattle.mr_plan_set.specs.SetCommands as sets

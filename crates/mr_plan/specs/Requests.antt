@@ -13,7 +13,7 @@ use Rattle.mr_ask.specs.Asks.{asked}
 use Rattle.mr_words.specs.Faults.{fault_text}
 use Rattle.mr_ask.specs.declared.ask.Ask.{Ask}
 use Rattle.mr_ask.specs.declared.ask.Ask.TheVariants as ask
-use Rattle.mr_ask.specs.declared.server_ask.ServerAsk.TheVariants as server
+use Rattle.mr_cmd_server.specs.declared.server_ask.ServerAsk.TheVariants as server
 use Rattle.mr_words.specs.declared.fault.AskFault.{AskFault}
 use Rattle.mr_planning.specs.Commands.{IsPlan, answer, after}
 use Rattle.mr_plan.specs.PlannedCommands.{command_of}

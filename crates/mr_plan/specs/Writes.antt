@@ -4,10 +4,10 @@ use Rattle.mr_entries.specs.Dataset.{Dataset}
 use Rattle.mr_data.specs.declared.given.Given.{Given}
 use Rattle.mr_ask.specs.declared.ask.Ask.{Ask}
 use Rattle.mr_ask.specs.declared.ask.Ask.TheVariants as ask
-use Rattle.mr_ask.specs.declared.text_ask.TextAsk.{TextAsk}
-use Rattle.mr_ask.specs.declared.text_ask.TextAsk.TheVariants as text
-use Rattle.mr_ask.specs.declared.key_ask.KeyAsk.{KeyAsk}
-use Rattle.mr_ask.specs.declared.key_ask.KeyAsk.TheVariants as key
+use Rattle.mr_cmd_string.specs.declared.text_ask.TextAsk.{TextAsk}
+use Rattle.mr_cmd_string.specs.declared.text_ask.TextAsk.TheVariants as text
+use Rattle.mr_cmd_key.specs.declared.key_ask.KeyAsk.{KeyAsk}
+use Rattle.mr_cmd_key.specs.declared.key_ask.KeyAsk.TheVariants as key
 use Rattle.mr_ask_coll.specs.declared.hash_ask.HashAsk.{HashAsk}
 use Rattle.mr_ask_coll.specs.declared.hash_ask.HashAsk.TheVariants as hash
 use Rattle.mr_ask_coll.specs.declared.list_ask.ListAsk.{ListAsk}

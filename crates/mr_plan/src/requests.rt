@@ -12,7 +12,8 @@ ghost use Rattle.std.specs.Prelude.{Ok};
 
 use crate::planning::plan;
 use crate::writing::writes;
-use mr_ask::{Ask, ServerAsk, read};
+use mr_ask::{Ask, read};
+use mr_cmd_server::ServerAsk;
 use mr_data::{Dataset, Given, Plan};
 use mr_resp::Reply;
 use std::alloc::{AllocError, Global};

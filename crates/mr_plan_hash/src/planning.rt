@@ -11,7 +11,8 @@ ghost use Rattle.mr_planning.specs.Commands.{IsPlan, IsFaithful, HasCommandTexts
 ghost use Rattle.mr_plan_hash.specs.Commands.{key_of, change, command, Makes};
 
 use crate::{reading, removing, setting};
-use mr_ask::{Argument, HashAsk};
+use mr_words::Argument;
+use mr_ask::HashAsk;
 use mr_data::{Dataset, Entry, Given, Plan, Value};
 use mr_resp::Reply;
 use mr_planning::{Effects, look, wrong_kind};

@@ -3,7 +3,8 @@ ghost use Rattle.std.specs.Prelude.{◌≡◌, ◌<◌, ◌^◌, IfOk, option_co
 ghost use Rattle.mr_resp.specs.ReplyView.{view};
 ghost use Rattle.mr_plan_hash.specs.Hashes.{value_reply, get_field, get_fields, list_hash, has_field, count_fields, field_length};
 
-use mr_ask::{Argument, HashPart, Words};
+use mr_words::{Argument, Words};
+use mr_ask::HashPart;
 use mr_resp::Reply;
 use mr_planning::{count, integer};
 use mr_value::Hash;

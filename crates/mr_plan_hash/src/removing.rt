@@ -9,7 +9,7 @@ ghost use Rattle.mr_plan_hash.specs.Hashes.{remove_fields};
 ghost use Rattle.mr_plan_hash.specs.Commands.{Makes};
 
 use crate::groups::{FieldGroup, end_fields};
-use mr_ask::{Argument, Words};
+use mr_words::{Argument, Words};
 use mr_map::SliceMap;
 use mr_resp::Reply;
 use mr_planning::{Effects, count};

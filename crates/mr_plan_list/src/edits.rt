@@ -7,7 +7,7 @@ ghost use Rattle.mr_plan_list.specs.Numbers.{IsShort, IsNumberFor};
 ghost use Rattle.mr_plan_list.specs.Edits.{set_turn, insert_turn, remove_turn, trim_turn, is_item};
 
 use crate::replies::{no_such_key, out_of_range};
-use mr_ask::Argument;
+use mr_words::Argument;
 use mr_data::{Effect, Entry, Value};
 use mr_resp::Reply;
 use mr_planning::{Effects, done, integer, wrong_kind};

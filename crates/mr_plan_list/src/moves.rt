@@ -9,7 +9,7 @@ ghost use Rattle.mr_planning.specs.Commands.{IsPlan};
 ghost use Rattle.mr_plan_list.specs.Moves.{rotate_turn, carry, moving};
 
 use crate::ends::{end_item, is_same_end};
-use mr_ask::Argument;
+use mr_words::Argument;
 use mr_data::{Dataset, Effect, Entry, Given, Plan, Value};
 use mr_resp::Reply;
 use mr_planning::{Effects, bulk, look, wrong_kind};

@@ -12,7 +12,8 @@ ghost use Rattle.mr_plan_list.specs.Numbers.{HasNumbers, HasNumbersIn};
 ghost use Rattle.mr_plan_list.specs.Commands.{turn, command};
 
 use crate::{edits, moves, pops, pushes, telling};
-use mr_ask::{Argument, ListAsk};
+use mr_words::Argument;
+use mr_ask::ListAsk;
 use mr_data::{Dataset, Entry, Given, Plan};
 use mr_resp::Reply;
 use mr_planning::{Effects, look};

@@ -7,7 +7,7 @@ ghost use Rattle.mr_plan_list.specs.Numbers.{IsShort, IsShortFor};
 ghost use Rattle.mr_plan_list.specs.Pops.{pop_turn, taken_items};
 
 use crate::ends::end_item;
-use mr_ask::Argument;
+use mr_words::Argument;
 use mr_data::{Effect, Entry, Value};
 use mr_resp::Reply;
 use mr_planning::{Effects, bulk, wrong_kind};

@@ -7,7 +7,8 @@ ghost use Rattle.mr_entries.specs.Cuts.{cut};
 ghost use Rattle.mr_planning.specs.Turns.{Takes};
 ghost use Rattle.mr_plan_list.specs.Pushes.{push_turn, push_effects};
 
-use mr_ask::{Argument, PushTo, Words};
+use mr_words::{Argument, Words};
+use mr_ask::PushTo;
 use mr_data::{Effect, Entry, Value};
 use mr_resp::Reply;
 use mr_planning::{Effects, integer, wrong_kind};

@@ -6,7 +6,7 @@ ghost use Rattle.mr_plan_set.specs.Turns.{add_members_turn, remove_members_turn}
 
 use crate::grouping::{Write, push_changes};
 use crate::replies::set_at;
-use mr_ask::{Argument, Words};
+use mr_words::{Argument, Words};
 use mr_data::Entry;
 use mr_resp::Reply;
 use mr_planning::{Effects, count, wrong_kind};

@@ -13,7 +13,8 @@ ghost use Rattle.mr_plan_set.specs.Grouping.{members_of, agrees, is_wanted};
 ghost use Rattle.mr_plan_set.specs.Turns.{bulks};
 
 use crate::replies::set_at;
-use mr_ask::{SetOperation, Words};
+use mr_ask::SetOperation;
+use mr_words::Words;
 use mr_data::{Dataset, Given};
 use mr_map::SliceMap;
 use mr_resp::Reply;

@@ -10,7 +10,7 @@ ghost use Rattle.mr_plan_set.specs.Turns.{draw_members_turn, take_members_turn, 
 
 use crate::grouping::{Write, push_groups, push_member};
 use crate::replies::set_at;
-use mr_ask::Argument;
+use mr_words::Argument;
 use mr_data::Entry;
 use mr_map::{Keys, SliceMap};
 use mr_resp::Reply;

@@ -3,7 +3,7 @@ ghost use Rattle.std.specs.Prelude.{◌≡◌, ◌<◌, ◌^◌, [], ◌∷◌, 
 ghost use Rattle.std.specs.FinMap.{len};
 ghost use Rattle.mr_plan_set.specs.Grouping.{changed_by, changes, group_effect, group_effects};
 
-use mr_ask::{Argument, Words as Arguments};
+use mr_words::{Argument, Words as Arguments};
 use mr_data::{Effect, Words};
 use mr_map::SliceMap;
 use mr_planning::Effects;

@@ -7,7 +7,7 @@ ghost use Rattle.mr_entries.specs.Dataset.{Dataset as Map};
 ghost use Rattle.mr_plan_set.specs.Moving.{move_member, Gives};
 
 use crate::replies::set_at;
-use mr_ask::Argument;
+use mr_words::Argument;
 use mr_data::{Effect, Entry};
 use mr_resp::Reply;
 use mr_planning::{Effects, count, wrong_kind};

@@ -4,7 +4,7 @@ ghost use Rattle.mr_resp.specs.ReplyView.{view};
 ghost use Rattle.mr_plan_set.specs.Turns.{has_member_turn, have_members_turn, list_members_turn, count_members_turn, flags};
 
 use crate::replies::{bulks_of, flag, set_at};
-use mr_ask::{Argument, Words};
+use mr_words::{Argument, Words};
 use mr_data::Entry;
 use mr_resp::Reply;
 use mr_planning::{count, wrong_kind};
