@@ -7,9 +7,9 @@ use Rattle.mr_value.specs.declared.ends.End.TheVariants.{Left, Right}
 use Rattle.mr_words.specs.Names.{lowered, named}
 use Rattle.mr_cmd_string.specs.Arguments.{get, set, setex, psetex, strlen, getrange, mget, setnx, getset, getdel, mset, msetnx, append, setrange, step, incrby, decrby}
 use Rattle.mr_cmd_key.specs.Arguments.{del, unlink, exists, key_type, matching_keys, scan, dbsize, rename, renamenx, clear, expire, ttl, pttl, expiretime, pexpiretime, persist}
-use Rattle.mr_ask_coll.specs.Hashes.{set_fields, hsetnx, hget, hmget, list_hash, hdel, hexists, hlen, hstrlen, hincrby}
-use Rattle.mr_ask_coll.specs.Lists.{push, pop, llen, lrange, lindex, lset, linsert, lrem, ltrim, lmove, rpoplpush}
-use Rattle.mr_ask_coll.specs.Sets.{sadd, srem, sismember, smismember, smembers, scard, spop, srandmember, smove, combine}
+use Rattle.mr_cmd_hash.specs.Arguments.{set_fields, hsetnx, hget, hmget, list_hash, hdel, hexists, hlen, hstrlen, hincrby}
+use Rattle.mr_cmd_list.specs.Arguments.{push, pop, llen, lrange, lindex, lset, linsert, lrem, ltrim, lmove, rpoplpush}
+use Rattle.mr_cmd_set.specs.Arguments.{sadd, srem, sismember, smismember, smembers, scard, spop, srandmember, smove, combine}
 use Rattle.mr_ask_zset.specs.Reading.{zadd, zincrby, zrem, zcard, zcount, zscore, zmscore, zrank, zrange, zrevrange, range_by_score, zpop, zremrangebyrank, zremrangebyscore}
 use Rattle.mr_cmd_server.specs.Arguments.{ping, echo, select, quit, command, client}
 use Rattle.mr_ask.specs.Asks.{asked, asked_by, reading}
@@ -21,9 +21,9 @@ use Rattle.mr_ask.proofs.Carries.{of_kind_carries}
 use Rattle.mr_ask.proofs.TimeLemmas.{IsTimedAsk, reading_timed}
 use Rattle.mr_cmd_string.proofs.ArgumentLemmas.{get_carries, set_carries, setex_carries, psetex_carries, strlen_carries, getrange_carries, mget_carries, setnx_carries, getset_carries, getdel_carries, mset_carries, msetnx_carries, append_carries, setrange_carries, incr_carries, decr_carries, incrby_carries, decrby_carries}
 use Rattle.mr_cmd_key.proofs.ArgumentLemmas.{del_carries, unlink_carries, exists_carries, key_type_carries, matching_keys_carries, scan_carries, dbsize_carries, rename_carries, renamenx_carries, clear_carries, expire_carries, ttl_carries, pttl_carries, expiretime_carries, pexpiretime_carries, persist_carries}
-use Rattle.mr_ask_coll.proofs.HashLemmas.{set_fields_spells, hsetnx_spells, hget_spells, hmget_spells, list_hash_spells, hdel_spells, hexists_spells, hlen_spells, hstrlen_spells, hincrby_spells, hash_fits}
-use Rattle.mr_ask_coll.proofs.ListLemmas.{push_spells, pop_spells, llen_spells, lrange_spells, lindex_spells, lset_spells, linsert_spells, lrem_spells, ltrim_spells, lmove_spells, rpoplpush_spells, list_fits}
-use Rattle.mr_ask_coll.proofs.SetLemmas.{sadd_spells, srem_spells, sismember_spells, smismember_spells, smembers_spells, scard_spells, spop_spells, srandmember_spells, smove_spells, combine_spells, set_fits}
+use Rattle.mr_cmd_hash.proofs.ArgumentLemmas.{set_fields_spells, hsetnx_spells, hget_spells, hmget_spells, list_hash_spells, hdel_spells, hexists_spells, hlen_spells, hstrlen_spells, hincrby_spells, hash_fits}
+use Rattle.mr_cmd_list.proofs.ArgumentLemmas.{push_spells, pop_spells, llen_spells, lrange_spells, lindex_spells, lset_spells, linsert_spells, lrem_spells, ltrim_spells, lmove_spells, rpoplpush_spells, list_fits}
+use Rattle.mr_cmd_set.proofs.ArgumentLemmas.{sadd_spells, srem_spells, sismember_spells, smismember_spells, smembers_spells, scard_spells, spop_spells, srandmember_spells, smove_spells, combine_spells, set_fits}
 use Rattle.mr_ask_zset.proofs.AddLemmas.{zadd_spells}
 use Rattle.mr_ask_zset.proofs.RangeLemmas.{zrange_spells, zrevrange_spells, range_by_score_spells}
 use Rattle.mr_ask_zset.proofs.ZSetLemmas.{zincrby_spells, zrem_spells, zcard_spells, zcount_spells, zscore_spells, zmscore_spells, zrank_spells, zpop_spells, zremrangebyrank_spells, zremrangebyscore_spells, zset_fits}
@@ -37,10 +37,10 @@ use Rattle.mr_words.specs.declared.name.Name.TheVariants as name
 use Rattle.mr_expiry.specs.declared.expiry.ExpiryUnit.TheVariants as unit
 use Rattle.mr_cmd_string.specs.declared.text_ask.Amount.TheVariants as amount
 use Rattle.mr_cmd_key.specs.declared.key_ask.Databases.TheVariants as databases
-use Rattle.mr_ask_coll.specs.declared.hash_ask.FieldsReply.TheVariants.{Added, Done}
-use Rattle.mr_ask_coll.specs.declared.hash_ask.HashPart.TheVariants.{Pairs, Fields, Values}
-use Rattle.mr_ask_coll.specs.declared.list_ask.PushTo.TheVariants.{AnyKey, ExistingKey}
-use Rattle.mr_ask_coll.specs.declared.set_ask.SetOperation.TheVariants.{Intersection, Union, Difference}
+use Rattle.mr_cmd_hash.specs.declared.hash_ask.FieldsReply.TheVariants.{Added, Done}
+use Rattle.mr_cmd_hash.specs.declared.hash_ask.HashPart.TheVariants.{Pairs, Fields, Values}
+use Rattle.mr_cmd_list.specs.declared.list_ask.PushTo.TheVariants.{AnyKey, ExistingKey}
+use Rattle.mr_cmd_set.specs.declared.set_ask.SetOperation.TheVariants.{Intersection, Union, Difference}
 use Rattle.mr_ask.specs.declared.ask.Ask.{Ask}
 use Rattle.mr_ask.specs.declared.ask.Ask.TheVariants as ask
 use Rattle.mr_words.specs.declared.fault.AskFault.{AskFault}

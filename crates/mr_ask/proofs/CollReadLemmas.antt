@@ -16,20 +16,26 @@ use Rattle.mr_words.specs.declared.name.Name.{Name}
 use Rattle.mr_words.specs.declared.name.Name.TheVariants as name
 use Rattle.mr_words.specs.declared.fault.AskFault.{AskFault}
 use Rattle.mr_words.specs.declared.fault.AskFault.TheVariants.{Arity, Syntax}
-use Rattle.mr_ask_coll.specs.Called.{hash_name, list_name, set_name}
-use Rattle.mr_ask_coll.specs.Carried.{hash_words, list_words, set_words}
-use Rattle.mr_ask_coll.specs.Parts.{end_of, end_text, side_of, side_text}
-use Rattle.mr_ask_coll.specs.Spelled.{hash_parts, list_parts, set_parts}
-use Rattle.mr_ask_coll.specs.declared.hash_ask.FieldsReply.TheVariants.{Added, Done}
-use Rattle.mr_ask_coll.specs.declared.hash_ask.HashPart.TheVariants.{Pairs, Fields, Values}
-use Rattle.mr_ask_coll.specs.declared.hash_ask.HashAsk.{HashAsk}
-use Rattle.mr_ask_coll.specs.declared.hash_ask.HashAsk.TheVariants as hash
-use Rattle.mr_ask_coll.specs.declared.list_ask.PushTo.TheVariants.{AnyKey, ExistingKey}
-use Rattle.mr_ask_coll.specs.declared.list_ask.ListAsk.{ListAsk}
-use Rattle.mr_ask_coll.specs.declared.list_ask.ListAsk.TheVariants as list
-use Rattle.mr_ask_coll.specs.declared.set_ask.SetOperation.TheVariants.{Intersection, Union, Difference}
-use Rattle.mr_ask_coll.specs.declared.set_ask.SetAsk.{SetAsk}
-use Rattle.mr_ask_coll.specs.declared.set_ask.SetAsk.TheVariants as set
+use Rattle.mr_cmd_hash.specs.Called.{hash_name}
+use Rattle.mr_cmd_list.specs.Called.{list_name}
+use Rattle.mr_cmd_set.specs.Called.{set_name}
+use Rattle.mr_cmd_hash.specs.Carried.{hash_words}
+use Rattle.mr_cmd_list.specs.Carried.{list_words}
+use Rattle.mr_cmd_set.specs.Carried.{set_words}
+use Rattle.mr_cmd_list.specs.Parts.{end_of, end_text, side_of, side_text}
+use Rattle.mr_cmd_hash.specs.Spelled.{hash_parts}
+use Rattle.mr_cmd_list.specs.Spelled.{list_parts}
+use Rattle.mr_cmd_set.specs.Spelled.{set_parts}
+use Rattle.mr_cmd_hash.specs.declared.hash_ask.FieldsReply.TheVariants.{Added, Done}
+use Rattle.mr_cmd_hash.specs.declared.hash_ask.HashPart.TheVariants.{Pairs, Fields, Values}
+use Rattle.mr_cmd_hash.specs.declared.hash_ask.HashAsk.{HashAsk}
+use Rattle.mr_cmd_hash.specs.declared.hash_ask.HashAsk.TheVariants as hash
+use Rattle.mr_cmd_list.specs.declared.list_ask.PushTo.TheVariants.{AnyKey, ExistingKey}
+use Rattle.mr_cmd_list.specs.declared.list_ask.ListAsk.{ListAsk}
+use Rattle.mr_cmd_list.specs.declared.list_ask.ListAsk.TheVariants as list
+use Rattle.mr_cmd_set.specs.declared.set_ask.SetOperation.TheVariants.{Intersection, Union, Difference}
+use Rattle.mr_cmd_set.specs.declared.set_ask.SetAsk.{SetAsk}
+use Rattle.mr_cmd_set.specs.declared.set_ask.SetAsk.TheVariants as set
 use Rattle.mr_ask_zset.specs.Askable.{ZSetIsAskable}
 use Rattle.mr_ask_zset.specs.Spelled.{ZSetSpells}
 use Rattle.mr_ask_zset.proofs.AddReadLemmas.{zadd_scores, zincrby_read}
@@ -37,7 +43,9 @@ use Rattle.mr_ask_zset.proofs.RangeAskLemmas.{by_score_scores, zrange_ranks, zra
 use Rattle.mr_ask_zset.specs.declared.zset_ask.Order.TheVariants.{Ascending, Descending}
 use Rattle.mr_ask_zset.specs.declared.zset_ask.ZSetAsk.{ZSetAsk}
 use Rattle.mr_ask_zset.specs.declared.zset_ask.ZSetAsk.TheVariants as zset
-use Rattle.mr_ask.specs.Askable.{HashIsAskable, ListIsAskable, SetIsAskable}
+use Rattle.mr_cmd_hash.specs.Askable.{HashIsAskable}
+use Rattle.mr_cmd_list.specs.Askable.{ListIsAskable}
+use Rattle.mr_cmd_set.specs.Askable.{SetIsAskable}
 use Rattle.mr_ask.specs.Asks.{of_kind, reading}
 use Rattle.mr_cmd_server.specs.Called.{server_name}
 use Rattle.mr_cmd_server.specs.Arguments.{setinfo, setname}

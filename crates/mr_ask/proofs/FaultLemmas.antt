@@ -15,11 +15,11 @@ use Rattle.mr_words.specs.declared.name.Name.TheVariants as name
 use Rattle.mr_words.specs.declared.fault.AskFault.{AskFault}
 use Rattle.mr_words.specs.declared.fault.AskFault.TheVariants.{Arity, Syntax, Integer, Other}
 use Rattle.mr_words.specs.declared.fault.BadValue.TheVariants as bad
-use Rattle.mr_ask_coll.specs.Parts.{end_of, end_text, side_of}
-use Rattle.mr_ask_coll.specs.declared.hash_ask.FieldsReply.TheVariants.{Added, Done}
-use Rattle.mr_ask_coll.specs.declared.hash_ask.HashAsk.TheVariants as hash
-use Rattle.mr_ask_coll.specs.declared.list_ask.ListAsk.TheVariants as list
-use Rattle.mr_ask_coll.specs.declared.set_ask.SetAsk.TheVariants as set
+use Rattle.mr_cmd_list.specs.Parts.{end_of, end_text, side_of}
+use Rattle.mr_cmd_hash.specs.declared.hash_ask.FieldsReply.TheVariants.{Added, Done}
+use Rattle.mr_cmd_hash.specs.declared.hash_ask.HashAsk.TheVariants as hash
+use Rattle.mr_cmd_list.specs.declared.list_ask.ListAsk.TheVariants as list
+use Rattle.mr_cmd_set.specs.declared.set_ask.SetAsk.TheVariants as set
 use Rattle.mr_ask_zset.specs.Parts.{bound, score}
 use Rattle.mr_ask_zset.proofs.FaultLemmas.{by_score_first, zadd_first, zrange_first, zrevrange_first}
 use Rattle.mr_ask_zset.proofs.PartLemmas.{bound_fault}

@@ -2,7 +2,9 @@
 use Rattle.std.specs.Prelude.{ℕ, List, IsTrue}
 use Rattle.std.specs.List.{list_all}
 use Rattle.mr_value.specs.Words.{fits}
-use Rattle.mr_ask_coll.specs.Carried.{hash_words, list_words, set_words}
+use Rattle.mr_cmd_hash.specs.Carried.{hash_words}
+use Rattle.mr_cmd_list.specs.Carried.{list_words}
+use Rattle.mr_cmd_set.specs.Carried.{set_words}
 use Rattle.mr_ask_zset.specs.Carried.{zset_words}
 use Rattle.mr_ask.specs.declared.ask.Ask.{Ask}
 use Rattle.mr_ask.specs.declared.ask.Ask.TheVariants as ask

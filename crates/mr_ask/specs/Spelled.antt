@@ -5,7 +5,9 @@ use Rattle.mr_words.specs.declared.name.Name.{Name}
 use Rattle.mr_cmd_string.specs.Spelled.{TextSpells}
 use Rattle.mr_cmd_key.specs.Spelled.{KeySpells}
 use Rattle.mr_cmd_server.specs.Spelled.{ServerSpells}
-use Rattle.mr_ask_coll.specs.Spelled.{HashSpells, ListSpells, SetSpells}
+use Rattle.mr_cmd_hash.specs.Spelled.{HashSpells}
+use Rattle.mr_cmd_list.specs.Spelled.{ListSpells}
+use Rattle.mr_cmd_set.specs.Spelled.{SetSpells}
 use Rattle.mr_ask_zset.specs.Spelled.{ZSetSpells}
 use Rattle.mr_ask.specs.declared.ask.Ask.{Ask}
 use Rattle.mr_ask.specs.declared.ask.Ask.TheVariants as ask

@@ -4,7 +4,7 @@ use Rattle.mr_words.specs.FaultOrder.{counted, in_reading}
 use Rattle.mr_words.specs.Names.{lowered, named}
 use Rattle.mr_words.specs.Pairing.{are_pairs}
 use Rattle.mr_words.specs.Parts.{with, integer, count, offset}
-use Rattle.mr_ask_coll.specs.Parts.{end_of, side_of}
+use Rattle.mr_cmd_list.specs.Parts.{end_of, side_of}
 use Rattle.mr_ask_zset.specs.Parts.{bound, score}
 use Rattle.mr_ask_zset.specs.ArgumentFaults.{add_faults, range_faults, reversed_faults, score_range_faults}
 use Rattle.mr_cmd_string.specs.Parts.{milliseconds, opposite, seconds}

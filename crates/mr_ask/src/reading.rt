@@ -17,9 +17,10 @@ use crate::key_ask::{Databases, KeyAsk};
 use crate::server_ask::ServerAsk;
 use crate::text_ask::{Amount, TextAsk};
 use mr_expiry::ExpiryUnit;
-use mr_ask_coll::{
-    FieldsReply, HashAsk, HashPart, ListAsk, PushTo, SetAsk, SetOperation, hashes, lists, sets,
-};
+use mr_cmd_hash::{FieldsReply, HashAsk, HashPart};
+use mr_cmd_list::{ListAsk, PushTo};
+use mr_cmd_set::{SetAsk, SetOperation};
+use mr_ask_coll::{hashes, lists, sets};
 use mr_ask_zset as zset;
 use mr_ask_zset::{Order, ZSetAsk};
 use mr_value::End;

@@ -8,9 +8,9 @@ use Rattle.mr_ask.specs.declared.ask.Ask.{Ask}
 use Rattle.mr_ask.specs.declared.ask.Ask.TheVariants as ask
 use Rattle.mr_cmd_string.specs.Commands as texts
 use Rattle.mr_cmd_key.specs.Commands as keys
-use Rattle.mr_plan_hash.specs.Commands as hashes
-use Rattle.mr_plan_list.specs.Commands as lists
-use Rattle.mr_plan_set.specs.SetCommands as sets
+use Rattle.mr_cmd_hash.specs.Commands as hashes
+use Rattle.mr_cmd_list.specs.Commands as lists
+use Rattle.mr_cmd_set.specs.SetCommands as sets
 use Rattle.mr_plan_zset.specs.Commands as scores
 
 -- by its kind; a command that speaks of time takes the moment, and one that draws members a random word

@@ -2,7 +2,10 @@
 ghost use Rattle.std.specs.Prelude.{◌≡◌};
 ghost use Rattle.mr_plan.specs.Writes.{writes, text_writes, key_writes, hash_writes, list_writes, set_writes, zset_writes};
 
-use mr_ask::{Ask, HashAsk, ListAsk, SetAsk, ZSetAsk};
+use mr_ask::{Ask, ZSetAsk};
+use mr_cmd_hash::HashAsk;
+use mr_cmd_list::ListAsk;
+use mr_cmd_set::SetAsk;
 use mr_cmd_key::KeyAsk;
 use mr_cmd_string::TextAsk;
 
