@@ -1,5 +1,5 @@
 // The plan of a command on strings.
-ghost use Rattle.std.specs.Prelude.{◌<◌, length, IfOk, IsTrue};
+ghost use Rattle.std.specs.Prelude.{◌≡◌, ◌<◌, length, IfOk, IsTrue};
 ghost use Rattle.std.specs.List.{list_all};
 ghost use Rattle.mr_value.specs.Number.{is_i64};
 ghost use Rattle.mr_value.specs.Words.{fits};
