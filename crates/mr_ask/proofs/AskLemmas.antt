@@ -10,7 +10,7 @@ use Rattle.mr_cmd_key.specs.Arguments.{del, unlink, exists, key_type, matching_k
 use Rattle.mr_cmd_hash.specs.Arguments.{set_fields, hsetnx, hget, hmget, list_hash, hdel, hexists, hlen, hstrlen, hincrby}
 use Rattle.mr_cmd_list.specs.Arguments.{push, pop, llen, lrange, lindex, lset, linsert, lrem, ltrim, lmove, rpoplpush}
 use Rattle.mr_cmd_set.specs.Arguments.{sadd, srem, sismember, smismember, smembers, scard, spop, srandmember, smove, combine}
-use Rattle.mr_ask_zset.specs.Reading.{zadd, zincrby, zrem, zcard, zcount, zscore, zmscore, zrank, zrange, zrevrange, range_by_score, zpop, zremrangebyrank, zremrangebyscore}
+use Rattle.mr_cmd_zset.specs.Arguments.{zadd, zincrby, zrem, zcard, zcount, zscore, zmscore, zrank, zrange, zrevrange, range_by_score, zpop, zremrangebyrank, zremrangebyscore}
 use Rattle.mr_cmd_server.specs.Arguments.{ping, echo, select, quit, command, client}
 use Rattle.mr_ask.specs.Asks.{asked, asked_by, reading}
 use Rattle.mr_ask.specs.Carried.{AskFits}
@@ -24,10 +24,10 @@ use Rattle.mr_cmd_key.proofs.ArgumentLemmas.{del_carries, unlink_carries, exists
 use Rattle.mr_cmd_hash.proofs.ArgumentLemmas.{set_fields_spells, hsetnx_spells, hget_spells, hmget_spells, list_hash_spells, hdel_spells, hexists_spells, hlen_spells, hstrlen_spells, hincrby_spells, hash_fits}
 use Rattle.mr_cmd_list.proofs.ArgumentLemmas.{push_spells, pop_spells, llen_spells, lrange_spells, lindex_spells, lset_spells, linsert_spells, lrem_spells, ltrim_spells, lmove_spells, rpoplpush_spells, list_fits}
 use Rattle.mr_cmd_set.proofs.ArgumentLemmas.{sadd_spells, srem_spells, sismember_spells, smismember_spells, smembers_spells, scard_spells, spop_spells, srandmember_spells, smove_spells, combine_spells, set_fits}
-use Rattle.mr_ask_zset.proofs.AddLemmas.{zadd_spells}
-use Rattle.mr_ask_zset.proofs.RangeLemmas.{zrange_spells, zrevrange_spells, range_by_score_spells}
-use Rattle.mr_ask_zset.proofs.ZSetLemmas.{zincrby_spells, zrem_spells, zcard_spells, zcount_spells, zscore_spells, zmscore_spells, zrank_spells, zpop_spells, zremrangebyrank_spells, zremrangebyscore_spells, zset_fits}
-use Rattle.mr_ask_zset.specs.declared.zset_ask.Order.TheVariants.{Ascending, Descending}
+use Rattle.mr_cmd_zset.proofs.AddArgumentLemmas.{zadd_spells}
+use Rattle.mr_cmd_zset.proofs.RangeArgumentLemmas.{zrange_spells, zrevrange_spells, range_by_score_spells}
+use Rattle.mr_cmd_zset.proofs.ArgumentLemmas.{zincrby_spells, zrem_spells, zcard_spells, zcount_spells, zscore_spells, zmscore_spells, zrank_spells, zpop_spells, zremrangebyrank_spells, zremrangebyscore_spells, zset_fits}
+use Rattle.mr_zset_options.specs.declared.choices.Order.TheVariants.{Ascending, Descending}
 use Rattle.mr_cmd_server.proofs.ArgumentLemmas.{ping_carries, echo_carries, select_carries, quit_carries, command_carries, client_carries}
 use Rattle.mr_cmd_string.proofs.FitLemmas.{texts_fit}
 use Rattle.mr_cmd_key.proofs.FitLemmas.{keys_fit}

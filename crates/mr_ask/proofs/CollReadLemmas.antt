@@ -36,13 +36,13 @@ use Rattle.mr_cmd_list.specs.declared.list_ask.ListAsk.TheVariants as list
 use Rattle.mr_cmd_set.specs.declared.set_ask.SetOperation.TheVariants.{Intersection, Union, Difference}
 use Rattle.mr_cmd_set.specs.declared.set_ask.SetAsk.{SetAsk}
 use Rattle.mr_cmd_set.specs.declared.set_ask.SetAsk.TheVariants as set
-use Rattle.mr_ask_zset.specs.Askable.{ZSetIsAskable}
-use Rattle.mr_ask_zset.specs.Spelled.{ZSetSpells}
-use Rattle.mr_ask_zset.proofs.AddReadLemmas.{zadd_scores, zincrby_read}
-use Rattle.mr_ask_zset.proofs.RangeAskLemmas.{by_score_scores, zrange_ranks, zrange_scores, zrevrange_ranks}
-use Rattle.mr_ask_zset.specs.declared.zset_ask.Order.TheVariants.{Ascending, Descending}
-use Rattle.mr_ask_zset.specs.declared.zset_ask.ZSetAsk.{ZSetAsk}
-use Rattle.mr_ask_zset.specs.declared.zset_ask.ZSetAsk.TheVariants as zset
+use Rattle.mr_cmd_zset.specs.Askable.{ZSetIsAskable}
+use Rattle.mr_cmd_zset.specs.Spelled.{ZSetSpells}
+use Rattle.mr_cmd_zset.proofs.AddReadLemmas.{zadd_scores, zincrby_read}
+use Rattle.mr_cmd_zset.proofs.RangeReadLemmas.{by_score_scores, zrange_ranks, zrange_scores, zrevrange_ranks}
+use Rattle.mr_zset_options.specs.declared.choices.Order.TheVariants.{Ascending, Descending}
+use Rattle.mr_cmd_zset.specs.declared.zset_ask.ZSetAsk.{ZSetAsk}
+use Rattle.mr_cmd_zset.specs.declared.zset_ask.ZSetAsk.TheVariants as zset
 use Rattle.mr_cmd_hash.specs.Askable.{HashIsAskable}
 use Rattle.mr_cmd_list.specs.Askable.{ListIsAskable}
 use Rattle.mr_cmd_set.specs.Askable.{SetIsAskable}

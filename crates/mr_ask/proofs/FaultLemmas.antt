@@ -20,12 +20,12 @@ use Rattle.mr_cmd_hash.specs.declared.hash_ask.FieldsReply.TheVariants.{Added, D
 use Rattle.mr_cmd_hash.specs.declared.hash_ask.HashAsk.TheVariants as hash
 use Rattle.mr_cmd_list.specs.declared.list_ask.ListAsk.TheVariants as list
 use Rattle.mr_cmd_set.specs.declared.set_ask.SetAsk.TheVariants as set
-use Rattle.mr_ask_zset.specs.Parts.{bound, score}
-use Rattle.mr_ask_zset.proofs.FaultLemmas.{by_score_first, zadd_first, zrange_first, zrevrange_first}
-use Rattle.mr_ask_zset.proofs.PartLemmas.{bound_fault}
-use Rattle.mr_ask_zset.specs.Reading.{range_by_score, zadd, zrange, zrevrange}
-use Rattle.mr_ask_zset.specs.declared.zset_ask.Order.TheVariants.{Ascending, Descending}
-use Rattle.mr_ask_zset.specs.declared.zset_ask.ZSetAsk.TheVariants as zset
+use Rattle.mr_zset_options.specs.Parts.{bound, score}
+use Rattle.mr_cmd_zset.proofs.FaultLemmas.{by_score_first, zadd_first, zrange_first, zrevrange_first}
+use Rattle.mr_zset_options.proofs.PartLemmas.{bound_fault}
+use Rattle.mr_cmd_zset.specs.Arguments.{range_by_score, zadd, zrange, zrevrange}
+use Rattle.mr_zset_options.specs.declared.choices.Order.TheVariants.{Ascending, Descending}
+use Rattle.mr_cmd_zset.specs.declared.zset_ask.ZSetAsk.TheVariants as zset
 use Rattle.mr_ask.specs.Asks.{asked, asked_by, of_kind, reading}
 use Rattle.mr_cmd_string.specs.Parts.{milliseconds, opposite, seconds}
 use Rattle.mr_cmd_key.specs.Parts.{timing_of}

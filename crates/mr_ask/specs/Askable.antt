@@ -1,5 +1,5 @@
 -- Which commands words can ask for.
-use Rattle.mr_ask_zset.specs.Askable.{ZSetIsAskable}
+use Rattle.mr_cmd_zset.specs.Askable.{ZSetIsAskable}
 use Rattle.mr_ask.specs.declared.ask.Ask.{Ask}
 use Rattle.mr_ask.specs.declared.ask.Ask.TheVariants as ask
 use Rattle.mr_cmd_string.specs.Askable.{TextIsAskable}

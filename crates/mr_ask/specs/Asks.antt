@@ -8,7 +8,7 @@ use Rattle.mr_cmd_key.specs.Arguments.{del, unlink, exists, key_type, matching_k
 use Rattle.mr_cmd_hash.specs.Arguments.{set_fields, hsetnx, hget, hmget, list_hash, hdel, hexists, hlen, hstrlen, hincrby}
 use Rattle.mr_cmd_list.specs.Arguments.{push, pop, llen, lrange, lindex, lset, linsert, lrem, ltrim, lmove, rpoplpush}
 use Rattle.mr_cmd_set.specs.Arguments.{sadd, srem, sismember, smismember, smembers, scard, spop, srandmember, smove, combine}
-use Rattle.mr_ask_zset.specs.Reading.{zadd, zincrby, zrem, zcard, zcount, zscore, zmscore, zrank, zrange, zrevrange, range_by_score, zpop, zremrangebyrank, zremrangebyscore}
+use Rattle.mr_cmd_zset.specs.Arguments.{zadd, zincrby, zrem, zcard, zcount, zscore, zmscore, zrank, zrange, zrevrange, range_by_score, zpop, zremrangebyrank, zremrangebyscore}
 use Rattle.mr_cmd_server.specs.Arguments.{ping, echo, select, quit, command, client}
 use Rattle.mr_words.specs.declared.name.Name.{Name}
 use Rattle.mr_words.specs.declared.name.Name.TheVariants as name
@@ -21,7 +21,7 @@ use Rattle.mr_cmd_hash.specs.declared.hash_ask.FieldsReply.TheVariants.{Added, D
 use Rattle.mr_cmd_hash.specs.declared.hash_ask.HashPart.TheVariants.{Pairs, Fields, Values}
 use Rattle.mr_cmd_list.specs.declared.list_ask.PushTo.TheVariants.{AnyKey, ExistingKey}
 use Rattle.mr_cmd_set.specs.declared.set_ask.SetOperation.TheVariants.{Intersection, Union, Difference}
-use Rattle.mr_ask_zset.specs.declared.zset_ask.Order.TheVariants.{Ascending, Descending}
+use Rattle.mr_zset_options.specs.declared.choices.Order.TheVariants.{Ascending, Descending}
 use Rattle.mr_ask.specs.declared.group.Group.{Group}
 use Rattle.mr_ask.specs.declared.group.Group.TheVariants as group
 use Rattle.mr_ask.specs.declared.ask.Ask.{Ask}

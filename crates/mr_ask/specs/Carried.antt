@@ -5,7 +5,7 @@ use Rattle.mr_value.specs.Words.{fits}
 use Rattle.mr_cmd_hash.specs.Carried.{hash_words}
 use Rattle.mr_cmd_list.specs.Carried.{list_words}
 use Rattle.mr_cmd_set.specs.Carried.{set_words}
-use Rattle.mr_ask_zset.specs.Carried.{zset_words}
+use Rattle.mr_cmd_zset.specs.Carried.{zset_words}
 use Rattle.mr_ask.specs.declared.ask.Ask.{Ask}
 use Rattle.mr_ask.specs.declared.ask.Ask.TheVariants as ask
 use Rattle.mr_cmd_string.specs.Carried.{text_words, IsTimed}

@@ -8,7 +8,7 @@ use Rattle.mr_cmd_server.specs.Spelled.{ServerSpells}
 use Rattle.mr_cmd_hash.specs.Spelled.{HashSpells}
 use Rattle.mr_cmd_list.specs.Spelled.{ListSpells}
 use Rattle.mr_cmd_set.specs.Spelled.{SetSpells}
-use Rattle.mr_ask_zset.specs.Spelled.{ZSetSpells}
+use Rattle.mr_cmd_zset.specs.Spelled.{ZSetSpells}
 use Rattle.mr_ask.specs.declared.ask.Ask.{Ask}
 use Rattle.mr_ask.specs.declared.ask.Ask.TheVariants as ask
 

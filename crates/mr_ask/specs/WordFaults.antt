@@ -5,8 +5,8 @@ use Rattle.mr_words.specs.Names.{lowered, named}
 use Rattle.mr_words.specs.Pairing.{are_pairs}
 use Rattle.mr_words.specs.Parts.{with, integer, count, offset}
 use Rattle.mr_cmd_list.specs.Parts.{end_of, side_of}
-use Rattle.mr_ask_zset.specs.Parts.{bound, score}
-use Rattle.mr_ask_zset.specs.ArgumentFaults.{add_faults, range_faults, reversed_faults, score_range_faults}
+use Rattle.mr_zset_options.specs.Parts.{bound, score}
+use Rattle.mr_cmd_zset.specs.ArgumentFaults.{add_faults, range_faults, reversed_faults, score_range_faults}
 use Rattle.mr_cmd_string.specs.Parts.{milliseconds, opposite, seconds}
 use Rattle.mr_cmd_server.specs.Arguments.{database}
 use Rattle.mr_words.specs.declared.name.Name.{Name}

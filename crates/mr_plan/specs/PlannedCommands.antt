@@ -11,7 +11,7 @@ use Rattle.mr_cmd_key.specs.Commands as keys
 use Rattle.mr_cmd_hash.specs.Commands as hashes
 use Rattle.mr_cmd_list.specs.Commands as lists
 use Rattle.mr_cmd_set.specs.SetCommands as sets
-use Rattle.mr_plan_zset.specs.Commands as scores
+use Rattle.mr_cmd_zset.specs.Commands as scores
 
 -- by its kind; a command that speaks of time takes the moment, and one that draws members a random word
 abbrev pub command_of : Ask → Given → Command

@@ -14,8 +14,8 @@ use Rattle.mr_cmd_list.specs.declared.list_ask.ListAsk.{ListAsk}
 use Rattle.mr_cmd_list.specs.declared.list_ask.ListAsk.TheVariants as list
 use Rattle.mr_cmd_set.specs.declared.set_ask.SetAsk.{SetAsk}
 use Rattle.mr_cmd_set.specs.declared.set_ask.SetAsk.TheVariants as set
-use Rattle.mr_ask_zset.specs.declared.zset_ask.ZSetAsk.{ZSetAsk}
-use Rattle.mr_ask_zset.specs.declared.zset_ask.ZSetAsk.TheVariants as zset
+use Rattle.mr_cmd_zset.specs.declared.zset_ask.ZSetAsk.{ZSetAsk}
+use Rattle.mr_cmd_zset.specs.declared.zset_ask.ZSetAsk.TheVariants as zset
 use Rattle.mr_planning.specs.Commands.{own_effects}
 use Rattle.mr_plan.specs.PlannedCommands.{command_of}
 
