@@ -1,15 +1,11 @@
 // Laws of the definitions that the contracts cite.
-ghost use Rattle.std.specs.Prelude.{◌≡◌, ◌∷◌, ◌++◌, ℕ, IfErr, List, Ok};
+ghost use Rattle.std.specs.Prelude.{◌≡◌, ℕ, IfErr, List, Ok};
 ghost use Rattle.mr_ask.specs.Askable.{IsAskable};
 ghost use Rattle.mr_ask.specs.Asks.{asked};
-ghost use Rattle.mr_cmd_string.specs.Options.{AreOneOption, set_options};
-ghost use Rattle.mr_cmd_key.specs.Options.{scan_options};
 ghost use Rattle.mr_ask.specs.Spelled.{Spells};
 ghost use Rattle.mr_ask.specs.WordFaults.{word_faults};
 ghost use Rattle.mr_words.specs.FaultOrder.{IsFirst, first_of, told};
 ghost use Rattle.mr_ask.specs.declared.ask.Ask.{Ask};
-ghost use Rattle.mr_cmd_string.specs.declared.options.SetOptions.{SetOptions};
-ghost use Rattle.mr_words.specs.Pairing.{unpaired};
 
 /// Words that spell a command are read as it: whatever case its name and its options are written in, and whatever order these stand in.
 pub fn spelled_is_read()

@@ -8,24 +8,25 @@ ghost use Rattle.mr_ask.specs.Carried.{AskFits};
 ghost use Rattle.mr_ask.specs.Spelled.{Spells};
 ghost use Rattle.mr_ask.specs.declared.ask.Ask.TheVariants as kind;
 
-mod keys;
-mod server;
-mod texts;
-
 use crate::ask::Ask;
-use crate::key_ask::{Databases, KeyAsk};
-use crate::server_ask::ServerAsk;
-use crate::text_ask::{Amount, TextAsk};
-use mr_expiry::ExpiryUnit;
+use mr_cmd_hash::arguments as hashes;
 use mr_cmd_hash::{FieldsReply, HashAsk, HashPart};
+use mr_cmd_key::arguments as keys;
+use mr_cmd_key::{Databases, KeyAsk};
+use mr_cmd_list::arguments as lists;
 use mr_cmd_list::{ListAsk, PushTo};
+use mr_cmd_server::ServerAsk;
+use mr_cmd_server::arguments as server;
+use mr_cmd_set::arguments as sets;
 use mr_cmd_set::{SetAsk, SetOperation};
-use mr_ask_coll::{hashes, lists, sets};
-use mr_ask_zset as zset;
-use mr_zset_options::Order;
+use mr_cmd_string::arguments as texts;
+use mr_cmd_string::{Amount, TextAsk};
 use mr_cmd_zset::ZSetAsk;
+use mr_cmd_zset::arguments as zset;
+use mr_expiry::ExpiryUnit;
 use mr_value::End;
 use mr_words::{Arguments, AskFault, Name};
+use mr_zset_options::Order;
 use std::borrow::CowSlice;
 
 type Reading<'a, 't> = Result<Ask<'a, 't>, AskFault>;

@@ -1,5 +1,5 @@
 // The plan of a request's words.
-ghost use Rattle.std.specs.Prelude.{◌≡◌, ◌<◌, ◌≤◌, length, map, IsTrue, IfOk};
+ghost use Rattle.std.specs.Prelude.{◌≡◌, ◌<◌, ◌≤◌, length, map, IsTrue, IfOk, Ok};
 ghost use Rattle.std.specs.List.{list_all};
 ghost use Rattle.std.specs.Cow.{cow_slice_items};
 ghost use Rattle.mr_value.specs.Words.{fits};
@@ -8,7 +8,6 @@ ghost use Rattle.mr_ask.specs.Carried.{AskFits};
 ghost use Rattle.mr_plan.specs.PlannedCommands.{HasRoom};
 ghost use Rattle.mr_resp.specs.ReplyView.{view};
 ghost use Rattle.mr_plan.specs.Requests.{IsAnswer, IsAnswerTo, Leads, HasTexts, is_quit, left, left_by, told, readonly};
-ghost use Rattle.std.specs.Prelude.{Ok};
 
 use crate::planning::plan;
 use crate::writing::writes;
