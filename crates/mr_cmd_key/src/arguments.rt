@@ -143,11 +143,7 @@ pub fn clear<'a, 't>(databases: Databases, arguments: Arguments<'a, 't>) -> Read
 }
 
 /// `EXPIRE key seconds [NX|XX|GT|LT]`, `PEXPIRE key milliseconds ..`, `EXPIREAT key second ..`, `PEXPIREAT key millisecond ..`
-pub fn expire<'a, 't>(
-    name: Name,
-    unit: ExpiryUnit,
-    arguments: Arguments<'a, 't>,
-) -> Reading<'a, 't>
+pub fn expire<'a, 't>(name: Name, unit: ExpiryUnit, arguments: Arguments<'a, 't>) -> Reading<'a, 't>
     ensures { result ≡ expire name unit (map cow_slice_items arguments.now) }
 {
     match arguments {
