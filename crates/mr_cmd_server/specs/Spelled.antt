@@ -1,5 +1,5 @@
 -- The words that a command to the server itself is spelled by.
-use Rattle.std.specs.Prelude.{pos, List, [], ◌∷◌, map}
+use Rattle.std.specs.Prelude.{ℕ, pos, List, [], ◌∷◌, map}
 use Rattle.mr_words.specs.Spelling.{Part, Word, Number, Keyword, AreParts, NameAndArguments}
 use Rattle.mr_cmd_server.specs.Carried.{server_words}
 use Rattle.mr_cmd_server.specs.Arguments.{setname, setinfo}
