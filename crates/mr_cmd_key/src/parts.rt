@@ -9,7 +9,7 @@ ghost use Rattle.mr_cmd_key.specs.Parts.{positive, positive_if_any, cursor_at, c
 ghost use Rattle.mr_expiry.specs.Expiry.{within_limit};
 
 use crate::key_ask::{Cursor, KindName, Timing};
-use mr_expiry::{Expiry, ExpiryUnit};
+use mr_expiry::{Expiry, ExpiryUnit, within_limit};
 use mr_value::read_i64;
 use mr_words::{Argument, AskFault, BadValue, ExpiringCommand, integer, not_below_1};
 use std::borrow::CowSlice;

@@ -6,7 +6,7 @@ ghost use Rattle.mr_expiry.specs.Expiry.{within_limit};
 
 use crate::options::LifetimeOption;
 use crate::text_ask::Lifetime;
-use mr_expiry::{Expiry, ExpiryUnit, Milliseconds, Seconds};
+use mr_expiry::{Expiry, ExpiryUnit, Milliseconds, Seconds, within_limit};
 use mr_value::read_i64;
 use mr_words::{AskFault, BadValue, ExpiringCommand, not_below_1};
 
