@@ -1,0 +1,18 @@
+-- Events one after another.
+use Rattle.std.proofs.Common.{◌≡◌, Bool, List, [], ◌∷◌, ◌++◌, refl, sym, subst, ap, ◌∙◌}
+use Rattle.mr_aof.specs.declared.log.SyncMode.{SyncMode}
+use Rattle.mr_loop.specs.Stage.{Stage}
+use Rattle.mr_loop.specs.Rows.{Event, Happens, Run, Went}
+
+run_append : (tells : Bool) (mode : SyncMode) (xs ys : List Event) (a b c : Stage) → Run tells mode a xs b → Run tells mode b ys c → Run tells mode a (xs ++ ys) c
+run_append tells mode [] ys a b c r q = subst (λ x. Run tells mode x ys c) r q
+run_append tells mode (x ∷ xs) ys a b c r q = (r.0, r.1, run_append tells mode xs ys r.0 b c r.2 q)
+
+pub went_refl : {tells : Bool} {mode : SyncMode} (s : Stage) → Went tells mode s s
+went_refl s = record { events = []; run = refl }
+
+pub went_one : {tells : Bool} {mode : SyncMode} {s t : Stage} (e : Event) → Happens tells mode s e t → Went tells mode s t
+went_one {tells} {mode} {s} {t} e h = record { events = e ∷ []; run = (t, h, refl) }
+
+pub went_trans : {tells : Bool} {mode : SyncMode} {a b c : Stage} → Went tells mode a b → Went tells mode b c → Went tells mode a c
+went_trans {tells} {mode} {a} {b} {c} x y = record { events = x.events ++ y.events; run = run_append tells mode x.events y.events a b c x.run y.run }
