@@ -12,7 +12,7 @@ use Rattle.mr_node.specs.declared.step.Step.{Step}
 use Rattle.mr_node.specs.declared.step.Step.TheVariants as step
 use Rattle.mr_file.specs.LogFile.{Appends, AppendsSome, IsSynced}
 use Rattle.mr_aof.specs.declared.log.SyncMode.{SyncMode}
-use Rattle.mr_aof.specs.declared.log.SyncMode.TheVariants as mode
+use Rattle.mr_aof.specs.declared.log.SyncMode.TheVariants as sync
 use Rattle.mr_wire.specs.Wire.{LinkState, Accepts, AcceptsNone, ChangesLink, behind_read, behind_write, count_of, is_over}
 use Rattle.mr_wire.specs.declared.wire.Moved.{Moved}
 use Rattle.mr_wire.specs.declared.wire.Moved.TheVariants as moved
@@ -245,7 +245,7 @@ pub record Writes (tells : Bool) (k : LinkId) (bytes : List ℕ) (s t : Stage) :
 pub record IsAppended (mode : SyncMode) (texts : List ℕ) (s t : Stage) : Type 0 where
   pub texts_are : texts ≡ s.own.batch
   pub written : Appends s.told t.told texts (length texts)
-  pub synced : mode ≡ mode.Always → IsSynced t.told t.synced
+  pub synced : mode ≡ sync.Always → IsSynced t.told t.synced
   pub own : t.own ≡ record s.own { batch = [] }
   pub wire : t.wire ≡ s.wire
   pub node : t.node ≡ s.node

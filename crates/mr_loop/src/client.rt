@@ -32,9 +32,11 @@ pub(crate) struct Client {
 }
 
 impl Model for Client {
-    ghost use Rattle.mr_loop.specs.Stage.{ClientState};
+    ghost use Rattle.mr_loop.specs.Stage.{ClientState, client_code};
 
     ghost Value = { ClientState };
+
+    ghost coded = { client_code };
 
     ghost view = { λ c. record { name = c.name; link = c.link; waiting = c.unsent; phase = c.phase } };
 }

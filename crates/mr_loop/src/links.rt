@@ -34,9 +34,11 @@ pub struct Links {
 }
 
 impl Model for Links {
-    ghost use Rattle.mr_loop.specs.Stage.{LoopState};
+    ghost use Rattle.mr_loop.specs.Stage.{LoopState, loop_code};
 
     ghost Value = { LoopState };
+
+    ghost coded = { loop_code };
 
     ghost view = { λ l. record { clients = l.clients; batch = l.batch.items } };
 }
