@@ -49,11 +49,10 @@ pub record EndsAt (a : NodeState) (l : LinkId) (b : NodeState) : Type 0 where
   pub opened : b.links.opened ≡ a.links.opened
   pub core : b.core ≡ a.core
 
--- Nothing but names is spent at the node.
-pub record SpendsNames (a b : NodeState) : Type 0 where
-  pub links : b.links.open_links ≡ a.links.open_links
-  pub opened : a.links.opened ≤ b.links.opened
-  pub core : b.core ≡ a.core
+-- The node has no other link: it opened none, or closed the one that it opened.
+pub data TurnsOff (a b : NodeState) : Type 0 where
+  stays : b ≡ a → TurnsOff a b
+  comes_and_goes : (mid : NodeState) (link : LinkId) → Opens a link mid → EndsAt mid link b → TurnsOff a b
 
 -- what happens in a turn
 pub data Event : Type 0 where
@@ -124,7 +123,7 @@ pub record Joins (k : LinkId) (s t : Stage) : Type 0 where
 
 pub record TurnsAway (s t : Stage) : Type 0 where
   pub wire : AcceptsNone s.wire t.wire
-  pub node : SpendsNames s.node t.node
+  pub node : TurnsOff s.node t.node
   pub own : t.own ≡ s.own
   pub file : SameFile s t
 
@@ -132,9 +131,10 @@ pub record Takes (tells : Bool) (k : LinkId) (bytes : List ℕ) (s t : Stage) : 
   pub client : ClientState
   pub has : Has s.own k client
   pub serving : client.phase ≡ phase.Serving
+  pub count : ℕ
   pub buffer : List ℕ
-  pub bytes_are : bytes ≡ take (length bytes) buffer
-  pub wire : Touches s.wire client.name (behind_read tells (moved.Bytes (length bytes)) buffer) t.wire
+  pub bytes_are : bytes ≡ take count buffer
+  pub wire : Touches s.wire client.name (behind_read tells (moved.Bytes count) buffer) t.wire
   pub node : Fed s.node client.link bytes t.node
   pub own : t.own ≡ s.own
   pub file : SameFile s t

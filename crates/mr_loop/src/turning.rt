@@ -95,11 +95,28 @@ fn read_each<W: Wire, F: LogFile, S: Source>(
 {
     let mut more = false;
     for index in 0..links.count() {
-        if let Some(k) = links.at(index) {
-            more = read_client(node, links, wire, log, moment, piece, k)? || more;
-        }
+        let left = read_at(node, links, wire, log, moment, piece, index)?;
+        more = more || left;
     }
     Ok(more)
+}
+
+fn read_at<W: Wire, F: LogFile, S: Source>(
+    node: &mut Node,
+    links: &mut Links,
+    wire: &mut W,
+    log: &mut Log<F>,
+    moment: &mut Moment<'_, S>,
+    piece: &mut [u8],
+    index: usize,
+) -> Result<bool, LoopFault>
+    ensures went { Went W.tells log.old.mode (stage node.old links.old (W.links wire.old) (F.told log.old.file) (F.synced log.old.file)) (stage node.new links.new (W.links wire.new) (F.told log.new.file) (F.synced log.new.file)) }
+    ensures mode { log.new.mode ≡ log.old.mode }
+{
+    match links.at(index) {
+        Some(k) => read_client(node, links, wire, log, moment, piece, k),
+        None => Ok(false),
+    }
 }
 
 /// Reads of a client and steps, until nothing more is there. It answers whether it left off before that.

@@ -59,9 +59,18 @@ pub(crate) fn write_all<W: Wire>(links: &mut Links, wire: &mut W)
     ensures batch { links.new.batch ≡ links.old.batch }
 {
     for index in 0..links.count() {
-        if let Some(k) = links.at(index) {
-            let _moved = write_client(links, wire, k);
-        }
+        let _moves = write_at(links, wire, index);
+    }
+}
+
+fn write_at<W: Wire>(links: &mut Links, wire: &mut W, index: usize) -> bool
+    requires { links.old.batch ≡ [] }
+    ensures went { (node : NodeState) → Goes W.tells node links.old (W.links wire.old) node links.new (W.links wire.new) }
+    ensures batch { links.new.batch ≡ links.old.batch }
+{
+    match links.at(index) {
+        Some(k) => write_client(links, wire, k),
+        None => false,
     }
 }
 
