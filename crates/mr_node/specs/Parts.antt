@@ -11,7 +11,8 @@ use Rattle.mr_effect.specs.declared.effect.Effect.{Effect}
 use Rattle.mr_data.specs.declared.given.Given.{Given}
 use Rattle.mr_data.specs.declared.plan.Plan.{Plan}
 use Rattle.mr_plan.specs.Requests.{quits}
-use Rattle.mr_node.specs.State.{NodeState, EndState, end_of, put_end, full, spent_as}
+use Rattle.mr_node.specs.State.{NodeState, end_of, put_end, full, spent_as}
+use Rattle.mr_node.specs.State.EndState.{client}
 use Rattle.mr_node.specs.Outs.{OutsState, no_outs}
 use Rattle.mr_node.specs.Requests.{Asks, AsksNothing, Waits, IsDoomedBy}
 use Rattle.mr_node.specs.Progresses.{AgreesAlong}
@@ -23,17 +24,17 @@ use Rattle.mr_plan.specs.declared.requests.Answer.TheVariants as answer
 use Rattle.mr_node.specs.declared.todo.Todo.{Todo}
 use Rattle.mr_node.specs.declared.todo.Todo.TheVariants as todo
 
--- The link is there, with so many unread bytes or more.
+-- The link is open, with so many unread bytes or more.
 pub record HasAhead (a : NodeState) (l : LinkId) (count : ℕ) : Type 0 where
-  pub old : EndState
-  pub found : end_of a l ≡ Some old
-  pub enough : count ≤ length old.kept
+  pub kept : List ℕ
+  pub found : end_of a l ≡ Some (client kept)
+  pub enough : count ≤ length kept
 
--- The link is there, and so many bytes more may be kept.
+-- The link is open, and so many bytes more may be kept.
 pub record HasRoom (a : NodeState) (l : LinkId) (count : ℕ) : Type 0 where
-  pub old : EndState
-  pub found : end_of a l ≡ Some old
-  pub enough : length old.kept + count ≤ full
+  pub kept : List ℕ
+  pub found : end_of a l ≡ Some (client kept)
+  pub enough : length kept + count ≤ full
 
 -- the effects lead somewhere
 abbrev pub Leads : List Effect → Dataset → Type 0
@@ -79,11 +80,11 @@ KeepsAlong (todo.Run used plan) unread = Unit {0}
 
 -- so many bytes of the link are used, and nothing else has changed
 abbrev pub Uses : NodeState → LinkId → ℕ → NodeState → Type 0
-Uses a l used b = (e : EndState) → end_of a l ≡ Some e → b ≡ put_end a l (record e { kept = drop used e.kept })
+Uses a l used b = (kept : List ℕ) → end_of a l ≡ Some (client kept) → b ≡ put_end a l (client (drop used kept))
 
 -- bytes are put behind the unread ones of the link, and nothing else has changed
 abbrev pub Hears : NodeState → LinkId → List ℕ → NodeState → Type 0
-Hears a l bytes b = (e : EndState) → end_of a l ≡ Some e → b ≡ put_end a l (record e { kept = e.kept ++ bytes })
+Hears a l bytes b = (kept : List ℕ) → end_of a l ≡ Some (client kept) → b ≡ put_end a l (client (kept ++ bytes))
 
 -- this is told last
 abbrev pub last_outs : LinkId → List ℕ → OutsState
@@ -117,8 +118,8 @@ abbrev pub Tells : ℕ → Tree → List Effect → OutsState → Bool → OutsS
 Tells offset reply effects old true new = (offset + length (texts effects) ≤ offset_limit) × (new ≡ record old { grown = texts effects; reply = reply_text reply })
 Tells offset reply effects old false new = (offset_limit < offset + length (texts effects)) × (new ≡ record old { grown = []; reply = reply_text (error limit_text) })
 
--- The link is there, and the progress holds of its unread bytes.
+-- The link is open, and the progress holds of its unread bytes.
 pub record KeepsOn (a : NodeState) (l : LinkId) (progress : Progress) : Type 0 where
-  pub old : EndState
-  pub found : end_of a l ≡ Some old
-  pub agrees : AgreesAlong progress old.kept
+  pub kept : List ℕ
+  pub found : end_of a l ≡ Some (client kept)
+  pub agrees : AgreesAlong progress kept

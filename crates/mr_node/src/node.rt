@@ -7,7 +7,7 @@ ghost use Rattle.mr_resp.specs.ReplyView.{view};
 ghost use Rattle.mr_effect.specs.Spelling.{texts};
 ghost use Rattle.mr_turn.specs.Turns.{done};
 ghost use Rattle.mr_data.specs.Meaning.{apply_all};
-ghost use Rattle.mr_node.specs.State.{NodeState, Core, EndState, end_of, put_end, open_end, shut_end, Agrees, IsShut, OthersStay, Opens, started, stopped_as, shown, room_of, IsTooMuch};
+ghost use Rattle.mr_node.specs.State.{NodeState, Core, EndState, end_of, put_end, Agrees, IsShut, OthersStay, Opens, started, stopped_as, shown, room_of, IsTooMuch};
 ghost use Rattle.mr_node.specs.Outs.{no_outs};
 ghost use Rattle.mr_node.specs.Progresses.{AgreesAlong};
 ghost use Rattle.mr_node.specs.Parts.{Leads, HasAhead, HasRoom, Uses, Hears, last_outs, Ran, Commits, Halts, Tells, KeepsOn};
@@ -116,7 +116,7 @@ impl Node {
     /// Closes the node's end of a link.
     fn shut(&mut self, link: LinkId)
         requires { IsSome (end_of self.old link) }
-        ensures { self.new ≡ put_end self.old link shut_end }
+        ensures { self.new ≡ put_end self.old link EndState.shut }
     {
         let Some(end) = self.links.get_mut(link) else {
             unreachable!()
