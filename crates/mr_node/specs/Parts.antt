@@ -13,7 +13,7 @@ use Rattle.mr_data.specs.declared.plan.Plan.{Plan}
 use Rattle.mr_plan.specs.Requests.{quits}
 use Rattle.mr_node.specs.State.{NodeState, end_of, put_end, full, spent_as}
 use Rattle.mr_node.specs.State.EndState.{client}
-use Rattle.mr_node.specs.Outs.{OutsState, no_outs}
+use Rattle.mr_node.specs.Outs.{OutsState, no_outs, growth, outs_with}
 use Rattle.mr_node.specs.Requests.{Asks, AsksNothing, Waits, IsDoomedBy}
 use Rattle.mr_node.specs.Progresses.{AgreesAlong}
 use Rattle.mr_node.specs.Served.{HasPlan, grown_by, offset_behind, offset_limit, limit_text}
@@ -95,7 +95,7 @@ pub record Commits (a : NodeState) (l : LinkId) (used : ℕ) (reply : Tree) (eff
   pub held : Dataset
   pub applied : apply_all effects a.core.held ≡ Some held
   pub state : Uses (record a { core = grown_by effects held a.core }) l used b
-  pub step : s ≡ Done (record no_outs { link = Some l; grown = texts effects; reply = reply_text reply })
+  pub step : s ≡ Done (outs_with (Some l) (record (growth (texts effects)) { said = reply_text reply }))
 
 -- The effects would carry the offset past its limit.
 pub record IsTooFar (a : NodeState) (l : LinkId) (used : ℕ) (effects : List Effect) (b : NodeState) (s : Step) : Type 0 where
@@ -115,8 +115,8 @@ pub record Halts (a : NodeState) (effects : List Effect) (b : NodeState) : Type 
 
 -- what is written for a plan at an offset
 abbrev pub Tells : ℕ → Tree → List Effect → OutsState → Bool → OutsState → Type 0
-Tells offset reply effects old true new = (offset + length (texts effects) ≤ offset_limit) × (new ≡ record old { grown = texts effects; reply = reply_text reply })
-Tells offset reply effects old false new = (offset_limit < offset + length (texts effects)) × (new ≡ record old { grown = []; reply = reply_text (error limit_text) })
+Tells offset reply effects old true new = (offset + length (texts effects) ≤ offset_limit) × (new ≡ record old { grown = texts effects; appended = texts effects; reply = reply_text reply })
+Tells offset reply effects old false new = (offset_limit < offset + length (texts effects)) × (new ≡ record old { grown = []; appended = []; reply = reply_text (error limit_text) })
 
 -- The link is open, and the progress holds of its unread bytes.
 pub record KeepsOn (a : NodeState) (l : LinkId) (progress : Progress) : Type 0 where

@@ -11,6 +11,7 @@ use Rattle.mr_effect.specs.Spelling.{text, texts}
 use Rattle.mr_effect.specs.declared.effect.Effect.{Effect}
 use Rattle.mr_plan.specs.Requests.{IsPlanned, left, quits}
 use Rattle.mr_node.specs.State.{Core}
+use Rattle.mr_node.specs.Outs.{Output, no_output, growth}
 use Rattle.mr_node.specs.Requests.{Asks, AsksNothing}
 
 -- no offset is greater
@@ -40,18 +41,17 @@ pub record HasPlan (replica : Bool) (m : Dataset) (words : List (List ℕ)) (giv
 abbrev pub left_of : Core → List (List ℕ) → Given → Dataset
 left_of c words given = left c.replica words given c.held
 
--- A request is answered: what it makes of the node, what the stream grows by, and what is sent.
-pub data Answered (c : Core) (words : List (List ℕ)) (given : Given) (d : Core) (grown said : List ℕ) : Type 0 where
-  -- its effects are applied and put behind the stream
+-- A request is answered: what it makes of the node, and what it gives out.
+pub data Answered (c : Core) (words : List (List ℕ)) (given : Given) (d : Core) (out : Output) : Type 0 where
+  -- its effects are applied, and their texts go to the stream and to the file
   within : (reply : Tree) (effects : List Effect) → HasPlan c.replica c.held words given reply effects → offset_behind effects c ≤ offset_limit
-      → d ≡ grown_by effects (left_of c words given) c → grown ≡ texts effects → said ≡ reply_text reply → Answered c words given d grown said
+      → d ≡ grown_by effects (left_of c words given) c → out ≡ record (growth (texts effects)) { said = reply_text reply } → Answered c words given d out
   -- they would carry the offset past its limit: it is told so, and nothing is done
   beyond : (reply : Tree) (effects : List Effect) → HasPlan c.replica c.held words given reply effects → offset_limit < offset_behind effects c
-      → d ≡ c → grown ≡ [] → said ≡ reply_text (error limit_text) → Answered c words given d grown said
+      → d ≡ c → out ≡ record no_output { said = reply_text (error limit_text) } → Answered c words given d out
 
--- What stands at the front of unread bytes is used: what it makes of the node, what is left unread, what the stream grows by, and
--- what is sent.
-pub data Served (c : Core) (u : List ℕ) (given : Given) (d : Core) (rest grown said : List ℕ) : Type 0 where
-  request : (words : List (List ℕ)) → Asks u words rest → Answered c words given d grown said → Served c u given d rest grown said
+-- What stands at the front of unread bytes is used: what it makes of the node, what is left unread, and what it gives out.
+pub data Served (c : Core) (u : List ℕ) (given : Given) (d : Core) (rest : List ℕ) (out : Output) : Type 0 where
+  request : (words : List (List ℕ)) → Asks u words rest → Answered c words given d out → Served c u given d rest out
   -- an empty request
-  nothing : AsksNothing u rest → d ≡ c → grown ≡ [] → said ≡ [] → Served c u given d rest grown said
+  nothing : AsksNothing u rest → d ≡ c → out ≡ no_output → Served c u given d rest out
