@@ -8,7 +8,7 @@ use Rattle.mr_data.specs.declared.given.Given.{Given}
 use Rattle.mr_data.specs.declared.plan.Plan.{Plan}
 use Rattle.mr_node.specs.State.{NodeState, end_of, put_end, Agrees}
 use Rattle.mr_node.specs.State.EndState.{client, shut}
-use Rattle.mr_node.specs.Outs.{no_outs}
+use Rattle.mr_node.specs.Outs.{no_outs, no_output, growth}
 use Rattle.mr_node.specs.Requests.{IsDoomedBy}
 use Rattle.mr_resp.specs.Replies.{error, reply_text}
 use Rattle.mr_resp.specs.Faults.{fault_text}
@@ -46,9 +46,8 @@ skip_row a b l given u used up p uses ag =
     ClientRow.serves (record {
       up = up;
       rest = drop used u;
-      grown = [];
-      said = [];
-      served = Served.nothing p.asks (ap (λ (s : NodeState). s.core) e) refl refl;
+      out = no_output;
+      served = Served.nothing p.asks (ap (λ (s : NodeState). s.core) e) refl;
       leaves = leaves_of a b l (drop used u) e;
       outs_are = refl;
     })
@@ -74,9 +73,8 @@ run_row a b l given u used p s up r (commits within c) ag =
     subst (λ z. StepRow a l u given b z) (sym c.step) (ClientRow.serves (record {
       up = up;
       rest = drop used u;
-      grown = texts es;
-      said = reply_text (view p.reply);
-      served = Served.request r.words r.asks (Answered.within (view p.reply) es r.plan within (ap (λ (z : NodeState). z.core) e ∙ ap (λ (m : Dataset). grown_by es m a.core) left) refl refl);
+      out = record (growth (texts es)) { said = reply_text (view p.reply) };
+      served = Served.request r.words r.asks (Answered.within (view p.reply) es r.plan within (ap (λ (z : NodeState). z.core) e ∙ ap (λ (m : Dataset). grown_by es m a.core) left) refl);
       leaves = record { agrees = put_agrees mid b l (drop used u) e; others = record { stay = o.stay; opened = o.opened } };
       outs_are = refl;
     }))
@@ -85,9 +83,8 @@ run_row a b l given u used p s up r (too_far t) ag =
     subst (λ z. StepRow a l u given b z) (sym t.step) (ClientRow.serves (record {
       up = up;
       rest = drop used u;
-      grown = [];
-      said = reply_text (error limit_text);
-      served = Served.request r.words r.asks (Answered.beyond (view p.reply) p.effects.items r.plan t.beyond (ap (λ (z : NodeState). z.core) e) refl refl);
+      out = record no_output { said = reply_text (error limit_text) };
+      served = Served.request r.words r.asks (Answered.beyond (view p.reply) p.effects.items r.plan t.beyond (ap (λ (z : NodeState). z.core) e) refl);
       leaves = leaves_of a b l (drop used u) e;
       outs_are = refl;
     }))

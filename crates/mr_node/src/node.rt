@@ -8,7 +8,7 @@ ghost use Rattle.mr_effect.specs.Spelling.{texts};
 ghost use Rattle.mr_turn.specs.Turns.{done};
 ghost use Rattle.mr_data.specs.Meaning.{apply_all};
 ghost use Rattle.mr_node.specs.State.{NodeState, Core, EndState, end_of, put_end, Agrees, IsShut, OthersStay, Opens, started, stopped_as, shown, room_of, IsTooMuch};
-ghost use Rattle.mr_node.specs.Outs.{no_outs};
+ghost use Rattle.mr_node.specs.Outs.{no_outs, growth, outs_with};
 ghost use Rattle.mr_node.specs.Progresses.{AgreesAlong};
 ghost use Rattle.mr_node.specs.Parts.{Leads, HasAhead, HasRoom, Uses, Hears, last_outs, Ran, Commits, Halts, Tells, KeepsOn};
 ghost use Rattle.mr_node.specs.Served.{offset_limit};
@@ -236,7 +236,7 @@ impl Node {
     ) -> Result<Step, NodeFault>
         requires ahead { HasAhead self.old link used }
         requires leads { Leads plan.effects.items self.old.core.held }
-        requires outs { outs ≡ record no_outs { link = Some link; grown = texts plan.effects.items; reply = reply_text (view plan.reply) } }
+        requires outs { outs ≡ outs_with (Some link) (record (growth (texts plan.effects.items)) { said = reply_text (view plan.reply) }) }
         requires within { self.old.core.stream.offset + length (texts plan.effects.items) ≤ offset_limit }
         ensures step { IfOk result (λ s. Commits self.old link used (view plan.reply) plan.effects.items self.new s) }
         ensures stopped { IfErr result (λ e. (e ≡ NodeFault.Stopped) × Halts self.old plan.effects.items self.new) }
@@ -255,7 +255,7 @@ impl Node {
 /// Writes the texts of the effects and the reply. False where the effects would carry the offset past its limit: then what is
 /// written says so, and no effect.
 fn told(outs: &mut Outs, plan: &Plan, offset: u64) -> Result<bool, AllocError>
-    requires empty { (outs.old.grown ≡ []) × (outs.old.reply ≡ []) }
+    requires empty { (outs.old.grown ≡ []) × (outs.old.appended ≡ []) × (outs.old.reply ≡ []) }
     requires offset { offset ≤ offset_limit }
     ensures { IfOk result (λ fits. Tells offset (view plan.now.reply) plan.now.effects.items outs.old fits outs.new) }
 {

@@ -1,5 +1,6 @@
 // What a step gives out.
 ghost use Rattle.std.specs.Prelude.{◌≡◌, ◌++◌, [], ◌+◌, true, false, length, nat_le, if◌then◌else◌, IfOk, OnOk};
+ghost use Rattle.std.specs.Option.{option_map};
 ghost use Rattle.mr_resp.specs.Replies.{reply_text};
 ghost use Rattle.mr_resp.specs.ReplyView.{view};
 ghost use Rattle.mr_effect.specs.Spelling.{size, text, texts};
@@ -26,6 +27,7 @@ pub struct Outs {
 }
 
 impl Model for Outs {
+    ghost use Rattle.std.specs.Option.{option_map};
     ghost use Rattle.mr_node.specs.Outs.{OutsState, outs_code};
 
     ghost Value = { OutsState };
