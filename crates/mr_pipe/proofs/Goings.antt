@@ -5,7 +5,7 @@ use Rattle.std.proofs.KnownBytes.{Appends-nil, Appends-trans}
 use Rattle.mr_links.specs.declared.link_id.LinkId.{LinkId}
 use Rattle.mr_data.specs.declared.given.Given.{Given}
 use Rattle.mr_node.specs.State.{NodeState, Core, Agrees}
-use Rattle.mr_node.specs.Outs.{OutsState}
+use Rattle.mr_node.specs.Outs.{OutsState, Output}
 use Rattle.mr_node.specs.Rows.{ClientRow}
 use Rattle.mr_node.specs.Served.{Served}
 use Rattle.mr_pipe.specs.Sessions.{AreServed}
@@ -15,8 +15,9 @@ use Rattle.mr_pipe.proofs.Serves.{append_nil, serves_then, serves_more, serves_j
 -- a row that goes on, without the links
 record Went (a : NodeState) (l : LinkId) (u : List ℕ) (g : Given) (b : NodeState) (outs : OutsState) : Type 0 where
   pub rest : List ℕ
-  pub grown : List ℕ
-  pub served : Served a.core u g b.core rest grown outs.reply
+  pub out : Output
+  pub served : Served a.core u g b.core rest out
+  pub said_is : out.said ≡ outs.reply
   pub agrees : Agrees b l rest
 
 no_close : {A : Type 0} → true ≡ false → A
@@ -28,8 +29,9 @@ yes_close e = absurd (cc)
 went : (a : NodeState) (l : LinkId) (u : List ℕ) (g : Given) (b : NodeState) (outs : OutsState) → ClientRow a l u g b outs → outs.closes ≡ false → Went a l u g b outs
 went a l u g b outs (ClientRow.serves r) e = record {
   rest = r.rest;
-  grown = r.grown;
-  served = subst (λ z. Served a.core u g b.core r.rest r.grown z) (sym (ap (λ (o : OutsState). o.reply) r.outs_are)) r.served;
+  out = r.out;
+  served = r.served;
+  said_is = sym (ap (λ (o : OutsState). o.reply) r.outs_are);
   agrees = r.leaves.agrees;
 }
 went a l u g b outs (ClientRow.closes r) e = no_close (sym (ap (λ (o : OutsState). o.closes) r.outs_are) ∙ e)
@@ -42,10 +44,11 @@ pub goes_on : (g : Given) (a : NodeState) (l : LinkId) (u : List ℕ) (old : Opt
 goes_on g a l u old b mid d new w t =
     let r = went b l w.rest g d t.outs t.row t.closes_is in
     record {
-      moments = w.moments ++ record { core = d.core; left = r.rest; grown = r.grown; said = t.outs.reply } ∷ [];
+      moments = w.moments ++ record { core = d.core; left = r.rest; out = r.out } ∷ [];
       rest = r.rest;
       said = w.said ++ t.outs.reply;
-      serves = serves_then g a.core u w.moments b.core w.rest w.said d.core r.rest r.grown t.outs.reply w.serves r.served;
+      serves = subst (λ z. AreServed g a.core u (w.moments ++ record { core = d.core; left = r.rest; out = r.out } ∷ []) d.core r.rest (w.said ++ z)) r.said_is
+          (serves_then g a.core u w.moments b.core w.rest w.said d.core r.rest r.out w.serves r.served);
       told = Appends-trans old mid new w.said t.outs.reply w.told t.told;
       agrees = r.agrees;
     }

@@ -38,6 +38,8 @@ pub fn tell_outs(alloc: Global, outs: &Outs, out: &mut Vec<u8>) -> Result<(), Re
 fn letter_of(part: Out<'_>) -> u8 {
     match part {
         Out::Grow(_) => b'g',
+        Out::Append(_) => b'a',
+        Out::Replace(_) => b'r',
         Out::Send(_, _) => b's',
         Out::Close(_) => b'c',
     }
