@@ -11,7 +11,7 @@ use Rattle.mr_ask_coll.specs.Hashes.{set_fields, hsetnx, hget, hmget, list_hash,
 use Rattle.mr_ask_coll.specs.Lists.{push, pop, llen, lrange, lindex, lset, linsert, lrem, ltrim, lmove, rpoplpush}
 use Rattle.mr_ask_coll.specs.Sets.{sadd, srem, sismember, smismember, smembers, scard, spop, srandmember, smove, combine}
 use Rattle.mr_ask_zset.specs.Reading.{zadd, zincrby, zrem, zcard, zcount, zscore, zmscore, zrank, zrange, zrevrange, range_by_score, zpop, zremrangebyrank, zremrangebyscore}
-use Rattle.mr_ask.specs.Server.{ping, echo, select, quit, command, client}
+use Rattle.mr_ask.specs.Server.{ping, echo, select, quit, rewrite, command, client}
 use Rattle.mr_ask.specs.Asks.{asked, asked_by, reading}
 use Rattle.mr_ask.specs.Carried.{text_words, key_words, server_words, AskFits}
 use Rattle.mr_words.specs.Spelling.{Part, Word, Number, in_a_row}
@@ -30,7 +30,7 @@ use Rattle.mr_ask_zset.proofs.AddLemmas.{zadd_spells}
 use Rattle.mr_ask_zset.proofs.RangeLemmas.{zrange_spells, zrevrange_spells, range_by_score_spells}
 use Rattle.mr_ask_zset.proofs.ZSetLemmas.{zincrby_spells, zrem_spells, zcard_spells, zcount_spells, zscore_spells, zmscore_spells, zrank_spells, zpop_spells, zremrangebyrank_spells, zremrangebyscore_spells, zset_fits}
 use Rattle.mr_ask_zset.specs.declared.zset_ask.Order.TheVariants.{Ascending, Descending}
-use Rattle.mr_ask.proofs.ServerLemmas.{ping_carries, echo_carries, select_carries, quit_carries, command_carries, client_carries}
+use Rattle.mr_ask.proofs.ServerLemmas.{ping_carries, echo_carries, select_carries, quit_carries, rewrite_carries, command_carries, client_carries}
 use Rattle.mr_words.specs.declared.name.Name.{Name}
 use Rattle.mr_words.specs.declared.name.Name.TheVariants as name
 use Rattle.mr_ask.specs.declared.expiry.ExpiryUnit.TheVariants as unit
@@ -154,6 +154,7 @@ reading_carries name.Ping ws = of_kind_carries (ping ws) ask.Server _ (ping_carr
 reading_carries name.Echo ws = of_kind_carries (echo ws) ask.Server _ (echo_carries ws)
 reading_carries name.Select ws = of_kind_carries (select ws) ask.Server _ (select_carries ws)
 reading_carries name.Quit ws = of_kind_carries (quit ws) ask.Server _ (quit_carries ws)
+reading_carries name.BgRewriteAof ws = of_kind_carries (rewrite ws) ask.Server _ (rewrite_carries ws)
 reading_carries name.Command ws = of_kind_carries (command ws) ask.Server (SpellsNamed name.Command ws) (command_carries ws)
 reading_carries name.Client ws = of_kind_carries (client ws) ask.Server _ (client_carries ws)
 

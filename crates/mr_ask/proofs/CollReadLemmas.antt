@@ -222,6 +222,7 @@ server_read ws (server.Ping (Some message)) s = ap (reading name.Ping) (words_ar
 server_read ws (server.Echo message) s = ap (reading name.Echo) (words_are ws (message ∷ []) s)
 server_read ws server.Select s = one_part (λ xs. reading name.Select xs ≡ Ok (ask.Server server.Select)) (Number (pos 0)) zero_is ws s
 server_read ws server.Quit s = ap (reading name.Quit) (words_are ws [] s)
+server_read ws server.Rewrite s = ap (reading name.BgRewriteAof) (words_are ws [] s)
 server_read ws (server.Command arguments) s = ap (reading name.Command) (words_are ws arguments s)
 server_read ws (server.SetClientName label) s =
     two_parts (λ xs. reading name.Client xs ≡ Ok (ask.Server (server.SetClientName label))) (Keyword setname) (Word label) (setname_read label) ws s

@@ -4,7 +4,7 @@ use Rattle.std.specs.Prelude.{IfOk, if◌then◌else◌, Ok, Err}
 use Rattle.std.specs.Ordering.{int_eq}
 use Rattle.std.specs.Fmt.{signed_decimal}
 use Rattle.std.proofs.lemmas.Bool.Decides.{Decides-int_eq}
-use Rattle.mr_ask.specs.Server.{ping, echo, select, quit, command, client, database, setname, setinfo}
+use Rattle.mr_ask.specs.Server.{ping, echo, select, quit, rewrite, command, client, database, setname, setinfo}
 use Rattle.mr_words.proofs.FitLemmas.{all_words}
 use Rattle.mr_ask.proofs.Carries.{ServerCarries}
 use Rattle.mr_words.proofs.PartLemmas.{with_integer, with_keyword}
@@ -39,6 +39,10 @@ select_carries _ = tt
 pub quit_carries : (ws : List (List ℕ)) → IfOk (quit ws) (ServerCarries name.Quit ws)
 quit_carries [] = record { name_is = refl; parts = tt }
 quit_carries _ = tt
+
+pub rewrite_carries : (ws : List (List ℕ)) → IfOk (rewrite ws) (ServerCarries name.BgRewriteAof ws)
+rewrite_carries [] = record { name_is = refl; parts = tt }
+rewrite_carries _ = tt
 
 pub command_carries : (ws : List (List ℕ)) → IfOk (command ws) (ServerCarries name.Command ws)
 command_carries ws = record { name_is = refl; parts = all_words ws }

@@ -9,7 +9,7 @@ use Rattle.mr_ask_coll.specs.Hashes.{set_fields, hsetnx, hget, hmget, list_hash,
 use Rattle.mr_ask_coll.specs.Lists.{push, pop, llen, lrange, lindex, lset, linsert, lrem, ltrim, lmove, rpoplpush}
 use Rattle.mr_ask_coll.specs.Sets.{sadd, srem, sismember, smismember, smembers, scard, spop, srandmember, smove, combine}
 use Rattle.mr_ask_zset.specs.Reading.{zadd, zincrby, zrem, zcard, zcount, zscore, zmscore, zrank, zrange, zrevrange, range_by_score, zpop, zremrangebyrank, zremrangebyscore}
-use Rattle.mr_ask.specs.Server.{ping, echo, select, quit, command, client}
+use Rattle.mr_ask.specs.Server.{ping, echo, select, quit, rewrite, command, client}
 use Rattle.mr_words.specs.declared.name.Name.{Name}
 use Rattle.mr_words.specs.declared.name.Name.TheVariants as name
 use Rattle.mr_words.specs.declared.fault.AskFault.{AskFault}
@@ -132,6 +132,7 @@ reading name.Ping arguments = of_kind ask.Server (ping arguments)
 reading name.Echo arguments = of_kind ask.Server (echo arguments)
 reading name.Select arguments = of_kind ask.Server (select arguments)
 reading name.Quit arguments = of_kind ask.Server (quit arguments)
+reading name.BgRewriteAof arguments = of_kind ask.Server (rewrite arguments)
 reading name.Command arguments = of_kind ask.Server (command arguments)
 reading name.Client arguments = of_kind ask.Server (client arguments)
 

@@ -61,6 +61,7 @@ server_name (server.Ping message) = name.Ping
 server_name (server.Echo message) = name.Echo
 server_name server.Select = name.Select
 server_name server.Quit = name.Quit
+server_name server.Rewrite = name.BgRewriteAof
 server_name (server.Command arguments) = name.Command
 server_name (server.SetClientName label) = name.Client
 server_name (server.SetClientInfo attribute value) = name.Client

@@ -63,6 +63,7 @@ server_words (server.Ping (Some message)) = message ∷ []
 server_words (server.Echo message) = message ∷ []
 server_words server.Select = []
 server_words server.Quit = []
+server_words server.Rewrite = []
 server_words (server.Command arguments) = arguments
 server_words (server.SetClientName label) = label ∷ []
 server_words (server.SetClientInfo attribute value) = attribute ∷ value ∷ []

@@ -36,6 +36,11 @@ abbrev pub quit : List (List ℕ) → Result ServerAsk AskFault
 quit [] = Ok ask.Quit
 quit _ = Err (Arity name.Quit)
 
+-- BGREWRITEAOF
+abbrev pub rewrite : List (List ℕ) → Result ServerAsk AskFault
+rewrite [] = Ok ask.Rewrite
+rewrite _ = Err (Arity name.BgRewriteAof)
+
 -- COMMAND [argument ..]
 abbrev pub command : List (List ℕ) → Result ServerAsk AskFault
 command arguments = Ok (ask.Command arguments)

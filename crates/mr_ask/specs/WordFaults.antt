@@ -223,6 +223,7 @@ argument_faults name.Ping words = counted name.Ping (one_at_most words)
 argument_faults name.Echo words = counted name.Echo (each (any_word ∷ []) words)
 argument_faults name.Select words = counted name.Select (each (database_check ∷ []) words)
 argument_faults name.Quit words = counted name.Quit (each [] words)
+argument_faults name.BgRewriteAof words = counted name.BgRewriteAof (each [] words)
 argument_faults name.Command words = []
 argument_faults name.Client words = of_client words
 

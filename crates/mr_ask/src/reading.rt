@@ -162,6 +162,7 @@ fn read_arguments<'a, 't>(name: Name, arguments: Arguments<'a, 't>) -> Reading<'
         Name::Echo => of_server(server::echo(arguments)),
         Name::Select => of_server(server::select(arguments)),
         Name::Quit => of_server(server::quit(arguments)),
+        Name::BgRewriteAof => of_server(server::rewrite(arguments)),
         Name::Command => of_server(server::command(arguments)),
         Name::Client => of_server(server::client(arguments)),
     }

@@ -16,6 +16,8 @@ pub enum ServerAsk<'a, 't> {
     Select,
     /// `QUIT`
     Quit,
+    /// `BGREWRITEAOF`
+    Rewrite,
     /// `COMMAND [argument ..]`
     Command {
         arguments: Words<'a, 't>,

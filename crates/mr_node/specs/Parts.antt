@@ -10,7 +10,7 @@ use Rattle.mr_effect.specs.Spelling.{texts}
 use Rattle.mr_effect.specs.declared.effect.Effect.{Effect}
 use Rattle.mr_data.specs.declared.given.Given.{Given}
 use Rattle.mr_data.specs.declared.plan.Plan.{Plan}
-use Rattle.mr_plan.specs.Requests.{quits}
+use Rattle.mr_plan.specs.Requests.{quits, rewrites}
 use Rattle.mr_node.specs.State.{NodeState, end_of, put_end, full, spent_as}
 use Rattle.mr_node.specs.State.EndState.{client}
 use Rattle.mr_node.specs.Outs.{OutsState, no_outs, growth, outs_with}
@@ -45,6 +45,7 @@ pub record Runs (replica : Bool) (u : List ℕ) (given : Given) (m : Dataset) (u
   pub enough : used ≤ length u
   pub words : List (List ℕ)
   pub asks : Asks u words (drop used u)
+  pub plain : rewrites words ≡ false
   pub plan : HasPlan replica m words given (view p.reply) p.effects.items
 
 -- So many bytes are an empty request.
@@ -59,16 +60,25 @@ pub record Quits (u : List ℕ) : Type 0 where
   pub asks : Asks u words rest
   pub quit : quits words ≡ true
 
+-- So many bytes are a client's wish that the append-only file be written anew.
+pub record Rewrites (u : List ℕ) (used : ℕ) : Type 0 where
+  pub enough : used ≤ length u
+  pub words : List (List ℕ)
+  pub asks : Asks u words (drop used u)
+  pub rewriting : rewrites words ≡ true
+
 abbrev pub IsTodo : Bool → List ℕ → Given → Dataset → Todo → Type 0
 IsTodo replica u given m (todo.Wait progress) = Waits u × (length u < full)
 IsTodo replica u given m (todo.Skip used) = Passes u used
 IsTodo replica u given m (todo.Refuse fault) = IsDoomedBy u fault
 IsTodo replica u given m todo.Quit = Quits u
+IsTodo replica u given m (todo.Rewrite used) = Rewrites u used
 IsTodo replica u given m (todo.Run used plan) = Runs replica u given m used plan
 
 abbrev pub carry_out : Answer → ℕ → Todo
 carry_out (answer.Run plan) used = todo.Run used plan
 carry_out answer.Quit used = todo.Quit
+carry_out answer.Rewrite used = todo.Rewrite used
 
 -- where more is waited for, the progress is over the unread bytes
 abbrev pub KeepsAlong : Todo → List ℕ → Type 0
@@ -76,6 +86,7 @@ KeepsAlong (todo.Wait progress) unread = AgreesAlong progress unread
 KeepsAlong (todo.Skip used) unread = Unit {0}
 KeepsAlong (todo.Refuse fault) unread = Unit {0}
 KeepsAlong todo.Quit unread = Unit {0}
+KeepsAlong (todo.Rewrite used) unread = Unit {0}
 KeepsAlong (todo.Run used plan) unread = Unit {0}
 
 -- so many bytes of the link are used, and nothing else has changed

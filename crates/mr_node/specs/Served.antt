@@ -9,7 +9,9 @@ use Rattle.mr_data.specs.Meaning.{apply_all}
 use Rattle.mr_data.specs.declared.given.Given.{Given}
 use Rattle.mr_effect.specs.Spelling.{text, texts}
 use Rattle.mr_effect.specs.declared.effect.Effect.{Effect}
-use Rattle.mr_plan.specs.Requests.{IsPlanned, left, quits}
+use Rattle.mr_plan.specs.Requests.{IsPlanned, left, quits, rewrites}
+use Rattle.mr_plan_keys.specs.Server.{rewriting}
+use Rattle.mr_data.specs.Rebuilding.{rebuilding}
 use Rattle.mr_node.specs.State.{Core}
 use Rattle.mr_node.specs.Outs.{Output, no_output, growth}
 use Rattle.mr_node.specs.Requests.{Asks, AsksNothing}
@@ -41,14 +43,20 @@ pub record HasPlan (replica : Bool) (m : Dataset) (words : List (List ℕ)) (giv
 abbrev pub left_of : Core → List (List ℕ) → Given → Dataset
 left_of c words given = left c.replica words given c.held
 
+-- a file written anew, and the client is told so
+abbrev pub rewritten_as : Dataset → Output
+rewritten_as m = record no_output { replaced = Some (texts (rebuilding m)); said = reply_text rewriting }
+
 -- A request is answered: what it makes of the node, and what it gives out.
 pub data Answered (c : Core) (words : List (List ℕ)) (given : Given) (d : Core) (out : Output) : Type 0 where
   -- its effects are applied, and their texts go to the stream and to the file
-  within : (reply : Tree) (effects : List Effect) → HasPlan c.replica c.held words given reply effects → offset_behind effects c ≤ offset_limit
+  within : rewrites words ≡ false → (reply : Tree) (effects : List Effect) → HasPlan c.replica c.held words given reply effects → offset_behind effects c ≤ offset_limit
       → d ≡ grown_by effects (left_of c words given) c → out ≡ record (growth (texts effects)) { said = reply_text reply } → Answered c words given d out
   -- they would carry the offset past its limit: it is told so, and nothing is done
-  beyond : (reply : Tree) (effects : List Effect) → HasPlan c.replica c.held words given reply effects → offset_limit < offset_behind effects c
+  beyond : rewrites words ≡ false → (reply : Tree) (effects : List Effect) → HasPlan c.replica c.held words given reply effects → offset_limit < offset_behind effects c
       → d ≡ c → out ≡ record no_output { said = reply_text (error limit_text) } → Answered c words given d out
+  -- the append-only file is replaced by what makes the dataset again, on a master and on a replica
+  rewritten : rewrites words ≡ true → d ≡ c → out ≡ rewritten_as c.held → Answered c words given d out
 
 -- What stands at the front of unread bytes is used: what it makes of the node, what is left unread, and what it gives out.
 pub data Served (c : Core) (u : List ℕ) (given : Given) (d : Core) (rest : List ℕ) (out : Output) : Type 0 where

@@ -11,11 +11,16 @@ abbrev pub pong : Option (List ℕ) → Tree
 pong None = reply.simple (codes "PONG")
 pong (Some message) = reply.bytes message
 
+-- BGREWRITEAOF
+abbrev pub rewriting : Tree
+rewriting = reply.simple (codes "Background append only file rewriting started")
+
 abbrev pub server_reply : ServerAsk → Tree
 server_reply (ask.Ping message) = pong message
 server_reply (ask.Echo message) = reply.bytes message
 server_reply ask.Select = done
 server_reply ask.Quit = done
+server_reply ask.Rewrite = rewriting
 server_reply (ask.Command arguments) = reply.array reply.none
 server_reply (ask.SetClientName label) = done
 server_reply (ask.SetClientInfo attribute value) = done

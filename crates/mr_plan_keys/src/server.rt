@@ -38,6 +38,9 @@ fn reply_to(alloc: Global, ask: &ServerAsk<'_, '_>) -> Result<Reply, AllocError>
             message: Some(message),
         } => bulk(alloc, message.as_slice()),
         ServerAsk::Echo { message } => bulk(alloc, message.as_slice()),
+        ServerAsk::Rewrite => Ok(Reply::Simple(CowSlice::Borrowed(
+            b"Background append only file rewriting started",
+        ))),
         ServerAsk::Command { .. } => Ok(Reply::Array(Vec::new(alloc))),
         ServerAsk::Select
         | ServerAsk::Quit

@@ -3,7 +3,7 @@ ghost use Rattle.std.specs.Prelude.{◌≡◌, map};
 ghost use Rattle.std.specs.Cow.{cow_slice_items};
 ghost use Rattle.std.specs.Str.{bytes_eq};
 ghost use Rattle.mr_words.specs.Names.{lowered};
-ghost use Rattle.mr_ask.specs.Server.{ping, echo, select, quit, command, client, setname, setinfo};
+ghost use Rattle.mr_ask.specs.Server.{ping, echo, select, quit, rewrite, command, client, setname, setinfo};
 
 use crate::server_ask::ServerAsk;
 use mr_words::{Argument, Arguments, AskFault, BadValue, Name, Words, integer};
@@ -58,6 +58,16 @@ pub(crate) fn quit<'a, 't>(arguments: Arguments<'a, 't>) -> Reading<'a, 't>
     match arguments {
         [] => Ok(ServerAsk::Quit),
         _ => Err(AskFault::Arity(Name::Quit)),
+    }
+}
+
+/// `BGREWRITEAOF`
+pub(crate) fn rewrite<'a, 't>(arguments: Arguments<'a, 't>) -> Reading<'a, 't>
+    ensures { result ≡ rewrite (map cow_slice_items arguments.now) }
+{
+    match arguments {
+        [] => Ok(ServerAsk::Rewrite),
+        _ => Err(AskFault::Arity(Name::BgRewriteAof)),
     }
 }
 
