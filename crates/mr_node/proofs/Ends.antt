@@ -1,5 +1,5 @@
 -- The ends of links, as a map.
-use Rattle.std.proofs.Common.{◌≡◌, ◌≢◌, ◌≤◌, ◌+◌, ◌++◌, ◌<◌, arith, length, drop, ℕ, List, Bool, true, false, cond, Option, Some, IsSome, is_some, refl, sym, ap, ◌∙◌}
+use Rattle.std.proofs.Common.{◌≡◌, ◌≢◌, ◌≤◌, ◌+◌, ◌<◌, arith, length, ℕ, List, Bool, true, false, cond, Option, Some, IsSome, is_some, refl, sym, ap, ◌∙◌}
 use Rattle.std.proofs.Common.{Ok, Err, OnOk, OnErr, Result}
 use Rattle.std.specs.Result.{is_err}
 use Rattle.std.specs.Ordering.{eq_by_cmp}
@@ -12,8 +12,8 @@ use Rattle.mr_links.specs.declared.link_id.LinkId.{LinkId}
 use Rattle.mr_links.proofs.LinkRows.{ids_total, exact_ids}
 use Rattle.mr_node.specs.State.{NodeState, EndState, end_of, put_end, full, Agrees, IsShut, IsTooMuch, OthersStay}
 use Rattle.mr_node.specs.State.EndState.{client, shut}
-use Rattle.mr_node.specs.Ending.{end_as, is_open, HasUnread, Takes, AgreesAt, IsRoom, used_of, heard_of}
-use Rattle.mr_node.specs.Progresses.{AgreesAlong, Fits}
+use Rattle.mr_node.specs.Ending.{end_as, is_open, HasUnread, Takes, AgreesAt, IsRoom}
+use Rattle.mr_node.specs.Progresses.{AgreesAlong}
 use Rattle.mr_resp.specs.declared.progress.Progress.{Progress}
 
 pub some_is : {A : Type 0} (x y : A) → ◌≡◌ {A = Option A} (Some x) (Some y) → x ≡ y
@@ -99,14 +99,6 @@ takes_by false u n h = absurd h
 pub agrees_by : (b : Bool) (u : List ℕ) (p : Progress) → AgreesAt p (end_as b u) → AgreesAlong p u
 agrees_by true u p h = h
 agrees_by false u p h = absurd h
-
-pub used_by : (b : Bool) (u : List ℕ) (n : ℕ) → used_of n (end_as b u) ≡ end_as b (drop n u)
-used_by true u n = refl
-used_by false u n = refl
-
-pub heard_by : (b : Bool) (u more : List ℕ) → heard_of more (end_as b u) ≡ end_as b (u ++ more)
-heard_by true u more = refl
-heard_by false u more = refl
 
 pub room_by : (b : Bool) (u : List ℕ) (n : ℕ) → is_open (end_as b u) ≡ true → n + length u ≡ full → IsRoom n (end_as b u)
 room_by true u n h e = e

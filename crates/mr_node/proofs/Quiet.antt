@@ -1,5 +1,5 @@
 -- Where there are no effects, nothing changes.
-use Rattle.std.proofs.Common.{◌≡◌, ◌≤◌, ◌+◌, ◌-◌, ℕ, List, [], ◌++◌, append-nil, drop, length, true, Bool, Some, Ok, Err, Result, IfOk, refl, sym, ap, ◌∙◌, arith}
+use Rattle.std.proofs.Common.{◌≡◌, ◌≤◌, ◌+◌, ◌-◌, ℕ, List, [], ◌++◌, append-nil, drop, length, true, Bool, Some, Ok, Err, Result, IfOk, sym, ap, ◌∙◌, arith}
 use Rattle.std.specs.Prelude.{IfErr}
 use Rattle.mr_repl.specs.Backlog.{Window, IsWindow, after_bytes, last_of}
 use Rattle.mr_links.specs.declared.link_id.LinkId.{LinkId}
@@ -9,7 +9,7 @@ use Rattle.mr_data.specs.Meaning.{apply_all}
 use Rattle.mr_data.specs.declared.given.Given.{Given}
 use Rattle.mr_data.specs.declared.plan.Plan.{Plan}
 use Rattle.mr_effect.specs.declared.effect.Effect.{Effect}
-use Rattle.mr_node.specs.State.{NodeState, Core, end_of}
+use Rattle.mr_node.specs.State.{NodeState, Core}
 use Rattle.mr_node.specs.Served.{grown_by}
 use Rattle.mr_node.specs.Parts.{HasAhead, Runs, Commits, Halts, Uses}
 use Rattle.mr_node.specs.declared.fault.NodeFault.{NodeFault}

@@ -166,7 +166,7 @@ impl Node {
     fn dismiss(&mut self, link: LinkId, reply: &Reply) -> Result<Step, NodeFault>
         requires { IsSome (end_of self.old link) }
         ensures step { IfOk result (λ s. s ≡ Step.Done (last_outs link (reply_text (view reply.now)))) }
-        ensures state { OnOk result (self.new ≡ put_end self.old link shut_end) }
+        ensures state { OnOk result (self.new ≡ put_end self.old link EndState.shut) }
         ensures err { IfErr result (λ e. (e ≡ NodeFault.Memory) × (self.new ≡ self.old)) }
         ensures core { self.new.core ≡ self.old.core }
     {
@@ -183,7 +183,7 @@ impl Node {
     fn refuse(&mut self, link: LinkId, fault: Fault) -> Result<Step, NodeFault>
         requires { IsSome (end_of self.old link) }
         ensures step { IfOk result (λ s. s ≡ Step.Done (last_outs link (reply_text (error (fault_text fault))))) }
-        ensures state { OnOk result (self.new ≡ put_end self.old link shut_end) }
+        ensures state { OnOk result (self.new ≡ put_end self.old link EndState.shut) }
         ensures err { IfErr result (λ e. (e ≡ NodeFault.Memory) × (self.new ≡ self.old)) }
         ensures core { self.new.core ≡ self.old.core }
     {
@@ -197,7 +197,7 @@ impl Node {
     fn quit(&mut self, link: LinkId) -> Result<Step, NodeFault>
         requires { IsSome (end_of self.old link) }
         ensures step { IfOk result (λ s. s ≡ Step.Done (last_outs link (reply_text done))) }
-        ensures state { OnOk result (self.new ≡ put_end self.old link shut_end) }
+        ensures state { OnOk result (self.new ≡ put_end self.old link EndState.shut) }
         ensures err { IfErr result (λ e. (e ≡ NodeFault.Memory) × (self.new ≡ self.old)) }
         ensures core { self.new.core ≡ self.old.core }
     {

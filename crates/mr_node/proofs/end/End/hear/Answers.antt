@@ -1,5 +1,4 @@
-use Rattle.std.proofs.Common.{◌≡◌, ◌≤◌, ◌+◌, drop, length, arith, sym, ap, subst, ◌∙◌, length-drop}
-use Rattle.mr_node.specs.State.{EndState, full}
+use Rattle.std.proofs.Common.{drop, length, arith, sym, subst, ◌∙◌, length-drop}
 use Rattle.mr_node.specs.Ending.{Takes}
 use Rattle.mr_node.proofs.Progressing.{fits_more}
 use Rattle.mr_node.proofs.Ends.{takes_by}

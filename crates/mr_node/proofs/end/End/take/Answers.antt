@@ -1,8 +1,8 @@
-use Rattle.std.proofs.Common.{◌≡◌, ◌+◌, drop, length, sym, ap, subst, ◌∙◌, arith}
+use Rattle.std.proofs.Common.{◌+◌, drop, length, sym, subst, arith}
 use Rattle.std.proofs.lemmas.List.{length-drop}
-use Rattle.mr_node.specs.Ending.{HasUnread, used_of}
+use Rattle.mr_node.specs.Ending.{HasUnread}
 use Rattle.mr_node.proofs.Progressing.{fresh_along}
-use Rattle.mr_node.proofs.Ends.{enough_by, used_by}
+use Rattle.mr_node.proofs.Ends.{enough_by}
 use Rattle.mr_node.proofs.end.End.take.Goals as goal
 
 pub invariant_of-self : goal.invariant_of-self

@@ -1,9 +1,9 @@
-use Rattle.std.proofs.Common.{◌≡◌, ◌++◌, length, refl, sym, ap, subst, ◌∙◌}
+use Rattle.std.proofs.Common.{◌≡◌, length, refl, sym, ap, subst, ◌∙◌}
 use Rattle.std.specs.FinMap.{FinMap, insert}
 use Rattle.mr_links.specs.LinkId.{id_cmp}
-use Rattle.mr_node.specs.State.{NodeState, EndState, end_of, put_end}
+use Rattle.mr_node.specs.State.{NodeState, EndState, end_of}
 use Rattle.mr_node.specs.State.EndState.{client}
-use Rattle.mr_node.specs.Ending.{Takes, heard_of}
+use Rattle.mr_node.specs.Ending.{Takes}
 use Rattle.mr_node.proofs.Nodes.{with_links}
 use Rattle.mr_node.proofs.Ends.{some_is, put_same}
 use Rattle.mr_node.proofs.node.Node.hear.Goals as goal
