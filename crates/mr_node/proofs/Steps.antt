@@ -8,17 +8,17 @@ use Rattle.mr_data.specs.declared.given.Given.{Given}
 use Rattle.mr_data.specs.declared.plan.Plan.{Plan}
 use Rattle.mr_node.specs.State.{NodeState, end_of, put_end, Agrees}
 use Rattle.mr_node.specs.State.EndState.{client, shut}
-use Rattle.mr_node.specs.Outs.{no_outs, no_output, growth}
+use Rattle.mr_node.specs.Outs.{no_outs, no_output, growth, outs_with}
 use Rattle.mr_node.specs.Requests.{IsDoomedBy}
 use Rattle.mr_resp.specs.Replies.{error, reply_text}
 use Rattle.mr_resp.specs.Faults.{fault_text}
 use Rattle.mr_turn.specs.Turns.{done}
 use Rattle.mr_effect.specs.Spelling.{texts}
-use Rattle.mr_node.specs.Served.{Served, Answered, left_of, grown_by, limit_text}
+use Rattle.mr_node.specs.Served.{Served, Answered, left_of, grown_by, limit_text, rewritten_as}
 use Rattle.mr_node.specs.Rows.{ClientRow, StepRow, Leaves, Ends, Stops}
 use Rattle.mr_node.specs.Parts.{Uses, Ran, Quits, Halts, last_outs}
 use Rattle.mr_node.specs.Parts.Ran.{commits, too_far}
-use Rattle.mr_node.specs.Parts.{Passes, Runs}
+use Rattle.mr_node.specs.Parts.{Passes, Rewrites, Runs}
 use Rattle.mr_node.specs.declared.step.Step.{Step}
 use Rattle.mr_node.proofs.Ends.{some_is, client_is, put_agrees, put_shut, put_others}
 
@@ -52,6 +52,18 @@ skip_row a b l given u used up p uses ag =
       outs_are = refl;
     })
 
+pub rewriting_row : (a b : NodeState) (l : LinkId) (given : Given) (u : List ℕ) (used : ℕ) → a.core.up ≡ true → Rewrites u used → Uses a l used b → Agrees a l u → ClientRow a l u given b (outs_with (Some l) (rewritten_as a.core.held))
+rewriting_row a b l given u used up r uses ag =
+    let e = used_end a b l u used ag uses in
+    ClientRow.serves (record {
+      up = up;
+      rest = drop used u;
+      out = rewritten_as a.core.held;
+      served = Served.request r.words r.asks (Answered.rewritten r.rewriting (ap (λ (s : NodeState). s.core) e) refl);
+      leaves = leaves_of a b l (drop used u) e;
+      outs_are = refl;
+    })
+
 pub fault_ends : (u : List ℕ) (fault : Fault) → IsDoomedBy u fault → Ends u (reply_text (error (fault_text fault)))
 fault_ends u fault d = Ends.doomed fault d refl
 
@@ -74,7 +86,7 @@ run_row a b l given u used p s up r (commits within c) ag =
       up = up;
       rest = drop used u;
       out = record (growth (texts es)) { said = reply_text (view p.reply) };
-      served = Served.request r.words r.asks (Answered.within (view p.reply) es r.plan within (ap (λ (z : NodeState). z.core) e ∙ ap (λ (m : Dataset). grown_by es m a.core) left) refl);
+      served = Served.request r.words r.asks (Answered.within r.plain (view p.reply) es r.plan within (ap (λ (z : NodeState). z.core) e ∙ ap (λ (m : Dataset). grown_by es m a.core) left) refl);
       leaves = record { agrees = put_agrees mid b l (drop used u) e; others = record { stay = o.stay; opened = o.opened } };
       outs_are = refl;
     }))
@@ -84,7 +96,7 @@ run_row a b l given u used p s up r (too_far t) ag =
       up = up;
       rest = drop used u;
       out = record no_output { said = reply_text (error limit_text) };
-      served = Served.request r.words r.asks (Answered.beyond (view p.reply) p.effects.items r.plan t.beyond (ap (λ (z : NodeState). z.core) e) refl);
+      served = Served.request r.words r.asks (Answered.beyond r.plain (view p.reply) p.effects.items r.plan t.beyond (ap (λ (z : NodeState). z.core) e) refl);
       leaves = leaves_of a b l (drop used u) e;
       outs_are = refl;
     }))

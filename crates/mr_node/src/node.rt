@@ -11,7 +11,7 @@ ghost use Rattle.mr_node.specs.State.{NodeState, Core, EndState, end_of, put_end
 ghost use Rattle.mr_node.specs.Outs.{no_outs, growth, outs_with};
 ghost use Rattle.mr_node.specs.Progresses.{AgreesAlong};
 ghost use Rattle.mr_node.specs.Parts.{Leads, HasAhead, HasRoom, Uses, Hears, last_outs, Ran, Commits, Halts, Tells, KeepsOn};
-ghost use Rattle.mr_node.specs.Served.{offset_limit};
+ghost use Rattle.mr_node.specs.Served.{offset_limit, rewritten_as};
 ghost use Rattle.mr_node.specs.Rows.{StepRow, WhyStopped};
 
 mod file;
@@ -205,6 +205,26 @@ impl Node {
         self.dismiss(link, &reply)
     }
 
+    /// The append-only file is written anew, and the client is told so.
+    fn rewrite(&mut self, link: LinkId, used: usize) -> Result<Step, NodeFault>
+        requires { HasAhead self.old link used }
+        ensures step { IfOk result (λ s. s ≡ Step.Done (outs_with (Some link) (rewritten_as self.old.core.held))) }
+        ensures state { OnOk result (Uses self.old link used self.new) }
+        ensures err { IfErr result (λ e. (e ≡ NodeFault.Memory) × (self.new ≡ self.old)) }
+    {
+        let mut outs = self.fresh_outs(Some(link));
+        let reply = Reply::Simple(CowSlice::Borrowed(b"Background append only file rewriting started"));
+        if outs.say(&reply).is_err() {
+            return Err(NodeFault::Memory);
+        }
+        let Ok(texts) = self.held.rebuild(self.alloc) else {
+            return Err(NodeFault::Memory);
+        };
+        outs.replace(texts);
+        self.advance(link, used);
+        Ok(Step::Done(outs))
+    }
+
     /// Carries out a plan.
     fn run(&mut self, link: LinkId, used: usize, plan: Plan) -> Result<Step, NodeFault>
         requires ahead { HasAhead self.old link used }
@@ -396,6 +416,7 @@ impl Node {
             Ok(Todo::Skip { used }) => Ok(self.skip(link, used)),
             Ok(Todo::Refuse(fault)) => self.refuse(link, fault),
             Ok(Todo::Quit) => self.quit(link),
+            Ok(Todo::Rewrite { used }) => self.rewrite(link, used),
             Ok(Todo::Run { used, plan }) => self.run(link, used, plan),
         }
     }

@@ -1,5 +1,5 @@
 // What a step gives out.
-ghost use Rattle.std.specs.Prelude.{◌≡◌, ◌++◌, [], ◌+◌, true, false, length, nat_le, if◌then◌else◌, IfOk, OnOk};
+ghost use Rattle.std.specs.Prelude.{◌≡◌, ◌++◌, [], ◌+◌, true, false, length, nat_le, if◌then◌else◌, IfOk, OnOk, Some};
 ghost use Rattle.std.specs.Option.{option_map};
 ghost use Rattle.mr_resp.specs.Replies.{reply_text};
 ghost use Rattle.mr_resp.specs.ReplyView.{view};
@@ -139,6 +139,13 @@ impl Outs {
         ensures { OnOk result (self.new ≡ record self.old { reply = self.old.reply ++ reply_text (view reply.now) }) }
     {
         write_reply(reply, &mut self.reply)
+    }
+
+    /// The append-only file is replaced by these bytes.
+    pub(crate) fn replace(&mut self, bytes: Vec<u8>)
+        ensures { self.new ≡ record self.old { replaced = Some bytes.entry.items } }
+    {
+        self.replaced = Some(bytes);
     }
 
     pub(crate) fn drop_grown(&mut self)

@@ -18,7 +18,7 @@
 //! | `shows` | `shows ID OFFSET`, or `nothing` |
 //! | `spell BYTES` | `spelled TEXT`, of the effect that the command text spells, or `no effect` |
 //! | `lend BYTES`, `give BYTES` | `applied`, or `no effect`: applied by reference, or moved in, to a dataset beside the node |
-//! | `ask BYTES` | `replied REPLY`, to the request on that dataset; or `quit` |
+//! | `ask BYTES` | `replied REPLY`, to the request on that dataset; or `quit`, or `rewrite` |
 //! | `due` | `due KEY`, the first key of that dataset that is past, or `nothing due` |
 //! | `rebuild` | `rebuilt TEXTS`, of the effects that make that dataset again |
 //!

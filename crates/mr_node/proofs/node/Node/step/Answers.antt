@@ -6,10 +6,12 @@ use Rattle.mr_node.specs.Rows.{StepRow, WhyStopped}
 use Rattle.mr_resp.specs.Faults.{fault_text}
 use Rattle.mr_resp.specs.Replies.{error, reply_text}
 use Rattle.mr_turn.specs.Turns.{done}
-use Rattle.mr_node.specs.Parts.{last_outs, Passes, Quits, Runs}
+use Rattle.mr_node.specs.Parts.{last_outs, Passes, Quits, Rewrites, Runs}
+use Rattle.mr_node.specs.Outs.{outs_with}
+use Rattle.mr_node.specs.Served.{rewritten_as}
 use Rattle.mr_node.specs.Requests.{IsDoomedBy}
 use Rattle.mr_node.specs.declared.step.Step.TheVariants.{Done}
-use Rattle.mr_node.proofs.Steps.{ok_map, ok_is, kept_is, skip_row, last_row, fault_ends, quit_ends, run_row, stops_of}
+use Rattle.mr_node.proofs.Steps.{ok_map, ok_is, kept_is, skip_row, last_row, fault_ends, quit_ends, rewriting_row, run_row, stops_of}
 use Rattle.mr_node.proofs.Quiet.{replica_is_quiet}
 use Rattle.mr_node.proofs.node.Node.step.Goals as goal
 
@@ -39,6 +41,15 @@ returns-in-Ok-Refuse-clause-row c =
     let p : IsDoomedBy c.unread.result.now c.in-Ok-Refuse.fault = search rules in
     ok_is c.refuse.result (Done (last_outs l (reply_text (error (fault_text c.in-Ok-Refuse.fault))))) _ _ c.refuse.ensures.step c.refuse.ensures.state
     (λ e u ag. last_row a c.refuse.new.self l c.args.given u _ up (fault_ends u c.in-Ok-Refuse.fault (subst (λ z. IsDoomedBy z c.in-Ok-Refuse.fault) (kept_is a l u _ ag found) p)) e)
+
+pub returns-in-Ok-Rewrite-clause-row : goal.returns-in-Ok-Rewrite-clause-row
+returns-in-Ok-Rewrite-clause-row c =
+    let a = c.args.self.now in let l = c.args.link in
+    let found : end_of a l ≡ Some (client c.unread.result.now) = ap (λ (s : NodeState). end_of s l) (sym c.self.view_is) ∙ (sym c.in-Some.ensures ∙ ap Some c.unread.ensures) in
+    let up : a.core.up ≡ true = search rules in
+    let r : Rewrites c.unread.result.now c.in-Ok-Rewrite.used = search rules in
+    ok_is c.rewrite.result (Done (outs_with (Some l) (rewritten_as a.core.held))) _ _ c.rewrite.ensures.step c.rewrite.ensures.state
+    (λ e u ag. rewriting_row a c.rewrite.new.self l c.args.given u c.in-Ok-Rewrite.used up (subst (λ z. Rewrites z c.in-Ok-Rewrite.used) (kept_is a l u _ ag found) r) e ag)
 
 pub returns-in-Ok-Quit-clause-row : goal.returns-in-Ok-Quit-clause-row
 returns-in-Ok-Quit-clause-row c =
