@@ -81,6 +81,21 @@ class Links(Rehearsing):
             ("step 1", done(NIL)),
         ])
 
+    def test_a_node_stops_where_its_file_failed(self):
+        self.rehearses([
+            ("open", "opened"),
+            fed(0, SET),
+            ("file_failed", "stopped"),
+            ("shows", "nothing"),
+            ("room 0", "gone"),
+            ("step 0", "refused: stopped"),
+            fed(0, GET, "refused: stopped"),
+            ("open", "refused: stopped"),
+            ("tick", "refused: stopped"),
+            ("file_failed", "stopped"),
+            ("step 0", "refused: stopped"),
+        ])
+
     def test_a_link_takes_no_more_than_its_room(self):
         self.rehearses([
             ("open", "opened"),

@@ -30,6 +30,7 @@ pub enum NodeCall {
     Room(usize),
     Close(usize),
     Tick,
+    FileFailed,
     Shows,
 }
 
@@ -71,6 +72,7 @@ fn alone(name: &str) -> Result<Call, RehearsalFault> {
         "replica" => Ok(Call::Start(Role::Replica)),
         "open" => Ok(Call::OnNode(NodeCall::Open)),
         "tick" => Ok(Call::OnNode(NodeCall::Tick)),
+        "file_failed" => Ok(Call::OnNode(NodeCall::FileFailed)),
         "shows" => Ok(Call::OnNode(NodeCall::Shows)),
         "due" => Ok(Call::OnDataset(DatasetCall::Due)),
         "rebuild" => Ok(Call::OnDataset(DatasetCall::Rebuild)),

@@ -40,6 +40,7 @@ impl Host {
             NodeCall::Room(link) => self.room(alloc, link, out),
             NodeCall::Close(link) => self.close(link, out),
             NodeCall::Tick => self.tick(alloc, given, out),
+            NodeCall::FileFailed => self.file_failed(out),
             NodeCall::Shows => self.shows(alloc, out),
         }
     }
@@ -125,6 +126,11 @@ impl Host {
         let link = self.link(place)?;
         self.node.close(link);
         tell(out, "closed")
+    }
+
+    fn file_failed(&mut self, out: &mut Vec<u8>) -> Result<(), RehearsalFault> {
+        self.node.file_failed();
+        tell(out, "stopped")
     }
 
     fn shows(&self, alloc: Global, out: &mut Vec<u8>) -> Result<(), RehearsalFault> {

@@ -14,6 +14,7 @@
 //! | `room LINK` | `room COUNT`, or `gone` |
 //! | `close LINK` | `closed` |
 //! | `tick` | as of a step: `done OUTS - EFFECTS` |
+//! | `file_failed` | `stopped` |
 //! | `shows` | `shows ID OFFSET`, or `nothing` |
 //! | `spell BYTES` | `spelled TEXT`, of the effect that the command text spells, or `no effect` |
 //! | `lend BYTES`, `give BYTES` | `applied`, or `no effect`: applied by reference, or moved in, to a dataset beside the node |
