@@ -86,7 +86,7 @@ impl Outs {
     pub fn appended(&self) -> &[u8]
         ensures { result.now ≡ self.now.appended }
     {
-        self.grown.as_slice()
+        self.grown()
     }
 
     /// What the append-only file is replaced by.
