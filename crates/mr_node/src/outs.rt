@@ -86,7 +86,8 @@ impl Outs {
     pub fn appended(&self) -> &[u8]
         ensures { result.now ≡ self.now.appended }
     {
-        self.grown.as_slice()
+        let texts = &self.grown;
+        texts.as_slice()
     }
 
     /// What the append-only file is replaced by.

@@ -16,7 +16,7 @@ use Rattle.mr_node.proofs.Quiet.{replica_is_quiet}
 use Rattle.mr_node.proofs.node.Node.step.Goals as goal
 
 pub todo_of-requires : goal.todo_of-requires
-todo_of-requires c = subst (λ e. AgreesAt c.progress.result e) c.unread.ensures c.progress.ensures
+todo_of-requires c = subst (λ e. AgreesAt c.progress-progress.result e) c.unread.ensures c.progress-progress.ensures
 
 pub run-requires-clause-leads : goal.run-requires-clause-leads
 run-requires-clause-leads c =
