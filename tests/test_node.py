@@ -96,6 +96,21 @@ class Links(Rehearsing):
             ("step 0", "refused: stopped"),
         ])
 
+    def test_a_file_is_written_anew_in_one_step(self):
+        started = b"+Background append only file rewriting started\r\n"
+        self.rehearses([
+            ("open", "opened"),
+            fed(0, request("BGREWRITEAOF")),
+            ("step 0", "done rs %s - -" % started.hex()),
+            fed(0, SET + request("SET", "k", "w") + request("bgrewriteaof")),
+            ("step 0", done(OK, SET)),
+            ("step 0", done(OK, request("SET", "k", "w"))),
+            ("step 0", "done rs %s - %s" % (started.hex(), request("SET", "k", "w").hex())),
+            ("shows", "shows %s 54" % ID),
+            fed(0, request("BGREWRITEAOF", "now")),
+            ("step 0", done(arity("bgrewriteaof"))),
+        ])
+
     def test_a_link_takes_no_more_than_its_room(self):
         self.rehearses([
             ("open", "opened"),

@@ -213,7 +213,9 @@ impl Node {
         ensures err { IfErr result (λ e. (e ≡ NodeFault.Memory) × (self.new ≡ self.old)) }
     {
         let mut outs = self.fresh_outs(Some(link));
-        let reply = Reply::Simple(CowSlice::Borrowed(b"Background append only file rewriting started"));
+        let reply = Reply::Simple(CowSlice::Borrowed(
+            b"Background append only file rewriting started",
+        ));
         if outs.say(&reply).is_err() {
             return Err(NodeFault::Memory);
         }
