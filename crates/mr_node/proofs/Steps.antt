@@ -1,5 +1,5 @@
 -- From what the parts of a step do to the step's row.
-use Rattle.std.proofs.Common.{◌≡◌, ℕ, List, [], true, drop, Some, Ok, Err, Result, IfOk, OnOk, refl, sym, ap, subst, ◌∙◌}
+use Rattle.std.proofs.Common.{◌≡◌, ℕ, List, true, drop, Some, Ok, Err, Result, IfOk, OnOk, refl, sym, ap, subst, ◌∙◌}
 use Rattle.mr_links.specs.declared.link_id.LinkId.{LinkId}
 use Rattle.mr_resp.specs.ReplyView.{view}
 use Rattle.mr_resp.specs.declared.fault.Fault.{Fault}

@@ -1,5 +1,5 @@
 -- What a request makes of a node, and what it is sent.
-use Rattle.std.specs.Prelude.{◌≡◌, ◌≤◌, ◌<◌, ◌+◌, ◌^◌, ℕ, List, [], All, Bool, false, Some, length, codes}
+use Rattle.std.specs.Prelude.{◌≡◌, ◌≤◌, ◌<◌, ◌+◌, ◌^◌, ℕ, List, All, Bool, false, Some, length, codes}
 use Rattle.mr_repl.specs.Backlog.{after_bytes}
 use Rattle.mr_resp.specs.Replies.{Tree, error, reply_text}
 use Rattle.mr_resp.specs.Command.{IsCommandText}
