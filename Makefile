@@ -1,4 +1,4 @@
-.PHONY: build test test-all test-batched bench
+.PHONY: build test test-all test-batched bench instructions
 
 # The gate that `make test` runs: test-all, or test-batched.
 GATE = test-batched
@@ -17,6 +17,11 @@ test-all:
 test-batched:
 	python3 tests/run.py --batched
 
-# Processor time a request and peak memory, beside redis-server where it is installed. RUNS="SETEX tick" chooses runs by words of their names.
+# Processor time a request and peak memory, beside redis-server where it is installed. RUNS="SETEX tick" chooses runs by words of their
+# names; with ROUNDS=5 each is made five times, and the median told.
 bench:
 	python3 bench/bench.py $(RUNS)
+
+# The same runs by the instructions that they take, under callgrind, which must be installed.
+instructions:
+	python3 bench/instructions.py $(RUNS)

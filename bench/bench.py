@@ -1,8 +1,9 @@
 """Processor time a request and peak memory of `./minired pipe`, beside redis-server where it is installed.
 
-Each run hands a file of requests to the program, and to redis-server by `redis-cli --pipe`. The times are the
-processor time of the program, or of the server, without that of starting it. Words given to this script choose
-the runs whose names have one of them.
+Each run hands a file of requests to the program over a pipe, and to redis-server by `redis-cli --pipe`. The times are the
+processor time of the program, or of the server, from where all before them was answered. Words given to this script choose
+the runs whose names have one of them, and ROUNDS in the environment has each made so often, of both programs in turn: then the
+median is told. bench/files.py measures the append-only file, and bench/instructions.py counts instructions.
 
 The clock of `pipe` stands still, so ticks are made by `rehearse` (crates/rehearse) on a dataset of a million keys; what it
 takes to read the lines and to write the effects in hexadecimal digits is counted in. What redis-server does in their place is
@@ -19,26 +20,14 @@ import sys
 import tempfile
 import time
 
-ROOT = os.path.dirname(os.path.dirname(os.path.abspath(__file__)))
+from servers import KEYS, LAUNCHER, MIB, OTHER, ROOT, ROUNDS, VALUE, Minired, Redis, bulk, has_redis, is_chosen, key, medians, request, scrambled, timed
+
+import files
+
 sys.path.insert(0, os.path.join(ROOT, "tests"))
 from program import built  # noqa: E402
 
-LAUNCHER = os.path.join(ROOT, "minired")
 PAIRS = 500_000
-KEYS = 1_000_000
-VALUE = b"xxx"
-# of the same length: a text in place of itself changes nothing, and would leave out what a change costs
-OTHER = b"yyy"
-MIB = 1 << 20
-
-
-def key(number):
-    return b"key:%012d" % number
-
-
-def scrambled(number):
-    """The keys in an order that is the same in each run: 3^18 and the number of keys have no common divisor."""
-    return key(number * 387_420_489 % KEYS)
 
 
 def set_of(name, value):
@@ -74,18 +63,11 @@ def large_value(file):
     return 2, len(b"+OK\r\n$%d\r\n" % size) + size + 2
 
 
-def request(*words):
-    return b"*%d\r\n" % len(words) + b"".join(b"$%d\r\n%s\r\n" % (len(word), word) for word in words)
-
-
-def bulk(text):
-    return b"$%d\r\n%s\r\n" % (len(text), text)
-
-
 def repeated(file, text, count):
-    """The text so many times, a multiple of a thousand."""
+    """The text so many times."""
     for _ in range(count // 1000):
         file.write(1000 * text)
+    file.write(count % 1000 * text)
 
 
 def pushed(name, count):
@@ -310,7 +292,19 @@ def on_sorted_sets(size, count, rounds):
     ]
 
 
-# what is measured, what is done before it, the time of which is taken off, and options of the program
+def on_sets(size, count, rounds):
+    """What is measured on a set of so many members, each of which is asked for in so many rounds. Each draw is of the member halfway."""
+    before, few = added(count), min(count // 2, 10_000)
+    halfway = ("--word", str(count // 2))
+    return [
+        (f"SADD of {size} new members", None, many(b"SADD", count, ONE)),
+        (f"SISMEMBER of {size}", before, each_of(count, rounds, lambda turn, score: ONE, lambda turn, score, member: (b"SISMEMBER", b"k", member))),
+        (f"SRANDMEMBER of {size}", before, asked(10_000, ONE_KEY, b"SRANDMEMBER", b"k"), *halfway),
+        (f"SPOP of {size}", before, asked(few, ONE_KEY, b"SPOP", b"k"), *halfway),
+    ]
+
+
+# what is measured, what is done before it, the time of which doesn't count, and options of the program
 RUNS = [
     ("SET, GET of one key", None, one_key),
     ("SET, GET of a million keys", None, many_keys),
@@ -321,10 +315,10 @@ RUNS = [
     ("RPOP", items(200_000), popped(b"RPOP", 200_000)),
     ("HSET of 100,000 fields", None, many(b"HSET", 100_000, b":1\r\n", VALUE)),
     ("HGET of 100,000 fields", many(b"HSET", 100_000, b":1\r\n", VALUE), many(b"HGET", 100_000, bulk(VALUE))),
-    ("SADD of 100,000 members", None, many(b"SADD", 100_000, b":1\r\n")),
-    ("SISMEMBER of 100,000", added(100_000), many(b"SISMEMBER", 100_000, b":1\r\n")),
+    *on_sets("1,000", 1_000, 100),
+    *on_sets("100,000", 100_000, 1),
+    *on_sets("a million", 1_000_000, 1),
     ("SPOP of 100,000, the first", added(100_000), asked(100_000, ONE_KEY, b"SPOP", b"k")),
-    ("SPOP of a million, halfway", added(1_000_000), asked(1_000, ONE_KEY, b"SPOP", b"k"), "--word", "500000"),
     ("LRANGE of the first 100", items(1_000_000), asked(10_000, HUNDRED, b"LRANGE", b"l", b"0", b"99")),
     ("LRANGE of the last 100", items(1_000_000), asked(10_000, HUNDRED, b"LRANGE", b"l", b"-100", b"-1")),
     ("ZSCORE of 100,000", scored(100_000), scores_of(100_000)),
@@ -344,8 +338,13 @@ RUNS = [
     ("GET of a million deadlines", NEW_UNTIL, of_keys(b"GET", bulk(VALUE))),
 ]
 
-# what takes memory, told a key of a million
-HELD = [("bytes a key", NEW), ("bytes a key with a deadline", NEW_UNTIL)]
+# what takes memory, told of each of a million
+HELD = [
+    ("bytes a key", NEW, KEYS),
+    ("bytes a key with a deadline", NEW_UNTIL, KEYS),
+    ("bytes a member of a set", added(1_000_000), 1_000_000),
+    ("bytes a member of a sorted set", scored(1_000_000), 1_000_000),
+]
 
 # ticks on a million deadlines: how many, and at which moment; the time is told a tick, or a key where they delete some
 TICKS = [("tick, none of a million past", KEYS, 0), ("tick, all of a million past", KEYS // 64, DEADLINE)]
@@ -355,109 +354,55 @@ PIECE = 65_536
 FOLLOWED = [("stream of a million SETs", False), ("snapshot of a million keys", True)]
 
 
-def timed(words, path, out):
-    """Nanoseconds of processor time and bytes of peak memory of a program on a file, whose output goes to another."""
-    with open(path, "rb") as asked, open(out, "wb") as replies:
-        child = subprocess.Popen(words, stdin=asked, stdout=replies)
-        _, status, used = os.wait4(child.pid, 0)
-        child.returncode = os.waitstatus_to_exitcode(status)
-    if child.returncode:
-        raise SystemExit(f"bench: {words[0]} ended with {child.returncode}")
-    return (used.ru_utime + used.ru_stime) * 1e9, used.ru_maxrss * 1024
-
-
-def minired(path, wanted, room, words=()):
-    """The same of `minired` on a file of requests."""
-    out = os.path.join(room, "replies")
-    times = timed([LAUNCHER, "pipe", *words], path, out)
-    size = os.path.getsize(out)
-    os.remove(out)
-    if size != wanted:
-        raise SystemExit(f"bench: ./minired wrote {size} bytes of replies in place of {wanted}")
-    return times
-
-
-class Redis:
-    """A server of its own in this folder, which keeps nothing on disk."""
-
-    def __init__(self, room, *more):
-        self.socket = os.path.join(room, "redis")
-        words = ["--port", "0", "--unixsocket", self.socket, "--save", "", "--appendonly", "no", "--dir", room, *more]
-        self.server = subprocess.Popen(["redis-server", *words], stdout=subprocess.DEVNULL)
-        while not os.path.exists(self.socket):
-            if self.server.poll() is not None:
-                raise SystemExit("bench: redis-server does not start")
-            time.sleep(0.01)
-
-    def asked(self, *words):
-        return subprocess.run(["redis-cli", "-s", self.socket, *words], capture_output=True, text=True, check=True).stdout.strip()
-
-    def used(self):
-        """Nanoseconds of processor time so far, of all threads."""
-        total = 0
-        folder = f"/proc/{self.server.pid}/task"
-        for thread in os.listdir(folder):
-            with open(f"{folder}/{thread}/schedstat") as it:
-                total += int(it.read().split()[0])
-        return total
-
-    def peak(self):
-        with open(f"/proc/{self.server.pid}/status") as it:
-            line = next(line for line in it if line.startswith("VmHWM:"))
-        return int(line.split()[1]) * 1024
-
-    def run(self, path):
-        before = self.used()
-        with open(path, "rb") as asked:
-            subprocess.run(["redis-cli", "-s", self.socket, "--pipe"], stdin=asked, stdout=subprocess.DEVNULL, check=True)
-        return self.used() - before, self.peak()
-
-    def stop(self):
-        self.server.terminate()
-        self.server.wait()
-
-
-def redis(path, room):
-    server = Redis(room)
-    try:
-        return server.run(path)
-    finally:
-        server.stop()
-
-
 def line(*cells):
     print("{:<28}{:>12}{:>16}{:>14}{:>16}{:>14}".format(*cells), flush=True)
 
 
-def measured(room, start, has_redis, before, write, words):
+def programs(room, words=()):
+    """What starts each of the programs that are there."""
+    return [lambda: Minired(*words), lambda: Redis(room)][: 2 if has_redis() else 1]
+
+
+def taken(start, first, ready, path, wanted):
+    """Nanoseconds of processor time that a program takes for requests, behind others; and its peak memory."""
+    program = start()
+    try:
+        program.run(first, ready)
+        began = program.used()
+        program.run(path, wanted)
+        return program.used() - began, program.peak()
+    finally:
+        program.stop()
+
+
+def measured(room, before, write, words):
     """How many requests, and nanoseconds a request and peak MiB of both programs."""
     path, first = os.path.join(room, "requests"), os.path.join(room, "before")
     with open(first, "wb") as file:
         _, ready = before(file) if before else (0, 0)
     with open(path, "wb") as file:
-        if before:
-            before(file)
         count, wanted = write(file)
-    if before:
-        start, _ = minired(first, ready, room, words)
-    nanoseconds, peak = minired(path, ready + wanted, room, words)
-    cells = [f"{count:,}", f"{(nanoseconds - start) / count:,.0f}", f"{peak / MIB:,.1f}"]
-    if not has_redis:
-        return cells + ["-", "-"]
-    idle = redis(first, room)[0] if before else 0
-    nanoseconds, peak = redis(path, room)
-    return cells + [f"{(nanoseconds - idle) / count:,.0f}", f"{peak / MIB:,.1f}"]
+    rounds = [[taken(start, first, ready, path, wanted) for start in programs(room, words)] for _ in range(ROUNDS)]
+    cells = [f"{count:,}"]
+    for runs in zip(*rounds):
+        nanoseconds, peak = medians(runs)
+        cells += [f"{nanoseconds / count:,.0f}", f"{peak / MIB:,.1f}"]
+    return cells + ["-", "-"] * (2 - len(rounds[0]))
 
 
-def held(room, empty, has_redis, write):
-    """How many keys, and bytes of peak memory a key of both programs."""
+def held(room, write, members):
+    """How many keys or members, and bytes of peak memory for each of both programs."""
     path = os.path.join(room, "requests")
     with open(path, "wb") as file:
-        count, wanted = write(file)
-    cells = [f"{count:,}"]
-    for run in [lambda it, size: minired(it, size, room), lambda it, size: redis(it, room)][: 2 if has_redis else 1]:
-        cells += [f"{(run(path, wanted)[1] - run(empty, 0)[1]) / count:,.0f}", ""]
-    return cells if has_redis else cells + ["-", "-"]
+        _, wanted = write(file)
+    cells = [f"{members:,}"]
+    for start in programs(room):
+        program = start()
+        idle = program.peak()
+        program.run(path, wanted)
+        cells += [f"{(program.peak() - idle) / members:,.0f}", ""]
+        program.stop()
+    return (cells + ["-", "-"])[:5]
 
 
 def ticked(room, count, now):
@@ -501,11 +446,11 @@ def expired(room, is_past):
         server.stop()
 
 
-def tick_cells(room, has_redis, count, now):
+def tick_cells(room, count, now):
     is_past = now >= DEADLINE
     a_time = ticked(room, count, now) / (KEYS if is_past else count)
     cells = [f"{KEYS if is_past else count:,}", f"{a_time:,.0f}", ""]
-    return cells + ([f"{expired(room, is_past):,.0f}", ""] if has_redis else ["-", "-"])
+    return cells + ([f"{expired(room, is_past):,.0f}", ""] if has_redis() else ["-", "-"])
 
 
 def followed(room, is_snapshot):
@@ -550,37 +495,31 @@ def loaded(room):
     return times[1] - times[0]
 
 
-def followed_cells(room, has_redis, is_snapshot):
+def followed_cells(room, is_snapshot):
     cells = [f"{KEYS:,}", f"{followed(room, is_snapshot) / KEYS:,.0f}", ""]
-    return cells + ([f"{loaded(room) / KEYS:,.0f}", ""] if has_redis else ["-", "-"])
-
-
-def is_chosen(name, chosen):
-    return not chosen or any(word in name for word in chosen)
+    return cells + ([f"{loaded(room) / KEYS:,.0f}", ""] if has_redis() else ["-", "-"])
 
 
 def main(*chosen):
-    has_redis = shutil.which("redis-server") and shutil.which("redis-cli")
+    # builds the program where it isn't built
+    subprocess.run([LAUNCHER, "pipe"], stdin=subprocess.DEVNULL, check=True)
     with tempfile.TemporaryDirectory() as room:
-        empty = os.path.join(room, "none")
-        open(empty, "wb").close()
-        minired(empty, 0, room)
-        start, _ = minired(empty, 0, room)
         line("", "requests", "minired", "", "redis", "")
         line("", "", "ns a request", "peak MiB", "ns a request", "peak MiB")
         for name, before, write, *words in RUNS:
             if is_chosen(name, chosen):
-                line(name, *measured(room, start, has_redis, before, write, words))
-        for name, write in HELD:
+                line(name, *measured(room, before, write, words))
+        for name, write, members in HELD:
             if is_chosen(name, chosen):
-                line(name, *held(room, empty, has_redis, write))
+                line(name, *held(room, write, members))
         for name, count, now in TICKS:
             if is_chosen(name, chosen):
-                line(name, *tick_cells(room, has_redis, count, now))
+                line(name, *tick_cells(room, count, now))
         for name, is_snapshot in FOLLOWED:
             if is_chosen(name, chosen):
-                line(name, *followed_cells(room, has_redis, is_snapshot))
-    if not has_redis:
+                line(name, *followed_cells(room, is_snapshot))
+        files.main(*chosen)
+    if not has_redis():
         print("redis-server and redis-cli are not installed (Debian's redis-server and redis-tools)")
 
 

@@ -16,7 +16,7 @@ ERROR = re.compile(r"^(?:\./)?(\S+?):\d+:\d+: error(?:\[[\w-]+\])?: (.*)")
 PROOF = re.compile(r"proofs/(\S+)/(?:Answers|Invariants|Proof)\.antt")
 # an error that only says that a name in a proof is gone, and not that something is false
 GONE = re.compile(r"has no field|is not in scope|has no `|was not admitted")
-NO_FUNCTION = re.compile(r"^rattle: error: .* has no function `", re.M)
+NO_FUNCTION = re.compile(r"^rattle: error: .* has no function `([^`]*)`", re.M)
 # the last line of a check that reached the prover and judged
 LAST = ("logic=", "only=")
 
@@ -47,7 +47,8 @@ class Answer:
         self.status, self.lines = status, said.rstrip("\n").split("\n")
         self.last = self.lines[-1]
         self.reached = status in (0, 1) and self.last.startswith(LAST) and not crate.kit.is_stale(said)
-        self.names_no_function = bool(NO_FUNCTION.search(said))
+        # the name that was asked for and that the prover doesn't know
+        self.unknown = next(iter(NO_FUNCTION.findall(said)), None)
         self.unread = next((it[:200] for it in self.lines if crate.kit.cannot_read(it, texts)), "")
         self.functions = {it.name: it for it in sources.everywhere()}
         self.reasons, self.errors, self.unclear = [], [], []

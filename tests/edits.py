@@ -201,6 +201,9 @@ class Trial:
     def try_batch(self, batch, kept):
         """Sets the verdicts for which one check of these edits tells, and returns what is still to be tried."""
         answer = self.check(batch, set().union(*[it.touched for it in batch]), kept)
+        strange = [it for it in batch if answer.unknown in it.touched]
+        if strange and len(strange) < len(batch):
+            return [[it for it in batch if it not in strange], *[[it] for it in strange]]
         why = answer.why_unclear()
         if why:
             self.notes.append(f"{self.crate.name}: a batch of {len(batch)} doesn't tell, so its halves are tried: {why[:160]}")
@@ -212,7 +215,7 @@ class Trial:
     def verdict_of(self, edit, kept):
         """Tries one edit alone: with the functions that it changes, and where the prover doesn't know their names, with the whole crate."""
         answer = self.check([edit], edit.touched or set(), kept)
-        if answer.names_no_function and edit.touched:
+        if answer.unknown and edit.touched:
             self.notes.append(f"{edit.name}: no name of the prover's: {', '.join(sorted(edit.touched))}, so the whole crate is tried")
             edit.touched = None
             answer = self.check([edit], set(), kept)

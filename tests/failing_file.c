@@ -1,6 +1,7 @@
 /* Put before the C library by LD_PRELOAD, it has calls on files fail, and writes be short. Only descriptors above 2 count. The
    variables count from 1: FAIL_CALL names a call of any of these kinds, FAIL_WRITE and FAIL_SYNC one of its kind, and SHORT_WRITE
-   the most bytes that a write takes. The failed call does nothing. It is written without headers, so that a compiler alone makes it. */
+   the most bytes that a write takes. Files are opened and renamed too: FAIL_CALL counts that only where FAIL_NAMES is set. The
+   failed call does nothing. It is written without headers, so that a compiler alone makes it. */
 typedef unsigned long size_t;
 typedef long ssize_t;
 typedef long off_t;
@@ -9,9 +10,10 @@ extern long syscall(long, ...);
 extern char *getenv(const char *);
 extern int *__errno_location(void);
 
-enum { WRITE = 1, PREAD = 17, FSYNC = 74, FDATASYNC = 75, FTRUNCATE = 77, NO_SPACE = 28 };
+enum { WRITE = 1, PREAD = 17, FSYNC = 74, FDATASYNC = 75, FTRUNCATE = 77, OPENAT = 257, RENAMEAT = 264 };
+enum { NO_SPACE = 28, HERE = -100, CREATE = 64 };
 
-static unsigned long call_left, write_left, sync_left, most;
+static unsigned long call_left, write_left, sync_left, most, names;
 
 static unsigned long number(const char *text)
 {
@@ -27,6 +29,7 @@ __attribute__((constructor)) static void begin(void)
     write_left = number(getenv("FAIL_WRITE"));
     sync_left = number(getenv("FAIL_SYNC"));
     most = number(getenv("SHORT_WRITE"));
+    names = number(getenv("FAIL_NAMES"));
 }
 
 static int comes(unsigned long *left)
@@ -34,14 +37,24 @@ static int comes(unsigned long *left)
     return *left != 0 && --*left == 0;
 }
 
+static int lacks_space(int now)
+{
+    if (now)
+        *__errno_location() = NO_SPACE;
+    return now;
+}
+
 static int fails(int file, unsigned long *kind)
 {
     if (file <= 2)
         return 0;
     int any = comes(&call_left), one = kind && comes(kind);
-    if (any || one)
-        *__errno_location() = NO_SPACE;
-    return any || one;
+    return lacks_space(any || one);
+}
+
+static int fails_by_name(void)
+{
+    return lacks_space(names && comes(&call_left));
 }
 
 ssize_t write(int file, const void *from, size_t size)
@@ -86,4 +99,39 @@ int ftruncate(int file, off_t size)
 int ftruncate64(int file, off_t size)
 {
     return ftruncate(file, size);
+}
+
+static int opened(int folder, const char *name, int flags, __builtin_va_list more)
+{
+    if (fails_by_name())
+        return -1;
+    return (int)syscall(OPENAT, folder, name, flags, flags & CREATE ? __builtin_va_arg(more, unsigned) : 0);
+}
+
+int openat(int folder, const char *name, int flags, ...)
+{
+    __builtin_va_list more;
+    __builtin_va_start(more, flags);
+    int file = opened(folder, name, flags, more);
+    __builtin_va_end(more);
+    return file;
+}
+
+int open(const char *name, int flags, ...)
+{
+    __builtin_va_list more;
+    __builtin_va_start(more, flags);
+    int file = opened(HERE, name, flags, more);
+    __builtin_va_end(more);
+    return file;
+}
+
+int renameat(int from_folder, const char *from, int to_folder, const char *to)
+{
+    return fails_by_name() ? -1 : (int)syscall(RENAMEAT, from_folder, from, to_folder, to);
+}
+
+int rename(const char *from, const char *to)
+{
+    return renameat(HERE, from, HERE, to);
 }

@@ -15,8 +15,8 @@ def hexadecimal(data):
 
 
 def done(reply, effects=b"", closes=False):
-    """Growth comes before the reply, and the link's closing behind it."""
-    outs = ("g" if effects else "") + ("s" if reply else "") + ("c" if closes else "")
+    """Growth comes before the file's, both before the reply, and the link's closing behind it."""
+    outs = ("ga" if effects else "") + ("s" if reply else "") + ("c" if closes else "")
     return "done %s %s %s" % (outs, hexadecimal(reply), hexadecimal(effects))
 
 

@@ -78,6 +78,11 @@ class Lanes(unittest.TestCase):
         list(in_lanes(self.tasks(), 4, 90, most=4))
         self.assertEqual((self.jobs["map"], self.jobs["glob"], self.jobs["node"]), (2, 1, 4))
 
+    def test_the_longest_chain_gets_half_the_processors_where_many_are_ready(self):
+        tasks = [Task(name, [], work, 1, lambda jobs, name=name: self.jobs.setdefault(name, jobs)) for name, work in [("long", 9), ("b", 3), ("c", 2), ("d", 1)]]
+        list(in_lanes(tasks, 4, 90, most=4))
+        self.assertEqual((self.jobs["long"], self.jobs["b"], self.jobs["c"]), (2, 1, 1))
+
     def test_an_error_in_a_task_comes_out(self):
         def fails(_):
             raise SystemExit(2)

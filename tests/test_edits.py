@@ -225,8 +225,9 @@ class Scripted(Trial):
         names = {it.name for it in batch}
         if names & self.breaks:
             return Answer(self.crate, self.sources, 1, "src/steps.rt:1:1: error[mismatched-types]: expected `u8`\n", {}, only)
-        if names & self.unknown and only:
-            return Answer(self.crate, self.sources, 2, "rattle: error: `tiny` has no function `nosuch`: help: write the name\n", {}, only)
+        strange = next((it for it in batch if it.name in self.unknown), None)
+        if strange and only:
+            return Answer(self.crate, self.sources, 2, f"rattle: error: `tiny` has no function `{min(strange.touched)}`: help: write the name\n", {}, only)
         spoilt = [name for it in batch if it.name not in self.harmless for name in it.touched or {"third"}]
         lines = [f"fn tiny::{it}: no proof: `search` did not prove `returns`\n" for it in spoilt]
         well = not spoilt and (batch or self.is_sound)
@@ -261,9 +262,9 @@ class Trying(WithTheTinyCrate):
         self.assertEqual(trial.asked, [["a_limit", "b_up", "c_third", "d_level"], ["c_third"]])
         self.assertEqual(verdicts["c_third"].text, "NOT REFUSED tiny/c_third.edit: third proved with this edit")
 
-    def test_a_name_that_the_prover_does_not_know_is_found_by_halves_and_tried_with_the_whole_crate(self):
+    def test_a_name_that_the_prover_does_not_know_leaves_the_batch_and_is_tried_with_the_whole_crate(self):
         trial, verdicts = self.run_script(unknown=["c_third"])
-        self.assertEqual(trial.asked[:3], [["a_limit", "b_up", "c_third", "d_level"], ["a_limit", "b_up"], ["c_third", "d_level"]])
+        self.assertEqual(trial.asked[:3], [["a_limit", "b_up", "c_third", "d_level"], ["a_limit", "b_up", "d_level"], ["c_third"]])
         self.assertEqual(trial.asked.count(["c_third"]), 2)
         self.assertTrue(verdicts["c_third"].passes)
 

@@ -122,6 +122,32 @@ class Memory(unittest.TestCase):
         for rows in (HASHES, LISTS, SETS, SORTED_SETS, STRINGS, KEYS, [*SERVER, ("QUIT", OK)]):
             self.beginnings(asked(line for line, _ in rows), b"".join(reply for _, reply in rows))
 
+    def test_a_file_has_what_was_answered_and_at_most_what_comes_next(self):
+        started = b"+Background append only file rewriting started\r\n"
+        set_v, set_w, set_x = (request("SET", "k", value) for value in "vwx")
+        # each request, its reply, and the file behind it
+        rows = [(set_v, b"+OK\r\n", set_v), (set_w, b"+OK\r\n", set_v + set_w), (request("BGREWRITEAOF"), started, set_w), (set_x, b"+OK\r\n", set_w + set_x)]
+        replies = b"".join(reply for _, reply, _ in rows)
+        files = [b"", *(file for _, _, file in rows)]
+        path = os.path.join(self.room.name, "data.aof")
+
+        def check(ran, was_refused):
+            with open(path, "rb") as file:
+                held = file.read()
+            os.truncate(path, 0)
+            answered = next(count for count in range(5) if len(b"".join(reply for _, reply, _ in rows[:count])) >= len(ran.stdout))
+            self.assertEqual(ran.stdout, replies[: len(ran.stdout)])
+            self.assertIn(held, files[answered : answered + 2])
+            if ran.returncode == 0:
+                self.assertEqual((answered, ran.stderr), (4, b""))
+            else:
+                self.assertTrue(was_refused)
+                self.assertEqual(ran.returncode, 3)
+                self.assertRegex(ran.stderr, rb"\Aminired: (out of memory|file failed\n[^\n]+)\n\Z")
+
+        open(path, "wb").close()
+        self.assertGreater(self.each_refusal(b"".join(data for data, _, _ in rows), check, PROGRAM, "pipe", "--aof", path), 20)
+
     def test_a_bad_line_is_refused_or_memory_is_out(self):
         def check(ran, was_refused):
             if was_refused and ran.returncode == 3:

@@ -9,6 +9,7 @@ from replies import NIL, NONE, OK, READONLY, UNKNOWN, arity, array, bulk, number
 
 SET = request("SET", "k", "v")
 GET = request("GET", "k")
+STARTED = b"+Background append only file rewriting started\r\n"
 PIECE = 33_554_432
 
 
@@ -96,6 +97,20 @@ class Links(Rehearsing):
             ("step 0", "refused: stopped"),
         ])
 
+    def test_a_file_is_written_anew_in_one_step(self):
+        self.rehearses([
+            ("open", "opened"),
+            fed(0, request("BGREWRITEAOF")),
+            ("step 0", "done rs %s - -" % STARTED.hex()),
+            fed(0, SET + request("SET", "k", "w") + request("bgrewriteaof")),
+            ("step 0", done(OK, SET)),
+            ("step 0", done(OK, request("SET", "k", "w"))),
+            ("step 0", "done rs %s - %s" % (STARTED.hex(), request("SET", "k", "w").hex())),
+            ("shows", "shows %s 54" % ID),
+            fed(0, request("BGREWRITEAOF", "now")),
+            ("step 0", done(arity("bgrewriteaof"))),
+        ])
+
     def test_a_link_takes_no_more_than_its_room(self):
         self.rehearses([
             ("open", "opened"),
@@ -145,6 +160,20 @@ class Replicas(Rehearsing):
 
     def test_the_server_answers(self):
         self.answers(("PING", b"+PONG\r\n"), ("ECHO m", bulk("m")), ("SELECT 0", OK), ("COMMAND", NONE))
+
+    def test_its_file_is_written_anew(self):
+        """Past keys included."""
+        effects = ["SET k v", "PEXPIREAT k 5", "RPUSH l a b"]
+        texts = b"".join(request(*it.split(" ")) for it in effects)
+        self.rehearses([
+            *holding(*effects),
+            ("replica", "started"),
+            ("given 9 0", "given"),
+            ("open", "opened"),
+            fed(0, request("BGREWRITEAOF")),
+            ("step 0", "done rs %s - %s" % (STARTED.hex(), texts.hex())),
+            ("shows", "shows %s 0" % ID),
+        ])
 
     def test_what_ends_a_link_and_empty_requests_are_as_on_a_master(self):
         self.rehearses([

@@ -41,7 +41,8 @@ def share(idle, ready, most):
 def in_lanes(tasks, lanes, memory, most=1):
     """Runs the tasks, and yields each with what its call returned as it ends. A task whose forerunner returned something false is not run.
 
-    A task gets up to `most` processors where there are more than ready tasks. One runs even where it wants more memory than there is."""
+    A task gets up to `most` processors where there are more than ready tasks, and that with the longest chain half of all, where they
+    are idle. One runs even where it wants more memory than there is."""
     behind, results = chains(tasks), queue.Queue()
     waiting, running, well = sorted(tasks, key=lambda it: -behind[it.name]), {}, set()
     while waiting or running:
@@ -52,6 +53,9 @@ def in_lanes(tasks, lanes, memory, most=1):
             if running and (idle <= 0 or task.memory > room):
                 continue
             jobs = share(idle, len(ready) - at, most)
+            # what all else waits for longest gets half, however many are ready
+            if behind[task.name] > max((behind[name] for name in running), default=0):
+                jobs = max(jobs, min(idle, lanes // 2, most))
             while jobs > 1 and task.memory * (1 + OF_ANOTHER * (jobs - 1)) > room:
                 jobs -= 1
             waiting.remove(task)

@@ -1,98 +1,89 @@
 -- What is read is spelled by the words, and carries no others.
-use Rattle.std.proofs.Common.{ℕ, pos, ◌≡◌, List, [], ◌∷◌, ◌++◌, map, Option, Some, None, refl, subst}
-use Rattle.std.specs.Prelude.{neg_ℤ, IsTrue, IfOk, Result, Ok, Err}
-use Rattle.std.specs.List.{list_all, AllByRecursion}
+use Rattle.std.proofs.Common.{ℕ, ◌≡◌, List, [], ◌∷◌, Option, Some, None, refl}
+use Rattle.std.specs.Prelude.{IsTrue, IfOk, Result, Ok, Err}
+use Rattle.std.specs.List.{list_all}
 use Rattle.mr_value.specs.Words.{fits}
 use Rattle.mr_value.specs.declared.ends.End.TheVariants.{Left, Right}
 use Rattle.mr_words.specs.Names.{lowered, named}
-use Rattle.mr_ask.specs.Texts.{get, set, setex, psetex, strlen, getrange, mget, setnx, getset, getdel, mset, msetnx, append, setrange, step, incrby, decrby}
-use Rattle.mr_ask.specs.Keys.{del, unlink, exists, key_type, matching_keys, scan, dbsize, rename, renamenx, clear, expire, ttl, pttl, expiretime, pexpiretime, persist}
-use Rattle.mr_ask_coll.specs.Hashes.{set_fields, hsetnx, hget, hmget, list_hash, hdel, hexists, hlen, hstrlen, hincrby}
-use Rattle.mr_ask_coll.specs.Lists.{push, pop, llen, lrange, lindex, lset, linsert, lrem, ltrim, lmove, rpoplpush}
-use Rattle.mr_ask_coll.specs.Sets.{sadd, srem, sismember, smismember, smembers, scard, spop, srandmember, smove, combine}
-use Rattle.mr_ask_zset.specs.Reading.{zadd, zincrby, zrem, zcard, zcount, zscore, zmscore, zrank, zrange, zrevrange, range_by_score, zpop, zremrangebyrank, zremrangebyscore}
-use Rattle.mr_ask.specs.Server.{ping, echo, select, quit, command, client}
+use Rattle.mr_cmd_string.specs.Arguments.{get, set, setex, psetex, strlen, getrange, mget, setnx, getset, getdel, mset, msetnx, append, setrange, step, incrby, decrby}
+use Rattle.mr_cmd_key.specs.Arguments.{del, unlink, exists, key_type, matching_keys, scan, dbsize, rename, renamenx, clear, expire, ttl, pttl, expiretime, pexpiretime, persist}
+use Rattle.mr_cmd_hash.specs.Arguments.{set_fields, hsetnx, hget, hmget, list_hash, hdel, hexists, hlen, hstrlen, hincrby}
+use Rattle.mr_cmd_list.specs.Arguments.{push, pop, llen, lrange, lindex, lset, linsert, lrem, ltrim, lmove, rpoplpush}
+use Rattle.mr_cmd_set.specs.Arguments.{sadd, srem, sismember, smismember, smembers, scard, spop, srandmember, smove, combine}
+use Rattle.mr_cmd_zset.specs.Arguments.{zadd, zincrby, zrem, zcard, zcount, zscore, zmscore, zrank, zrange, zrevrange, range_by_score, zpop, zremrangebyrank, zremrangebyscore}
+use Rattle.mr_cmd_server.specs.Arguments.{ping, echo, select, quit, rewrite, command, client}
 use Rattle.mr_ask.specs.Asks.{asked, asked_by, reading}
-use Rattle.mr_ask.specs.Carried.{text_words, key_words, server_words, AskFits}
-use Rattle.mr_words.specs.Spelling.{Part, Word, Number, in_a_row}
-use Rattle.mr_ask.specs.Expiry.{number_said}
-use Rattle.mr_ask.specs.Spelled.{cursor_part, expire_part, scan_option, server_parts, AreOfTexts, AreOfKeys, SpellsNamed, Spells}
-use Rattle.mr_words.proofs.FitLemmas.{carried, carried-words, first, second, both, parts_fit, OptionFits, others_fit, of_parts_fit}
+use Rattle.mr_ask.specs.Carried.{AskFits}
+use Rattle.mr_ask.specs.Spelled.{SpellsNamed, Spells}
+use Rattle.mr_words.proofs.FitLemmas.{second, of_parts_fit}
 use Rattle.mr_words.proofs.NameLemmas.{named_is}
 use Rattle.mr_ask.proofs.Carries.{of_kind_carries}
 use Rattle.mr_ask.proofs.TimeLemmas.{IsTimedAsk, reading_timed}
-use Rattle.mr_ask.proofs.TextLemmas.{get_carries, set_carries, setex_carries, psetex_carries, strlen_carries, getrange_carries, mget_carries, setnx_carries, getset_carries, getdel_carries, mset_carries, msetnx_carries, append_carries, setrange_carries, incr_carries, decr_carries, incrby_carries, decrby_carries}
-use Rattle.mr_ask.proofs.KeyLemmas.{del_carries, unlink_carries, exists_carries, key_type_carries, matching_keys_carries, scan_carries, dbsize_carries, rename_carries, renamenx_carries, clear_carries, expire_carries, ttl_carries, pttl_carries, expiretime_carries, pexpiretime_carries, persist_carries}
-use Rattle.mr_ask_coll.proofs.HashLemmas.{set_fields_spells, hsetnx_spells, hget_spells, hmget_spells, list_hash_spells, hdel_spells, hexists_spells, hlen_spells, hstrlen_spells, hincrby_spells, hash_fits}
-use Rattle.mr_ask_coll.proofs.ListLemmas.{push_spells, pop_spells, llen_spells, lrange_spells, lindex_spells, lset_spells, linsert_spells, lrem_spells, ltrim_spells, lmove_spells, rpoplpush_spells, list_fits}
-use Rattle.mr_ask_coll.proofs.SetLemmas.{sadd_spells, srem_spells, sismember_spells, smismember_spells, smembers_spells, scard_spells, spop_spells, srandmember_spells, smove_spells, combine_spells, set_fits}
-use Rattle.mr_ask_zset.proofs.AddLemmas.{zadd_spells}
-use Rattle.mr_ask_zset.proofs.RangeLemmas.{zrange_spells, zrevrange_spells, range_by_score_spells}
-use Rattle.mr_ask_zset.proofs.ZSetLemmas.{zincrby_spells, zrem_spells, zcard_spells, zcount_spells, zscore_spells, zmscore_spells, zrank_spells, zpop_spells, zremrangebyrank_spells, zremrangebyscore_spells, zset_fits}
-use Rattle.mr_ask_zset.specs.declared.zset_ask.Order.TheVariants.{Ascending, Descending}
-use Rattle.mr_ask.proofs.ServerLemmas.{ping_carries, echo_carries, select_carries, quit_carries, command_carries, client_carries}
+use Rattle.mr_cmd_string.proofs.ArgumentLemmas.{get_carries, set_carries, setex_carries, psetex_carries, strlen_carries, getrange_carries, mget_carries, setnx_carries, getset_carries, getdel_carries, mset_carries, msetnx_carries, append_carries, setrange_carries, incr_carries, decr_carries, incrby_carries, decrby_carries}
+use Rattle.mr_cmd_key.proofs.ArgumentLemmas.{del_carries, unlink_carries, exists_carries, key_type_carries, matching_keys_carries, scan_carries, dbsize_carries, rename_carries, renamenx_carries, clear_carries, expire_carries, ttl_carries, pttl_carries, expiretime_carries, pexpiretime_carries, persist_carries}
+use Rattle.mr_cmd_hash.proofs.ArgumentLemmas.{set_fields_spells, hsetnx_spells, hget_spells, hmget_spells, list_hash_spells, hdel_spells, hexists_spells, hlen_spells, hstrlen_spells, hincrby_spells, hash_fits}
+use Rattle.mr_cmd_list.proofs.ArgumentLemmas.{push_spells, pop_spells, llen_spells, lrange_spells, lindex_spells, lset_spells, linsert_spells, lrem_spells, ltrim_spells, lmove_spells, rpoplpush_spells, list_fits}
+use Rattle.mr_cmd_set.proofs.ArgumentLemmas.{sadd_spells, srem_spells, sismember_spells, smismember_spells, smembers_spells, scard_spells, spop_spells, srandmember_spells, smove_spells, combine_spells, set_fits}
+use Rattle.mr_cmd_zset.proofs.AddArgumentLemmas.{zadd_spells}
+use Rattle.mr_cmd_zset.proofs.RangeArgumentLemmas.{zrange_spells, zrevrange_spells, range_by_score_spells}
+use Rattle.mr_cmd_zset.proofs.ArgumentLemmas.{zincrby_spells, zrem_spells, zcard_spells, zcount_spells, zscore_spells, zmscore_spells, zrank_spells, zpop_spells, zremrangebyrank_spells, zremrangebyscore_spells, zset_fits}
+use Rattle.mr_zset_options.specs.declared.choices.Order.TheVariants.{Ascending, Descending}
+use Rattle.mr_cmd_server.proofs.ArgumentLemmas.{ping_carries, echo_carries, select_carries, quit_carries, rewrite_carries, command_carries, client_carries}
+use Rattle.mr_cmd_string.proofs.FitLemmas.{texts_fit}
+use Rattle.mr_cmd_key.proofs.FitLemmas.{keys_fit}
+use Rattle.mr_cmd_server.proofs.FitLemmas.{carried_server}
 use Rattle.mr_words.specs.declared.name.Name.{Name}
 use Rattle.mr_words.specs.declared.name.Name.TheVariants as name
-use Rattle.mr_ask.specs.declared.expiry.ExpiryUnit.TheVariants as unit
-use Rattle.mr_ask.specs.declared.options.ScanOption.TheVariants as scans
-use Rattle.mr_ask.specs.declared.key_ask.Cursor.{Cursor}
-use Rattle.mr_ask.specs.declared.key_ask.Cursor.TheVariants.{Start, Behind}
-use Rattle.mr_ask.specs.declared.key_ask.KindName.{KindName}
-use Rattle.mr_ask.specs.declared.text_ask.TextAsk.{TextAsk}
-use Rattle.mr_ask.specs.declared.text_ask.TextAsk.TheVariants as text
-use Rattle.mr_ask.specs.declared.text_ask.Amount.TheVariants as amount
-use Rattle.mr_ask.specs.declared.key_ask.KeyAsk.{KeyAsk}
-use Rattle.mr_ask.specs.declared.key_ask.KeyAsk.TheVariants as key
-use Rattle.mr_ask.specs.declared.key_ask.Databases.TheVariants as databases
-use Rattle.mr_ask_coll.specs.declared.hash_ask.FieldsReply.TheVariants.{Added, Done}
-use Rattle.mr_ask_coll.specs.declared.hash_ask.HashPart.TheVariants.{Pairs, Fields, Values}
-use Rattle.mr_ask_coll.specs.declared.list_ask.PushTo.TheVariants.{AnyKey, ExistingKey}
-use Rattle.mr_ask_coll.specs.declared.set_ask.SetOperation.TheVariants.{Intersection, Union, Difference}
-use Rattle.mr_ask.specs.declared.server_ask.ServerAsk.{ServerAsk}
-use Rattle.mr_ask.specs.declared.server_ask.ServerAsk.TheVariants as server
+use Rattle.mr_expiry.specs.declared.expiry.ExpiryUnit.TheVariants as unit
+use Rattle.mr_cmd_string.specs.declared.text_ask.Amount.TheVariants as amount
+use Rattle.mr_cmd_key.specs.declared.key_ask.Databases.TheVariants as databases
+use Rattle.mr_cmd_hash.specs.declared.hash_ask.FieldsReply.TheVariants.{Added, Done}
+use Rattle.mr_cmd_hash.specs.declared.hash_ask.HashPart.TheVariants.{Pairs, Fields, Values}
+use Rattle.mr_cmd_list.specs.declared.list_ask.PushTo.TheVariants.{AnyKey, ExistingKey}
+use Rattle.mr_cmd_set.specs.declared.set_ask.SetOperation.TheVariants.{Intersection, Union, Difference}
 use Rattle.mr_ask.specs.declared.ask.Ask.{Ask}
 use Rattle.mr_ask.specs.declared.ask.Ask.TheVariants as ask
 use Rattle.mr_words.specs.declared.fault.AskFault.{AskFault}
 
 reading_carries : (n : Name) (ws : List (List ℕ)) → IfOk (reading n ws) (SpellsNamed n ws)
-reading_carries name.Get ws = of_kind_carries (get ws) ask.Texts _ (get_carries ws)
-reading_carries name.Set ws = of_kind_carries (set ws) ask.Texts _ (set_carries ws)
-reading_carries name.Del ws = of_kind_carries (del ws) ask.Keys _ (del_carries ws)
-reading_carries name.Unlink ws = of_kind_carries (unlink ws) ask.Keys _ (unlink_carries ws)
-reading_carries name.Exists ws = of_kind_carries (exists ws) ask.Keys _ (exists_carries ws)
-reading_carries name.KeyType ws = of_kind_carries (key_type ws) ask.Keys _ (key_type_carries ws)
-reading_carries name.StrLen ws = of_kind_carries (strlen ws) ask.Texts _ (strlen_carries ws)
-reading_carries name.GetRange ws = of_kind_carries (getrange ws) ask.Texts _ (getrange_carries ws)
-reading_carries name.MGet ws = of_kind_carries (mget ws) ask.Texts _ (mget_carries ws)
-reading_carries name.SetNx ws = of_kind_carries (setnx ws) ask.Texts _ (setnx_carries ws)
-reading_carries name.GetSet ws = of_kind_carries (getset ws) ask.Texts _ (getset_carries ws)
-reading_carries name.GetDel ws = of_kind_carries (getdel ws) ask.Texts _ (getdel_carries ws)
-reading_carries name.Keys ws = of_kind_carries (matching_keys ws) ask.Keys _ (matching_keys_carries ws)
-reading_carries name.Scan ws = of_kind_carries (scan ws) ask.Keys _ (scan_carries ws)
-reading_carries name.DbSize ws = of_kind_carries (dbsize ws) ask.Keys _ (dbsize_carries ws)
-reading_carries name.MSet ws = of_kind_carries (mset ws) ask.Texts _ (mset_carries ws)
-reading_carries name.MSetNx ws = of_kind_carries (msetnx ws) ask.Texts _ (msetnx_carries ws)
-reading_carries name.Append ws = of_kind_carries (append ws) ask.Texts _ (append_carries ws)
-reading_carries name.SetRange ws = of_kind_carries (setrange ws) ask.Texts _ (setrange_carries ws)
-reading_carries name.Incr ws = of_kind_carries (step name.Incr amount.One ws) ask.Texts _ (incr_carries ws)
-reading_carries name.Decr ws = of_kind_carries (step name.Decr amount.MinusOne ws) ask.Texts _ (decr_carries ws)
-reading_carries name.IncrBy ws = of_kind_carries (incrby ws) ask.Texts _ (incrby_carries ws)
-reading_carries name.DecrBy ws = of_kind_carries (decrby ws) ask.Texts _ (decrby_carries ws)
-reading_carries name.Rename ws = of_kind_carries (rename ws) ask.Keys _ (rename_carries ws)
-reading_carries name.RenameNx ws = of_kind_carries (renamenx ws) ask.Keys _ (renamenx_carries ws)
-reading_carries name.FlushAll ws = of_kind_carries (clear databases.All ws) ask.Keys _ (clear_carries name.FlushAll databases.All (λ t. refl) ws)
-reading_carries name.FlushDb ws = of_kind_carries (clear databases.Selected ws) ask.Keys _ (clear_carries name.FlushDb databases.Selected (λ t. refl) ws)
-reading_carries name.SetEx ws = of_kind_carries (setex ws) ask.Texts _ (setex_carries ws)
-reading_carries name.PSetEx ws = of_kind_carries (psetex ws) ask.Texts _ (psetex_carries ws)
-reading_carries name.Expire ws = of_kind_carries (expire name.Expire unit.Seconds ws) ask.Keys _ (expire_carries name.Expire unit.Seconds (λ k m c. refl) ws)
-reading_carries name.PExpire ws = of_kind_carries (expire name.PExpire unit.Milliseconds ws) ask.Keys _ (expire_carries name.PExpire unit.Milliseconds (λ k m c. refl) ws)
-reading_carries name.ExpireAt ws = of_kind_carries (expire name.ExpireAt unit.AtSecond ws) ask.Keys _ (expire_carries name.ExpireAt unit.AtSecond (λ k m c. refl) ws)
-reading_carries name.PExpireAt ws = of_kind_carries (expire name.PExpireAt unit.AtMillisecond ws) ask.Keys _ (expire_carries name.PExpireAt unit.AtMillisecond (λ k m c. refl) ws)
-reading_carries name.Ttl ws = of_kind_carries (ttl ws) ask.Keys _ (ttl_carries ws)
-reading_carries name.PTtl ws = of_kind_carries (pttl ws) ask.Keys _ (pttl_carries ws)
-reading_carries name.ExpireTime ws = of_kind_carries (expiretime ws) ask.Keys _ (expiretime_carries ws)
-reading_carries name.PExpireTime ws = of_kind_carries (pexpiretime ws) ask.Keys _ (pexpiretime_carries ws)
-reading_carries name.Persist ws = of_kind_carries (persist ws) ask.Keys _ (persist_carries ws)
+reading_carries name.Get ws = of_kind_carries (get ws) ask.Texts (SpellsNamed name.Get ws) (get_carries ws)
+reading_carries name.Set ws = of_kind_carries (set ws) ask.Texts (SpellsNamed name.Set ws) (set_carries ws)
+reading_carries name.Del ws = of_kind_carries (del ws) ask.Keys (SpellsNamed name.Del ws) (del_carries ws)
+reading_carries name.Unlink ws = of_kind_carries (unlink ws) ask.Keys (SpellsNamed name.Unlink ws) (unlink_carries ws)
+reading_carries name.Exists ws = of_kind_carries (exists ws) ask.Keys (SpellsNamed name.Exists ws) (exists_carries ws)
+reading_carries name.KeyType ws = of_kind_carries (key_type ws) ask.Keys (SpellsNamed name.KeyType ws) (key_type_carries ws)
+reading_carries name.StrLen ws = of_kind_carries (strlen ws) ask.Texts (SpellsNamed name.StrLen ws) (strlen_carries ws)
+reading_carries name.GetRange ws = of_kind_carries (getrange ws) ask.Texts (SpellsNamed name.GetRange ws) (getrange_carries ws)
+reading_carries name.MGet ws = of_kind_carries (mget ws) ask.Texts (SpellsNamed name.MGet ws) (mget_carries ws)
+reading_carries name.SetNx ws = of_kind_carries (setnx ws) ask.Texts (SpellsNamed name.SetNx ws) (setnx_carries ws)
+reading_carries name.GetSet ws = of_kind_carries (getset ws) ask.Texts (SpellsNamed name.GetSet ws) (getset_carries ws)
+reading_carries name.GetDel ws = of_kind_carries (getdel ws) ask.Texts (SpellsNamed name.GetDel ws) (getdel_carries ws)
+reading_carries name.Keys ws = of_kind_carries (matching_keys ws) ask.Keys (SpellsNamed name.Keys ws) (matching_keys_carries ws)
+reading_carries name.Scan ws = of_kind_carries (scan ws) ask.Keys (SpellsNamed name.Scan ws) (scan_carries ws)
+reading_carries name.DbSize ws = of_kind_carries (dbsize ws) ask.Keys (SpellsNamed name.DbSize ws) (dbsize_carries ws)
+reading_carries name.MSet ws = of_kind_carries (mset ws) ask.Texts (SpellsNamed name.MSet ws) (mset_carries ws)
+reading_carries name.MSetNx ws = of_kind_carries (msetnx ws) ask.Texts (SpellsNamed name.MSetNx ws) (msetnx_carries ws)
+reading_carries name.Append ws = of_kind_carries (append ws) ask.Texts (SpellsNamed name.Append ws) (append_carries ws)
+reading_carries name.SetRange ws = of_kind_carries (setrange ws) ask.Texts (SpellsNamed name.SetRange ws) (setrange_carries ws)
+reading_carries name.Incr ws = of_kind_carries (step name.Incr amount.One ws) ask.Texts (SpellsNamed name.Incr ws) (incr_carries ws)
+reading_carries name.Decr ws = of_kind_carries (step name.Decr amount.MinusOne ws) ask.Texts (SpellsNamed name.Decr ws) (decr_carries ws)
+reading_carries name.IncrBy ws = of_kind_carries (incrby ws) ask.Texts (SpellsNamed name.IncrBy ws) (incrby_carries ws)
+reading_carries name.DecrBy ws = of_kind_carries (decrby ws) ask.Texts (SpellsNamed name.DecrBy ws) (decrby_carries ws)
+reading_carries name.Rename ws = of_kind_carries (rename ws) ask.Keys (SpellsNamed name.Rename ws) (rename_carries ws)
+reading_carries name.RenameNx ws = of_kind_carries (renamenx ws) ask.Keys (SpellsNamed name.RenameNx ws) (renamenx_carries ws)
+reading_carries name.FlushAll ws = of_kind_carries (clear databases.All ws) ask.Keys (SpellsNamed name.FlushAll ws) (clear_carries name.FlushAll databases.All (λ t. refl) ws)
+reading_carries name.FlushDb ws = of_kind_carries (clear databases.Selected ws) ask.Keys (SpellsNamed name.FlushDb ws) (clear_carries name.FlushDb databases.Selected (λ t. refl) ws)
+reading_carries name.SetEx ws = of_kind_carries (setex ws) ask.Texts (SpellsNamed name.SetEx ws) (setex_carries ws)
+reading_carries name.PSetEx ws = of_kind_carries (psetex ws) ask.Texts (SpellsNamed name.PSetEx ws) (psetex_carries ws)
+reading_carries name.Expire ws = of_kind_carries (expire name.Expire unit.Seconds ws) ask.Keys (SpellsNamed name.Expire ws) (expire_carries name.Expire unit.Seconds (λ k m c. refl) ws)
+reading_carries name.PExpire ws = of_kind_carries (expire name.PExpire unit.Milliseconds ws) ask.Keys (SpellsNamed name.PExpire ws) (expire_carries name.PExpire unit.Milliseconds (λ k m c. refl) ws)
+reading_carries name.ExpireAt ws = of_kind_carries (expire name.ExpireAt unit.AtSecond ws) ask.Keys (SpellsNamed name.ExpireAt ws) (expire_carries name.ExpireAt unit.AtSecond (λ k m c. refl) ws)
+reading_carries name.PExpireAt ws = of_kind_carries (expire name.PExpireAt unit.AtMillisecond ws) ask.Keys (SpellsNamed name.PExpireAt ws) (expire_carries name.PExpireAt unit.AtMillisecond (λ k m c. refl) ws)
+reading_carries name.Ttl ws = of_kind_carries (ttl ws) ask.Keys (SpellsNamed name.Ttl ws) (ttl_carries ws)
+reading_carries name.PTtl ws = of_kind_carries (pttl ws) ask.Keys (SpellsNamed name.PTtl ws) (pttl_carries ws)
+reading_carries name.ExpireTime ws = of_kind_carries (expiretime ws) ask.Keys (SpellsNamed name.ExpireTime ws) (expiretime_carries ws)
+reading_carries name.PExpireTime ws = of_kind_carries (pexpiretime ws) ask.Keys (SpellsNamed name.PExpireTime ws) (pexpiretime_carries ws)
+reading_carries name.Persist ws = of_kind_carries (persist ws) ask.Keys (SpellsNamed name.Persist ws) (persist_carries ws)
 reading_carries name.HSet ws = of_kind_carries (set_fields name.HSet Added ws) ask.Hashes (SpellsNamed name.HSet ws) (set_fields_spells name.HSet Added (λ k ps. refl) ws)
 reading_carries name.HMSet ws = of_kind_carries (set_fields name.HMSet Done ws) ask.Hashes (SpellsNamed name.HMSet ws) (set_fields_spells name.HMSet Done (λ k ps. refl) ws)
 reading_carries name.HSetNx ws = of_kind_carries (hsetnx ws) ask.Hashes (SpellsNamed name.HSetNx ws) (hsetnx_spells ws)
@@ -150,12 +141,13 @@ reading_carries name.ZPopMin ws = of_kind_carries (zpop name.ZPopMin Ascending w
 reading_carries name.ZPopMax ws = of_kind_carries (zpop name.ZPopMax Descending ws) ask.SortedSets (SpellsNamed name.ZPopMax ws) (zpop_spells name.ZPopMax Descending refl ws)
 reading_carries name.ZRemRangeByRank ws = of_kind_carries (zremrangebyrank ws) ask.SortedSets (SpellsNamed name.ZRemRangeByRank ws) (zremrangebyrank_spells ws)
 reading_carries name.ZRemRangeByScore ws = of_kind_carries (zremrangebyscore ws) ask.SortedSets (SpellsNamed name.ZRemRangeByScore ws) (zremrangebyscore_spells ws)
-reading_carries name.Ping ws = of_kind_carries (ping ws) ask.Server _ (ping_carries ws)
-reading_carries name.Echo ws = of_kind_carries (echo ws) ask.Server _ (echo_carries ws)
-reading_carries name.Select ws = of_kind_carries (select ws) ask.Server _ (select_carries ws)
-reading_carries name.Quit ws = of_kind_carries (quit ws) ask.Server _ (quit_carries ws)
+reading_carries name.Ping ws = of_kind_carries (ping ws) ask.Server (SpellsNamed name.Ping ws) (ping_carries ws)
+reading_carries name.Echo ws = of_kind_carries (echo ws) ask.Server (SpellsNamed name.Echo ws) (echo_carries ws)
+reading_carries name.Select ws = of_kind_carries (select ws) ask.Server (SpellsNamed name.Select ws) (select_carries ws)
+reading_carries name.Quit ws = of_kind_carries (quit ws) ask.Server (SpellsNamed name.Quit ws) (quit_carries ws)
+reading_carries name.BgRewriteAof ws = of_kind_carries (rewrite ws) ask.Server (SpellsNamed name.BgRewriteAof ws) (rewrite_carries ws)
 reading_carries name.Command ws = of_kind_carries (command ws) ask.Server (SpellsNamed name.Command ws) (command_carries ws)
-reading_carries name.Client ws = of_kind_carries (client ws) ask.Server _ (client_carries ws)
+reading_carries name.Client ws = of_kind_carries (client ws) ask.Server (SpellsNamed name.Client ws) (client_carries ws)
 
 carried_by : (w : List ℕ) (o : Option Name) (ws : List (List ℕ)) → named (lowered w) ≡ o → IfOk (asked_by o ws) (Spells (w ∷ ws))
 carried_by w None ws h = tt
@@ -168,48 +160,6 @@ carried_by w (Some n) ws h = spelled (reading n ws) (reading_carries n ws)
 pub asked_spelled : (ws : List (List ℕ)) → IfOk (asked ws) (Spells ws)
 asked_spelled [] = tt
 asked_spelled (w ∷ ws) = carried_by w (named (lowered w)) ws refl
-
-carried_server : (a : ServerAsk) → carried (server_parts a) ≡ server_words a
-unfolding carried
-carried_server server.Select = refl
-carried_server (server.SetClientName name) = refl
-carried_server (server.SetClientInfo attribute value) = refl
-carried_server a = carried-words (server_words a)
-
-without_cursor : (c : Cursor) (ps : List Part) → carried (cursor_part c ∷ ps) ≡ carried ps
-unfolding carried
-without_cursor Start ps = refl
-without_cursor Behind ps = refl
-
-pattern_fits : (cursor : Cursor) (pattern : Option (List ℕ)) (kind : Option KindName) (counts kinds : List (List Part)) → AllByRecursion OptionFits (scan_option scans.Pattern pattern ++ counts ++ kinds) → IsTrue (list_all fits (key_words (key.Scan cursor pattern kind)))
-unfolding carried OptionFits
-pattern_fits cursor None kind counts kinds h = refl
-pattern_fits cursor (Some p) kind counts kinds h = h.0
-
-texts_fit : (ws : List (List ℕ)) (a : TextAsk) → AreOfTexts ws a → IsTrue (list_all fits ws) → IsTrue (list_all fits (text_words a))
-unfolding carried
-texts_fit ws (text.Set k v condition reply lifetime) s h =
-    let all = parts_fit ws (Word k ∷ Word v ∷ in_a_row s.0) s.1.1 h in
-    both _ _ (first _ _ all) (both _ _ (first _ _ (second _ _ all)) refl)
-texts_fit ws (text.SetEx k n v) s h = parts_fit ws (Word k ∷ Number n ∷ Word v ∷ []) s h
-texts_fit ws (text.PSetEx k n v) s h = parts_fit ws (Word k ∷ Number n ∷ Word v ∷ []) s h
-texts_fit ws (text.GetRange k a b) s h = parts_fit ws (Word k ∷ Number a ∷ Number b ∷ []) s h
-texts_fit ws (text.SetRange k o v) s h = parts_fit ws (Word k ∷ Number (pos o) ∷ Word v ∷ []) s h
-texts_fit ws (text.Increase k amount.One) s h = parts_fit ws (Word k ∷ []) s h
-texts_fit ws (text.Increase k amount.MinusOne) s h = parts_fit ws (Word k ∷ []) s h
-texts_fit ws (text.Increase k (amount.Number n)) s h = parts_fit ws (Word k ∷ Number n ∷ []) s h
-texts_fit ws (text.Increase k (amount.Opposite n)) s h = parts_fit ws (Word k ∷ Number (neg_ℤ n) ∷ []) s h
-texts_fit ws a s h = subst (λ (xs : List (List ℕ)). IsTrue (list_all fits xs)) (carried-words (text_words a)) (parts_fit ws (map Word (text_words a)) s h)
-
-keys_fit : (ws : List (List ℕ)) (a : KeyAsk) → AreOfKeys ws a → IsTrue (list_all fits ws) → IsTrue (list_all fits (key_words a))
-unfolding carried
-keys_fit ws (key.Scan cursor pattern kind) s h =
-    let all = parts_fit ws (cursor_part cursor ∷ in_a_row s.are.0) s.are.1.1 h in
-    let options = subst (λ (xs : List (List ℕ)). IsTrue (list_all fits xs)) (without_cursor cursor (in_a_row s.are.0)) all in
-    pattern_fits cursor pattern kind _ _ (others_fit _ s.are.0 s.are.1.0 options)
-keys_fit ws (key.Clear d t) s h = refl
-keys_fit ws (key.Expire k e c) s h = both _ _ (first _ _ (parts_fit ws (Word k ∷ Number (number_said e) ∷ expire_part c) s h)) refl
-keys_fit ws a s h = subst (λ (xs : List (List ℕ)). IsTrue (list_all fits xs)) (carried-words (key_words a)) (parts_fit ws (map Word (key_words a)) s h)
 
 arguments_fit : (n : Name) (ws : List (List ℕ)) (a : Ask) → SpellsNamed n ws a → IsTimedAsk a → IsTrue (list_all fits ws) → AskFits a
 arguments_fit n ws (ask.Texts a) s t h = (texts_fit ws a s.parts h, t)

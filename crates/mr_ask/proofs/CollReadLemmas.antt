@@ -16,34 +16,42 @@ use Rattle.mr_words.specs.declared.name.Name.{Name}
 use Rattle.mr_words.specs.declared.name.Name.TheVariants as name
 use Rattle.mr_words.specs.declared.fault.AskFault.{AskFault}
 use Rattle.mr_words.specs.declared.fault.AskFault.TheVariants.{Arity, Syntax}
-use Rattle.mr_ask_coll.specs.Called.{hash_name, list_name, set_name}
-use Rattle.mr_ask_coll.specs.Carried.{hash_words, list_words, set_words}
-use Rattle.mr_ask_coll.specs.Parts.{end_of, end_text, side_of, side_text}
-use Rattle.mr_ask_coll.specs.Spelled.{hash_parts, list_parts, set_parts}
-use Rattle.mr_ask_coll.specs.declared.hash_ask.FieldsReply.TheVariants.{Added, Done}
-use Rattle.mr_ask_coll.specs.declared.hash_ask.HashPart.TheVariants.{Pairs, Fields, Values}
-use Rattle.mr_ask_coll.specs.declared.hash_ask.HashAsk.{HashAsk}
-use Rattle.mr_ask_coll.specs.declared.hash_ask.HashAsk.TheVariants as hash
-use Rattle.mr_ask_coll.specs.declared.list_ask.PushTo.TheVariants.{AnyKey, ExistingKey}
-use Rattle.mr_ask_coll.specs.declared.list_ask.ListAsk.{ListAsk}
-use Rattle.mr_ask_coll.specs.declared.list_ask.ListAsk.TheVariants as list
-use Rattle.mr_ask_coll.specs.declared.set_ask.SetOperation.TheVariants.{Intersection, Union, Difference}
-use Rattle.mr_ask_coll.specs.declared.set_ask.SetAsk.{SetAsk}
-use Rattle.mr_ask_coll.specs.declared.set_ask.SetAsk.TheVariants as set
-use Rattle.mr_ask_zset.specs.Askable.{ZSetIsAskable}
-use Rattle.mr_ask_zset.specs.Spelled.{ZSetSpells}
-use Rattle.mr_ask_zset.proofs.AddReadLemmas.{zadd_scores, zincrby_read}
-use Rattle.mr_ask_zset.proofs.RangeAskLemmas.{by_score_scores, zrange_ranks, zrange_scores, zrevrange_ranks}
-use Rattle.mr_ask_zset.specs.declared.zset_ask.Order.TheVariants.{Ascending, Descending}
-use Rattle.mr_ask_zset.specs.declared.zset_ask.ZSetAsk.{ZSetAsk}
-use Rattle.mr_ask_zset.specs.declared.zset_ask.ZSetAsk.TheVariants as zset
-use Rattle.mr_ask.specs.Askable.{HashIsAskable, ListIsAskable, SetIsAskable}
+use Rattle.mr_cmd_hash.specs.Called.{hash_name}
+use Rattle.mr_cmd_list.specs.Called.{list_name}
+use Rattle.mr_cmd_set.specs.Called.{set_name}
+use Rattle.mr_cmd_hash.specs.Carried.{hash_words}
+use Rattle.mr_cmd_list.specs.Carried.{list_words}
+use Rattle.mr_cmd_set.specs.Carried.{set_words}
+use Rattle.mr_cmd_list.specs.Parts.{end_of, end_text, side_of, side_text}
+use Rattle.mr_cmd_hash.specs.Spelled.{hash_parts}
+use Rattle.mr_cmd_list.specs.Spelled.{list_parts}
+use Rattle.mr_cmd_set.specs.Spelled.{set_parts}
+use Rattle.mr_cmd_hash.specs.declared.hash_ask.FieldsReply.TheVariants.{Added, Done}
+use Rattle.mr_cmd_hash.specs.declared.hash_ask.HashPart.TheVariants.{Pairs, Fields, Values}
+use Rattle.mr_cmd_hash.specs.declared.hash_ask.HashAsk.{HashAsk}
+use Rattle.mr_cmd_hash.specs.declared.hash_ask.HashAsk.TheVariants as hash
+use Rattle.mr_cmd_list.specs.declared.list_ask.PushTo.TheVariants.{AnyKey, ExistingKey}
+use Rattle.mr_cmd_list.specs.declared.list_ask.ListAsk.{ListAsk}
+use Rattle.mr_cmd_list.specs.declared.list_ask.ListAsk.TheVariants as list
+use Rattle.mr_cmd_set.specs.declared.set_ask.SetOperation.TheVariants.{Intersection, Union, Difference}
+use Rattle.mr_cmd_set.specs.declared.set_ask.SetAsk.{SetAsk}
+use Rattle.mr_cmd_set.specs.declared.set_ask.SetAsk.TheVariants as set
+use Rattle.mr_cmd_zset.specs.Askable.{ZSetIsAskable}
+use Rattle.mr_cmd_zset.specs.Spelled.{ZSetSpells}
+use Rattle.mr_cmd_zset.proofs.AddReadLemmas.{zadd_scores, zincrby_read}
+use Rattle.mr_cmd_zset.proofs.RangeReadLemmas.{by_score_scores, zrange_ranks, zrange_scores, zrevrange_ranks}
+use Rattle.mr_zset_options.specs.declared.choices.Order.TheVariants.{Ascending, Descending}
+use Rattle.mr_cmd_zset.specs.declared.zset_ask.ZSetAsk.{ZSetAsk}
+use Rattle.mr_cmd_zset.specs.declared.zset_ask.ZSetAsk.TheVariants as zset
+use Rattle.mr_cmd_hash.specs.Askable.{HashIsAskable}
+use Rattle.mr_cmd_list.specs.Askable.{ListIsAskable}
+use Rattle.mr_cmd_set.specs.Askable.{SetIsAskable}
 use Rattle.mr_ask.specs.Asks.{of_kind, reading}
-use Rattle.mr_ask.specs.Called.{server_name}
-use Rattle.mr_ask.specs.Server.{setinfo, setname}
-use Rattle.mr_ask.specs.Spelled.{server_parts}
-use Rattle.mr_ask.specs.declared.server_ask.ServerAsk.{ServerAsk}
-use Rattle.mr_ask.specs.declared.server_ask.ServerAsk.TheVariants as server
+use Rattle.mr_cmd_server.specs.Called.{server_name}
+use Rattle.mr_cmd_server.specs.Arguments.{setinfo, setname}
+use Rattle.mr_cmd_server.specs.Spelled.{server_parts}
+use Rattle.mr_cmd_server.specs.declared.server_ask.ServerAsk.{ServerAsk}
+use Rattle.mr_cmd_server.specs.declared.server_ask.ServerAsk.TheVariants as server
 use Rattle.mr_ask.specs.declared.ask.Ask.TheVariants as ask
 
 -- ---- hashes
@@ -222,6 +230,7 @@ server_read ws (server.Ping (Some message)) s = ap (reading name.Ping) (words_ar
 server_read ws (server.Echo message) s = ap (reading name.Echo) (words_are ws (message ∷ []) s)
 server_read ws server.Select s = one_part (λ xs. reading name.Select xs ≡ Ok (ask.Server server.Select)) (Number (pos 0)) zero_is ws s
 server_read ws server.Quit s = ap (reading name.Quit) (words_are ws [] s)
+server_read ws server.Rewrite s = ap (reading name.BgRewriteAof) (words_are ws [] s)
 server_read ws (server.Command arguments) s = ap (reading name.Command) (words_are ws arguments s)
 server_read ws (server.SetClientName label) s =
     two_parts (λ xs. reading name.Client xs ≡ Ok (ask.Server (server.SetClientName label))) (Keyword setname) (Word label) (setname_read label) ws s

@@ -1,6 +1,6 @@
 -- Told is the fault that comes first among those that the words have.
-use Rattle.std.proofs.Common.{ℕ, ℤ, pos, negsuc, zero, suc, ◌≡◌, List, [], ◌∷◌, ◌++◌, Bool, true, false, Option, Some, None, refl, ◌∙◌}
-use Rattle.std.specs.Prelude.{if◌then◌else◌, int_lt, option_map, Result, Ok, Err}
+use Rattle.std.proofs.Common.{ℕ, ℤ, ◌≡◌, List, [], ◌∷◌, ◌++◌, Bool, true, false, Option, Some, None, refl, ◌∙◌}
+use Rattle.std.specs.Prelude.{if◌then◌else◌, Result, Ok, Err}
 use Rattle.std.specs.Option.{ok_or}
 use Rattle.std.specs.Str.{bytes_eq}
 use Rattle.mr_value.specs.Number.{number_of}
@@ -9,45 +9,41 @@ use Rattle.mr_words.specs.Names.{lowered, named}
 use Rattle.mr_words.specs.Pairing.{are_pairs, paired}
 use Rattle.mr_words.specs.Parts.{with, integer, count, offset}
 use Rattle.mr_words.specs.FaultOrder.{counted, first_of, in_reading, told}
-use Rattle.mr_words.proofs.FaultPlaces.{ComesBefore, ComesLater, no_other, OnlyFault}
+use Rattle.mr_words.proofs.FaultPlaces.{OnlyFault}
 use Rattle.mr_words.specs.declared.name.Name.{Name}
 use Rattle.mr_words.specs.declared.name.Name.TheVariants as name
 use Rattle.mr_words.specs.declared.fault.AskFault.{AskFault}
-use Rattle.mr_words.specs.declared.fault.AskFault.TheVariants.{Arity, Syntax, Integer, ExpireTime, Other}
+use Rattle.mr_words.specs.declared.fault.AskFault.TheVariants.{Arity, Syntax, Integer, Other}
 use Rattle.mr_words.specs.declared.fault.BadValue.TheVariants as bad
-use Rattle.mr_words.specs.declared.fault.ExpiringCommand.{ExpiringCommand}
-use Rattle.mr_ask_coll.specs.Parts.{end_of, end_text, side_of}
-use Rattle.mr_ask_coll.specs.declared.hash_ask.FieldsReply.TheVariants.{Added, Done}
-use Rattle.mr_ask_coll.specs.declared.hash_ask.HashAsk.TheVariants as hash
-use Rattle.mr_ask_coll.specs.declared.list_ask.ListAsk.TheVariants as list
-use Rattle.mr_ask_coll.specs.declared.set_ask.SetAsk.TheVariants as set
-use Rattle.mr_ask_zset.specs.Parts.{bound, score}
-use Rattle.mr_ask_zset.proofs.FaultLemmas.{by_score_first, zadd_first, zrange_first, zrevrange_first}
-use Rattle.mr_ask_zset.proofs.PartLemmas.{bound_fault}
-use Rattle.mr_ask_zset.specs.Reading.{range_by_score, zadd, zrange, zrevrange}
-use Rattle.mr_ask_zset.specs.declared.zset_ask.Order.TheVariants.{Ascending, Descending}
-use Rattle.mr_ask_zset.specs.declared.zset_ask.ZSetAsk.TheVariants as zset
+use Rattle.mr_cmd_list.specs.Parts.{end_of, end_text, side_of}
+use Rattle.mr_cmd_hash.specs.declared.hash_ask.FieldsReply.TheVariants.{Added, Done}
+use Rattle.mr_cmd_hash.specs.declared.hash_ask.HashAsk.TheVariants as hash
+use Rattle.mr_cmd_list.specs.declared.list_ask.ListAsk.TheVariants as list
+use Rattle.mr_cmd_set.specs.declared.set_ask.SetAsk.TheVariants as set
+use Rattle.mr_zset_options.specs.Parts.{bound, score}
+use Rattle.mr_cmd_zset.proofs.FaultLemmas.{by_score_first, zadd_first, zrange_first, zrevrange_first}
+use Rattle.mr_zset_options.proofs.PartLemmas.{bound_fault}
+use Rattle.mr_cmd_zset.specs.Arguments.{range_by_score, zadd, zrange, zrevrange}
+use Rattle.mr_zset_options.specs.declared.choices.Order.TheVariants.{Ascending, Descending}
+use Rattle.mr_cmd_zset.specs.declared.zset_ask.ZSetAsk.TheVariants as zset
 use Rattle.mr_ask.specs.Asks.{asked, asked_by, of_kind, reading}
-use Rattle.mr_ask.specs.Expiry.{expiry_of}
-use Rattle.mr_ask.specs.Options.{condition_if_any, expire_condition, no_set_options, scan_options, set_options}
-use Rattle.mr_ask.specs.Parts.{cursor_at, cursor_of, expiring, key_expiry, kind_of, lifetime_if_any, milliseconds, not_below_1, opposite, positive_if_any, seconds, timing_of}
-use Rattle.mr_ask.proofs.OrderLemmas.{scan_options_only}
-use Rattle.mr_ask.specs.Server.{database, setinfo, setname}
-use Rattle.mr_ask.specs.WordFaults.{argument_faults, faults_behind, in_scan_options, in_set_options, word_faults}
-use Rattle.mr_ask.specs.declared.expiry.ExpiryUnit.{ExpiryUnit}
-use Rattle.mr_ask.specs.declared.expiry.ExpiryUnit.TheVariants as unit
-use Rattle.mr_ask.specs.declared.options.ScanOptions.{ScanOptions}
-use Rattle.mr_ask.specs.declared.options.SetOptions.{SetOptions}
-use Rattle.mr_ask.specs.declared.key_ask.Cursor.{Cursor}
-use Rattle.mr_ask.specs.declared.key_ask.Databases.TheVariants as databases
-use Rattle.mr_ask.specs.declared.key_ask.KeyAsk.{KeyAsk}
-use Rattle.mr_ask.specs.declared.key_ask.KeyAsk.TheVariants as key
-use Rattle.mr_ask.specs.declared.text_ask.Amount.TheVariants as amount
-use Rattle.mr_ask.specs.declared.text_ask.TextAsk.TheVariants as text
-use Rattle.mr_ask.specs.declared.server_ask.ServerAsk.{ServerAsk}
-use Rattle.mr_ask.specs.declared.server_ask.ServerAsk.TheVariants as server
+use Rattle.mr_cmd_string.specs.Parts.{milliseconds, opposite, seconds}
+use Rattle.mr_cmd_key.specs.Parts.{timing_of}
+use Rattle.mr_cmd_server.specs.Arguments.{database, setinfo, setname}
+use Rattle.mr_ask.specs.WordFaults.{argument_faults, faults_behind, word_faults}
+use Rattle.mr_expiry.specs.declared.expiry.ExpiryUnit.TheVariants as unit
+use Rattle.mr_cmd_key.specs.declared.key_ask.Databases.TheVariants as databases
+use Rattle.mr_cmd_key.specs.declared.key_ask.KeyAsk.TheVariants as key
+use Rattle.mr_cmd_string.specs.declared.text_ask.Amount.TheVariants as amount
+use Rattle.mr_cmd_string.specs.declared.text_ask.TextAsk.TheVariants as text
+use Rattle.mr_cmd_server.specs.declared.server_ask.ServerAsk.{ServerAsk}
+use Rattle.mr_cmd_server.specs.declared.server_ask.ServerAsk.TheVariants as server
 use Rattle.mr_ask.specs.declared.ask.Ask.{Ask}
 use Rattle.mr_ask.specs.declared.ask.Ask.TheVariants as ask
+use Rattle.mr_cmd_string.specs.Arguments.{set}
+use Rattle.mr_cmd_string.proofs.FaultLemmas.{set_first}
+use Rattle.mr_cmd_key.proofs.FaultLemmas.{expire_first, scan_first}
+use Rattle.mr_cmd_key.specs.Arguments.{expire, scan}
 
 module _ {A : Type 0} (kind : A → Ask) where
   of_its_kind : (r : Result A AskFault) → told (of_kind kind r) ≡ told r
@@ -91,14 +87,6 @@ module _ {A : Type 0} (kind : A → Ask) where
   two_bounds next (Err f) (Ok y) h k = refl
   two_bounds next (Err f) (Err g) h k = rw (h, k) refl
 
-  -- ---- what is read first and stands behind
-  behind_read_first : {X Y : Type 0} (next : X → Y → A) (r : Result X AskFault) (q : Result Y AskFault) → OnlyFault Syntax q → ComesLater 3 r
-      → told (of_kind kind (with q (λ y. with r (λ x. Ok (next x y))))) ≡ first_of (in_reading r ++ in_reading q)
-  behind_read_first next (Ok x) (Ok y) h k = refl
-  behind_read_first next (Err g) (Ok y) h k = refl
-  behind_read_first next (Ok x) (Err f) h k = refl
-  behind_read_first next (Err g) (Err f) h k = rw (h, k) refl
-
   -- ---- pairs
   if_pairs : {P : Type 0} (n : Name) (next : P → A) (b : Bool) (ps : P) → told (of_kind kind (with (ok_or (if b then Some ps else None) (Arity n)) (λ x. Ok (next x)))) ≡ first_of (counted n (if b then Some [] else None))
   if_pairs n next true ps = refl
@@ -117,63 +105,11 @@ one_of_two false false x y = refl
 end_fault : (w : List ℕ) → OnlyFault Syntax (end_of w)
 end_fault w = one_of_two (bytes_eq (lowered w) (end_text Left)) (bytes_eq (lowered w) (end_text Right)) Left Right
 
--- ---- SET
-set_first : (k v : List ℕ) (r : Result SetOptions AskFault)
-    → told (of_kind ask.Texts (with r (λ options. with (lifetime_if_any options.lifetime) (λ stays. Ok (text.Set k v options.condition options.reply stays))))) ≡ first_of (in_set_options r)
-set_first k v (Ok s) = last ask.Texts (λ stays. text.Set k v s.condition s.reply stays) (lifetime_if_any s.lifetime)
-set_first k v (Err f) = refl
-
--- ---- EXPIRE and its kin
-condition_fault : (ws : List (List ℕ)) → OnlyFault Syntax (condition_if_any ws)
-condition_fault [] = tt
-condition_fault (w ∷ []) = elim (expire_condition w) as (λ o. OnlyFault Syntax (with (ok_or o Syntax) (λ c. Ok (Some c)))) [ None ↦ refl | Some c ↦ tt ]
-condition_fault (w ∷ v ∷ ws) = refl
-
-amount_fault : (o : Option ℤ) (u : ExpiryUnit) (c : ExpiringCommand) → ComesLater 3 (with (ok_or o Integer) (λ n. ok_or (expiry_of u n) (ExpireTime c)))
-amount_fault None u c = refl
-amount_fault (Some n) u c = elim (expiry_of u n) as (λ e. ComesLater 3 (ok_or e (ExpireTime c))) [ None ↦ refl | Some e ↦ tt ]
-
-expire_first : (k : List ℕ) (u : ExpiryUnit) (a : List ℕ) (ws : List (List ℕ))
-    → told (of_kind ask.Keys (with (condition_if_any ws) (λ condition. with (key_expiry u a) (λ expiry. Ok (key.Expire k expiry condition))))) ≡ first_of (in_reading (key_expiry u a) ++ in_reading (condition_if_any ws))
-expire_first k u a ws = behind_read_first ask.Keys (λ expiry condition. key.Expire k expiry condition) (key_expiry u a) (condition_if_any ws) (condition_fault ws) (amount_fault (number_of a) u (expiring u))
-
--- ---- SCAN
-cursor_fault : (o : Option ℤ) → OnlyFault (Other bad.Cursor) (with (ok_or o (Other bad.Cursor)) cursor_at)
-cursor_fault None = refl
-cursor_fault (Some (pos zero)) = tt
-cursor_fault (Some (pos (suc n))) = tt
-cursor_fault (Some (negsuc n)) = refl
-
-count_fault : (o : Option ℤ) → ComesBefore 6 (with (with (ok_or o Integer) (not_below_1 Syntax)) (λ n. Ok (Some n)))
-count_fault None = refl
-count_fault (Some n) = elim (int_lt n (pos 1)) as (λ b. ComesBefore 6 (with (if b then Err Syntax else Ok n) (λ m. Ok (Some m)))) [ true ↦ refl | false ↦ tt ]
-
-counts_fault : (c : Option (List ℕ)) → ComesBefore 6 (positive_if_any c)
-counts_fault None = tt
-counts_fault (Some w) = count_fault (number_of w)
-
-cursor_last : {C D : Type 0} (next : C → D → KeyAsk) (r : Result C AskFault) (q : Result D AskFault) → OnlyFault (Other bad.Cursor) r → ComesBefore 6 q
-    → told (of_kind ask.Keys (with q (λ n. with r (λ c. Ok (next c n))))) ≡ first_of (in_reading r ++ in_reading q)
-cursor_last next (Ok c) (Ok n) h k = refl
-cursor_last next (Ok c) (Err f) h k = refl
-cursor_last next (Err g) (Ok n) h k = refl
-cursor_last next (Err g) (Err f) h k = rw (h, k) refl
-
-scan_cases : (r : Result Cursor AskFault) (q : Result ScanOptions AskFault) → OnlyFault (Other bad.Cursor) r → OnlyFault Syntax q
-    → told (of_kind ask.Keys (with q (λ options. with (positive_if_any options.count) (λ n. with r (λ place. Ok (key.Scan place options.pattern (option_map kind_of options.kind))))))) ≡ first_of (in_reading r ++ in_scan_options q)
-scan_cases r (Ok s) h k = cursor_last (λ place n. key.Scan place s.pattern (option_map kind_of s.kind)) r (positive_if_any s.count) h (counts_fault s.count)
-scan_cases (Ok c) (Err f) h k = refl
-scan_cases (Err g) (Err f) h k = rw (h, k) refl
-
-scan_first : (w : List ℕ) (ws : List (List ℕ)) → told (reading name.Scan (w ∷ ws)) ≡ first_of (in_reading (cursor_of w) ++ in_scan_options (scan_options ws))
-scan_first w ws = scan_cases (cursor_of w) (scan_options ws) (cursor_fault (number_of w)) (no_other (scan_options ws) (scan_options_only ws))
-
 -- ---- every command
 argument_first : (n : Name) (ws : List (List ℕ)) → told (reading n ws) ≡ first_of (argument_faults n ws)
 argument_first name.Get (a ∷ []) = refl
 argument_first name.Get _ = refl
-argument_first name.Set (k ∷ v ∷ ws) = set_first k v (set_options no_set_options ws)
-argument_first name.Set _ = refl
+argument_first name.Set ws = of_its_kind ask.Texts (set ws) ∙ set_first ws
 argument_first name.Del [] = refl
 argument_first name.Del (k ∷ ws) = refl
 argument_first name.Unlink [] = refl
@@ -196,8 +132,7 @@ argument_first name.GetDel (a ∷ []) = refl
 argument_first name.GetDel _ = refl
 argument_first name.Keys (a ∷ []) = refl
 argument_first name.Keys _ = refl
-argument_first name.Scan (k ∷ ws) = scan_first k ws
-argument_first name.Scan _ = refl
+argument_first name.Scan ws = of_its_kind ask.Keys (scan ws) ∙ scan_first ws
 argument_first name.DbSize [] = refl
 argument_first name.DbSize _ = refl
 argument_first name.MSet (w ∷ ws) = if_pairs ask.Texts name.MSet (λ ps. text.SetAll ps) (are_pairs (w ∷ ws)) (paired (w ∷ ws))
@@ -230,14 +165,10 @@ argument_first name.SetEx (k ∷ a ∷ v ∷ []) = nested ask.Texts (λ n. text.
 argument_first name.SetEx _ = refl
 argument_first name.PSetEx (k ∷ a ∷ v ∷ []) = nested ask.Texts (λ n. text.PSetEx k n v) milliseconds (integer a)
 argument_first name.PSetEx _ = refl
-argument_first name.Expire (k ∷ a ∷ ws) = expire_first k unit.Seconds a ws
-argument_first name.Expire _ = refl
-argument_first name.PExpire (k ∷ a ∷ ws) = expire_first k unit.Milliseconds a ws
-argument_first name.PExpire _ = refl
-argument_first name.ExpireAt (k ∷ a ∷ ws) = expire_first k unit.AtSecond a ws
-argument_first name.ExpireAt _ = refl
-argument_first name.PExpireAt (k ∷ a ∷ ws) = expire_first k unit.AtMillisecond a ws
-argument_first name.PExpireAt _ = refl
+argument_first name.Expire ws = of_its_kind ask.Keys (expire name.Expire unit.Seconds ws) ∙ expire_first name.Expire unit.Seconds ws
+argument_first name.PExpire ws = of_its_kind ask.Keys (expire name.PExpire unit.Milliseconds ws) ∙ expire_first name.PExpire unit.Milliseconds ws
+argument_first name.ExpireAt ws = of_its_kind ask.Keys (expire name.ExpireAt unit.AtSecond ws) ∙ expire_first name.ExpireAt unit.AtSecond ws
+argument_first name.PExpireAt ws = of_its_kind ask.Keys (expire name.PExpireAt unit.AtMillisecond ws) ∙ expire_first name.PExpireAt unit.AtMillisecond ws
 argument_first name.Ttl (a ∷ []) = refl
 argument_first name.Ttl _ = refl
 argument_first name.PTtl (a ∷ []) = refl
@@ -374,6 +305,8 @@ argument_first name.Select (a ∷ []) = alone ask.Server (with (integer a) datab
 argument_first name.Select _ = refl
 argument_first name.Quit [] = refl
 argument_first name.Quit _ = refl
+argument_first name.BgRewriteAof [] = refl
+argument_first name.BgRewriteAof _ = refl
 argument_first name.Command ws = refl
 argument_first name.Client (o ∷ l ∷ []) = if_named (server.SetClientName l) (bytes_eq (lowered o) setname)
 argument_first name.Client (o ∷ a ∷ v ∷ []) = if_named (server.SetClientInfo a v) (bytes_eq (lowered o) setinfo)

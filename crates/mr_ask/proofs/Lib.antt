@@ -1,11 +1,4 @@
-pub mod PartLemmas
 pub mod Carries
-pub mod OrderLemmas
-pub mod SetOrderLemmas
-pub mod FewLemmas
-pub mod TextLemmas
-pub mod KeyLemmas
-pub mod ServerLemmas
 pub mod TimeLemmas
 pub mod AskLemmas
 pub mod CollReadLemmas

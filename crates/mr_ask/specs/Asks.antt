@@ -3,25 +3,25 @@ use Rattle.std.specs.Prelude.{ℕ, List, [], ◌∷◌, Option, Some, None, Resu
 use Rattle.mr_value.specs.declared.ends.End.TheVariants.{Left, Right}
 use Rattle.mr_words.specs.Names.{lowered, named}
 use Rattle.mr_words.specs.Parts.{with}
-use Rattle.mr_ask.specs.Texts.{get, set, setex, psetex, strlen, getrange, mget, setnx, getset, getdel, mset, msetnx, append, setrange, step, incrby, decrby}
-use Rattle.mr_ask.specs.Keys.{del, unlink, exists, key_type, matching_keys, scan, dbsize, rename, renamenx, clear, expire, ttl, pttl, expiretime, pexpiretime, persist}
-use Rattle.mr_ask_coll.specs.Hashes.{set_fields, hsetnx, hget, hmget, list_hash, hdel, hexists, hlen, hstrlen, hincrby}
-use Rattle.mr_ask_coll.specs.Lists.{push, pop, llen, lrange, lindex, lset, linsert, lrem, ltrim, lmove, rpoplpush}
-use Rattle.mr_ask_coll.specs.Sets.{sadd, srem, sismember, smismember, smembers, scard, spop, srandmember, smove, combine}
-use Rattle.mr_ask_zset.specs.Reading.{zadd, zincrby, zrem, zcard, zcount, zscore, zmscore, zrank, zrange, zrevrange, range_by_score, zpop, zremrangebyrank, zremrangebyscore}
-use Rattle.mr_ask.specs.Server.{ping, echo, select, quit, command, client}
+use Rattle.mr_cmd_string.specs.Arguments.{get, set, setex, psetex, strlen, getrange, mget, setnx, getset, getdel, mset, msetnx, append, setrange, step, incrby, decrby}
+use Rattle.mr_cmd_key.specs.Arguments.{del, unlink, exists, key_type, matching_keys, scan, dbsize, rename, renamenx, clear, expire, ttl, pttl, expiretime, pexpiretime, persist}
+use Rattle.mr_cmd_hash.specs.Arguments.{set_fields, hsetnx, hget, hmget, list_hash, hdel, hexists, hlen, hstrlen, hincrby}
+use Rattle.mr_cmd_list.specs.Arguments.{push, pop, llen, lrange, lindex, lset, linsert, lrem, ltrim, lmove, rpoplpush}
+use Rattle.mr_cmd_set.specs.Arguments.{sadd, srem, sismember, smismember, smembers, scard, spop, srandmember, smove, combine}
+use Rattle.mr_cmd_zset.specs.Arguments.{zadd, zincrby, zrem, zcard, zcount, zscore, zmscore, zrank, zrange, zrevrange, range_by_score, zpop, zremrangebyrank, zremrangebyscore}
+use Rattle.mr_cmd_server.specs.Arguments.{ping, echo, select, quit, rewrite, command, client}
 use Rattle.mr_words.specs.declared.name.Name.{Name}
 use Rattle.mr_words.specs.declared.name.Name.TheVariants as name
 use Rattle.mr_words.specs.declared.fault.AskFault.{AskFault}
 use Rattle.mr_words.specs.declared.fault.AskFault.TheVariants.{Unknown}
-use Rattle.mr_ask.specs.declared.expiry.ExpiryUnit.TheVariants as unit
-use Rattle.mr_ask.specs.declared.text_ask.Amount.TheVariants as amount
-use Rattle.mr_ask.specs.declared.key_ask.Databases.TheVariants as databases
-use Rattle.mr_ask_coll.specs.declared.hash_ask.FieldsReply.TheVariants.{Added, Done}
-use Rattle.mr_ask_coll.specs.declared.hash_ask.HashPart.TheVariants.{Pairs, Fields, Values}
-use Rattle.mr_ask_coll.specs.declared.list_ask.PushTo.TheVariants.{AnyKey, ExistingKey}
-use Rattle.mr_ask_coll.specs.declared.set_ask.SetOperation.TheVariants.{Intersection, Union, Difference}
-use Rattle.mr_ask_zset.specs.declared.zset_ask.Order.TheVariants.{Ascending, Descending}
+use Rattle.mr_expiry.specs.declared.expiry.ExpiryUnit.TheVariants as unit
+use Rattle.mr_cmd_string.specs.declared.text_ask.Amount.TheVariants as amount
+use Rattle.mr_cmd_key.specs.declared.key_ask.Databases.TheVariants as databases
+use Rattle.mr_cmd_hash.specs.declared.hash_ask.FieldsReply.TheVariants.{Added, Done}
+use Rattle.mr_cmd_hash.specs.declared.hash_ask.HashPart.TheVariants.{Pairs, Fields, Values}
+use Rattle.mr_cmd_list.specs.declared.list_ask.PushTo.TheVariants.{AnyKey, ExistingKey}
+use Rattle.mr_cmd_set.specs.declared.set_ask.SetOperation.TheVariants.{Intersection, Union, Difference}
+use Rattle.mr_zset_options.specs.declared.choices.Order.TheVariants.{Ascending, Descending}
 use Rattle.mr_ask.specs.declared.group.Group.{Group}
 use Rattle.mr_ask.specs.declared.group.Group.TheVariants as group
 use Rattle.mr_ask.specs.declared.ask.Ask.{Ask}
@@ -132,6 +132,7 @@ reading name.Ping arguments = of_kind ask.Server (ping arguments)
 reading name.Echo arguments = of_kind ask.Server (echo arguments)
 reading name.Select arguments = of_kind ask.Server (select arguments)
 reading name.Quit arguments = of_kind ask.Server (quit arguments)
+reading name.BgRewriteAof arguments = of_kind ask.Server (rewrite arguments)
 reading name.Command arguments = of_kind ask.Server (command arguments)
 reading name.Client arguments = of_kind ask.Server (client arguments)
 

@@ -1,13 +1,5 @@
-pub mod Amounts
-pub mod Expiry
-pub mod Parts
-pub mod Options
-pub mod Texts
-pub mod Keys
-pub mod Server
 pub mod Asks
 pub mod Carried
-pub mod Called
 pub mod Spelled
 pub mod Askable
 pub mod WordFaults

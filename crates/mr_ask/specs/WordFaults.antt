@@ -1,24 +1,22 @@
 -- The faults that the words of a request have, each word taken by itself. Told is the one that comes first in the order of faults.
-use Rattle.std.specs.Prelude.{ℕ, List, [], ◌∷◌, ◌++◌, if◌then◌else◌, Option, Some, None, option_map, Result, Ok, Err}
-use Rattle.std.specs.Str.{bytes_eq}
+use Rattle.std.specs.Prelude.{ℕ, List, [], ◌∷◌, ◌++◌, if◌then◌else◌, Option, Some, None, option_map}
 use Rattle.mr_words.specs.FaultOrder.{counted, in_reading}
 use Rattle.mr_words.specs.Names.{lowered, named}
 use Rattle.mr_words.specs.Pairing.{are_pairs}
 use Rattle.mr_words.specs.Parts.{with, integer, count, offset}
-use Rattle.mr_ask_coll.specs.Parts.{end_of, side_of}
-use Rattle.mr_ask_zset.specs.Parts.{bound, score}
-use Rattle.mr_ask_zset.specs.ArgumentFaults.{add_faults, range_faults, reversed_faults, score_range_faults}
-use Rattle.mr_ask.specs.Options.{condition_if_any, no_set_options, scan_options, set_options}
-use Rattle.mr_ask.specs.Parts.{cursor_of, key_expiry, lifetime_if_any, milliseconds, opposite, positive_if_any, seconds, timing_of}
-use Rattle.mr_ask.specs.Server.{database, setinfo, setname}
+use Rattle.mr_cmd_list.specs.Parts.{end_of, side_of}
+use Rattle.mr_zset_options.specs.Parts.{bound, score}
+use Rattle.mr_cmd_zset.specs.ArgumentFaults.{add_faults, range_faults, reversed_faults, score_range_faults}
+use Rattle.mr_cmd_string.specs.Parts.{milliseconds, opposite, seconds}
+use Rattle.mr_cmd_server.specs.Arguments.{database}
 use Rattle.mr_words.specs.declared.name.Name.{Name}
 use Rattle.mr_words.specs.declared.name.Name.TheVariants as name
 use Rattle.mr_words.specs.declared.fault.AskFault.{AskFault}
-use Rattle.mr_words.specs.declared.fault.AskFault.TheVariants.{Unknown, Syntax}
-use Rattle.mr_ask.specs.declared.expiry.ExpiryUnit.{ExpiryUnit}
-use Rattle.mr_ask.specs.declared.expiry.ExpiryUnit.TheVariants as unit
-use Rattle.mr_ask.specs.declared.options.ScanOptions.{ScanOptions}
-use Rattle.mr_ask.specs.declared.options.SetOptions.{SetOptions}
+use Rattle.mr_words.specs.declared.fault.AskFault.TheVariants.{Unknown}
+use Rattle.mr_expiry.specs.declared.expiry.ExpiryUnit.TheVariants as unit
+use Rattle.mr_cmd_string.specs.ArgumentFaults.{key_value_options}
+use Rattle.mr_cmd_key.specs.ArgumentFaults.{cursor_and_options, time_and_condition, timing_alone}
+use Rattle.mr_cmd_server.specs.ArgumentFaults.{of_client}
 
 -- ---- the faults of a word
 abbrev pub Check : Type 0
@@ -90,37 +88,6 @@ pairs_alone words = if are_pairs words then Some [] else None
 abbrev pub key_and_pairs : List (List ℕ) → Option (List AskFault)
 key_and_pairs [] = None
 key_and_pairs (key ∷ words) = pairs_alone words
-
-abbrev pub timing_alone : List (List ℕ) → List AskFault
-timing_alone [] = []
-timing_alone (timing ∷ []) = in_reading (timing_of timing)
-timing_alone _ = Syntax ∷ []
-
-abbrev pub of_client : List (List ℕ) → List AskFault
-of_client (option ∷ label ∷ []) = if bytes_eq (lowered option) setname then [] else Syntax ∷ []
-of_client (option ∷ attribute ∷ value ∷ []) = if bytes_eq (lowered option) setinfo then [] else Syntax ∷ []
-of_client _ = Syntax ∷ []
-
--- where options aren't read, nothing is known of the words behind them
-abbrev pub in_set_options : Result SetOptions AskFault → List AskFault
-in_set_options (Ok options) = in_reading (lifetime_if_any options.lifetime)
-in_set_options (Err fault) = fault ∷ []
-
-abbrev pub key_value_options : List (List ℕ) → Option (List AskFault)
-key_value_options (key ∷ value ∷ words) = Some (in_set_options (set_options no_set_options words))
-key_value_options _ = None
-
-abbrev pub time_and_condition : ExpiryUnit → List (List ℕ) → Option (List AskFault)
-time_and_condition u (key ∷ number ∷ words) = Some (in_reading (key_expiry u number) ++ in_reading (condition_if_any words))
-time_and_condition u _ = None
-
-abbrev pub in_scan_options : Result ScanOptions AskFault → List AskFault
-in_scan_options (Ok options) = in_reading (positive_if_any options.count)
-in_scan_options (Err fault) = fault ∷ []
-
-abbrev pub cursor_and_options : List (List ℕ) → Option (List AskFault)
-cursor_and_options [] = None
-cursor_and_options (cursor ∷ words) = Some (in_reading (cursor_of cursor) ++ in_scan_options (scan_options words))
 
 -- ---- the faults that the arguments of each command have
 abbrev pub argument_faults : Name → List (List ℕ) → List AskFault
@@ -223,6 +190,7 @@ argument_faults name.Ping words = counted name.Ping (one_at_most words)
 argument_faults name.Echo words = counted name.Echo (each (any_word ∷ []) words)
 argument_faults name.Select words = counted name.Select (each (database_check ∷ []) words)
 argument_faults name.Quit words = counted name.Quit (each [] words)
+argument_faults name.BgRewriteAof words = counted name.BgRewriteAof (each [] words)
 argument_faults name.Command words = []
 argument_faults name.Client words = of_client words
 

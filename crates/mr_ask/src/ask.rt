@@ -1,9 +1,11 @@
 // Commands with their arguments.
-use crate::key_ask::KeyAsk;
-use crate::server_ask::ServerAsk;
-use crate::text_ask::TextAsk;
-use mr_ask_coll::{HashAsk, ListAsk, SetAsk};
-use mr_ask_zset::ZSetAsk;
+use mr_cmd_hash::HashAsk;
+use mr_cmd_key::KeyAsk;
+use mr_cmd_list::ListAsk;
+use mr_cmd_server::ServerAsk;
+use mr_cmd_set::SetAsk;
+use mr_cmd_string::TextAsk;
+use mr_cmd_zset::ZSetAsk;
 
 /// A command with its arguments, which are borrowed from the request; by its kind, so that what serves the commands of one kind
 /// takes a type of its own.

@@ -8,22 +8,18 @@ ghost use Rattle.mr_ask.specs.Carried.{AskFits};
 ghost use Rattle.mr_ask.specs.Spelled.{Spells};
 ghost use Rattle.mr_ask.specs.declared.ask.Ask.TheVariants as kind;
 
-mod keys;
-mod server;
-mod texts;
-
 use crate::ask::Ask;
-use crate::expiry::ExpiryUnit;
-use crate::key_ask::{Databases, KeyAsk};
-use crate::server_ask::ServerAsk;
-use crate::text_ask::{Amount, TextAsk};
-use mr_ask_coll::{
-    FieldsReply, HashAsk, HashPart, ListAsk, PushTo, SetAsk, SetOperation, hashes, lists, sets,
-};
-use mr_ask_zset as zset;
-use mr_ask_zset::{Order, ZSetAsk};
+use mr_cmd_hash::{FieldsReply, HashAsk, HashPart, arguments as hashes};
+use mr_cmd_key::{Databases, KeyAsk, arguments as keys};
+use mr_cmd_list::{ListAsk, PushTo, arguments as lists};
+use mr_cmd_server::{ServerAsk, arguments as server};
+use mr_cmd_set::{SetAsk, SetOperation, arguments as sets};
+use mr_cmd_string::{Amount, TextAsk, arguments as texts};
+use mr_cmd_zset::{ZSetAsk, arguments as zset};
+use mr_expiry::ExpiryUnit;
 use mr_value::End;
 use mr_words::{Arguments, AskFault, Name};
+use mr_zset_options::Order;
 use std::borrow::CowSlice;
 
 type Reading<'a, 't> = Result<Ask<'a, 't>, AskFault>;
@@ -162,6 +158,7 @@ fn read_arguments<'a, 't>(name: Name, arguments: Arguments<'a, 't>) -> Reading<'
         Name::Echo => of_server(server::echo(arguments)),
         Name::Select => of_server(server::select(arguments)),
         Name::Quit => of_server(server::quit(arguments)),
+        Name::BgRewriteAof => of_server(server::rewrite(arguments)),
         Name::Command => of_server(server::command(arguments)),
         Name::Client => of_server(server::client(arguments)),
     }

@@ -1,22 +1,71 @@
-// How the bytes of keys are fed to the seeded hash.
+// How the bytes of keys are hashed: SipHash-1-3 (Aumasson and Bernstein, 2012) over groups of seven bytes.
 ghost use Rattle.std.specs.Prelude.{◌≡◌};
-ghost use Rattle.mr_map.specs.Hashing.{fed_by, finished, with_byte};
+ghost use Rattle.mr_map.specs.Hashing.{absorbed, fed_by, finished, rounded, with_byte};
 
-use std::hash::{BuildHasher, DefaultHasher, Hasher, RandomState};
+use std::hash::{BuildHasher, Hasher, RandomState};
 
 // Seven bytes behind a 1 are this number or a larger one.
 const FULL: u64 = 0x100_0000_0000_0000;
 
 /// The seeded hash of a key, fed with seven bytes at a time. std hands over a byte string as its length and then byte by
-/// byte, and its seeded hash takes almost as long for one byte as for eight.
+/// byte. The groups tell the length as well, so it isn't fed.
 #[derive(Clone, Copy)]
 pub(crate) struct KeyHasher {
-    seeded: DefaultHasher,
+    v0: u64,
+    v1: u64,
+    v2: u64,
+    v3: u64,
     // A 1 and the bytes that aren't fed yet, the last of them lowest.
     group: u64,
 }
 
 impl KeyHasher {
+    // A round of SipHash.
+    #[inline]
+    #[tactic(auto, unfolding(crate::specs::Hashing::rounded))]
+    fn round(self) -> KeyHasher
+        ensures { result ≡ rounded self }
+    {
+        let a0 = self.v0.wrapping_add(self.v1);
+        let a2 = self.v2.wrapping_add(self.v3);
+        let a1 = self.v1.rotate_left(13) ^ a0;
+        let a3 = self.v3.rotate_left(16) ^ a2;
+        let b2 = a2.wrapping_add(a1);
+        let b0 = a0.rotate_left(32).wrapping_add(a3);
+        KeyHasher {
+            v0: b0,
+            v1: a1.rotate_left(17) ^ b2,
+            v2: b2.rotate_left(32),
+            v3: a3.rotate_left(21) ^ b0,
+            group: self.group,
+        }
+    }
+
+    // A group goes in, and the next one is open.
+    #[inline]
+    #[tactic(auto, unfolding(crate::specs::Hashing::absorbed))]
+    fn absorb(self, word: u64) -> KeyHasher
+        ensures { result ≡ absorbed self word }
+    {
+        let mixed = KeyHasher {
+            v0: self.v0,
+            v1: self.v1,
+            v2: self.v2,
+            v3: self.v3 ^ word,
+            group: 1,
+        }
+        .round();
+        KeyHasher {
+            v0: mixed.v0 ^ word,
+            v1: mixed.v1,
+            v2: mixed.v2,
+            v3: mixed.v3,
+            group: mixed.group,
+        }
+    }
+
+    #[inline]
+    #[tactic(auto, unfolding(crate::specs::Hashing::with_byte))]
     fn push(&mut self, byte: u8)
         ensures { self.new ≡ with_byte self.old byte }
     {
@@ -24,8 +73,7 @@ impl KeyHasher {
         if group < FULL {
             self.group = group;
         } else {
-            self.seeded.write_u64(group);
-            self.group = 1;
+            *self = self.absorb(group);
         }
     }
 }
@@ -35,24 +83,53 @@ impl Hasher for KeyHasher {
 
     ghost finish = { finished };
 
+    #[inline]
     fn write(&mut self, bytes: &[u8]) {
-        match bytes {
-            [byte] => self.push(*byte),
-            _ => self.seeded.write(bytes),
+        if let [byte] = bytes {
+            self.push(*byte);
         }
     }
 
+    #[inline]
+    #[tactic(auto, unfolding(crate::specs::Hashing::finished))]
     fn finish(&self) -> u64 {
-        let mut seeded = self.seeded;
-        seeded.write_u64(self.group);
-        seeded.finish()
+        let fed = self.absorb(self.group);
+        let last = KeyHasher {
+            v0: fed.v0,
+            v1: fed.v1,
+            v2: fed.v2 ^ 0xff,
+            v3: fed.v3,
+            group: 1,
+        }
+        .round()
+        .round()
+        .round();
+        last.v0 ^ last.v1 ^ last.v2 ^ last.v3
     }
 }
 
-/// Makes the hasher of each key, by one seed.
+/// Makes the hasher of each key, by two keys of its own.
 #[derive(Clone, Copy)]
 pub(crate) struct KeySeed {
-    pub(crate) seed: RandomState,
+    key0: u64,
+    key1: u64,
+}
+
+impl KeySeed {
+    /// Two keys that nobody can tell who doesn't know the seed.
+    pub(crate) fn of(seed: RandomState) -> KeySeed {
+        KeySeed {
+            key0: drawn(seed, 0),
+            key1: drawn(seed, 1),
+        }
+    }
+}
+
+// What a seed makes of a number.
+fn drawn(seed: RandomState, which: u64) -> u64 {
+    let mut hasher = seed.build_hasher();
+    hasher.write_u64(which);
+    hasher.finish()
 }
 
 impl BuildHasher for KeySeed {
@@ -62,9 +139,14 @@ impl BuildHasher for KeySeed {
 
     ghost build_hasher = { fresh };
 
+    #[inline]
+    #[tactic(auto, unfolding(crate::specs::Hashing::fresh))]
     fn build_hasher(&self) -> KeyHasher {
         KeyHasher {
-            seeded: self.seed.build_hasher(),
+            v0: self.key0 ^ 0x736f_6d65_7073_6575,
+            v1: self.key1 ^ 0x646f_7261_6e64_6f6d,
+            v2: self.key0 ^ 0x6c79_6765_6e65_7261,
+            v3: self.key1 ^ 0x7465_6462_7974_6573,
             group: 1,
         }
     }

@@ -41,7 +41,7 @@ impl<V> KeyedMap<V> {
     {
         KeyedMap {
             alloc,
-            table: HashMap::with_hasher(alloc, KeySeed { seed }),
+            table: HashMap::with_hasher(alloc, KeySeed::of(seed)),
             order: ByteMap::new(alloc),
         }
     }

@@ -1,5 +1,5 @@
 -- The ends of links, as a map.
-use Rattle.std.proofs.Common.{◌≡◌, ◌≢◌, ℕ, List, Bool, true, false, cond, Option, Some, IsSome, is_some, refl, sym, ap, ◌∙◌}
+use Rattle.std.proofs.Common.{◌≡◌, ◌≢◌, ◌≤◌, ◌+◌, ◌<◌, arith, length, ℕ, List, Bool, true, false, cond, Option, Some, IsSome, is_some, refl, sym, ap, ◌∙◌}
 use Rattle.std.proofs.Common.{Ok, Err, OnOk, OnErr, Result}
 use Rattle.std.specs.Result.{is_err}
 use Rattle.std.specs.Ordering.{eq_by_cmp}
@@ -10,7 +10,11 @@ use Rattle.mr_links.specs.LinkId.{id_cmp}
 use Rattle.mr_links.specs.Links.{Links}
 use Rattle.mr_links.specs.declared.link_id.LinkId.{LinkId}
 use Rattle.mr_links.proofs.LinkRows.{ids_total, exact_ids}
-use Rattle.mr_node.specs.State.{NodeState, EndState, end_of, put_end, open_end, shut_end, Agrees, IsShut, OthersStay}
+use Rattle.mr_node.specs.State.{NodeState, EndState, end_of, put_end, full, Agrees, IsShut, IsTooMuch, OthersStay}
+use Rattle.mr_node.specs.State.EndState.{client, shut}
+use Rattle.mr_node.specs.Ending.{end_as, is_open, HasUnread, Takes, AgreesAt, IsRoom}
+use Rattle.mr_node.specs.Progresses.{AgreesAlong}
+use Rattle.mr_resp.specs.declared.progress.Progress.{Progress}
 
 pub some_is : {A : Type 0} (x y : A) → ◌≡◌ {A = Option A} (Some x) (Some y) → x ≡ y
 some_is x y e = cc
@@ -47,11 +51,11 @@ pub is_there : (m n : FinMap id_cmp EndState) (l : LinkId) (x : EndState) → n 
 is_there m n l x e = ap is_some (ap (λ z. get z l) e ∙ get_put m l x)
 
 -- what an end that was put is, and what the others are
-pub put_agrees : (a b : NodeState) (l : LinkId) (u : List ℕ) → b ≡ put_end a l (open_end u) → Agrees b l u
-put_agrees a b l u e = record { is = ap (λ z. end_of z l) e ∙ get_put a.links.open_links l (open_end u) }
+pub put_agrees : (a b : NodeState) (l : LinkId) (u : List ℕ) → b ≡ put_end a l (client u) → Agrees b l u
+put_agrees a b l u e = record { is = ap (λ z. end_of z l) e ∙ get_put a.links.open_links l (client u) }
 
-pub put_shut : (a b : NodeState) (l : LinkId) → b ≡ put_end a l (shut_end) → IsShut b l
-put_shut a b l e = record { is = ap (λ z. end_of z l) e ∙ get_put a.links.open_links l (shut_end) }
+pub put_shut : (a b : NodeState) (l : LinkId) → b ≡ put_end a l shut → IsShut b l
+put_shut a b l e = record { is = ap (λ z. end_of z l) e ∙ get_put a.links.open_links l shut }
 
 pub put_others : (a b : NodeState) (l : LinkId) (x : EndState) → b ≡ put_end a l x → OthersStay a b l
 put_others a b l x e = record { stay = λ q ne. ap (λ z. end_of z q) e ∙ get_other a.links.open_links l x q ne; opened = ap (λ z. z.links.opened) e }
@@ -74,3 +78,60 @@ on_err_is (Ok x) P e h = absurd (cc)
 pub on_ok_map : {A E : Type 0} (r : Result A E) (P Q : Type 0) → OnOk r P → (P → Q) → OnOk r Q
 on_ok_map (Ok x) P Q h f = f h
 on_ok_map (Err x) P Q h f = h
+
+-- An end by its fields: whether it is open, and its unread bytes.
+pub open_by : (b : Bool) (u : List ℕ) → b ≡ is_open (end_as b u)
+open_by true u = refl
+open_by false u = refl
+
+pub unread_by : (b : Bool) (u : List ℕ) → is_open (end_as b u) ≡ true → end_as b u ≡ client u
+unread_by true u h = refl
+unread_by false u h = absurd (cc)
+
+pub enough_by : (b : Bool) (u : List ℕ) (n : ℕ) → HasUnread n (end_as b u) → n ≤ length u
+enough_by true u n h = h
+enough_by false u n h = absurd h
+
+pub takes_by : (b : Bool) (u : List ℕ) (n : ℕ) → Takes n (end_as b u) → length u + n ≤ full
+takes_by true u n h = h
+takes_by false u n h = absurd h
+
+pub agrees_by : (b : Bool) (u : List ℕ) (p : Progress) → AgreesAt p (end_as b u) → AgreesAlong p u
+agrees_by true u p h = h
+agrees_by false u p h = absurd h
+
+pub room_by : (b : Bool) (u : List ℕ) (n : ℕ) → is_open (end_as b u) ≡ true → n + length u ≡ full → IsRoom n (end_as b u)
+room_by true u n h e = e
+room_by false u n h e = absurd (cc)
+
+pub agreed_by : (b : Bool) (u : List ℕ) (p : Progress) → is_open (end_as b u) ≡ true → AgreesAlong p u → AgreesAt p (end_as b u)
+agreed_by true u p h a = a
+agreed_by false u p h a = absurd (cc)
+
+-- an end is a client's, or shut
+pub opened : (e : EndState) → is_open e ≡ true → (u : List ℕ) × (e ≡ client u)
+opened (client u) h = (u, refl)
+opened shut h = absurd (cc)
+
+pub closed : (e : EndState) → is_open e ≡ false → e ≡ shut
+closed (client u) h = absurd (cc)
+closed shut h = refl
+
+-- the same unread bytes
+pub client_is : (u v : List ℕ) → client u ≡ client v → u ≡ v
+client_is u v e = cc
+
+pub too_much : (a : NodeState) (l : LinkId) (u : List ℕ) (n : ℕ) → a.core.up ≡ true → end_of a l ≡ Some (client u) → full < length u + n → IsTooMuch a l n
+too_much a l u n up found over = record { up = up; unread = u; agrees = record { is = found }; over = over }
+
+pub not_too_much : (a : NodeState) (l : LinkId) (u : List ℕ) (n : ℕ) → end_of a l ≡ Some (client u) → length u + n ≤ full → IsTooMuch a l n → ⊥
+not_too_much a l u n found few t =
+    let same : length t.unread ≡ length u = ap length (client_is t.unread u (some_is (client t.unread) (client u) (sym t.agrees.is ∙ found))) in
+    let over = t.over in
+    omega (arith, few, over, same)
+
+pub shut_takes_all : (a : NodeState) (l : LinkId) (n : ℕ) → end_of a l ≡ Some shut → IsTooMuch a l n → ⊥
+shut_takes_all a l n found t = no_client (some_is (client t.unread) shut (sym t.agrees.is ∙ found))
+  where
+    no_client : {u : List ℕ} → client u ≡ shut → ⊥
+    no_client e = cc

@@ -1,5 +1,5 @@
 -- Where there are no effects, nothing changes.
-use Rattle.std.proofs.Common.{◌≡◌, ◌≤◌, ◌+◌, ◌-◌, ℕ, List, [], ◌++◌, append-nil, drop, length, true, Bool, Some, Ok, Err, Result, IfOk, refl, sym, ap, ◌∙◌, arith}
+use Rattle.std.proofs.Common.{◌≡◌, ◌≤◌, ◌+◌, ◌-◌, ℕ, List, [], ◌++◌, append-nil, drop, length, true, Bool, Some, Ok, Err, Result, IfOk, sym, ap, ◌∙◌, arith}
 use Rattle.std.specs.Prelude.{IfErr}
 use Rattle.mr_repl.specs.Backlog.{Window, IsWindow, after_bytes, last_of}
 use Rattle.mr_links.specs.declared.link_id.LinkId.{LinkId}
@@ -9,7 +9,7 @@ use Rattle.mr_data.specs.Meaning.{apply_all}
 use Rattle.mr_data.specs.declared.given.Given.{Given}
 use Rattle.mr_data.specs.declared.plan.Plan.{Plan}
 use Rattle.mr_effect.specs.declared.effect.Effect.{Effect}
-use Rattle.mr_node.specs.State.{NodeState, Core, end_of}
+use Rattle.mr_node.specs.State.{NodeState, Core}
 use Rattle.mr_node.specs.Served.{grown_by}
 use Rattle.mr_node.specs.Parts.{HasAhead, Runs, Commits, Halts, Uses}
 use Rattle.mr_node.specs.declared.fault.NodeFault.{NodeFault}
@@ -34,12 +34,12 @@ nothing_grown c es m w none applied =
     ap (λ (xs : List Effect). grown_by xs m c) none ∙ ap (λ (z : Dataset). grown_by [] z c) held ∙ ap (λ (s : Window). record c { stream = s }) (after_nothing c.stream w)
 
 pub used_core : (a b : NodeState) (l : LinkId) (used : ℕ) → HasAhead a l used → Uses a l used b → b.core ≡ a.core
-used_core a b l used ahead uses = ap (λ (s : NodeState). s.core) (uses ahead.old ahead.found)
+used_core a b l used ahead uses = ap (λ (s : NodeState). s.core) (uses ahead.kept ahead.found)
 
 pub quiet_commit : (a b : NodeState) (l : LinkId) (used : ℕ) (reply : Tree) (es : List Effect) (r : Result Step NodeFault) → HasAhead a l used → IsWindow a.core.stream → es ≡ []
     → IfOk r (λ s. Commits a l used reply es b s) → IfErr r (λ e. (e ≡ Stopped) × Halts a es b) → b.core ≡ a.core
 quiet_commit a b l used reply es (Ok s) ahead w none c h =
-    ap (λ (s : NodeState). s.core) (c.state ahead.old ahead.found) ∙ nothing_grown a.core es c.held w none c.applied
+    ap (λ (s : NodeState). s.core) (c.state ahead.kept ahead.found) ∙ nothing_grown a.core es c.held w none c.applied
 quiet_commit a b l used reply es (Err f) ahead w none c h = absurd (h.1.some none)
 
 -- a plan has no effects on a replica

@@ -1,5 +1,6 @@
 pub mod State
 pub mod Progresses
+pub mod Ending
 pub mod Outs
 pub mod Listing
 pub mod Requests

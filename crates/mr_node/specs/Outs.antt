@@ -4,28 +4,62 @@ use Rattle.std.specs.Coded.{Coded, code_by, coded×, coded_ℕ, coded_bool, code
 use Rattle.mr_links.specs.LinkId.{coded_id}
 use Rattle.mr_links.specs.declared.link_id.LinkId.{LinkId}
 
+-- What a step gives out, but for its link.
+pub record Output : Type 0 where
+  pub grown : List ℕ  -- the texts that the stream grew by
+  pub appended : List ℕ  -- those of them that the append-only file grows by
+  pub replaced : Option (List ℕ)  -- what the file is replaced by
+  pub said : List ℕ  -- what is sent on the link
+
+-- nothing
+abbrev pub no_output : Output
+no_output = record { grown = []; appended = []; replaced = None; said = [] }
+
+-- texts of effects, which go to the stream and to the file
+abbrev pub growth : List ℕ → Output
+growth texts = record no_output { grown = texts; appended = texts }
+
 pub record OutsState : Type 0 where
   pub link : Option LinkId  -- the link that the step was made on
-  pub grown : List ℕ  -- the texts of the effects
+  pub grown : List ℕ  -- the texts that the stream grew by
+  pub appended : List ℕ  -- those of them that the append-only file grows by
+  pub replaced : Option (List ℕ)  -- what the file is replaced by
   pub reply : List ℕ  -- what is sent on the link
   pub closes : Bool  -- the link is closed behind it
 
 abbrev pub outs_code : Coded OutsState
-outs_code = code_by (Option LinkId × (List ℕ × (List ℕ × Bool))) (coded× (coded_option coded_id) (coded× (coded_list coded_ℕ) (coded× (coded_list coded_ℕ) coded_bool)))
-    (λ o. (o.link, (o.grown, (o.reply, o.closes)))) (λ p. record { link = p.0; grown = p.1.0; reply = p.1.1.0; closes = p.1.1.1 }) (λ _. refl)
+outs_code = code_by (Option LinkId × (List ℕ × (List ℕ × (Option (List ℕ) × (List ℕ × Bool)))))
+    (coded× (coded_option coded_id) (coded× (coded_list coded_ℕ) (coded× (coded_list coded_ℕ) (coded× (coded_option (coded_list coded_ℕ)) (coded× (coded_list coded_ℕ) coded_bool)))))
+    (λ o. (o.link, (o.grown, (o.appended, (o.replaced, (o.reply, o.closes))))))
+    (λ p. record { link = p.0; grown = p.1.0; appended = p.1.1.0; replaced = p.1.1.1.0; reply = p.1.1.1.1.0; closes = p.1.1.1.1.1 }) (λ _. refl)
 
 abbrev pub no_outs : OutsState
-no_outs = record { link = None; grown = []; reply = []; closes = false }
+no_outs = record { link = None; grown = []; appended = []; replaced = None; reply = []; closes = false }
+
+-- the outs of a step that gave this out, and closes no link
+abbrev pub outs_with : Option LinkId → Output → OutsState
+outs_with link out = record { link = link; grown = out.grown; appended = out.appended; replaced = out.replaced; reply = out.said; closes = false }
 
 -- one thing that a step gives out
 pub data OutState : Type 0 where
   grow : List ℕ → OutState
+  append : List ℕ → OutState
+  replace : List ℕ → OutState
   send : LinkId → List ℕ → OutState
   close : LinkId → OutState
 
 abbrev pub grown_outs : List ℕ → List OutState
 grown_outs [] = []
 grown_outs (b ∷ bytes) = grow (b ∷ bytes) ∷ []
+
+abbrev pub appended_outs : List ℕ → List OutState
+appended_outs [] = []
+appended_outs (b ∷ bytes) = append (b ∷ bytes) ∷ []
+
+-- a file may be replaced by an empty one
+abbrev pub replaced_outs : Option (List ℕ) → List OutState
+replaced_outs None = []
+replaced_outs (Some bytes) = replace bytes ∷ []
 
 -- where there is no link, nothing is sent and none is closed
 abbrev pub sent_outs : Option LinkId → List ℕ → List OutState
@@ -38,6 +72,10 @@ closed_outs None closes = []
 closed_outs (Some link) true = close link ∷ []
 closed_outs (Some link) false = []
 
--- in their order: what the stream grows by, what is sent, and whether the link is closed behind that
+-- what is sent, and whether the link is closed behind that
+abbrev pub told_outs : OutsState → List OutState
+told_outs o = sent_outs o.link o.reply ++ closed_outs o.link o.closes
+
+-- in their order: what the stream grows by, what is done to the file, and only then what is told
 abbrev pub outs_of : OutsState → List OutState
-outs_of o = grown_outs o.grown ++ (sent_outs o.link o.reply ++ closed_outs o.link o.closes)
+outs_of o = grown_outs o.grown ++ (appended_outs o.appended ++ (replaced_outs o.replaced ++ told_outs o))

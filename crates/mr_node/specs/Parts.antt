@@ -10,9 +10,10 @@ use Rattle.mr_effect.specs.Spelling.{texts}
 use Rattle.mr_effect.specs.declared.effect.Effect.{Effect}
 use Rattle.mr_data.specs.declared.given.Given.{Given}
 use Rattle.mr_data.specs.declared.plan.Plan.{Plan}
-use Rattle.mr_plan.specs.Requests.{quits}
-use Rattle.mr_node.specs.State.{NodeState, EndState, end_of, put_end, full, spent_as}
-use Rattle.mr_node.specs.Outs.{OutsState, no_outs}
+use Rattle.mr_plan.specs.Requests.{quits, rewrites}
+use Rattle.mr_node.specs.State.{NodeState, end_of, put_end, full, spent_as}
+use Rattle.mr_node.specs.State.EndState.{client}
+use Rattle.mr_node.specs.Outs.{OutsState, no_outs, growth, outs_with}
 use Rattle.mr_node.specs.Requests.{Asks, AsksNothing, Waits, IsDoomedBy}
 use Rattle.mr_node.specs.Progresses.{AgreesAlong}
 use Rattle.mr_node.specs.Served.{HasPlan, grown_by, offset_behind, offset_limit, limit_text}
@@ -23,17 +24,17 @@ use Rattle.mr_plan.specs.declared.requests.Answer.TheVariants as answer
 use Rattle.mr_node.specs.declared.todo.Todo.{Todo}
 use Rattle.mr_node.specs.declared.todo.Todo.TheVariants as todo
 
--- The link is there, with so many unread bytes or more.
+-- The link is open, with so many unread bytes or more.
 pub record HasAhead (a : NodeState) (l : LinkId) (count : ℕ) : Type 0 where
-  pub old : EndState
-  pub found : end_of a l ≡ Some old
-  pub enough : count ≤ length old.kept
+  pub kept : List ℕ
+  pub found : end_of a l ≡ Some (client kept)
+  pub enough : count ≤ length kept
 
--- The link is there, and so many bytes more may be kept.
+-- The link is open, and so many bytes more may be kept.
 pub record HasRoom (a : NodeState) (l : LinkId) (count : ℕ) : Type 0 where
-  pub old : EndState
-  pub found : end_of a l ≡ Some old
-  pub enough : length old.kept + count ≤ full
+  pub kept : List ℕ
+  pub found : end_of a l ≡ Some (client kept)
+  pub enough : length kept + count ≤ full
 
 -- the effects lead somewhere
 abbrev pub Leads : List Effect → Dataset → Type 0
@@ -44,6 +45,7 @@ pub record Runs (replica : Bool) (u : List ℕ) (given : Given) (m : Dataset) (u
   pub enough : used ≤ length u
   pub words : List (List ℕ)
   pub asks : Asks u words (drop used u)
+  pub plain : rewrites words ≡ false
   pub plan : HasPlan replica m words given (view p.reply) p.effects.items
 
 -- So many bytes are an empty request.
@@ -58,16 +60,25 @@ pub record Quits (u : List ℕ) : Type 0 where
   pub asks : Asks u words rest
   pub quit : quits words ≡ true
 
+-- So many bytes are a client's wish that the append-only file be written anew.
+pub record Rewrites (u : List ℕ) (used : ℕ) : Type 0 where
+  pub enough : used ≤ length u
+  pub words : List (List ℕ)
+  pub asks : Asks u words (drop used u)
+  pub rewriting : rewrites words ≡ true
+
 abbrev pub IsTodo : Bool → List ℕ → Given → Dataset → Todo → Type 0
 IsTodo replica u given m (todo.Wait progress) = Waits u × (length u < full)
 IsTodo replica u given m (todo.Skip used) = Passes u used
 IsTodo replica u given m (todo.Refuse fault) = IsDoomedBy u fault
 IsTodo replica u given m todo.Quit = Quits u
+IsTodo replica u given m (todo.Rewrite used) = Rewrites u used
 IsTodo replica u given m (todo.Run used plan) = Runs replica u given m used plan
 
 abbrev pub carry_out : Answer → ℕ → Todo
 carry_out (answer.Run plan) used = todo.Run used plan
 carry_out answer.Quit used = todo.Quit
+carry_out answer.Rewrite used = todo.Rewrite used
 
 -- where more is waited for, the progress is over the unread bytes
 abbrev pub KeepsAlong : Todo → List ℕ → Type 0
@@ -75,15 +86,16 @@ KeepsAlong (todo.Wait progress) unread = AgreesAlong progress unread
 KeepsAlong (todo.Skip used) unread = Unit {0}
 KeepsAlong (todo.Refuse fault) unread = Unit {0}
 KeepsAlong todo.Quit unread = Unit {0}
+KeepsAlong (todo.Rewrite used) unread = Unit {0}
 KeepsAlong (todo.Run used plan) unread = Unit {0}
 
 -- so many bytes of the link are used, and nothing else has changed
 abbrev pub Uses : NodeState → LinkId → ℕ → NodeState → Type 0
-Uses a l used b = (e : EndState) → end_of a l ≡ Some e → b ≡ put_end a l (record e { kept = drop used e.kept })
+Uses a l used b = (kept : List ℕ) → end_of a l ≡ Some (client kept) → b ≡ put_end a l (client (drop used kept))
 
 -- bytes are put behind the unread ones of the link, and nothing else has changed
 abbrev pub Hears : NodeState → LinkId → List ℕ → NodeState → Type 0
-Hears a l bytes b = (e : EndState) → end_of a l ≡ Some e → b ≡ put_end a l (record e { kept = e.kept ++ bytes })
+Hears a l bytes b = (kept : List ℕ) → end_of a l ≡ Some (client kept) → b ≡ put_end a l (client (kept ++ bytes))
 
 -- this is told last
 abbrev pub last_outs : LinkId → List ℕ → OutsState
@@ -94,7 +106,7 @@ pub record Commits (a : NodeState) (l : LinkId) (used : ℕ) (reply : Tree) (eff
   pub held : Dataset
   pub applied : apply_all effects a.core.held ≡ Some held
   pub state : Uses (record a { core = grown_by effects held a.core }) l used b
-  pub step : s ≡ Done (record no_outs { link = Some l; grown = texts effects; reply = reply_text reply })
+  pub step : s ≡ Done (outs_with (Some l) (record (growth (texts effects)) { said = reply_text reply }))
 
 -- The effects would carry the offset past its limit.
 pub record IsTooFar (a : NodeState) (l : LinkId) (used : ℕ) (effects : List Effect) (b : NodeState) (s : Step) : Type 0 where
@@ -114,11 +126,11 @@ pub record Halts (a : NodeState) (effects : List Effect) (b : NodeState) : Type 
 
 -- what is written for a plan at an offset
 abbrev pub Tells : ℕ → Tree → List Effect → OutsState → Bool → OutsState → Type 0
-Tells offset reply effects old true new = (offset + length (texts effects) ≤ offset_limit) × (new ≡ record old { grown = texts effects; reply = reply_text reply })
-Tells offset reply effects old false new = (offset_limit < offset + length (texts effects)) × (new ≡ record old { grown = []; reply = reply_text (error limit_text) })
+Tells offset reply effects old true new = (offset + length (texts effects) ≤ offset_limit) × (new ≡ record old { grown = texts effects; appended = texts effects; reply = reply_text reply })
+Tells offset reply effects old false new = (offset_limit < offset + length (texts effects)) × (new ≡ record old { grown = []; appended = []; reply = reply_text (error limit_text) })
 
--- The link is there, and the progress holds of its unread bytes.
+-- The link is open, and the progress holds of its unread bytes.
 pub record KeepsOn (a : NodeState) (l : LinkId) (progress : Progress) : Type 0 where
-  pub old : EndState
-  pub found : end_of a l ≡ Some old
-  pub agrees : AgreesAlong progress old.kept
+  pub kept : List ℕ
+  pub found : end_of a l ≡ Some (client kept)
+  pub agrees : AgreesAlong progress kept

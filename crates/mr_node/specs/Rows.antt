@@ -7,10 +7,10 @@ use Rattle.mr_resp.specs.declared.fault.Fault.{Fault}
 use Rattle.mr_entries.specs.Dataset.{Dataset}
 use Rattle.mr_effect.specs.declared.effect.Effect.{Effect}
 use Rattle.mr_data.specs.declared.given.Given.{Given}
-use Rattle.mr_turn.specs.Turns.{done}
+use Rattle.mr_planning.specs.Turns.{done}
 use Rattle.mr_plan.specs.Requests.{quits}
 use Rattle.mr_node.specs.State.{NodeState, Agrees, IsShut, OthersStay, full, spent_as}
-use Rattle.mr_node.specs.Outs.{OutsState, no_outs}
+use Rattle.mr_node.specs.Outs.{OutsState, Output, no_outs, outs_with}
 use Rattle.mr_node.specs.Requests.{Asks, Waits, IsDoomedBy}
 use Rattle.mr_node.specs.Served.{Served, HasPlan, offset_behind, offset_limit}
 use Rattle.mr_node.specs.declared.step.Step.{Step}
@@ -21,15 +21,14 @@ pub record Leaves (a : NodeState) (l : LinkId) (b : NodeState) (rest : List ℕ)
   pub agrees : Agrees b l rest
   pub others : OthersStay a b l
 
--- What stands at the front is used: the node becomes what that makes of it, and what it says is sent.
+-- What stands at the front is used: the node becomes what that makes of it, and what that gives out is given out.
 pub record Serves (a : NodeState) (l : LinkId) (u : List ℕ) (given : Given) (b : NodeState) (outs : OutsState) : Type 0 where
   pub up : a.core.up ≡ true
   pub rest : List ℕ
-  pub grown : List ℕ
-  pub said : List ℕ
-  pub served : Served a.core u given b.core rest grown said
+  pub out : Output
+  pub served : Served a.core u given b.core rest out
   pub leaves : Leaves a l b rest
-  pub outs_are : outs ≡ record no_outs { link = Some l; grown = grown; reply = said }
+  pub outs_are : outs ≡ outs_with (Some l) out
 
 -- These bytes end a link, and this is told last: they are doomed, or a client asks that its link be closed.
 pub data Ends (u last : List ℕ) : Type 0 where

@@ -1,5 +1,6 @@
 -- What a request makes of a node, and what it is sent.
-use Rattle.std.specs.Prelude.{◌≡◌, ◌≤◌, ◌<◌, ◌+◌, ◌^◌, ℕ, List, [], All, Bool, false, Some, length, codes}
+use Rattle.std.specs.Prelude.{◌≡◌, ◌≤◌, ◌<◌, ◌+◌, ◌^◌, ℕ, List, All, Bool, true, false, Some, length, codes}
+use Rattle.std.specs.FinMap.{empty}
 use Rattle.mr_repl.specs.Backlog.{after_bytes}
 use Rattle.mr_resp.specs.Replies.{Tree, error, reply_text}
 use Rattle.mr_resp.specs.Command.{IsCommandText}
@@ -9,8 +10,11 @@ use Rattle.mr_data.specs.Meaning.{apply_all}
 use Rattle.mr_data.specs.declared.given.Given.{Given}
 use Rattle.mr_effect.specs.Spelling.{text, texts}
 use Rattle.mr_effect.specs.declared.effect.Effect.{Effect}
-use Rattle.mr_plan.specs.Requests.{IsPlanned, left, quits}
+use Rattle.mr_plan.specs.Requests.{IsPlanned, left, quits, rewrites}
+use Rattle.mr_cmd_server.specs.Commands.{rewriting}
+use Rattle.mr_data.specs.Rebuilding.{rebuilding}
 use Rattle.mr_node.specs.State.{Core}
+use Rattle.mr_node.specs.Outs.{Output, no_output, growth}
 use Rattle.mr_node.specs.Requests.{Asks, AsksNothing}
 
 -- no offset is greater
@@ -40,18 +44,28 @@ pub record HasPlan (replica : Bool) (m : Dataset) (words : List (List ℕ)) (giv
 abbrev pub left_of : Core → List (List ℕ) → Given → Dataset
 left_of c words given = left c.replica words given c.held
 
--- A request is answered: what it makes of the node, what the stream grows by, and what is sent.
-pub data Answered (c : Core) (words : List (List ℕ)) (given : Given) (d : Core) (grown said : List ℕ) : Type 0 where
-  -- its effects are applied and put behind the stream
-  within : (reply : Tree) (effects : List Effect) → HasPlan c.replica c.held words given reply effects → offset_behind effects c ≤ offset_limit
-      → d ≡ grown_by effects (left_of c words given) c → grown ≡ texts effects → said ≡ reply_text reply → Answered c words given d grown said
-  -- they would carry the offset past its limit: it is told so, and nothing is done
-  beyond : (reply : Tree) (effects : List Effect) → HasPlan c.replica c.held words given reply effects → offset_limit < offset_behind effects c
-      → d ≡ c → grown ≡ [] → said ≡ reply_text (error limit_text) → Answered c words given d grown said
+-- These effects make the dataset out of nothing, and the text of each is a command text.
+pub record Remakes (effects : List Effect) (m : Dataset) : Type 0 where
+  pub again : apply_all effects empty ≡ Some m
+  pub texts : All (λ e. IsCommandText commands (text e)) effects
 
--- What stands at the front of unread bytes is used: what it makes of the node, what is left unread, what the stream grows by, and
--- what is sent.
-pub data Served (c : Core) (u : List ℕ) (given : Given) (d : Core) (rest grown said : List ℕ) : Type 0 where
-  request : (words : List (List ℕ)) → Asks u words rest → Answered c words given d grown said → Served c u given d rest grown said
+-- a file written anew, and the client is told so
+abbrev pub rewritten_as : Dataset → Output
+rewritten_as m = record no_output { replaced = Some (texts (rebuilding m)); said = reply_text rewriting }
+
+-- A request is answered: what it makes of the node, and what it gives out.
+pub data Answered (c : Core) (words : List (List ℕ)) (given : Given) (d : Core) (out : Output) : Type 0 where
+  -- its effects are applied, and their texts go to the stream and to the file
+  within : rewrites words ≡ false → (reply : Tree) (effects : List Effect) → HasPlan c.replica c.held words given reply effects → offset_behind effects c ≤ offset_limit
+      → d ≡ grown_by effects (left_of c words given) c → out ≡ record (growth (texts effects)) { said = reply_text reply } → Answered c words given d out
+  -- they would carry the offset past its limit: it is told so, and nothing is done
+  beyond : rewrites words ≡ false → (reply : Tree) (effects : List Effect) → HasPlan c.replica c.held words given reply effects → offset_limit < offset_behind effects c
+      → d ≡ c → out ≡ record no_output { said = reply_text (error limit_text) } → Answered c words given d out
+  -- the append-only file is replaced by what makes the dataset again, on a master and on a replica
+  rewritten : rewrites words ≡ true → Remakes (rebuilding c.held) c.held → d ≡ c → out ≡ rewritten_as c.held → Answered c words given d out
+
+-- What stands at the front of unread bytes is used: what it makes of the node, what is left unread, and what it gives out.
+pub data Served (c : Core) (u : List ℕ) (given : Given) (d : Core) (rest : List ℕ) (out : Output) : Type 0 where
+  request : (words : List (List ℕ)) → Asks u words rest → Answered c words given d out → Served c u given d rest out
   -- an empty request
-  nothing : AsksNothing u rest → d ≡ c → grown ≡ [] → said ≡ [] → Served c u given d rest grown said
+  nothing : AsksNothing u rest → d ≡ c → out ≡ no_output → Served c u given d rest out

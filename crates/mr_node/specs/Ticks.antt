@@ -1,5 +1,5 @@
 -- What a node does as time passes.
-use Rattle.std.specs.Prelude.{◌≡◌, IsTrue, ◌-◌, ℕ, ℤ, List, [], ◌∷◌, map, take, nat_le, if◌then◌else◌, true, false, Some}
+use Rattle.std.specs.Prelude.{◌≡◌, IsTrue, ◌-◌, ℕ, ℤ, List, [], ◌∷◌, map, take, nat_le, if◌then◌else◌, true, false, Some, None}
 use Rattle.mr_value.specs.Words.{fits}
 use Rattle.mr_effect.specs.Spelling.{size, texts}
 use Rattle.mr_effect.specs.declared.effect.Effect.{Effect}
@@ -8,7 +8,7 @@ use Rattle.mr_entries.specs.Dataset.{Dataset}
 use Rattle.mr_data.specs.Due.{due}
 use Rattle.mr_data.specs.Meaning.{apply_all}
 use Rattle.mr_node.specs.State.{NodeState}
-use Rattle.mr_node.specs.Outs.{OutsState, no_outs}
+use Rattle.mr_node.specs.Outs.{OutsState, no_outs, growth, outs_with}
 use Rattle.mr_node.specs.Served.{grown_by, offset_limit}
 
 -- so many keys go in one tick at most
@@ -37,7 +37,7 @@ pub record Deletes (a : NodeState) (now : ℤ) (b : NodeState) (outs : OutsState
   pub applied : apply_all effects a.core.held ≡ Some held
   pub core : b.core ≡ grown_by effects held a.core
   pub links : b.links ≡ a.links
-  pub outs_are : outs ≡ record no_outs { grown = texts effects }
+  pub outs_are : outs ≡ outs_with None (growth (texts effects))
 
 -- A replica deletes nothing: it waits for what its master deletes.
 pub data TickRow (a : NodeState) (now : ℤ) (b : NodeState) (outs : OutsState) : Type 0 where

@@ -1,7 +1,7 @@
 // The node's end of a client's link.
-ghost use Rattle.std.specs.Prelude.{◌≡◌, ◌≤◌, ◌+◌, ◌++◌, ℕ, List, [], true, false, length, drop, OnOk, OnErr};
-ghost use Rattle.mr_node.specs.State.{open_end, shut_end, full};
-ghost use Rattle.mr_node.specs.Progresses.{AgreesAlong};
+ghost use Rattle.std.specs.Prelude.{◌≡◌, [], true, length, OnOk, OnErr};
+ghost use Rattle.mr_node.specs.State.EndState.{client, shut};
+ghost use Rattle.mr_node.specs.Ending.{is_open, HasUnread, Takes, AgreesAt, IsRoom, used_of, heard_of};
 
 use mr_resp::Progress;
 use std::alloc::{AllocError, Global};
@@ -20,13 +20,14 @@ pub(crate) struct End {
 }
 
 impl Model for End {
-    ghost use Rattle.std.specs.Prelude.{◌≤◌, ◌+◌, length, drop};
-    ghost use Rattle.mr_node.specs.State.{EndState, full};
+    ghost use Rattle.std.specs.Prelude.{drop};
+    ghost use Rattle.mr_node.specs.State.{EndState};
+    ghost use Rattle.mr_node.specs.Ending.{end_as};
     ghost use Rattle.mr_node.specs.Progresses.{Fits};
 
     ghost Value = { EndState };
 
-    ghost view = { λ e. record { kept = drop e.used e.input.items; serving = e.serving } };
+    ghost view = { λ e. end_as e.serving (drop e.used e.input.items) };
 
     ghost invariant = { λ e. Fits e.input.items e.used e.progress };
 }
@@ -34,7 +35,7 @@ impl Model for End {
 impl End {
     #[tactic(auto, using(crate::proofs::Progressing::fresh_along))]
     pub(crate) fn new(alloc: Global) -> End
-        ensures { result ≡ open_end [] }
+        ensures { result ≡ client [] }
     {
         End {
             input: Vec::new(alloc),
@@ -45,27 +46,29 @@ impl End {
     }
 
     pub(crate) fn serving(&self) -> bool
-        ensures { result ≡ self.now.serving }
+        ensures { result ≡ is_open self.now }
     {
         self.serving
     }
 
     pub(crate) fn unread(&self) -> &[u8]
-        ensures { result.now ≡ self.now.kept }
+        requires { is_open self.now ≡ true }
+        ensures { self.now ≡ client result.now }
     {
         &self.input[self.used..]
     }
 
     /// How far the reader has gone over the unread bytes.
     pub(crate) fn progress(&self) -> Progress
-        ensures { AgreesAlong result self.now.kept }
+        requires { is_open self.now ≡ true }
+        ensures { AgreesAt result self.now }
     {
         self.progress
     }
 
     /// Keeps how far the reader has gone.
     pub(crate) fn keep(&mut self, progress: Progress)
-        requires { AgreesAlong progress self.old.kept }
+        requires { AgreesAt progress self.old }
         ensures { self.new ≡ self.old }
     {
         self.progress = progress;
@@ -73,8 +76,8 @@ impl End {
 
     /// Uses so many of the unread bytes.
     pub(crate) fn take(&mut self, count: usize)
-        requires { count ≤ length self.old.kept }
-        ensures { self.new ≡ record self.old { kept = drop count self.old.kept } }
+        requires { HasUnread count self.old }
+        ensures { self.new ≡ used_of count self.old }
     {
         self.used += count;
         self.progress = Progress::new();
@@ -83,7 +86,7 @@ impl End {
     /// Closes it. What was fed goes, with its memory.
     #[tactic(auto, using(crate::proofs::Progressing::fresh_along))]
     pub(crate) fn shut(&mut self, alloc: Global)
-        ensures { self.new ≡ shut_end }
+        ensures { self.new ≡ shut }
     {
         self.input = Vec::new(alloc);
         self.used = 0;
@@ -110,15 +113,16 @@ impl End {
 
     /// How many bytes may come.
     pub(crate) fn room(&self) -> usize
-        ensures { result + length self.now.kept ≡ full }
+        requires { is_open self.now ≡ true }
+        ensures { IsRoom result self.now }
     {
         FULL - (self.input.len() - self.used)
     }
 
     /// Puts bytes behind the unread ones.
     pub(crate) fn hear(&mut self, bytes: &[u8]) -> Result<(), AllocError>
-        requires { length self.old.kept + length bytes.now ≤ full }
-        ensures ok { OnOk result (self.new ≡ record self.old { kept = self.old.kept ++ bytes.now }) }
+        requires { Takes (length bytes.now) self.old }
+        ensures ok { OnOk result (self.new ≡ heard_of bytes.now self.old) }
         ensures err { OnErr result (self.new ≡ self.old) }
     {
         self.compact();

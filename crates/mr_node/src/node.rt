@@ -5,13 +5,14 @@ ghost use Rattle.mr_resp.specs.Faults.{fault_text};
 ghost use Rattle.mr_resp.specs.Replies.{error, reply_text};
 ghost use Rattle.mr_resp.specs.ReplyView.{view};
 ghost use Rattle.mr_effect.specs.Spelling.{texts};
-ghost use Rattle.mr_turn.specs.Turns.{done};
+ghost use Rattle.mr_planning.specs.Turns.{done};
 ghost use Rattle.mr_data.specs.Meaning.{apply_all};
-ghost use Rattle.mr_node.specs.State.{NodeState, Core, EndState, end_of, put_end, open_end, shut_end, Agrees, IsShut, OthersStay, Opens, started, stopped_as, shown, room_of, IsTooMuch};
-ghost use Rattle.mr_node.specs.Outs.{no_outs};
+ghost use Rattle.mr_node.specs.State.{NodeState, Core, EndState, end_of, put_end, Agrees, IsShut, OthersStay, Opens, started, stopped_as, shown, room_of, IsTooMuch};
+ghost use Rattle.mr_node.specs.Outs.{no_outs, growth, outs_with};
 ghost use Rattle.mr_node.specs.Progresses.{AgreesAlong};
 ghost use Rattle.mr_node.specs.Parts.{Leads, HasAhead, HasRoom, Uses, Hears, last_outs, Ran, Commits, Halts, Tells, KeepsOn};
-ghost use Rattle.mr_node.specs.Served.{offset_limit};
+ghost use Rattle.mr_data.specs.Rebuilding.{rebuilding};
+ghost use Rattle.mr_node.specs.Served.{offset_limit, rewritten_as, Remakes};
 ghost use Rattle.mr_node.specs.Rows.{StepRow, WhyStopped};
 
 mod file;
@@ -116,7 +117,7 @@ impl Node {
     /// Closes the node's end of a link.
     fn shut(&mut self, link: LinkId)
         requires { IsSome (end_of self.old link) }
-        ensures { self.new ≡ put_end self.old link shut_end }
+        ensures { self.new ≡ put_end self.old link EndState.shut }
     {
         let Some(end) = self.links.get_mut(link) else {
             unreachable!()
@@ -166,7 +167,7 @@ impl Node {
     fn dismiss(&mut self, link: LinkId, reply: &Reply) -> Result<Step, NodeFault>
         requires { IsSome (end_of self.old link) }
         ensures step { IfOk result (λ s. s ≡ Step.Done (last_outs link (reply_text (view reply.now)))) }
-        ensures state { OnOk result (self.new ≡ put_end self.old link shut_end) }
+        ensures state { OnOk result (self.new ≡ put_end self.old link EndState.shut) }
         ensures err { IfErr result (λ e. (e ≡ NodeFault.Memory) × (self.new ≡ self.old)) }
         ensures core { self.new.core ≡ self.old.core }
     {
@@ -183,7 +184,7 @@ impl Node {
     fn refuse(&mut self, link: LinkId, fault: Fault) -> Result<Step, NodeFault>
         requires { IsSome (end_of self.old link) }
         ensures step { IfOk result (λ s. s ≡ Step.Done (last_outs link (reply_text (error (fault_text fault))))) }
-        ensures state { OnOk result (self.new ≡ put_end self.old link shut_end) }
+        ensures state { OnOk result (self.new ≡ put_end self.old link EndState.shut) }
         ensures err { IfErr result (λ e. (e ≡ NodeFault.Memory) × (self.new ≡ self.old)) }
         ensures core { self.new.core ≡ self.old.core }
     {
@@ -197,12 +198,35 @@ impl Node {
     fn quit(&mut self, link: LinkId) -> Result<Step, NodeFault>
         requires { IsSome (end_of self.old link) }
         ensures step { IfOk result (λ s. s ≡ Step.Done (last_outs link (reply_text done))) }
-        ensures state { OnOk result (self.new ≡ put_end self.old link shut_end) }
+        ensures state { OnOk result (self.new ≡ put_end self.old link EndState.shut) }
         ensures err { IfErr result (λ e. (e ≡ NodeFault.Memory) × (self.new ≡ self.old)) }
         ensures core { self.new.core ≡ self.old.core }
     {
         let reply = Reply::Simple(CowSlice::Borrowed(b"OK"));
         self.dismiss(link, &reply)
+    }
+
+    /// The append-only file is written anew, and the client is told so.
+    fn rewrite(&mut self, link: LinkId, used: usize) -> Result<Step, NodeFault>
+        requires { HasAhead self.old link used }
+        ensures step { IfOk result (λ s. s ≡ Step.Done (outs_with (Some link) (rewritten_as self.old.core.held))) }
+        ensures remakes { OnOk result (Remakes (rebuilding self.old.core.held) self.old.core.held) }
+        ensures state { OnOk result (Uses self.old link used self.new) }
+        ensures err { IfErr result (λ e. (e ≡ NodeFault.Memory) × (self.new ≡ self.old)) }
+    {
+        let mut outs = self.fresh_outs(Some(link));
+        let reply = Reply::Simple(CowSlice::Borrowed(
+            b"Background append only file rewriting started",
+        ));
+        if outs.say(&reply).is_err() {
+            return Err(NodeFault::Memory);
+        }
+        let Ok(texts) = self.held.rebuild(self.alloc) else {
+            return Err(NodeFault::Memory);
+        };
+        outs.replace(texts);
+        self.advance(link, used);
+        Ok(Step::Done(outs))
     }
 
     /// Carries out a plan.
@@ -236,7 +260,7 @@ impl Node {
     ) -> Result<Step, NodeFault>
         requires ahead { HasAhead self.old link used }
         requires leads { Leads plan.effects.items self.old.core.held }
-        requires outs { outs ≡ record no_outs { link = Some link; grown = texts plan.effects.items; reply = reply_text (view plan.reply) } }
+        requires outs { outs ≡ outs_with (Some link) (record (growth (texts plan.effects.items)) { said = reply_text (view plan.reply) }) }
         requires within { self.old.core.stream.offset + length (texts plan.effects.items) ≤ offset_limit }
         ensures step { IfOk result (λ s. Commits self.old link used (view plan.reply) plan.effects.items self.new s) }
         ensures stopped { IfErr result (λ e. (e ≡ NodeFault.Stopped) × Halts self.old plan.effects.items self.new) }
@@ -255,7 +279,7 @@ impl Node {
 /// Writes the texts of the effects and the reply. False where the effects would carry the offset past its limit: then what is
 /// written says so, and no effect.
 fn told(outs: &mut Outs, plan: &Plan, offset: u64) -> Result<bool, AllocError>
-    requires empty { (outs.old.grown ≡ []) × (outs.old.reply ≡ []) }
+    requires empty { (outs.old.grown ≡ []) × (outs.old.appended ≡ []) × (outs.old.reply ≡ []) }
     requires offset { offset ≤ offset_limit }
     ensures { IfOk result (λ fits. Tells offset (view plan.now.reply) plan.now.effects.items outs.old fits outs.new) }
 {
@@ -396,6 +420,7 @@ impl Node {
             Ok(Todo::Skip { used }) => Ok(self.skip(link, used)),
             Ok(Todo::Refuse(fault)) => self.refuse(link, fault),
             Ok(Todo::Quit) => self.quit(link),
+            Ok(Todo::Rewrite { used }) => self.rewrite(link, used),
             Ok(Todo::Run { used, plan }) => self.run(link, used, plan),
         }
     }

@@ -13,6 +13,10 @@ use std::marker::Model;
 pub enum Out<'a> {
     /// The stream grew by these texts of effects.
     Grow(&'a [u8]),
+    /// These of them go behind the append-only file.
+    Append(&'a [u8]),
+    /// The append-only file is replaced by these bytes.
+    Replace(&'a [u8]),
     /// These bytes are sent on the link.
     Send(LinkId, &'a [u8]),
     /// The node closed the link.
@@ -23,6 +27,8 @@ pub enum Out<'a> {
 #[derive(Clone, Copy)]
 enum Place {
     Grow,
+    Append,
+    Replace,
     Send,
     Close,
     End,
@@ -67,9 +73,21 @@ impl<'a> Iterator for OutsIter<'a> {
     fn next(&mut self) -> Option<Out<'a>> {
         let outs = self.outs;
         if let Place::Grow = self.place {
-            self.place = Place::Send;
+            self.place = Place::Append;
             if !outs.grown().is_empty() {
                 return Some(Out::Grow(outs.grown()));
+            }
+        }
+        if let Place::Append = self.place {
+            self.place = Place::Replace;
+            if !outs.appended().is_empty() {
+                return Some(Out::Append(outs.appended()));
+            }
+        }
+        if let Place::Replace = self.place {
+            self.place = Place::Send;
+            if let Some(bytes) = outs.replaced() {
+                return Some(Out::Replace(bytes));
             }
         }
         if let Place::Send = self.place {

@@ -1,5 +1,6 @@
 // What a step gives out.
-ghost use Rattle.std.specs.Prelude.{◌≡◌, ◌++◌, [], ◌+◌, true, false, length, nat_le, if◌then◌else◌, IfOk, OnOk};
+ghost use Rattle.std.specs.Prelude.{◌≡◌, ◌++◌, [], ◌+◌, true, false, length, nat_le, if◌then◌else◌, IfOk, OnOk, Some};
+ghost use Rattle.std.specs.Option.{option_map};
 ghost use Rattle.mr_resp.specs.Replies.{reply_text};
 ghost use Rattle.mr_resp.specs.ReplyView.{view};
 ghost use Rattle.mr_effect.specs.Spelling.{size, text, texts};
@@ -12,25 +13,28 @@ use mr_resp::{Reply, write_reply};
 use std::alloc::{AllocError, Global};
 use std::marker::Model;
 
-/// What a step gives out: the texts of its effects, what it sends on its link, and whether the link is closed behind that.
-/// A tick is made on no link, and only lets the stream grow.
+/// What a step gives out: the texts of its effects, which go to the stream and to the append-only file; what the file is replaced by;
+/// what the step sends on its link, and whether the link is closed behind that. A tick is made on no link, and only lets the stream
+/// grow, and the file.
 /// A node uses its room again (`Node::reuse`).
 #[derive(Drop)]
 pub struct Outs {
     link: Option<LinkId>,
     grown: Vec<u8>,
+    replaced: Option<Vec<u8>>,
     reply: Vec<u8>,
     closes: bool,
 }
 
 impl Model for Outs {
+    ghost use Rattle.std.specs.Option.{option_map};
     ghost use Rattle.mr_node.specs.Outs.{OutsState, outs_code};
 
     ghost Value = { OutsState };
 
     ghost coded = { outs_code };
 
-    ghost view = { λ o. record { link = o.link; grown = o.grown.items; reply = o.reply.items; closes = o.closes } };
+    ghost view = { λ o. record { link = o.link; grown = o.grown.items; appended = o.grown.items; replaced = option_map (λ bytes. bytes.items) o.replaced; reply = o.reply.items; closes = o.closes } };
 }
 
 impl Outs {
@@ -40,6 +44,7 @@ impl Outs {
         Outs {
             link: None,
             grown: Vec::new(alloc),
+            replaced: None,
             reply: Vec::new(alloc),
             closes: false,
         }
@@ -51,6 +56,7 @@ impl Outs {
     {
         self.link = link;
         self.grown.clear();
+        self.replaced = None;
         self.reply.clear();
         self.closes = false;
     }
@@ -69,11 +75,29 @@ impl Outs {
         self.link
     }
 
-    /// The texts of the effects, in order.
+    /// The texts of the effects that the stream grew by, in order.
     pub fn grown(&self) -> &[u8]
         ensures { result.now ≡ self.now.grown }
     {
         self.grown.as_slice()
+    }
+
+    /// Those of them that go behind the append-only file.
+    pub fn appended(&self) -> &[u8]
+        ensures { result.now ≡ self.now.appended }
+    {
+        let texts = &self.grown;
+        texts.as_slice()
+    }
+
+    /// What the append-only file is replaced by.
+    pub fn replaced(&self) -> Option<&[u8]>
+        ensures { option_map (λ bytes. bytes.now) result ≡ self.now.replaced }
+    {
+        match &self.replaced {
+            None => None,
+            Some(bytes) => Some(bytes.as_slice()),
+        }
     }
 
     /// What is sent on the link.
@@ -92,7 +116,7 @@ impl Outs {
 
     /// Puts the texts of effects behind those that are there.
     pub(crate) fn grow(&mut self, effects: &[Effect<'_>]) -> Result<(), AllocError>
-        ensures { OnOk result (self.new ≡ record self.old { grown = self.old.grown ++ texts effects.now }) }
+        ensures { OnOk result (self.new ≡ record self.old { grown = self.old.grown ++ texts effects.now; appended = self.old.appended ++ texts effects.now }) }
     {
         encode_all(effects, &mut self.grown)
     }
@@ -100,7 +124,7 @@ impl Outs {
     /// Puts the text of an effect behind those that are there, if all together have no more bytes than this. Answers whether.
     pub(crate) fn grow_within(&mut self, effect: &Effect<'_>, room: u64) -> Result<bool, AllocError>
         ensures fits { IfOk result (λ fits. fits ≡ nat_le (length self.old.grown + size effect.now) room) }
-        ensures outs { IfOk result (λ fits. self.new ≡ if fits then record self.old { grown = self.old.grown ++ text effect.now } else self.old) }
+        ensures outs { IfOk result (λ fits. self.new ≡ if fits then record self.old { grown = self.old.grown ++ text effect.now; appended = self.old.appended ++ text effect.now } else self.old) }
     {
         let start = self.grown.len();
         encode(effect, &mut self.grown)?;
@@ -118,8 +142,15 @@ impl Outs {
         write_reply(reply, &mut self.reply)
     }
 
+    /// The append-only file is replaced by these bytes.
+    pub(crate) fn replace(&mut self, bytes: Vec<u8>)
+        ensures { self.new ≡ record self.old { replaced = Some bytes.items } }
+    {
+        self.replaced = Some(bytes);
+    }
+
     pub(crate) fn drop_grown(&mut self)
-        ensures { self.new ≡ record self.old { grown = [] } }
+        ensures { self.new ≡ record self.old { grown = []; appended = [] } }
     {
         self.grown.clear();
     }

@@ -19,6 +19,8 @@ pub(crate) enum Todo {
     Refuse(Fault),
     /// OK is told, and the link closed.
     Quit,
+    /// A request is used, and the append-only file written anew.
+    Rewrite { used: usize },
     /// A request is used, and its plan carried out.
     Run { used: usize, plan: Plan },
 }
@@ -60,5 +62,6 @@ fn carry_out(answer: Answer, used: usize) -> Todo
     match answer {
         Answer::Run(plan) => Todo::Run { used, plan },
         Answer::Quit => Todo::Quit,
+        Answer::Rewrite => Todo::Rewrite { used },
     }
 }

@@ -54,7 +54,7 @@ module _ {A : Type 0} (compare : A → Ordering) (items : List A) where
     ]
 
     -- what is behind a greater item is greater
-    less_back : compare (get_or items m d) ≡ Less → AllWithin (λ y. compare y ≡ Less) items m (length items)
+    pub less_back : compare (get_or items m d) ≡ Less → AllWithin (λ y. compare y ≡ Less) items m (length items)
     less_back is k e from below = elim (cases_order k m) [
       | inl same ↦ ap (λ n. compare (get_or items n e)) same ∙ at Less is e
       | inr (inl less) ↦ absurd (omega arith)

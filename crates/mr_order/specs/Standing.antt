@@ -1,9 +1,10 @@
 -- Where a query stands in a list in order. A query says of each item how it stands to it: greater, equal or less.
-use Rattle.std.specs.Prelude.{◌≡◌, ℕ, ◌+◌, ◌<◌, ◌≤◌, List, Result, Ok, Err, length, IsTrue, MatchResult, slice_index_or}
+use Rattle.std.specs.Prelude.{◌≡◌, ℕ, ◌+◌, ◌<◌, ◌≤◌, Bool, List, Result, Ok, Err, length, IsTrue, MatchResult, slice_index_or}
 use Rattle.std.specs.declared.cmp.Ordering.{Ordering}
 use Rattle.std.specs.declared.cmp.Ordering.TheVariants.{Less, Equal, Greater}
 use Rattle.std.specs.Ordering.{is_le, is_ge}
 use Rattle.std.specs.List.{AllWithin}
+use Rattle.std.specs.Result.{is_ok}
 
 module _ {A : Type 0} (compare : A → Ordering) (items : List A) where
   -- in front of an item that isn't greater than the query it is greater than each, behind one that isn't less it is less than each
@@ -34,6 +35,12 @@ module _ {A : Type 0} (compare : A → Ordering) (items : List A) where
   -- what a search answers: the place of the item to which the query is equal, or the place where it would stand
   abbrev pub IsPlaceOf : Result ℕ ℕ → Type 0
   IsPlaceOf found = MatchResult found StandsAt StandsBefore
+
+  -- what a look-up answers: whether the query is equal to an item, as a search would find
+  pub record Tells (found : Bool) : Type 0 where
+    pub place : Result ℕ ℕ
+    pub is : IsPlaceOf place
+    pub told : is_ok place ≡ found
 
 -- a place in a part, counted from the front of all items
 abbrev pub shifted : ℕ → Result ℕ ℕ → Result ℕ ℕ

@@ -42,6 +42,10 @@ impl<T: Ord + Drop> Part for Vec<T> {
         &self[at]
     }
 
+    fn first(&self) -> &T {
+        &self[0]
+    }
+
     fn insert(&mut self, at: usize, item: T) -> Result<(), AllocError> {
         Vec::insert(self, at, item)?;
         Ok(())
@@ -72,6 +76,15 @@ impl<T: Ord + Drop> Part for Vec<T> {
         steps: &mut Steps,
     ) -> Result<usize, usize> {
         seek(self, query, low, high, steps)
+    }
+
+    fn locate<Q: Query<T>>(&self, query: Q) -> Result<usize, usize> {
+        let mut steps = Steps { count: 0 };
+        seek(self, query, 0, Vec::len(self), &mut steps)
+    }
+
+    fn contains<Q: Query<T>>(&self, query: Q) -> bool {
+        self.locate(query).is_ok()
     }
 
     fn run_from(&self, at: usize) -> &[T] {

@@ -4,6 +4,7 @@ ghost use Rattle.std.specs.List.{flat_map};
 ghost use Rattle.mr_order.specs.Parts.{IsLevel};
 
 use crate::grow::insert_into;
+use crate::locate::{contains, first, locate};
 use crate::part::Part;
 use crate::parts::{item, run_from, run_to, search, total};
 use crate::query::{Query, Steps};
@@ -57,6 +58,10 @@ impl<P: Part> Part for Level<P> {
         item(&self.parts, at)
     }
 
+    fn first(&self) -> &P::Item {
+        first(&self.parts)
+    }
+
     fn insert(&mut self, at: usize, item: P::Item) -> Result<(), AllocError> {
         if self.len == MOST {
             return Err(AllocError);
@@ -99,6 +104,14 @@ impl<P: Part> Part for Level<P> {
         steps: &mut Steps,
     ) -> Result<usize, usize> {
         search(&self.parts, query, low, high, steps)
+    }
+
+    fn locate<Q: Query<P::Item>>(&self, query: Q) -> Result<usize, usize> {
+        locate(&self.parts, query)
+    }
+
+    fn contains<Q: Query<P::Item>>(&self, query: Q) -> bool {
+        contains(&self.parts, query)
     }
 
     fn run_from(&self, at: usize) -> &[P::Item] {

@@ -9,6 +9,7 @@ mod chunk;
 mod grow;
 mod iter;
 mod level;
+mod locate;
 mod ordered;
 mod part;
 mod parts;

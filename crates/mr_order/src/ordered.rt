@@ -5,7 +5,7 @@ ghost use Rattle.std.specs.BTreeSet.{insert_key};
 ghost use Rattle.std.specs.List.{insert, remove};
 ghost use Rattle.std.specs.List.Sorted.{IsPartitionPoint, IsStrictlySortedBy};
 ghost use Rattle.std.specs.Ordering.{is_le};
-ghost use Rattle.mr_order.specs.Standing.{IsPlaceOf, StandsBefore};
+ghost use Rattle.mr_order.specs.Standing.{IsPlaceOf, StandsBefore, Tells};
 
 use crate::iter::Iter;
 use crate::places::Places;
@@ -96,6 +96,21 @@ impl<T: Ord + Drop> Ordered<T> {
         self.places.search(query, steps)
     }
 
+    /// The same place, found the quickest way: chunks are told apart by their first items, and only what stands in front of
+    /// the chunk is counted. It may compare some items more than `search`.
+    pub fn locate<Q: Query<T>>(&self, query: Q) -> Result<usize, usize>
+        ensures { IsPlaceOf (Q.compare query) self.now result }
+    {
+        self.places.locate(query)
+    }
+
+    /// Whether a query is equal to an item, found as `locate` does, and nothing is counted.
+    pub fn contains<Q: Query<T>>(&self, query: Q) -> bool
+        ensures { Tells (Q.compare query) self.now result }
+    {
+        self.places.contains(query)
+    }
+
     /// How many items a query is greater than, which is the place where it stands or would stand. It is compared with at
     /// most as many items as the number of items has binary digits.
     pub fn place<Q: Query<T>>(&self, query: Q, steps: &mut Steps) -> usize
@@ -117,8 +132,7 @@ impl<T: Ord + Drop> Ordered<T> {
         ensures added { IfOk result (λ added. length self.new ≡ length self.old + (if added then 1 else 0)) }
         ensures err { OnErr result (self.new ≡ self.old) }
     {
-        let mut steps = Steps { count: 0 };
-        match self.places.search(&item, &mut steps) {
+        match self.places.locate(&item) {
             Ok(_) => Ok(false),
             Err(place) => {
                 self.places.insert(place, item)?;

@@ -3,7 +3,7 @@ ghost use Rattle.std.specs.Prelude.{◌≡◌, ◌+◌, ◌-◌, ◌++◌, ◌�
 ghost use Rattle.std.specs.List.{insert, remove};
 ghost use Rattle.mr_order.specs.Parts.{IsSound};
 ghost use Rattle.mr_order.specs.Runs.{IsIn};
-ghost use Rattle.mr_order.specs.Standing.{IsBetween, IsDivided, IsPlaceOf};
+ghost use Rattle.mr_order.specs.Standing.{IsBetween, IsDivided, IsPlaceOf, Tells};
 
 use crate::query::{Query, Steps};
 use std::alloc::{AllocError, Global};
@@ -50,6 +50,12 @@ pub(crate) trait Part: Drop {
         requires kept { is_kept self.now }
         requires within { at < length (items self.now) }
         ensures { result.now ≡ slice_index_or (items self.now) at result.now };
+
+    /// The first item.
+    fn first(&self) -> &Self::Item
+        requires kept { is_kept self.now }
+        requires some { 0 < length (items self.now) }
+        ensures { result.now ≡ slice_index_or (items self.now) 0 result.now };
 
     /// Puts an item where it stands at a place. Where memory runs out, the items stay.
     fn insert(&mut self, at: usize, item: Self::Item) -> Result<(), AllocError>
@@ -103,6 +109,18 @@ pub(crate) trait Part: Drop {
         ensures place { IsPlaceOf (Q.compare query) (items self.now) result }
         ensures steps { (digits : ℕ) → high < low + 2 ^ digits → steps.new.count ≤ steps.old.count + digits }
         ensures rising { steps.old.count ≤ steps.new.count };
+
+    /// Where a query stands, or would stand. Smaller parts are told apart by their first items, and no place is looked up.
+    fn locate<Q: Query<Self::Item>>(&self, query: Q) -> Result<usize, usize>
+        requires kept { is_kept self.now }
+        requires divided { IsDivided (Q.compare query) (items self.now) }
+        ensures { IsPlaceOf (Q.compare query) (items self.now) result };
+
+    /// Whether a query is equal to an item. Nothing is counted.
+    fn contains<Q: Query<Self::Item>>(&self, query: Q) -> bool
+        requires kept { is_kept self.now }
+        requires divided { IsDivided (Q.compare query) (items self.now) }
+        ensures { Tells (Q.compare query) (items self.now) result };
 
     /// The items from a place to the end of its chunk.
     fn run_from(&self, at: usize) -> &[Self::Item]

@@ -127,8 +127,8 @@ pub(crate) fn search<P: Part, Q: Query<P::Item>>(
     Err(from)
 }
 
-// A place in a part, counted from the front of all items.
-fn shifted(found: Result<usize, usize>, start: usize) -> Result<usize, usize>
+/// A place in a part, counted from the front of all items.
+pub(crate) fn shifted(found: Result<usize, usize>, start: usize) -> Result<usize, usize>
     requires { MatchResult found (λ at. start + at < 2 ^ 64) (λ at. start + at < 2 ^ 64) }
     ensures { result ≡ shifted start found }
 {

@@ -1,19 +1,20 @@
 -- However the bytes are cut, and until a fault.
-use Rattle.std.proofs.Common.{◌≡◌, ℕ, List, [], ◌∷◌, ◌++◌, Bool, true, false, refl, sym, ap, subst, ◌∙◌, length}
+use Rattle.std.proofs.Common.{◌≡◌, ℕ, List, ◌++◌, Bool, true, false, refl, sym, subst, ◌∙◌}
 use Rattle.std.specs.Prelude.{Result, Ok, Err}
 use Rattle.std.specs.Io.KnownBytes.{Keeps}
 use Rattle.std.proofs.KnownBytes.{Appends-kept}
 use Rattle.mr_links.specs.declared.link_id.LinkId.{LinkId}
 use Rattle.mr_data.specs.declared.given.Given.{Given}
-use Rattle.mr_node.specs.State.{NodeState, Core, Agrees}
+use Rattle.mr_node.specs.State.{NodeState, Core}
+use Rattle.mr_node.specs.Outs.{no_output}
 use Rattle.mr_node.specs.declared.fault.NodeFault.{NodeFault}
-use Rattle.mr_pipe.specs.Outside.{Kept, Outside, Filed, IsSettled}
-use Rattle.mr_pipe.specs.Sessions.{AreServed, Gives, grown_of}
-use Rattle.mr_pipe.specs.Serving.{Settles, Going, Drained, Ended, Breaks, IsLeft, IsCutOff, IsStepped, IsDrained}
+use Rattle.mr_pipe.specs.Outside.{Outside, Change, IsSettled}
+use Rattle.mr_pipe.specs.Sessions.{AreServed, Gives, all_changes}
+use Rattle.mr_pipe.specs.Serving.{Settles, Going, Breaks, IsLeft, IsCutOff, IsDrained}
 use Rattle.mr_pipe.specs.Faults.{fault_of}
 use Rattle.mr_pipe.specs.declared.fault.PipeFault.{PipeFault}
 use Rattle.mr_pipe.specs.declared.fault.PipeFault.TheVariants as fault
-use Rattle.mr_pipe.proofs.Serves.{serves_more, serves_join, more_moments, grown_of_join, grown_of_more}
+use Rattle.mr_pipe.proofs.Serves.{serves_more, serves_join, more_moments, changes_join, changes_more}
 use Rattle.mr_pipe.proofs.Files.{settled_join, settled_kept, all_begun}
 use Rattle.mr_pipe.proofs.Goings.{refuses}
 
@@ -29,7 +30,7 @@ settles_more g c u x d y bytes s = record {
   rest = s.rest ++ bytes;
   said = s.said;
   serves = serves_more g bytes c u s.moments d s.rest s.said s.serves;
-  settled = subst (λ p. IsSettled x y p s.said) (sym (grown_of_more bytes s.moments)) s.settled;
+  settled = subst (λ (p : List Change). IsSettled x y p s.said) (sym (changes_more bytes s.moments)) s.settled;
 }
 
 abbrev pub settles_join : (g : Given) (c : Core) (u : List ℕ) (x : Outside) (d : Core) (y : Outside) (d1 e : Core) (z : Outside)
@@ -39,8 +40,8 @@ settles_join g c u x d y d1 e z s same t = record {
   rest = t.rest;
   said = s.said ++ t.said;
   serves = serves_join g c u s.moments d s.rest s.said t.moments e t.rest t.said s.serves (subst (λ k. AreServed g k s.rest t.moments e t.rest t.said) same t.serves);
-  settled = subst (λ p. IsSettled x z p (s.said ++ t.said)) (sym (grown_of_join s.moments t.moments))
-      (settled_join x y z (grown_of s.moments) (grown_of t.moments) s.said t.said s.settled t.settled);
+  settled = subst (λ (p : List Change). IsSettled x z p (s.said ++ t.said)) (sym (changes_join s.moments t.moments))
+      (settled_join x y z (all_changes s.moments) (all_changes t.moments) s.said t.said s.settled t.settled);
 }
 
 -- what was served before, and what is served of the bytes that came
@@ -80,8 +81,8 @@ not_fed g a l u x bytes n y e w = record {
 }
 
 -- ---- a flush behind all
-kept_settles : (g : Given) (c : Core) (u : List ℕ) (x : Outside) (d : Core) (y z : Outside) → (s : Settles g c u x d y) → Keeps y.output z.output → z.kept ≡ y.kept → IsSettled x z (grown_of s.moments) s.said
-kept_settles g c u x d y z s k same = settled_kept x y z (grown_of s.moments) s.said s.settled k same
+kept_settles : (g : Given) (c : Core) (u : List ℕ) (x : Outside) (d : Core) (y z : Outside) → (s : Settles g c u x d y) → Keeps y.output z.output → z.kept ≡ y.kept → IsSettled x z (all_changes s.moments) s.said
+kept_settles g c u x d y z s k same = settled_kept x y z (all_changes s.moments) s.said s.settled k same
 
 pub flushed : (g : Given) (a : NodeState) (l : LinkId) (u : List ℕ) (x : Outside) (b : NodeState) (y z : Outside) (goes : Bool) → IsDrained g a l u x b y (Ok goes) → Keeps y.output z.output → z.kept ≡ y.kept
     → IsDrained g a l u x b z (Ok goes)
@@ -111,6 +112,6 @@ not_flushed g a l u x b y z false d k same = record {
   core = b.core;
   before = d.before;
   done = d.done;
-  left = IsCutOff.in_reply [] d.last (Gives.ends refl d.ends) (Filed.alone refl (same ∙ d.kept))
+  left = IsCutOff.in_reply (record no_output { said = d.last }) (Gives.ends d.last d.ends refl) (same ∙ d.kept)
       (all_begun d.before.output z.output d.last (Appends-kept d.before.output y.output z.output d.last d.told k));
 }

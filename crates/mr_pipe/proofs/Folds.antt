@@ -1,27 +1,31 @@
 -- The file of a pipe folds to the dataset of its node.
-use Rattle.std.proofs.Common.{◌≡◌, ℕ, List, [], ◌∷◌, ◌++◌, Option, Some, IfSome, refl, sym, ap, subst, ◌∙◌, append_assoc, take, drop, take-append-drop}
+use Rattle.std.proofs.Common.{◌≡◌, ◌⊎◌, inl, inr, ℕ, List, [], ◌∷◌, ◌++◌, Option, Some, IfSome, refl, sym, ap, subst, ◌∙◌, append_assoc, take, drop, take-append-drop}
 use Rattle.std.specs.Option.{option_and_then}
 use Rattle.std.specs.FinMap.{empty}
-use Rattle.mr_file.specs.LogFile.{AppendsSome}
+use Rattle.std.proofs.lemmas.List.Elements.{All-nil, All-append}
+use Rattle.mr_file.specs.LogFile.{AppendsSome, IsOldOrNew, IsSynced}
+use Rattle.mr_aof.specs.declared.log.SyncMode.{SyncMode}
+use Rattle.mr_aof.specs.declared.log.SyncMode.TheVariants.{Always}
+use Rattle.mr_resp.specs.Command.{IsCommandText}
+use Rattle.mr_resp.specs.Usual.{commands}
 use Rattle.mr_effect.specs.Spelling.{text, texts}
 use Rattle.mr_effect.specs.declared.effect.Effect.{Effect}
 use Rattle.mr_entries.specs.Dataset.{Dataset}
 use Rattle.mr_data.specs.Meaning.{apply_all}
+use Rattle.mr_data.specs.Rebuilding.{rebuilding}
 use Rattle.mr_data.proofs.Folding.{apply_all-append}
 use Rattle.mr_data.specs.declared.given.Given.{Given}
 use Rattle.mr_node.specs.State.{Core}
+use Rattle.mr_node.specs.Outs.{Output}
 use Rattle.mr_node.specs.Served.{Served, Answered}
-use Rattle.mr_pipe.specs.Outside.{Kept, Outside, Filed}
-use Rattle.mr_pipe.specs.Sessions.{Moment, AreServed, Gives, grown_of}
+use Rattle.mr_pipe.specs.Outside.{Kept, Outside, Change, changed, followed, appends, replaces, Filed, HasHalf, IsTorn, IsCovered}
+use Rattle.mr_pipe.specs.Sessions.{Moment, AreServed, Gives, changes_of, all_changes}
 use Rattle.mr_pipe.specs.Serving.{IsLeft, IsCutOff}
 use Rattle.mr_pipe.specs.Piped.{Answers}
-use Rattle.mr_pipe.specs.Folding.{Folds, FoldsTorn, FilesFold, FilesFoldTorn}
+use Rattle.mr_pipe.specs.Folding.{Folds, FoldsTorn, FilesFold, FilesFoldTorn, FilesStaySynced}
 use Rattle.mr_pipe.specs.declared.fault.PipeFault.{PipeFault}
 use Rattle.mr_pipe.specs.declared.fault.PipeFault.TheVariants as fault
 use Rattle.mr_pipe.proofs.Serves.{append_nil}
-
-folds_none : (bytes : List ℕ) (c d : Core) → bytes ≡ [] → d ≡ c → Folds bytes c.held d.held
-folds_none bytes c d none same = record { effects = []; are_texts = none; applied = ap (λ (k : Core). Some k.held) (sym same) }
 
 texts_join : (es fs : List Effect) → texts (es ++ fs) ≡ texts es ++ texts fs
 texts_join [] fs = refl
@@ -31,76 +35,164 @@ folds_join : (p q : List ℕ) (a b d : Dataset) → Folds p a b → Folds q b d 
 folds_join p q a b d f s = record {
   effects = f.effects ++ s.effects;
   are_texts = ap (λ z. z ++ q) f.are_texts ∙ ap (λ z. texts f.effects ++ z) s.are_texts ∙ sym (texts_join f.effects s.effects);
+  readable = All-append (λ e. IsCommandText commands (text e)) f.effects s.effects f.readable s.readable;
   applied = apply_all-append f.effects s.effects a ∙ ap (option_and_then (apply_all s.effects)) f.applied ∙ s.applied;
 }
 
-served_folds : (c : Core) (u : List ℕ) (g : Given) (d : Core) (rest grown said : List ℕ) → Served c u g d rest grown said → Folds grown c.held d.held
-served_folds c u g d rest grown said (Served.request words asks (Answered.within reply effects plan le d_is grown_is said_is)) =
-    record { effects = effects; are_texts = grown_is; applied = plan.leads ∙ ap (λ (k : Core). Some k.held) (sym d_is) }
-served_folds c u g d rest grown said (Served.request words asks (Answered.beyond reply effects plan lt d_is grown_is said_is)) = folds_none grown c d grown_is d_is
-served_folds c u g d rest grown said (Served.nothing asks d_is grown_is said_is) = folds_none grown c d grown_is d_is
+-- ---- what changes make of a file's bytes
+followed_join : (cs ds : List Change) (xs : List ℕ) → followed (cs ++ ds) xs ≡ followed ds (followed cs xs)
+followed_join [] ds xs = refl
+followed_join (c ∷ cs) ds xs = followed_join cs ds (changed c xs)
 
-all_fold : (g : Given) (c : Core) (u : List ℕ) (ts : List Moment) (d : Core) (rest out : List ℕ) → AreServed g c u ts d rest out → Folds (grown_of ts) c.held d.held
-all_fold g c u [] d rest out s = folds_none [] c d refl s.0
-all_fold g c u (t ∷ ts) d rest out s = folds_join t.grown (grown_of ts) c.held t.core.held d.held (served_folds c u g t.core t.left t.grown t.said s.0) (all_fold g t.core t.left ts d rest s.1.0 s.1.1)
+followed_texts : (p xs : List ℕ) → followed (appends p ++ []) xs ≡ xs ++ p
+followed_texts [] xs = sym (append_nil xs)
+followed_texts (b ∷ p) xs = refl
 
-gives_folds : (g : Given) (c : Core) (u grown said : List ℕ) → Gives g c u grown said → (d : Dataset) × Folds grown c.held d
-gives_folds g c u grown said (Gives.serves d rest s) = (d.held, served_folds c u g d rest grown said s)
-gives_folds g c u grown said (Gives.ends none e) = (c.held, folds_none grown c c none refl)
+filed_told : (cs : List Change) (a b : Kept) (xs : List ℕ) → Filed a b cs → a.told ≡ Some xs → b.told ≡ Some (followed cs xs)
+filed_told [] a b xs f h = ap (λ (k : Kept). k.told) f ∙ h
+filed_told (c ∷ cs) a b xs f h = filed_told cs f.0 b (changed c xs) f.1.1 (subst (λ o. IfSome o (λ ys. f.0.told ≡ Some (changed c ys))) h f.1.0.told)
 
-filed_told : (a b : Kept) (bytes xs : List ℕ) → Filed a b bytes → a.told ≡ Some xs → b.told ≡ Some (xs ++ bytes)
-filed_told a b bytes xs (Filed.alone none same) h = ap (λ (k : Kept). k.told) same ∙ h ∙ ap (λ (z : List ℕ). Some z) (sym (append_nil xs) ∙ ap (λ z. xs ++ z) (sym none))
-filed_told a b bytes xs (Filed.appended w) h = subst (λ o. IfSome o (λ ys. b.told ≡ Some (ys ++ bytes))) h w.told
+-- ---- what stands in the file behind what was served
+-- nothing changes
+folds_on : (cs : List Change) (c d : Core) (xs : List ℕ) → cs ≡ [] → d ≡ c → Folds xs empty c.held → Folds (followed cs xs) empty d.held
+folds_on cs c d xs none same f = subst (λ (z : List Change). Folds (followed z xs) empty d.held) (sym none) (subst (λ (k : Core). Folds xs empty k.held) (sym same) f)
+
+served_folds : (c : Core) (u : List ℕ) (g : Given) (d : Core) (rest : List ℕ) (out : Output) → Served c u g d rest out → (xs : List ℕ) → Folds xs empty c.held → Folds (followed (changes_of out) xs) empty d.held
+served_folds c u g d rest out (Served.request words asks (Answered.within plain reply effects plan le d_is out_is)) xs f =
+    let p = texts effects in
+    subst (λ (o : Output). Folds (followed (changes_of o) xs) empty d.held) (sym out_is)
+    (subst (λ z. Folds z empty d.held) (sym (followed_texts p xs))
+    (folds_join xs p empty c.held d.held f (record { effects = effects; are_texts = refl; readable = plan.texts; applied = plan.leads ∙ ap (λ (k : Core). Some k.held) (sym d_is) })))
+served_folds c u g d rest out (Served.request words asks (Answered.beyond plain reply effects plan lt d_is out_is)) xs f = folds_on (changes_of out) c d xs (ap changes_of out_is) d_is f
+served_folds c u g d rest out (Served.request words asks (Answered.rewritten is remakes d_is out_is)) xs f =
+    subst (λ (o : Output). Folds (followed (changes_of o) xs) empty d.held) (sym out_is)
+    (record { effects = rebuilding c.held; are_texts = refl; readable = remakes.texts; applied = remakes.again ∙ ap (λ (k : Core). Some k.held) (sym d_is) })
+served_folds c u g d rest out (Served.nothing asks d_is out_is) xs f = folds_on (changes_of out) c d xs (ap changes_of out_is) d_is f
+
+all_fold : (g : Given) (c : Core) (u : List ℕ) (ts : List Moment) (d : Core) (rest said : List ℕ) → AreServed g c u ts d rest said → (xs : List ℕ) → Folds xs empty c.held → Folds (followed (all_changes ts) xs) empty d.held
+all_fold g c u [] d rest said s xs f = folds_on [] c d xs refl s.0 f
+all_fold g c u (t ∷ ts) d rest said s xs f =
+    subst (λ z. Folds z empty d.held) (sym (followed_join (changes_of t.out) (all_changes ts) xs))
+    (all_fold g t.core t.left ts d rest s.1.0 s.1.1 (followed (changes_of t.out) xs) (served_folds c u g t.core t.left t.out s.0 xs f))
+
+gives_folds : (g : Given) (c : Core) (u : List ℕ) (out : Output) → Gives g c u out → (xs : List ℕ) → Folds xs empty c.held → (d : Dataset) × Folds (followed (changes_of out) xs) empty d
+gives_folds g c u out (Gives.serves d rest s) xs f = (d.held, served_folds c u g d rest out s xs f)
+gives_folds g c u out (Gives.ends last e out_is) xs f = (c.held, folds_on (changes_of out) c c xs (ap changes_of out_is) refl f)
+
+-- ---- .. and where the file failed
+-- what stands there then
+abbrev HasTorn : Kept → Type 0
+HasTorn k = (ys : List ℕ) × ((k.told ≡ Some ys) × FoldsTorn ys empty)
+
+-- all texts are whole
+not_torn : (ys : List ℕ) (m : Dataset) → Folds ys empty m → FoldsTorn ys empty
+not_torn ys m f = record { front = ys; torn = []; is = sym (append_nil ys); mid = m; folds = f; more = []; new = m; whole = record { effects = []; are_texts = refl; readable = All-nil (λ e. IsCommandText commands (text e)); applied = refl } }
+
+abbrev first_of : Change → List Change → Change
+first_of other [] = other
+first_of other (c ∷ cs) = c
+
+abbrev behind_first : List Change → List Change
+behind_first [] = []
+behind_first (c ∷ cs) = cs
+
+none_is : (made : List Change) (c : Change) (others : List Change) → [] ≡ made ++ c ∷ others → ⊥
+none_is [] c others e = cc
+none_is (m ∷ made) c others e = cc
+
+only_one : (x : Change) (made : List Change) (c : Change) (others : List Change) → x ∷ [] ≡ made ++ c ∷ others → (made ≡ []) × (c ≡ x)
+only_one x [] c others e = (refl, sym (ap (first_of x) e))
+only_one x (m ∷ made) c others e = absurd (none_is made c others (ap behind_first e))
+
+-- the change at which the file failed, where it was to be the only one
+half_of : (x : Change) (a b : Kept) → IsTorn a b (x ∷ []) → HasHalf x a.told b.told
+half_of x a b t =
+    let one = only_one x t.made t.change t.others t.are in
+    let same : t.between ≡ a = subst (λ (z : List Change). Filed a t.between z) one.0 t.filed in
+    subst (λ (k : Kept). HasHalf x k.told b.told) same (subst (λ (z : Change). HasHalf z t.between.told b.told) one.1 t.fails.told)
 
 torn_told : (a b : Option (List ℕ)) (bytes xs : List ℕ) → AppendsSome a b bytes → a ≡ Some xs → (n : ℕ) × (b ≡ Some (xs ++ take n bytes))
 torn_told a b bytes xs w h = let there = subst (λ o. AppendsSome o b bytes) h w in (there.0, there.1.1)
 
--- all texts are whole
-not_torn : (ys : List ℕ) (m : Dataset) → Folds ys empty m → FoldsTorn ys empty
-not_torn ys m f = record { front = ys; torn = []; is = sym (append_nil ys); mid = m; folds = f; more = []; new = m; whole = record { effects = []; are_texts = refl; applied = refl } }
+torn_nothing : (cs : List Change) (a b : Kept) → cs ≡ [] → IsTorn a b cs → HasTorn b
+torn_nothing cs a b none t = absurd (none_is t.made t.change t.others (sym none ∙ t.are))
 
-left_folds : (why : PipeFault) (g : Given) (c : Core) (u : List ℕ) (x y : Outside) (xs : List ℕ) → x.kept.told ≡ Some xs → Folds xs empty c.held → IsLeft why g c u x y
-    → (ys : List ℕ) × ((y.kept.told ≡ Some ys) × FoldsTorn ys empty)
-left_folds fault.Read g c u x y xs h f l = (xs, (ap (λ (o : Outside). o.kept.told) l ∙ h, not_torn xs c.held f))
-left_folds fault.Stopped g c u x y xs h f l = (xs, (ap (λ (o : Outside). o.kept.told) l ∙ h, not_torn xs c.held f))
-left_folds fault.Memory g c u x y xs h f l = (xs, (ap (λ (o : Outside). o.kept.told) l ∙ h, not_torn xs c.held f))
-left_folds fault.Write g c u x y xs h f (IsCutOff.in_reply grown said gives filed begun) =
-    let more = gives_folds g c u grown said gives in
-    (xs ++ grown, (filed_told x.kept y.kept grown xs filed h, not_torn (xs ++ grown) more.0 (folds_join xs grown empty c.held more.0 f more.1)))
-left_folds fault.Write g c u x y xs h f (IsCutOff.in_flush k same) = (xs, (ap (λ (k : Kept). k.told) same ∙ h, not_torn xs c.held f))
-left_folds fault.File g c u x y xs h f l =
-    let more = gives_folds g c u l.grown l.said l.gives in
-    let there = torn_told x.kept.told y.kept.told l.grown xs l.torn.told h in (
-      xs ++ take there.0 l.grown,
+torn_texts : (p : List ℕ) (a b : Kept) (m n : Dataset) (xs : List ℕ) → a.told ≡ Some xs → Folds xs empty m → Folds p m n → IsTorn a b (appends p ++ []) → HasTorn b
+torn_texts [] a b m n xs h f g t = torn_nothing [] a b refl t
+torn_texts (q ∷ p) a b m n xs h f g t =
+    let there = torn_told a.told b.told (q ∷ p) xs (half_of (Change.append (q ∷ p)) a b t) h in (
+      xs ++ take there.0 (q ∷ p),
       (
         there.1,
         record {
           front = xs;
-          torn = take there.0 l.grown;
+          torn = take there.0 (q ∷ p);
           is = refl;
-          mid = c.held;
+          mid = m;
           folds = f;
-          more = drop there.0 l.grown;
-          new = more.0;
-          whole = subst (λ z. Folds z c.held more.0) (sym (take-append-drop there.0 l.grown)) more.1;
+          more = drop there.0 (q ∷ p);
+          new = n;
+          whole = subst (λ z. Folds z m n) (sym (take-append-drop there.0 (q ∷ p))) g;
         },
       ),
     )
 
+-- the old file stands there, or the new one
+one_stands : (k : Kept) (m n : Dataset) (xs w : List ℕ) → Folds xs empty m → Folds w empty n → (k.told ≡ Some xs) ⊎ (k.told ≡ Some w) → HasTorn k
+one_stands k m n xs w f g (inl old) = (xs, (old, not_torn xs m f))
+one_stands k m n xs w f g (inr new) = (w, (new, not_torn w n g))
+
+torn_whole : (w : List ℕ) (a b : Kept) (m n : Dataset) (xs : List ℕ) → a.told ≡ Some xs → Folds xs empty m → Folds w empty n → IsTorn a b (replaces (Some w)) → HasTorn b
+torn_whole w a b m n xs h f g t = one_stands b m n xs w f g (subst (λ o. IsOldOrNew o b.told w) h (half_of (Change.replace w) a b t))
+
+served_torn : (c : Core) (u : List ℕ) (g : Given) (d : Core) (rest : List ℕ) (out : Output) (a b : Kept) (xs : List ℕ) → Served c u g d rest out → a.told ≡ Some xs → Folds xs empty c.held → IsTorn a b (changes_of out) → HasTorn b
+served_torn c u g d rest out a b xs (Served.request words asks (Answered.within plain reply effects plan le d_is out_is)) h f t =
+    torn_texts (texts effects) a b c.held d.held xs h f (record { effects = effects; are_texts = refl; readable = plan.texts; applied = plan.leads ∙ ap (λ (k : Core). Some k.held) (sym d_is) })
+    (subst (λ (o : Output). IsTorn a b (changes_of o)) out_is t)
+served_torn c u g d rest out a b xs (Served.request words asks (Answered.beyond plain reply effects plan lt d_is out_is)) h f t = torn_nothing (changes_of out) a b (ap changes_of out_is) t
+served_torn c u g d rest out a b xs (Served.request words asks (Answered.rewritten is remakes d_is out_is)) h f t =
+    torn_whole (texts (rebuilding c.held)) a b c.held c.held xs h f (record { effects = rebuilding c.held; are_texts = refl; readable = remakes.texts; applied = remakes.again })
+    (subst (λ (o : Output). IsTorn a b (changes_of o)) out_is t)
+served_torn c u g d rest out a b xs (Served.nothing asks d_is out_is) h f t = torn_nothing (changes_of out) a b (ap changes_of out_is) t
+
+gives_torn : (g : Given) (c : Core) (u : List ℕ) (out : Output) (a b : Kept) (xs : List ℕ) → Gives g c u out → a.told ≡ Some xs → Folds xs empty c.held → IsTorn a b (changes_of out) → HasTorn b
+gives_torn g c u out a b xs (Gives.serves d rest s) h f t = served_torn c u g d rest out a b xs s h f t
+gives_torn g c u out a b xs (Gives.ends last e out_is) h f t = torn_nothing (changes_of out) a b (ap changes_of out_is) t
+
+left_folds : (why : PipeFault) (g : Given) (c : Core) (u : List ℕ) (x y : Outside) (xs : List ℕ) → x.kept.told ≡ Some xs → Folds xs empty c.held → IsLeft why g c u x y → HasTorn y.kept
+left_folds fault.Read g c u x y xs h f l = (xs, (ap (λ (o : Outside). o.kept.told) l ∙ h, not_torn xs c.held f))
+left_folds fault.Stopped g c u x y xs h f l = (xs, (ap (λ (o : Outside). o.kept.told) l ∙ h, not_torn xs c.held f))
+left_folds fault.Memory g c u x y xs h f l = (xs, (ap (λ (o : Outside). o.kept.told) l ∙ h, not_torn xs c.held f))
+left_folds fault.Write g c u x y xs h f (IsCutOff.in_reply out gives filed begun) =
+    let more = gives_folds g c u out gives xs f in
+    (followed (changes_of out) xs, (filed_told (changes_of out) x.kept y.kept xs filed h, not_torn (followed (changes_of out) xs) more.0 more.1))
+left_folds fault.Write g c u x y xs h f (IsCutOff.in_flush k same) = (xs, (ap (λ (k : Kept). k.told) same ∙ h, not_torn xs c.held f))
+left_folds fault.File g c u x y xs h f l = gives_torn g c u l.out x.kept y.kept xs l.gives h f l.torn
+
 pub files_fold : FilesFold
 files_fold g c before after x y s xs h f =
-    let ts = s.moments in
-    let all = answered s.said s.answers in
-    (xs ++ grown_of ts, (filed_told x.kept y.kept (grown_of ts) xs s.settled.filed h, folds_join xs (grown_of ts) empty c.held s.core.held f all))
+    let cs = all_changes s.moments in
+    (followed cs xs, (filed_told cs x.kept y.kept xs s.settled.filed h, answered s.said s.answers))
   where
-    answered : (said : List ℕ) → Answers g c s.read s.moments s.core said after → Folds (grown_of s.moments) c.held s.core.held
-    answered said (Answers.at_end rest served waits at) = all_fold g c s.read s.moments s.core rest said served
-    answered said (Answers.at_close rest replies last served ends is) = all_fold g c s.read s.moments s.core rest replies served
+    answered : (said : List ℕ) → Answers g c s.read s.moments s.core said after → Folds (followed (all_changes s.moments) xs) empty s.core.held
+    answered said (Answers.at_end rest served waits at) = all_fold g c s.read s.moments s.core rest said served xs f
+    answered said (Answers.at_close rest replies last served ends is) = all_fold g c s.read s.moments s.core rest replies served xs f
 
 pub files_fold_torn : FilesFoldTorn
 files_fold_torn g c before after x why y b xs h f =
     let k = b.breaks in
     let s = k.done in
-    let ys = xs ++ grown_of s.moments in
-    left_folds why g k.core s.rest k.before y ys (filed_told x.kept k.before.kept (grown_of s.moments) xs s.settled.filed h)
-    (folds_join xs (grown_of s.moments) empty c.held k.core.held f (all_fold g c b.read s.moments k.core s.rest s.said s.serves)) k.left
+    let cs = all_changes s.moments in
+    left_folds why g k.core s.rest k.before y (followed cs xs) (filed_told cs x.kept k.before.kept xs s.settled.filed h) (all_fold g c b.read s.moments k.core s.rest s.said s.serves xs f) k.left
+
+-- ---- how far the file is synced
+covered_always : (c : Change) (a b : Kept) → IsCovered Always c a b → IsSynced b.told b.synced
+covered_always (Change.append bytes) a b h = h
+covered_always (Change.replace bytes) a b h = h
+
+stay_synced : (cs : List Change) (a b : Kept) → Filed a b cs → a.mode ≡ Always → IsSynced a.told a.synced → IsSynced b.told b.synced
+stay_synced [] a b f m h = subst (λ (k : Kept). IsSynced k.told k.synced) (sym f) h
+stay_synced (c ∷ cs) a b f m h = stay_synced cs f.0 b f.1.1 (f.1.0.mode ∙ m) (covered_always c a f.0 (subst (λ (z : SyncMode). IsCovered z c a f.0) m f.1.0.covered))
+
+pub files_stay_synced : FilesStaySynced
+files_stay_synced g c before after x y s m h = stay_synced (all_changes s.moments) x.kept y.kept s.settled.filed m h

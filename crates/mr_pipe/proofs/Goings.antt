@@ -1,29 +1,29 @@
 -- A link that is served, step by step.
-use Rattle.std.proofs.Common.{◌≡◌, ℕ, List, [], ◌∷◌, ◌++◌, Bool, true, false, Option, refl, sym, ap, subst, ◌∙◌}
+use Rattle.std.proofs.Common.{◌≡◌, ℕ, List, [], ◌∷◌, ◌++◌, true, false, refl, sym, ap, subst, ◌∙◌}
 use Rattle.mr_links.specs.declared.link_id.LinkId.{LinkId}
 use Rattle.mr_data.specs.declared.given.Given.{Given}
 use Rattle.mr_node.specs.State.{NodeState, Core, Agrees}
-use Rattle.mr_node.specs.Outs.{OutsState}
-use Rattle.mr_node.specs.Rows.{ClientRow, Ends}
+use Rattle.mr_node.specs.Outs.{OutsState, Output}
+use Rattle.mr_node.specs.Rows.{ClientRow}
 use Rattle.mr_node.specs.Served.{Served}
 use Rattle.mr_node.specs.declared.fault.NodeFault.{NodeFault}
 use Rattle.mr_node.specs.declared.fault.NodeFault.TheVariants as refused
 use Rattle.std.specs.Prelude.{Err}
 use Rattle.std.specs.Io.KnownBytes.{Appends}
 use Rattle.std.proofs.KnownBytes.{Appends-nil}
-use Rattle.mr_pipe.specs.Outside.{Kept, Outside, Filed, IsSettled}
-use Rattle.mr_pipe.specs.Sessions.{Moment, AreServed, Gives, grown_of}
-use Rattle.mr_pipe.specs.Serving.{Settles, Going, Drained, Ended, Breaks, StepUsed, StepWaits, IsLeft, IsCutOff, IsCarriedOut}
+use Rattle.mr_pipe.specs.Outside.{Outside, Change, Filed, IsSettled}
+use Rattle.mr_pipe.specs.Sessions.{Moment, AreServed, Gives, all_changes, changes_of, output_of}
+use Rattle.mr_pipe.specs.Serving.{Settles, Going, Drained, Ended, StepUsed, StepWaits, IsLeft, IsCutOff, IsCarriedOut}
 use Rattle.mr_pipe.specs.Faults.{fault_of}
 use Rattle.mr_pipe.specs.declared.fault.PipeFault.{PipeFault}
 use Rattle.mr_pipe.specs.declared.fault.PipeFault.TheVariants as fault
-use Rattle.mr_pipe.proofs.Serves.{append_nil, serves_then, grown_of_then}
+use Rattle.mr_pipe.proofs.Serves.{append_nil, serves_then, changes_then}
 use Rattle.mr_pipe.proofs.Files.{nothing_settled, settled_join}
 
 -- a row that goes on, without the links
 record Went (a : NodeState) (l : LinkId) (u : List ℕ) (g : Given) (b : NodeState) (outs : OutsState) : Type 0 where
   pub rest : List ℕ
-  pub served : Served a.core u g b.core rest outs.grown outs.reply
+  pub served : Served a.core u g b.core rest (output_of outs)
   pub agrees : Agrees b l rest
 
 no_close : {A : Type 0} → true ≡ false → A
@@ -35,23 +35,23 @@ yes_close e = absurd (cc)
 went : (a : NodeState) (l : LinkId) (u : List ℕ) (g : Given) (b : NodeState) (outs : OutsState) → ClientRow a l u g b outs → outs.closes ≡ false → Went a l u g b outs
 went a l u g b outs (ClientRow.serves r) e = record {
   rest = r.rest;
-  served = subst (λ (o : OutsState). Served a.core u g b.core r.rest o.grown o.reply) (sym r.outs_are) r.served;
+  served = subst (λ (o : OutsState). Served a.core u g b.core r.rest (output_of o)) (sym r.outs_are) r.served;
   agrees = r.leaves.agrees;
 }
 went a l u g b outs (ClientRow.closes r) e = no_close (sym (ap (λ (o : OutsState). o.closes) r.outs_are) ∙ e)
 
 -- what a row gives
-pub gives : (a : NodeState) (l : LinkId) (u : List ℕ) (g : Given) (b : NodeState) (outs : OutsState) → ClientRow a l u g b outs → Gives g a.core u outs.grown outs.reply
-gives a l u g b outs (ClientRow.serves r) = subst (λ (o : OutsState). Gives g a.core u o.grown o.reply) (sym r.outs_are) (Gives.serves b.core r.rest r.served)
-gives a l u g b outs (ClientRow.closes r) = subst (λ (o : OutsState). Gives g a.core u o.grown o.reply) (sym r.outs_are) (Gives.ends refl r.ends)
+pub gives : (a : NodeState) (l : LinkId) (u : List ℕ) (g : Given) (b : NodeState) (outs : OutsState) → ClientRow a l u g b outs → Gives g a.core u (output_of outs)
+gives a l u g b outs (ClientRow.serves r) = subst (λ (o : OutsState). Gives g a.core u (output_of o)) (sym r.outs_are) (Gives.serves b.core r.rest r.served)
+gives a l u g b outs (ClientRow.closes r) = subst (λ (o : OutsState). Gives g a.core u (output_of o)) (sym r.outs_are) (Gives.ends r.last r.ends refl)
 
 -- a step whose outs could not be carried out
-pub left_out : (why : PipeFault) (g : Given) (c : Core) (u : List ℕ) (x y : Outside) (grown said : List ℕ) → Gives g c u grown said → IsCarriedOut grown said x y (Err why) → IsLeft why g c u x y
-left_out fault.Write g c u x y grown said gave h = IsCutOff.in_reply grown said gave h.0 h.1
-left_out fault.File g c u x y grown said gave h = record { grown = grown; said = said; gives = gave; torn = h.0; output = h.1 }
-left_out fault.Read g c u x y grown said gave h = absurd h
-left_out fault.Stopped g c u x y grown said gave h = absurd h
-left_out fault.Memory g c u x y grown said gave h = absurd h
+pub left_out : (why : PipeFault) (g : Given) (c : Core) (u : List ℕ) (x y : Outside) (out : Output) → Gives g c u out → IsCarriedOut out x y (Err why) → IsLeft why g c u x y
+left_out fault.Write g c u x y out gave h = IsCutOff.in_reply out gave h.0 h.1
+left_out fault.File g c u x y out gave h = record { out = out; gives = gave; torn = h.0; output = h.1 }
+left_out fault.Read g c u x y out gave h = absurd h
+left_out fault.Stopped g c u x y out gave h = absurd h
+left_out fault.Memory g c u x y out gave h = absurd h
 
 -- a refusal of the node leaves nothing
 pub refuses : (e : NodeFault) (g : Given) (c : Core) (u : List ℕ) (x : Outside) → IsLeft (fault_of e) g c u x x
@@ -70,15 +70,16 @@ pub goes_on : (g : Given) (a : NodeState) (l : LinkId) (u : List ℕ) (x : Outsi
 goes_on g a l u x b y d z w t =
     let r = went b l w.done.rest g d t.outs t.row t.closes_is in
     let s = w.done in
-    let m : Moment = record { core = d.core; left = r.rest; grown = t.outs.grown; said = t.outs.reply } in
+    let out = output_of t.outs in
+    let m : Moment = record { core = d.core; left = r.rest; out = out } in
     record {
       done = record {
         moments = s.moments ++ m ∷ [];
         rest = r.rest;
-        said = s.said ++ t.outs.reply;
-        serves = serves_then g a.core u s.moments b.core s.rest s.said d.core r.rest t.outs.grown t.outs.reply s.serves r.served;
-        settled = subst (λ p. IsSettled x z p (s.said ++ t.outs.reply)) (sym (grown_of_then s.moments m))
-            (settled_join x y z (grown_of s.moments) t.outs.grown s.said t.outs.reply s.settled t.settled);
+        said = s.said ++ out.said;
+        serves = serves_then g a.core u s.moments b.core s.rest s.said d.core r.rest out s.serves r.served;
+        settled = subst (λ (p : List Change). IsSettled x z p (s.said ++ out.said)) (sym (changes_then s.moments m))
+            (settled_join x y z (all_changes s.moments) (changes_of out) s.said out.said s.settled t.settled);
       };
       agrees = r.agrees;
     }
@@ -94,14 +95,14 @@ drained g a l u x b y d z w t =
           rest = s.rest;
           said = s.said;
           serves = subst (λ (n : NodeState). AreServed g a.core u s.moments n.core s.rest s.said) (sym t.idles.same) s.serves;
-          settled = subst (λ (o : Outside). IsSettled x o (grown_of s.moments) s.said) (sym t.same) s.settled;
+          settled = subst (λ (o : Outside). IsSettled x o (all_changes s.moments) s.said) (sym t.same) s.settled;
         };
         agrees = subst (λ n. Agrees n l s.rest) (sym t.idles.same) w.agrees;
       };
       waits = t.idles.waits;
     }
 
--- what closes a link says its last, and has no texts
+-- what closes a link says its last, and leaves the file alone
 pub ended : (g : Given) (a : NodeState) (l : LinkId) (u : List ℕ) (x : Outside) (b : NodeState) (y : Outside) (d : NodeState) (z : Outside)
     → (w : Going g a l u x b y) → StepUsed g b l w.done.rest y d z true → Ended g a l u x d z
 ended g a l u x b y d z w t = closes t.outs t.row t.closes_is t.settled
@@ -109,10 +110,10 @@ ended g a l u x b y d z w t = closes t.outs t.row t.closes_is t.settled
     s : Settles g a.core u x b.core y
     s = w.done
 
-    untouched : (p : List ℕ) → p ≡ [] → Filed y.kept z.kept p → Filed y.kept z.kept []
-    untouched p e f = subst (λ q. Filed y.kept z.kept q) e f
+    untouched : (p : List Change) → p ≡ [] → Filed y.kept z.kept p → Filed y.kept z.kept []
+    untouched p e f = subst (λ (q : List Change). Filed y.kept z.kept q) e f
 
-    closes : (outs : OutsState) → ClientRow b l w.done.rest g d outs → outs.closes ≡ true → IsSettled y z outs.grown outs.reply → Ended g a l u x d z
+    closes : (outs : OutsState) → ClientRow b l w.done.rest g d outs → outs.closes ≡ true → IsSettled y z (changes_of (output_of outs)) outs.reply → Ended g a l u x d z
     closes outs (ClientRow.serves r) e n = yes_close (sym (ap (λ (o : OutsState). o.closes) r.outs_are) ∙ e)
     closes outs (ClientRow.closes r) e n = record {
       before = record y { kept = z.kept };
@@ -121,10 +122,10 @@ ended g a l u x b y d z w t = closes t.outs t.row t.closes_is t.settled
         rest = s.rest;
         said = s.said;
         serves = subst (λ (k : Core). AreServed g a.core u s.moments k s.rest s.said) (sym r.core) s.serves;
-        settled = subst (λ p. IsSettled x (record y { kept = z.kept }) p s.said) (append_nil (grown_of s.moments))
-            (subst (λ q. IsSettled x (record y { kept = z.kept }) (grown_of s.moments ++ []) q) (append_nil s.said)
-            (settled_join x y (record y { kept = z.kept }) (grown_of s.moments) [] s.said [] s.settled
-            (record { filed = untouched outs.grown (ap (λ (o : OutsState). o.grown) r.outs_are) n.filed; told = Appends-nil y.output })));
+        settled = subst (λ (p : List Change). IsSettled x (record y { kept = z.kept }) p s.said) (append_nil (all_changes s.moments))
+            (subst (λ q. IsSettled x (record y { kept = z.kept }) (all_changes s.moments ++ []) q) (append_nil s.said)
+            (settled_join x y (record y { kept = z.kept }) (all_changes s.moments) [] s.said [] s.settled
+            (record { filed = untouched (changes_of (output_of outs)) (ap (λ (o : OutsState). changes_of (output_of o)) r.outs_are) n.filed; told = Appends-nil y.output })));
       };
       last = r.last;
       ends = r.ends;

@@ -1,15 +1,16 @@
 -- One read after another.
-use Rattle.std.proofs.Common.{rules, ◌≡◌, ◌<◌, ℕ, List, [], ◌∷◌, ◌++◌, Bool, true, false, Option, refl, sym, ap, subst, ◌∙◌, append_assoc, inl, inr, All, lit<, Ok, Err, Result}
-use Rattle.std.specs.Prelude.{◌⊎◌, take, Some}
-use Rattle.std.specs.Io.KnownBytes.{Consumes, IsAtEnd, Appends, Keeps}
+use Rattle.std.proofs.Common.{rules, ◌≡◌, ℕ, List, [], ◌∷◌, ◌++◌, true, false, Option, refl, sym, ap, subst, ◌∙◌, inl, inr, lit<, Ok, Err, Result, arith}
+use Rattle.std.specs.Prelude.{◌⊎◌, take, Some, IsErrOf}
+use Rattle.mr_file.specs.LogFile.{Rose}
+use Rattle.std.specs.Io.KnownBytes.{Consumes, Keeps}
 use Rattle.std.proofs.KnownBytes.{Consumes-nil, Consumes-kept, Consumes-trans, Appends-trans}
 use Rattle.mr_links.specs.declared.link_id.LinkId.{LinkId}
 use Rattle.mr_data.specs.declared.given.Given.{Given}
 use Rattle.mr_node.specs.State.{NodeState, Core, Agrees}
 use Rattle.mr_node.specs.Requests.{Waits}
-use Rattle.mr_pipe.specs.Outside.{Kept, Outside, Filed, IsSettled}
-use Rattle.mr_pipe.specs.Sessions.{AreServed, grown_of}
-use Rattle.mr_pipe.specs.Serving.{Settles, Going, Drained, Ended, Breaks, IsLeft, IsDrained}
+use Rattle.mr_pipe.specs.Outside.{Kept, Outside, Change, Filed}
+use Rattle.mr_pipe.specs.Sessions.{all_changes}
+use Rattle.mr_pipe.specs.Serving.{Drained, Breaks, IsLeft, Tears, IsDrained}
 use Rattle.mr_pipe.specs.Reading.{IsRead}
 use Rattle.mr_pipe.specs.Piped.{Relays, RelaysEnd, RelaysClose, RelaysBreak, IsRound, IsPiped, IsPipedAlone, no_file, Session, Broken, Answers}
 use Rattle.mr_pipe.specs.declared.fault.PipeFault.{PipeFault}
@@ -62,7 +63,7 @@ session_close g a l x p r b z n =
       said = w.said ++ e.last;
       answers = Answers.at_close w.rest w.said e.last w.serves e.ends refl;
       settled = record {
-        filed = subst (λ (k : Kept). Filed x.kept k (grown_of w.moments)) (sym e.kept) w.settled.filed;
+        filed = subst (λ (k : Kept). Filed x.kept k (all_changes w.moments)) (sym e.kept) w.settled.filed;
         told = Appends-trans x.output e.before.output z.output w.said e.last w.settled.told e.told;
       };
     }
@@ -145,3 +146,25 @@ piped_alone g c d p q old new k n r same none h = (
   subst (λ z. IsPiped g d p q (record { output = old; kept = z }) (record { output = new; kept = n }) r) none
       (subst (λ z. IsPiped g z p q (record { output = old; kept = k }) (record { output = new; kept = n }) r) same h),
 )
+
+-- .. and no fault of one
+stays_sound : (cs : List Change) (a b : Kept) → Filed a b cs → a.broken ≡ false → b.broken ≡ false
+stays_sound [] a b f h = ap (λ (k : Kept). k.broken) f ∙ h
+stays_sound (c ∷ cs) a b f h = stays_sound cs f.0 b f.1.1 f.1.0.sound
+
+no_cause : (a b : Kept) → a.broken ≡ false → b.failures ≡ 0 → (a.broken ≡ true) ⊎ Rose a.failures b.failures → ⊥
+no_cause a b sound none (inl broken) = let e : true ≡ false = sym broken ∙ sound in cc
+no_cause a b sound none (inr (inl more)) = omega (arith, more, none)
+no_cause a b sound none (inr (inr most)) = omega (arith, most, none)
+
+no_tear : (g : Given) (c : Core) (u : List ℕ) (x y : Outside) → x.kept.broken ≡ false → y.kept.failures ≡ 0 → Tears g c u x y → ⊥
+no_tear g c u x y sound none t = no_cause t.torn.between y.kept (stays_sound t.torn.made x.kept t.torn.between t.torn.filed sound) none t.torn.fails.cause
+
+err_is : (w v : PipeFault) → ◌≡◌ {A = Result (Unit {0}) PipeFault} (Err w) (Err v) → w ≡ v
+err_is w v e = cc
+
+pub never_fails : (g : Given) (c : Core) (p q : Option (List ℕ)) (x y : Outside) (r : Result (Unit {0}) PipeFault) → x.kept.broken ≡ false → y.kept.failures ≡ 0 → IsPiped g c p q x y r → IsErrOf r fault.File → ⊥
+never_fails g c p q x y (Ok u) sound none h e = let wrong : ◌≡◌ {A = Result (Unit {0}) PipeFault} (Ok u) (Err fault.File) = e in cc
+never_fails g c p q x y (Err why) sound none h e =
+    let k = h.breaks in
+    no_tear g k.core k.done.rest k.before y (stays_sound (all_changes k.done.moments) x.kept k.before.kept k.done.settled.filed sound) none (subst (λ w. IsLeft w g k.core k.done.rest k.before y) (err_is why fault.File e) k.left)

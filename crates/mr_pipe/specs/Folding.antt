@@ -1,20 +1,26 @@
 -- What the file of a pipe folds to.
-use Rattle.std.specs.Prelude.{◌≡◌, ℕ, List, ◌++◌, Option, Some}
+use Rattle.std.specs.Prelude.{◌≡◌, ℕ, List, ◌++◌, All, Option, Some}
 use Rattle.std.specs.FinMap.{empty}
-use Rattle.mr_effect.specs.Spelling.{texts}
+use Rattle.mr_resp.specs.Command.{IsCommandText}
+use Rattle.mr_resp.specs.Usual.{commands}
+use Rattle.mr_effect.specs.Spelling.{text, texts}
 use Rattle.mr_effect.specs.declared.effect.Effect.{Effect}
 use Rattle.mr_entries.specs.Dataset.{Dataset}
 use Rattle.mr_data.specs.Meaning.{apply_all}
 use Rattle.mr_data.specs.declared.given.Given.{Given}
 use Rattle.mr_node.specs.State.{Core}
+use Rattle.mr_file.specs.LogFile.{IsSynced}
+use Rattle.mr_aof.specs.declared.log.SyncMode.TheVariants.{Always}
 use Rattle.mr_pipe.specs.Outside.{Outside}
 use Rattle.mr_pipe.specs.Piped.{Session, Broken}
 use Rattle.mr_pipe.specs.declared.fault.PipeFault.{PipeFault}
 
--- The bytes are the texts of effects, which lead from one dataset to another.
+-- The bytes are the texts of effects, which lead from one dataset to another. Each is a command text, so that whoever reads the
+-- bytes finds the effects again.
 pub record Folds (bytes : List ℕ) (old new : Dataset) : Type 0 where
   pub effects : List Effect
   pub are_texts : bytes ≡ texts effects
+  pub readable : All (λ e. IsCommandText commands (text e)) effects
   pub applied : apply_all effects old ≡ Some new
 
 -- .. and behind them stands a beginning of the texts of effects that lead on.
@@ -37,3 +43,7 @@ FilesFold = (g : Given) (c : Core) (before after : Option (List ℕ)) (x y : Out
 abbrev pub FilesFoldTorn : Type 0
 FilesFoldTorn = (g : Given) (c : Core) (before after : Option (List ℕ)) (x : Outside) (why : PipeFault) (y : Outside) → Broken g c before after x why y → (xs : List ℕ) → x.kept.told ≡ Some xs → Folds xs empty c.held
     → (ys : List ℕ) × ((y.kept.told ≡ Some ys) × FoldsTorn ys empty)
+
+-- where each append is synced, and all bytes of the file were at the beginning, all are at the end
+abbrev pub FilesStaySynced : Type 0
+FilesStaySynced = (g : Given) (c : Core) (before after : Option (List ℕ)) (x y : Outside) → Session g c before after x y → x.kept.mode ≡ Always → IsSynced x.kept.told x.kept.synced → IsSynced y.kept.told y.kept.synced

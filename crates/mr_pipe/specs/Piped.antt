@@ -10,7 +10,7 @@ use Rattle.mr_node.specs.State.{NodeState, Core, started}
 use Rattle.mr_node.specs.Requests.{Waits}
 use Rattle.mr_node.specs.Rows.{Ends}
 use Rattle.mr_pipe.specs.Outside.{Outside, Kept, IsSettled}
-use Rattle.mr_pipe.specs.Sessions.{Moment, AreServed, grown_of}
+use Rattle.mr_pipe.specs.Sessions.{Moment, AreServed, all_changes}
 use Rattle.mr_pipe.specs.Serving.{Drained, Ended, Breaks}
 use Rattle.mr_pipe.specs.declared.fault.PipeFault.{PipeFault}
 use Rattle.mr_pipe.specs.declared.relay.Round.{Round}
@@ -44,7 +44,7 @@ pub record Session (g : Given) (c : Core) (before after : Option (List ℕ)) (x 
   pub core : Core
   pub said : List ℕ
   pub answers : Answers g c read moments core said after
-  pub settled : IsSettled x y (grown_of moments) said
+  pub settled : IsSettled x y (all_changes moments) said
 
 -- .. or of a beginning of one, until a fault came.
 pub record Broken (g : Given) (c : Core) (before after : Option (List ℕ)) (x : Outside) (why : PipeFault) (y : Outside) : Type 0 where

@@ -4,24 +4,24 @@ use Rattle.std.specs.Io.KnownBytes.{Appends, Keeps}
 use Rattle.mr_links.specs.declared.link_id.LinkId.{LinkId}
 use Rattle.mr_data.specs.declared.given.Given.{Given}
 use Rattle.mr_node.specs.State.{NodeState, Core, Agrees, IsShut}
-use Rattle.mr_node.specs.Outs.{OutsState}
+use Rattle.mr_node.specs.Outs.{OutsState, Output}
 use Rattle.mr_node.specs.Requests.{Waits}
 use Rattle.mr_node.specs.Rows.{ClientRow, Ends, Idles}
 use Rattle.mr_pipe.specs.Outside.{Outside, Filed, IsTorn, IsBegun, IsSettled}
-use Rattle.mr_pipe.specs.Sessions.{Moment, AreServed, Gives, grown_of}
+use Rattle.mr_pipe.specs.Sessions.{Moment, AreServed, Gives, all_changes, changes_of, output_of}
 use Rattle.mr_pipe.specs.declared.fault.PipeFault.{PipeFault}
 use Rattle.mr_pipe.specs.declared.fault.PipeFault.TheVariants as fault
 use Rattle.mr_pipe.specs.declared.serve.Stepped.{Stepped}
 use Rattle.mr_pipe.specs.declared.serve.Stepped.TheVariants as stepped
 
--- Of the bytes u the requests in front were served, one after another. The texts of their effects stand in the file, and their
--- replies in the output.
+-- Of the bytes u the requests in front were served, one after another. What they change is changed in the file, and their
+-- replies stand in the output.
 pub record Settles (g : Given) (c : Core) (u : List ℕ) (x : Outside) (d : Core) (y : Outside) : Type 0 where
   pub moments : List Moment
   pub rest : List ℕ
   pub said : List ℕ
   pub serves : AreServed g c u moments d rest said
-  pub settled : IsSettled x y (grown_of moments) said
+  pub settled : IsSettled x y (all_changes moments) said
 
 -- .. and what is left is unread on the link.
 pub record Going (g : Given) (a : NodeState) (l : LinkId) (u : List ℕ) (x : Outside) (b : NodeState) (y : Outside) : Type 0 where
@@ -43,18 +43,17 @@ pub record Ended (g : Given) (a : NodeState) (l : LinkId) (u : List ℕ) (x : Ou
   pub kept : y.kept ≡ before.kept
   pub shut : IsShut b l
 
--- A write to the output failed: of a reply a beginning is written, and the texts of its step stand in the file. Or all was
+-- A write to the output failed: of a reply a beginning is written, and the file is what its step made of it. Or all was
 -- written, and the flush failed.
 pub data IsCutOff (g : Given) (c : Core) (u : List ℕ) (x y : Outside) : Type 0 where
-  in_reply : (grown said : List ℕ) → Gives g c u grown said → Filed x.kept y.kept grown → IsBegun x.output y.output said → IsCutOff g c u x y
+  in_reply : (out : Output) → Gives g c u out → Filed x.kept y.kept (changes_of out) → IsBegun x.output y.output out.said → IsCutOff g c u x y
   in_flush : Keeps x.output y.output → y.kept ≡ x.kept → IsCutOff g c u x y
 
--- An append to the file failed: of the step's texts a beginning may be there, and nothing of its reply is written.
+-- The file failed at what a step was to change, and nothing of its reply is written.
 pub record Tears (g : Given) (c : Core) (u : List ℕ) (x y : Outside) : Type 0 where
-  pub grown : List ℕ
-  pub said : List ℕ
-  pub gives : Gives g c u grown said
-  pub torn : IsTorn x.kept y.kept grown
+  pub out : Output
+  pub gives : Gives g c u out
+  pub torn : IsTorn x.kept y.kept (changes_of out)
   pub output : y.output ≡ x.output
 
 -- what a fault leaves of the step in which it came. Only one of the file or of the output leaves anything
@@ -82,7 +81,7 @@ pub record StepUsed (g : Given) (a : NodeState) (l : LinkId) (u : List ℕ) (x :
   pub outs : OutsState
   pub row : ClientRow a l u g b outs
   pub closes_is : outs.closes ≡ closes
-  pub settled : IsSettled x y outs.grown outs.reply
+  pub settled : IsSettled x y (changes_of (output_of outs)) outs.reply
 
 -- A step found no whole request.
 pub record StepWaits (a : NodeState) (u : List ℕ) (x : Outside) (b : NodeState) (y : Outside) : Type 0 where
@@ -96,10 +95,10 @@ IsStepped g a l u x b y (Ok stepped.Shut) = StepUsed g a l u x b y true
 IsStepped g a l u x b y (Err why) = IsLeft why g a.core u x y
 
 -- what the outs of a step come to outside
-abbrev pub IsCarriedOut : List ℕ → List ℕ → Outside → Outside → Result (Unit {0}) PipeFault → Type 0
-IsCarriedOut grown said x y (Ok _) = IsSettled x y grown said
-IsCarriedOut grown said x y (Err fault.Write) = Filed x.kept y.kept grown × IsBegun x.output y.output said
-IsCarriedOut grown said x y (Err fault.File) = IsTorn x.kept y.kept grown × (y.output ≡ x.output)
-IsCarriedOut grown said x y (Err fault.Read) = ⊥
-IsCarriedOut grown said x y (Err fault.Stopped) = ⊥
-IsCarriedOut grown said x y (Err fault.Memory) = ⊥
+abbrev pub IsCarriedOut : Output → Outside → Outside → Result (Unit {0}) PipeFault → Type 0
+IsCarriedOut out x y (Ok _) = IsSettled x y (changes_of out) out.said
+IsCarriedOut out x y (Err fault.Write) = Filed x.kept y.kept (changes_of out) × IsBegun x.output y.output out.said
+IsCarriedOut out x y (Err fault.File) = IsTorn x.kept y.kept (changes_of out) × (y.output ≡ x.output)
+IsCarriedOut out x y (Err fault.Read) = ⊥
+IsCarriedOut out x y (Err fault.Stopped) = ⊥
+IsCarriedOut out x y (Err fault.Memory) = ⊥

@@ -2,27 +2,36 @@
 use Rattle.std.specs.Prelude.{◌≡◌, ℕ, List, [], ◌∷◌, ◌++◌}
 use Rattle.mr_data.specs.declared.given.Given.{Given}
 use Rattle.mr_node.specs.State.{Core}
+use Rattle.mr_node.specs.Outs.{OutsState, Output, no_output}
 use Rattle.mr_node.specs.Served.{Served}
 use Rattle.mr_node.specs.Rows.{Ends}
+use Rattle.mr_pipe.specs.Outside.{Change, appends, replaces}
 
--- behind one request: the node, what is left, what its stream grew by, and what was sent
+-- behind one request: the node, what is left, and what the step gave out
 pub record Moment : Type 0 where
   pub core : Core
   pub left : List ℕ
-  pub grown : List ℕ
-  pub said : List ℕ
+  pub out : Output
 
--- what the stream grew by, all together
-abbrev pub grown_of : List Moment → List ℕ
-grown_of [] = []
-grown_of (t ∷ ts) = t.grown ++ grown_of ts
+-- what outs come to, but for their link
+abbrev pub output_of : OutsState → Output
+output_of o = record { grown = o.grown; appended = o.appended; replaced = o.replaced; said = o.reply }
 
--- Requests are served one after another: d, rest and out are the node, the unread bytes and all that was sent behind the last.
+-- what a step does to the file
+abbrev pub changes_of : Output → List Change
+changes_of out = appends out.appended ++ replaces out.replaced
+
+-- .. and several, one after another
+abbrev pub all_changes : List Moment → List Change
+all_changes [] = []
+all_changes (t ∷ ts) = changes_of t.out ++ all_changes ts
+
+-- Requests are served one after another: d, rest and said are the node, the unread bytes and all that was sent behind the last.
 abbrev pub AreServed : Given → Core → List ℕ → List Moment → Core → List ℕ → List ℕ → Type 0
-AreServed g c u [] d rest out = (d ≡ c) × (rest ≡ u) × (out ≡ [])
-AreServed g c u (t ∷ ts) d rest out = Served c u g t.core t.left t.grown t.said × ((behind : List ℕ) × AreServed g t.core t.left ts d rest behind × (out ≡ t.said ++ behind))
+AreServed g c u [] d rest said = (d ≡ c) × (rest ≡ u) × (said ≡ [])
+AreServed g c u (t ∷ ts) d rest said = Served c u g t.core t.left t.out × ((behind : List ℕ) × AreServed g t.core t.left ts d rest behind × (said ≡ t.out.said ++ behind))
 
--- What a step makes of what stands at the front: what the stream grows by, and what is sent.
-pub data Gives (g : Given) (c : Core) (u grown said : List ℕ) : Type 0 where
-  serves : (d : Core) (rest : List ℕ) → Served c u g d rest grown said → Gives g c u grown said
-  ends : grown ≡ [] → Ends u said → Gives g c u grown said
+-- What a step makes of what stands at the front: what it gives out.
+pub data Gives (g : Given) (c : Core) (u : List ℕ) (out : Output) : Type 0 where
+  serves : (d : Core) (rest : List ℕ) → Served c u g d rest out → Gives g c u out
+  ends : (last : List ℕ) → Ends u last → out ≡ record no_output { said = last } → Gives g c u out

@@ -1,17 +1,20 @@
-// What one step has kept: its texts in the file, and its reply in the output.
+// What one step has kept: its changes of the file, and its reply in the output.
 ghost use Rattle.std.specs.Prelude.{◌≡◌, ◌≤◌, [], length, take, IfOk, IfErr, OnOk, OnErr};
+ghost use Rattle.std.specs.Option.{option_map};
 ghost use Rattle.std.specs.Io.KnownBytes as known;
-ghost use Rattle.mr_pipe.specs.Outside.{Filed, IsTorn, IsBegun, kept_of};
+ghost use Rattle.mr_pipe.specs.Outside.{Filed, IsTorn, IsBegun, kept_of, appends, replaces};
+ghost use Rattle.mr_pipe.specs.Sessions.{changes_of, output_of};
 
 use crate::fault::PipeFault;
 use mr_aof::Log;
 use mr_file::LogFile;
+use mr_node::Outs;
 use std::io::{ErrorKind, Write};
 
 /// Appends texts to the file, where there are some.
-pub(crate) fn append<F: LogFile>(log: &mut Log<F>, texts: &[u8]) -> Result<(), PipeFault>
-    ensures filed { OnOk result (Filed (kept_of F.told F.synced F.failures log.old) (kept_of F.told F.synced F.failures log.new) texts.now) }
-    ensures torn { OnErr result (IsTorn (kept_of F.told F.synced F.failures log.old) (kept_of F.told F.synced F.failures log.new) texts.now) }
+fn append<F: LogFile>(log: &mut Log<F>, texts: &[u8]) -> Result<(), PipeFault>
+    ensures filed { OnOk result (Filed (kept_of F.told F.synced F.failures log.old) (kept_of F.told F.synced F.failures log.new) (appends texts.now)) }
+    ensures torn { OnErr result (IsTorn (kept_of F.told F.synced F.failures log.old) (kept_of F.told F.synced F.failures log.new) (appends texts.now)) }
     ensures fault { IfErr result (λ e. e ≡ PipeFault.File) }
 {
     if texts.is_empty() {
@@ -21,6 +24,31 @@ pub(crate) fn append<F: LogFile>(log: &mut Log<F>, texts: &[u8]) -> Result<(), P
         Ok(()) => Ok(()),
         Err(_fault) => Err(PipeFault::File),
     }
+}
+
+/// Replaces the file, where there is something to replace it by.
+fn replace<F: LogFile>(log: &mut Log<F>, whole: Option<&[u8]>) -> Result<(), PipeFault>
+    ensures filed { OnOk result (Filed (kept_of F.told F.synced F.failures log.old) (kept_of F.told F.synced F.failures log.new) (replaces (option_map (λ bytes. bytes.now) whole.entry))) }
+    ensures torn { OnErr result (IsTorn (kept_of F.told F.synced F.failures log.old) (kept_of F.told F.synced F.failures log.new) (replaces (option_map (λ bytes. bytes.now) whole.entry))) }
+    ensures fault { IfErr result (λ e. e ≡ PipeFault.File) }
+{
+    let Some(bytes) = whole else {
+        return Ok(());
+    };
+    match log.replace(bytes) {
+        Ok(()) => Ok(()),
+        Err(_failed) => Err(PipeFault::File),
+    }
+}
+
+/// Does to the file what a step gives out.
+pub(crate) fn change_file<F: LogFile>(log: &mut Log<F>, outs: &Outs) -> Result<(), PipeFault>
+    ensures filed { OnOk result (Filed (kept_of F.told F.synced F.failures log.old) (kept_of F.told F.synced F.failures log.new) (changes_of (output_of outs.now))) }
+    ensures torn { OnErr result (IsTorn (kept_of F.told F.synced F.failures log.old) (kept_of F.told F.synced F.failures log.new) (changes_of (output_of outs.now))) }
+    ensures fault { IfErr result (λ e. e ≡ PipeFault.File) }
+{
+    append(log, outs.appended())?;
+    replace(log, outs.replaced())
 }
 
 /// Writes once. None is written where the write was interrupted.
@@ -49,7 +77,7 @@ pub(crate) fn write_out<W: Write>(output: &mut W, bytes: &[u8]) -> Result<(), Pi
     ensures fault { IfErr result (λ e. e ≡ PipeFault.Write) }
 {
     let mut at = 0;
-    for _turn in 0..u64::MAX {
+    for _write in 0..u64::MAX {
         if at >= bytes.len() {
             return Ok(());
         }

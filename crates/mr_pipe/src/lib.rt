@@ -10,5 +10,5 @@ mod serve;
 
 pub use config::PipeConfig;
 pub use fault::PipeFault;
-pub use laws::files_fold;
+pub use laws::{files_fold, files_stay_synced};
 pub use relay::{pipe, pipe_with};

@@ -2,10 +2,11 @@
 ghost use Rattle.std.specs.Prelude.{◌≡◌, ◌++◌, ℕ, List, OnOk, OnErr, IfErr};
 ghost use Rattle.mr_node.specs.State.{NodeState, Agrees};
 ghost use Rattle.mr_pipe.specs.Outside.{Outside, outside};
+ghost use Rattle.mr_pipe.specs.Sessions.{output_of};
 ghost use Rattle.mr_pipe.specs.Serving.{Going, IsCarriedOut, IsDrained, IsStepped};
 
 use crate::fault::PipeFault;
-use crate::keep::{append, write_out};
+use crate::keep::{change_file, write_out};
 use mr_aof::Log;
 use mr_data::Given;
 use mr_file::LogFile;
@@ -25,19 +26,19 @@ pub(crate) enum Stepped {
     Shut,
 }
 
-/// The texts of a step go to the file, and then its reply is written.
+/// The file is changed as a step gives out, and then its reply is written.
 fn carry_out<F: LogFile, W: Write>(
     outs: &Outs,
     log: &mut Log<F>,
     output: &mut W,
 ) -> Result<(), PipeFault>
-    ensures { IsCarriedOut outs.now.grown outs.now.reply (outside W.contents F.told F.synced F.failures output.old log.old) (outside W.contents F.told F.synced F.failures output.new log.new) result }
+    ensures { IsCarriedOut (output_of outs.now) (outside W.contents F.told F.synced F.failures output.old log.old) (outside W.contents F.told F.synced F.failures output.new log.new) result }
 {
-    append(log, outs.grown())?;
+    change_file(log, outs)?;
     write_out(output, outs.reply())
 }
 
-/// One step, whose texts are in the file before its reply is written.
+/// One step, whose changes of the file are made before its reply is written.
 fn step_once<F: LogFile, W: Write>(
     node: &mut Node,
     link: LinkId,

@@ -1,5 +1,5 @@
 -- The effects of a plan lead somewhere, and their texts are command texts.
-use Rattle.std.proofs.Common.{◌≡◌, List, [], Bool, true, false, Some, ◌∙◌, ap, sym, subst}
+use Rattle.std.proofs.Common.{◌≡◌, List, [], Bool, true, false, Some, ◌∙◌, ap, refl, sym, subst}
 use Rattle.std.specs.Prelude.{All, Result, Ok, Err, IfOk}
 use Rattle.std.proofs.lemmas.List.Elements.{All-same, All-nil}
 use Rattle.std.specs.Prelude.{ℤ}
@@ -14,9 +14,11 @@ use Rattle.mr_data.specs.declared.given.Given.{Given}
 use Rattle.mr_ask.specs.Carried.{AskFits}
 use Rattle.mr_ask.specs.declared.ask.Ask.{Ask}
 use Rattle.mr_plan.specs.PlannedCommands.{command_of}
-use Rattle.mr_plan.specs.Requests.{IsPlannedAs, Leads, left_by, told}
+use Rattle.mr_plan.specs.Requests.{IsPlannedAs, Leads, is_rewriting, left_by, told}
+use Rattle.mr_ask.specs.declared.ask.Ask.TheVariants as ask
+use Rattle.mr_cmd_server.specs.declared.server_ask.ServerAsk.TheVariants as server
 use Rattle.mr_plan.specs.declared.requests.Answer.{Answer}
-use Rattle.mr_turn.specs.Commands.{Command, effects, after, IsPlan, IsFaithful, HasCommandTexts}
+use Rattle.mr_planning.specs.Commands.{Command, effects, after, IsPlan, IsFaithful, HasCommandTexts}
 
 pub planned_leads : (c : Command) (now : ℤ) (m : Dataset) (r : Tree) (list : List Effect) → IsPlan c now m r list → IsFaithful c now m → apply_all list m ≡ Some (after c now m)
 planned_leads c now m r list p f = ap (λ (xs : List Effect). apply_all xs m) p.effects_are ∙ f.leads
@@ -46,3 +48,9 @@ no_texts es none = subst (λ (xs : List Effect). All (λ e. IsCommandText comman
 pub with_fits : {E : Type 0} (r : Result Answer E) (a : Ask) (A : Type 0) (m n p : Dataset) → n ≡ p → (A → AskFits a) → IfOk r (λ x. AskFits a → Leads x m n) → IfOk r (λ x. A → Leads x m p)
 with_fits (Ok x) a A m n p same f h = λ fit. subst (λ z. Leads x m z) same (h (f fit))
 with_fits (Err e) a A m n p same f h = tt
+
+-- a rewriting leaves the dataset
+pub left_by_rewriting : (replica : Bool) (a : Ask) (given : Given) (m : Dataset) → is_rewriting a ≡ true → m ≡ left_by (Ok a) replica given m
+left_by_rewriting false (ask.Server server.Rewrite) given m is = refl
+left_by_rewriting true a given m is = refl
+left_by_rewriting false _ given m is = absurd (cc)

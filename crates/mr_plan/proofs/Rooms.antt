@@ -4,10 +4,12 @@ use Rattle.std.specs.Prelude.{Result, Ok, Err, IfOk}
 use Rattle.std.proofs.lemmas.List.{length-map}
 use Rattle.mr_resp.specs.Usual.{commands}
 use Rattle.mr_words.specs.Spelling.{Part, Word, AreParts}
-use Rattle.mr_ask.specs.Carried.{text_words, AskFits}
-use Rattle.mr_ask.specs.Spelled.{Spells, AreOfTexts}
-use Rattle.mr_ask.specs.declared.text_ask.TextAsk.{TextAsk}
-use Rattle.mr_ask.specs.declared.text_ask.TextAsk.TheVariants as text
+use Rattle.mr_cmd_string.specs.Carried.{text_words}
+use Rattle.mr_ask.specs.Carried.{AskFits}
+use Rattle.mr_ask.specs.Spelled.{Spells}
+use Rattle.mr_cmd_string.specs.Spelled.{AreOfTexts}
+use Rattle.mr_cmd_string.specs.declared.text_ask.TextAsk.{TextAsk}
+use Rattle.mr_cmd_string.specs.declared.text_ask.TextAsk.TheVariants as text
 use Rattle.mr_ask.specs.declared.ask.Ask.{Ask}
 use Rattle.mr_ask.specs.declared.ask.Ask.TheVariants as ask
 use Rattle.mr_plan.specs.PlannedCommands.{HasRoom}

@@ -5,24 +5,24 @@ use Rattle.mr_entries.specs.Dataset.{Dataset}
 use Rattle.mr_entries.specs.Steps.{Kind, held, hashes, lists, sets, sorted_sets}
 use Rattle.mr_entries.specs.declared.value.Entry.{Entry}
 use Rattle.mr_data.specs.declared.given.Given.{Given}
-use Rattle.mr_turn.specs.Collections.{Change, told, changed}
-use Rattle.mr_turn.specs.Commands.{own_effects}
-use Rattle.mr_plan_list.specs.Lists.{of_list}
+use Rattle.mr_planning.specs.Collections.{Change, told, changed}
+use Rattle.mr_planning.specs.Commands.{own_effects}
+use Rattle.mr_cmd_list.specs.Lists.{of_list}
 use Rattle.mr_ask.specs.declared.ask.Ask.TheVariants as ask
-use Rattle.mr_ask.specs.declared.text_ask.TextAsk.{TextAsk}
-use Rattle.mr_ask.specs.declared.text_ask.TextAsk.TheVariants as text
-use Rattle.mr_ask.specs.declared.key_ask.KeyAsk.{KeyAsk}
-use Rattle.mr_ask.specs.declared.key_ask.KeyAsk.TheVariants as key
-use Rattle.mr_ask_coll.specs.declared.hash_ask.HashAsk.{HashAsk}
-use Rattle.mr_ask_coll.specs.declared.hash_ask.HashAsk.TheVariants as hash
-use Rattle.mr_ask_coll.specs.declared.list_ask.ListAsk.{ListAsk}
-use Rattle.mr_ask_coll.specs.declared.list_ask.ListAsk.TheVariants as list
-use Rattle.mr_ask_coll.specs.declared.set_ask.SetAsk.{SetAsk}
-use Rattle.mr_ask_coll.specs.declared.set_ask.SetAsk.TheVariants as set
-use Rattle.mr_ask_zset.specs.declared.zset_ask.ZSetAsk.{ZSetAsk}
-use Rattle.mr_ask_zset.specs.declared.zset_ask.ZSetAsk.TheVariants as zset
-use Rattle.mr_plan_hash.specs.Commands as hash_commands
-use Rattle.mr_plan_hash.specs.Hashes.{Hash}
+use Rattle.mr_cmd_string.specs.declared.text_ask.TextAsk.{TextAsk}
+use Rattle.mr_cmd_string.specs.declared.text_ask.TextAsk.TheVariants as text
+use Rattle.mr_cmd_key.specs.declared.key_ask.KeyAsk.{KeyAsk}
+use Rattle.mr_cmd_key.specs.declared.key_ask.KeyAsk.TheVariants as key
+use Rattle.mr_cmd_hash.specs.declared.hash_ask.HashAsk.{HashAsk}
+use Rattle.mr_cmd_hash.specs.declared.hash_ask.HashAsk.TheVariants as hash
+use Rattle.mr_cmd_list.specs.declared.list_ask.ListAsk.{ListAsk}
+use Rattle.mr_cmd_list.specs.declared.list_ask.ListAsk.TheVariants as list
+use Rattle.mr_cmd_set.specs.declared.set_ask.SetAsk.{SetAsk}
+use Rattle.mr_cmd_set.specs.declared.set_ask.SetAsk.TheVariants as set
+use Rattle.mr_cmd_zset.specs.declared.zset_ask.ZSetAsk.{ZSetAsk}
+use Rattle.mr_cmd_zset.specs.declared.zset_ask.ZSetAsk.TheVariants as zset
+use Rattle.mr_cmd_hash.specs.Commands as hash_commands
+use Rattle.mr_cmd_hash.specs.Hashes.{Hash}
 use Rattle.mr_plan.specs.PlannedCommands.{command_of}
 use Rattle.mr_plan.specs.Writes.{OthersHaveNoEffects, text_writes, key_writes, hash_writes, list_writes, set_writes, zset_writes}
 

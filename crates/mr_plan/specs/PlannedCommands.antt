@@ -2,16 +2,17 @@
 use Rattle.std.specs.Prelude.{◌<◌, length}
 use Rattle.mr_resp.specs.Usual.{commands}
 use Rattle.mr_data.specs.declared.given.Given.{Given}
-use Rattle.mr_turn.specs.Commands.{Command}
-use Rattle.mr_ask.specs.Carried.{text_words}
+use Rattle.mr_planning.specs.Commands.{Command}
+use Rattle.mr_cmd_string.specs.Carried.{text_words}
 use Rattle.mr_ask.specs.declared.ask.Ask.{Ask}
 use Rattle.mr_ask.specs.declared.ask.Ask.TheVariants as ask
-use Rattle.mr_plan_text.specs.Commands as texts
-use Rattle.mr_plan_keys.specs.Commands as keys
-use Rattle.mr_plan_hash.specs.Commands as hashes
-use Rattle.mr_plan_list.specs.Commands as lists
-use Rattle.mr_plan_set.specs.SetCommands as sets
-use Rattle.mr_plan_zset.specs.Commands as scores
+use Rattle.mr_cmd_string.specs.Commands as texts
+use Rattle.mr_cmd_key.specs.Commands as keys
+use Rattle.mr_cmd_server.specs.Commands as server
+use Rattle.mr_cmd_hash.specs.Commands as hashes
+use Rattle.mr_cmd_list.specs.Commands as lists
+use Rattle.mr_cmd_set.specs.SetCommands as sets
+use Rattle.mr_cmd_zset.specs.Commands as scores
 
 -- by its kind; a command that speaks of time takes the moment, and one that draws members a random word
 abbrev pub command_of : Ask → Given → Command
@@ -21,7 +22,7 @@ command_of (ask.Hashes command) given = hashes.command command
 command_of (ask.Lists command) given = lists.command command
 command_of (ask.Sets command) given = sets.command command given.word
 command_of (ask.SortedSets command) given = scores.command command
-command_of (ask.Server command) given = keys.server_command command
+command_of (ask.Server command) given = server.command command
 
 -- A command text has room for the words that the command carries. (Only MSET and MSETNX have an effect that isn't cut.)
 abbrev pub HasRoom : Ask → Type 0

@@ -13,9 +13,9 @@ use Rattle.mr_ask.specs.Asks.{asked}
 use Rattle.mr_words.specs.Faults.{fault_text}
 use Rattle.mr_ask.specs.declared.ask.Ask.{Ask}
 use Rattle.mr_ask.specs.declared.ask.Ask.TheVariants as ask
-use Rattle.mr_ask.specs.declared.server_ask.ServerAsk.TheVariants as server
+use Rattle.mr_cmd_server.specs.declared.server_ask.ServerAsk.TheVariants as server
 use Rattle.mr_words.specs.declared.fault.AskFault.{AskFault}
-use Rattle.mr_turn.specs.Commands.{IsPlan, answer, after}
+use Rattle.mr_planning.specs.Commands.{IsPlan, answer, after}
 use Rattle.mr_plan.specs.PlannedCommands.{command_of}
 use Rattle.mr_plan.specs.Writes.{writes}
 use Rattle.mr_plan.specs.declared.requests.Answer.{Answer}
@@ -61,21 +61,38 @@ closes (Err fault) = false
 abbrev pub quits : List (List ℕ) → Bool
 quits words = closes (asked words)
 
+-- BGREWRITEAOF
+abbrev pub is_rewriting : Ask → Bool
+is_rewriting (ask.Server server.Rewrite) = true
+is_rewriting _ = false
+
+abbrev pub rewriting_by : Result Ask AskFault → Bool
+rewriting_by (Ok command) = is_rewriting command
+rewriting_by (Err fault) = false
+
+-- the client asks that the append-only file be written anew
+abbrev pub rewrites : List (List ℕ) → Bool
+rewrites words = rewriting_by (asked words)
+
 -- what is done about a command
 abbrev pub IsAnswerTo : Bool → Ask → Given → Dataset → Answer → Type 0
-IsAnswerTo replica command given m (answer.Run plan) = (is_quit command ≡ false) × IsPlannedAs (Ok command) replica given m (view plan.reply) plan.effects.items
+IsAnswerTo replica command given m (answer.Run plan) = (is_quit command ≡ false) × (is_rewriting command ≡ false) × IsPlannedAs (Ok command) replica given m (view plan.reply) plan.effects.items
 IsAnswerTo replica command given m answer.Quit = is_quit command ≡ true
+IsAnswerTo replica command given m answer.Rewrite = is_rewriting command ≡ true
 
 abbrev pub IsAnswer : Bool → List (List ℕ) → Given → Dataset → Answer → Type 0
-IsAnswer replica words given m (answer.Run plan) = (quits words ≡ false) × IsPlanned replica words given m (view plan.reply) plan.effects.items
+IsAnswer replica words given m (answer.Run plan) = (quits words ≡ false) × (rewrites words ≡ false) × IsPlanned replica words given m (view plan.reply) plan.effects.items
 IsAnswer replica words given m answer.Quit = quits words ≡ true
+IsAnswer replica words given m answer.Rewrite = rewrites words ≡ true
 
 -- what is carried out leads from the one dataset to the other
 abbrev pub Leads : Answer → Dataset → Dataset → Type 0
 Leads (answer.Run plan) m n = apply_all plan.effects.items m ≡ Some n
 Leads answer.Quit m n = Unit {0}
+Leads answer.Rewrite m n = m ≡ n
 
 -- the text of each of its effects is a command text
 abbrev pub HasTexts : Answer → Type 0
 HasTexts (answer.Run plan) = All (λ e. IsCommandText commands (text e)) plan.effects.items
 HasTexts answer.Quit = Unit {0}
+HasTexts answer.Rewrite = Unit {0}

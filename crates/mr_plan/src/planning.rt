@@ -2,7 +2,7 @@
 ghost use Rattle.std.specs.Prelude.{◌≡◌, IfOk};
 ghost use Rattle.mr_resp.specs.ReplyView.{view};
 ghost use Rattle.mr_ask.specs.Carried.{AskFits};
-ghost use Rattle.mr_turn.specs.Commands.{IsPlan, IsFaithful, HasCommandTexts};
+ghost use Rattle.mr_planning.specs.Commands.{IsPlan, IsFaithful, HasCommandTexts};
 ghost use Rattle.mr_plan.specs.PlannedCommands.{command_of, HasRoom};
 
 use mr_ask::Ask;
@@ -25,12 +25,12 @@ pub fn plan(
     ensures texts { AskFits ask.now → HasRoom ask.now → HasCommandTexts (command_of ask.now given) given.now held.now }
 {
     match ask {
-        Ask::Texts(ask) => mr_plan_text::plan(alloc, held, ask, given),
-        Ask::Keys(ask) => mr_plan_keys::plan(alloc, held, ask, given),
-        Ask::Hashes(ask) => mr_plan_hash::plan(alloc, held, ask, given),
-        Ask::Lists(ask) => mr_plan_list::plan(alloc, held, ask, given),
-        Ask::Sets(ask) => mr_plan_set::plan(alloc, held, ask, given),
-        Ask::SortedSets(ask) => mr_plan_zset::plan(alloc, held, ask, given),
-        Ask::Server(ask) => mr_plan_keys::plan_server(alloc, held, ask, given),
+        Ask::Texts(ask) => mr_cmd_string::plan(alloc, held, ask, given),
+        Ask::Keys(ask) => mr_cmd_key::plan(alloc, held, ask, given),
+        Ask::Hashes(ask) => mr_cmd_hash::plan(alloc, held, ask, given),
+        Ask::Lists(ask) => mr_cmd_list::plan(alloc, held, ask, given),
+        Ask::Sets(ask) => mr_cmd_set::plan(alloc, held, ask, given),
+        Ask::SortedSets(ask) => mr_cmd_zset::plan(alloc, held, ask, given),
+        Ask::Server(ask) => mr_cmd_server::plan(alloc, held, ask, given),
     }
 }

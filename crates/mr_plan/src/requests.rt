@@ -1,5 +1,5 @@
 // The plan of a request's words.
-ghost use Rattle.std.specs.Prelude.{◌≡◌, ◌<◌, ◌≤◌, length, map, IsTrue, IfOk};
+ghost use Rattle.std.specs.Prelude.{◌≡◌, ◌<◌, ◌≤◌, length, map, IsTrue, IfOk, Ok};
 ghost use Rattle.std.specs.List.{list_all};
 ghost use Rattle.std.specs.Cow.{cow_slice_items};
 ghost use Rattle.mr_value.specs.Words.{fits};
@@ -7,12 +7,12 @@ ghost use Rattle.mr_resp.specs.Usual.{commands};
 ghost use Rattle.mr_ask.specs.Carried.{AskFits};
 ghost use Rattle.mr_plan.specs.PlannedCommands.{HasRoom};
 ghost use Rattle.mr_resp.specs.ReplyView.{view};
-ghost use Rattle.mr_plan.specs.Requests.{IsAnswer, IsAnswerTo, Leads, HasTexts, is_quit, left, left_by, told, readonly};
-ghost use Rattle.std.specs.Prelude.{Ok};
+ghost use Rattle.mr_plan.specs.Requests.{IsAnswer, IsAnswerTo, Leads, HasTexts, is_quit, is_rewriting, left, left_by, told, readonly};
 
 use crate::planning::plan;
 use crate::writing::writes;
-use mr_ask::{Ask, ServerAsk, read};
+use mr_ask::{Ask, read};
+use mr_cmd_server::ServerAsk;
 use mr_data::{Dataset, Given, Plan};
 use mr_resp::Reply;
 use std::alloc::{AllocError, Global};
@@ -25,6 +25,8 @@ pub enum Answer {
     Run(Plan),
     /// It is answered OK, and the link is closed.
     Quit,
+    /// The append-only file is written anew.
+    Rewrite,
 }
 
 /// What the words of a request are answered by a master or by a replica, and their effects. Words that are no command are told why,
@@ -69,6 +71,9 @@ fn answer_to(
     if quits(ask) {
         return Ok(Answer::Quit);
     }
+    if rewrites(ask) {
+        return Ok(Answer::Rewrite);
+    }
     if replica {
         let reply = tell(alloc, held, ask, given)?;
         return Ok(Answer::Run(Plan {
@@ -101,6 +106,15 @@ fn quits(ask: &Ask<'_, '_>) -> bool
 {
     match ask {
         Ask::Server(ServerAsk::Quit) => true,
+        _ => false,
+    }
+}
+
+fn rewrites(ask: &Ask<'_, '_>) -> bool
+    ensures { result ≡ is_rewriting ask.now }
+{
+    match ask {
+        Ask::Server(ServerAsk::Rewrite) => true,
         _ => false,
     }
 }

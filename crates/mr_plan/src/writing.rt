@@ -2,7 +2,13 @@
 ghost use Rattle.std.specs.Prelude.{◌≡◌};
 ghost use Rattle.mr_plan.specs.Writes.{writes, text_writes, key_writes, hash_writes, list_writes, set_writes, zset_writes};
 
-use mr_ask::{Ask, HashAsk, KeyAsk, ListAsk, SetAsk, TextAsk, ZSetAsk};
+use mr_ask::Ask;
+use mr_cmd_hash::HashAsk;
+use mr_cmd_key::KeyAsk;
+use mr_cmd_list::ListAsk;
+use mr_cmd_set::SetAsk;
+use mr_cmd_string::TextAsk;
+use mr_cmd_zset::ZSetAsk;
 
 /// Whether the command may have an effect of its own. A replica refuses it then, also where it would change nothing.
 pub fn writes(ask: &Ask<'_, '_>) -> bool

@@ -6,6 +6,7 @@ ghost use Rattle.mr_resp.specs.Resumed.{AgreesArray};
 ghost use Rattle.mr_resp.specs.Scans.{ReadsArray, BeginsWithArray, CopiesNothing};
 
 use crate::limits::Limits;
+use crate::quick::whole_request;
 use crate::request::Scan;
 use crate::scan::{ArrayProgress, Measured, measure};
 use crate::word::{Piece, word_at};
@@ -52,6 +53,14 @@ pub(crate) fn next_array_from<'a>(
     ensures refused { OnErr result (BeginsWithArray limits.now input.now) }
     ensures more { (more : List ℕ) → AgreesArray limits.now progress.new (input.now ++ more) }
 {
+    if progress.knows_nothing()
+        && let Some(whole) = whole_request(alloc, limits, input)
+    {
+        return Ok(Scan::Whole {
+            words: whole.words,
+            used: whole.used,
+        });
+    }
     match measure(limits, input, progress) {
         Measured::Whole { count, first, used } => {
             let words = words_of(alloc, limits, input, first, count)?;

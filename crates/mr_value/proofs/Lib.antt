@@ -1,4 +1,4 @@
-pub mod Members
+pub mod SetLemmas
 pub mod Numbers
 pub mod Removals
 pub mod Windows

@@ -1,4 +1,5 @@
 pub mod Lists
+pub mod Members
 pub mod Number
 pub mod Texts
 pub mod Window

@@ -1,30 +1,35 @@
 // Sets of byte strings.
 ghost use Rattle.std.specs.Prelude.{◌≡◌, ◌==◌, ◌<◌, ◌^◌, not, drop, slice_get, IfOk, OnOk, OnErr, option_copied};
 ghost use Rattle.std.specs.FinMap as map;
+ghost use Rattle.mr_map.specs.Bytes.{bytes_cmp};
+ghost use Rattle.mr_order.specs.Standing.{IsPlaceOf};
 
 use crate::bytes::Bytes;
-use mr_map::{ByteMap, Keys};
+use crate::members::Members;
+use mr_order::Ordered;
 use std::alloc::{AllocError, Global};
 use std::marker::Model;
 
 /// A set of byte strings, seen as a finite set: a finite map with nothing at each member.
 ///
-/// Where memory runs out, a set is as it was.
+/// The members stand in byte order, each at its place: a look-up compares about log2 of the number of members, and a member
+/// is found by its place without a walk over those in front. Where memory runs out, a set is as it was.
 #[derive(Drop)]
 pub struct SetValue {
-    members: ByteMap<()>,
+    members: Ordered<Vec<u8>>,
 }
 
 impl Model for SetValue {
     ghost use Rattle.std.specs.FinSet as set;
     ghost use Rattle.std.specs.Coded.{coded_ℕ, coded_list};
     ghost use Rattle.mr_map.specs.Bytes.{bytes_cmp};
+    ghost use Rattle.mr_value.specs.Members.{set_of};
 
     ghost Value = { set.FinSet bytes_cmp };
 
     ghost coded = { set.code (coded_list coded_ℕ) };
 
-    ghost view = { λ a. a.members };
+    ghost view = { λ a. set_of a.members };
 }
 
 impl SetValue {
@@ -33,7 +38,7 @@ impl SetValue {
         ensures { result ≡ map.empty }
     {
         SetValue {
-            members: ByteMap::new(alloc),
+            members: Ordered::new(alloc),
         }
     }
 
@@ -49,36 +54,33 @@ impl SetValue {
     pub fn is_empty(&self) -> bool
         ensures { result ≡ (map.len self.now == 0) }
     {
-        self.members.is_empty()
+        self.len() == 0
     }
 
     /// Whether these bytes are a member.
     pub fn contains(&self, member: &[u8]) -> bool
         ensures { result ≡ map.contains_key self.now member.now }
     {
-        self.members.contains_key(member)
+        self.members.contains(member)
     }
 
     /// The members, in byte order. It takes no memory.
-    pub fn members(&self) -> Keys<'_, ()>
+    pub fn members(&self) -> Members<'_>
         ensures { result ≡ map.keys self.now }
     {
-        self.members.keys()
+        self.members_from(0)
     }
 
-    /// The members from a place in byte order on, counted from 0. It takes no memory, and walks to
-    /// that place.
-    pub fn members_from(&self, place: usize) -> Keys<'_, ()>
+    /// The members from a place in byte order on, counted from 0. It takes no memory.
+    pub fn members_from(&self, place: usize) -> Members<'_>
         ensures { result ≡ drop place (map.keys self.now) }
     {
-        let mut members = self.members();
-        for _ in 0..place.min(self.len()) {
-            let _ = members.next();
-        }
-        members
+        let members = &self.members;
+        let from = place.min(members.len());
+        Members::new(members.iter_from(from))
     }
 
-    /// The member at a place in byte order, counted from 0. It walks to that place.
+    /// The member at a place in byte order, counted from 0.
     pub fn nth(&self, place: usize) -> Option<&[u8]>
         ensures { option_copied result ≡ slice_get (map.keys self.now) place }
     {
@@ -91,8 +93,14 @@ impl SetValue {
         ensures ok { OnOk result (self.new ≡ map.insert self.old member tt) }
         ensures err { OnErr result (self.new ≡ self.old) }
     {
-        let before = self.members.insert(member.into_vec(), ())?;
-        Ok(before.is_none())
+        let member = member.into_vec();
+        match search(&self.members, member.as_slice()) {
+            Ok(_) => Ok(false),
+            Err(place) => {
+                self.members.insert_at(place, member)?;
+                Ok(true)
+            }
+        }
     }
 
     /// Removes a member, and answers whether it was one.
@@ -100,6 +108,19 @@ impl SetValue {
         ensures removed { result ≡ map.contains_key self.old member.now }
         ensures rest { self.new ≡ map.remove self.old member.now }
     {
-        self.members.remove(member).is_some()
+        match search(&self.members, member) {
+            Ok(place) => {
+                let _ = self.members.remove_at(place);
+                true
+            }
+            Err(_) => false,
+        }
     }
+}
+
+// The place of a member, or else the place where it would stand.
+fn search(members: &Ordered<Vec<u8>>, member: &[u8]) -> Result<usize, usize>
+    ensures { IsPlaceOf (λ x. bytes_cmp member.now x.items) members.now result }
+{
+    members.locate(member)
 }

@@ -1,6 +1,6 @@
 -- What was read of an argument is what its word spells.
 use Rattle.std.proofs.Common.{ℕ, ℤ, pos, negsuc, ◌≡◌, List, [], ◌∷◌, Bool, true, false, cond, Option, Some, None, refl, sym, ◌∙◌, ap}
-use Rattle.std.specs.Prelude.{find, IfOk, if◌then◌else◌, Result, Ok, Err}
+use Rattle.std.specs.Prelude.{find, IfOk, if◌then◌else◌, Result, Ok, Err, int_lt}
 use Rattle.std.specs.Option.{ok_or}
 use Rattle.std.specs.Fmt.{signed_decimal}
 use Rattle.std.specs.Str.{bytes_eq}
@@ -8,7 +8,7 @@ use Rattle.mr_value.specs.Number.{number_of}
 use Rattle.mr_value.proofs.Numbers.{same_bytes, number_text}
 use Rattle.mr_words.specs.Names.{lowered}
 use Rattle.mr_words.specs.Pairing.{paired, unpaired, are_pairs, pairs_of}
-use Rattle.mr_words.specs.Parts.{with, integer, not_below_0, count, offset}
+use Rattle.mr_words.specs.Parts.{with, integer, not_below_0, count, offset, not_below_1}
 use Rattle.mr_words.specs.Spelling.{Part, Word, Number, IsPart}
 use Rattle.mr_words.proofs.PairLemmas.{unpaired-paired}
 use Rattle.mr_words.specs.declared.fault.AskFault.{AskFault}
@@ -105,3 +105,9 @@ found_passes p (y ∷ ys) x h = elim (p y) as (λ b. p y ≡ b → cond b (Some 
 pub ok_found : {A : Type 0} (o : Option A) (x : A) → ok_or o Syntax ≡ Ok x → o ≡ Some x
 ok_found None x h = cc
 ok_found (Some y) x h = let same : y ≡ x = cc in ap (λ z. Some z) same
+
+pub not_below_1_is : (f : AskFault) (n m : ℤ) → not_below_1 f n ≡ Ok m → n ≡ m
+not_below_1_is f n m h = elim (int_lt n (pos 1)) as (λ b. (if b then Err f else Ok n) ≡ Ok m → n ≡ m) [
+  | true ↦ λ e. cc
+  | false ↦ λ e. cc
+] h

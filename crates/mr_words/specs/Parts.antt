@@ -1,5 +1,5 @@
 -- What single arguments say.
-use Rattle.std.specs.Prelude.{ℕ, ℤ, pos, negsuc, List, Result, Ok, Err}
+use Rattle.std.specs.Prelude.{ℕ, ℤ, pos, negsuc, List, Result, Ok, Err, int_lt, if◌then◌else◌}
 use Rattle.std.specs.Option.{ok_or}
 use Rattle.mr_value.specs.Number.{number_of}
 use Rattle.mr_words.specs.declared.fault.AskFault.{AskFault}
@@ -26,3 +26,7 @@ count word = with (integer word) (not_below_0 bad.Negative)
 
 abbrev pub offset : List ℕ → Result ℕ AskFault
 offset word = with (integer word) (not_below_0 bad.Offset)
+
+-- a number from 1 on, or else that fault
+abbrev pub not_below_1 : AskFault → ℤ → Result ℤ AskFault
+not_below_1 otherwise n = if int_lt n (pos 1) then Err otherwise else Ok n

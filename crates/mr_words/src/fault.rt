@@ -233,6 +233,7 @@ fn wrong_count(name: Name) -> &'static [u8]
         Name::Echo => b"ERR wrong number of arguments for 'echo' command",
         Name::Select => b"ERR wrong number of arguments for 'select' command",
         Name::Quit => b"ERR wrong number of arguments for 'quit' command",
+        Name::BgRewriteAof => b"ERR wrong number of arguments for 'bgrewriteaof' command",
         Name::Command => b"ERR wrong number of arguments for 'command' command",
         Name::Client => b"ERR wrong number of arguments for 'client' command",
     }

@@ -10,5 +10,5 @@ mod words;
 pub use fault::{AskFault, BadValue, ExpiringCommand};
 pub use laws::names_are_found;
 pub use name::Name;
-pub use numbers::{count, integer, offset};
+pub use numbers::{count, integer, not_below_1, offset};
 pub use words::{Argument, Arguments, Pairs, PairsIter, Words};

@@ -110,6 +110,7 @@ pub enum Name {
     Echo,
     Select,
     Quit,
+    BgRewriteAof,
     Command,
     Client,
 }
@@ -238,6 +239,7 @@ impl Name {
             ],
             10 => &[Name::ExpireTime, Name::SMIsMember],
             11 => &[Name::PExpireTime, Name::SRandMember],
+            12 => &[Name::BgRewriteAof],
             13 => &[Name::ZRangeByScore],
             15 => &[Name::ZRemRangeByRank],
             16 => &[Name::ZRevRangeByScore, Name::ZRemRangeByScore],
@@ -356,6 +358,7 @@ impl Name {
             Name::Echo => "echo",
             Name::Select => "select",
             Name::Quit => "quit",
+            Name::BgRewriteAof => "bgrewriteaof",
             Name::Command => "command",
             Name::Client => "client",
         }

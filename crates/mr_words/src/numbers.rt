@@ -1,7 +1,7 @@
 // Numbers among the words of a request.
 ghost use Rattle.std.specs.Prelude.{◌≡◌};
 ghost use Rattle.std.specs.Cow.{cow_slice_items};
-ghost use Rattle.mr_words.specs.Parts.{integer, not_below_0, count, offset};
+ghost use Rattle.mr_words.specs.Parts.{integer, not_below_0, not_below_1, count, offset};
 
 use crate::fault::{AskFault, BadValue};
 use mr_value::read_i64;
@@ -35,5 +35,16 @@ fn not_below_0(otherwise: BadValue, number: i64) -> Result<usize, AskFault>
         Err(AskFault::Other(otherwise))
     } else {
         Ok(number as usize)
+    }
+}
+
+/// A number from 1 on, or else that fault.
+pub fn not_below_1(otherwise: AskFault, number: i64) -> Result<i64, AskFault>
+    ensures { result ≡ not_below_1 otherwise number }
+{
+    if number < 1 {
+        Err(otherwise)
+    } else {
+        Ok(number)
     }
 }

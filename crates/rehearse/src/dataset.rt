@@ -97,6 +97,7 @@ fn ask(
     }
     match plan_words(alloc, held, false, words.as_slice(), given)? {
         Answer::Quit => tell(out, "quit"),
+        Answer::Rewrite => tell(out, "rewrite"),
         Answer::Run(plan) => {
             let mut reply = Vec::new(alloc);
             write_reply(&plan.reply, &mut reply)?;

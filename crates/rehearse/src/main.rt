@@ -10,7 +10,7 @@
 //! | `given NOW WORD` | `given`: the moment and the random word of the calls from here on |
 //! | `open` | `opened` |
 //! | `feed LINK BYTES` | `fed` |
-//! | `step LINK` | `idle`, `closed`, or `done OUTS REPLY EFFECTS`: of the outs `g` for growth, `s` for what is sent and `c` for the link's closing |
+//! | `step LINK` | `idle`, `closed`, or `done OUTS REPLY EFFECTS`, and behind that the file where it is replaced: of the outs `g` for growth, `a` for what the file grows by, `r` for its replacement, `s` for what is sent and `c` for the link's closing |
 //! | `room LINK` | `room COUNT`, or `gone` |
 //! | `close LINK` | `closed` |
 //! | `tick` | as of a step: `done OUTS - EFFECTS` |
@@ -18,7 +18,7 @@
 //! | `shows` | `shows ID OFFSET`, or `nothing` |
 //! | `spell BYTES` | `spelled TEXT`, of the effect that the command text spells, or `no effect` |
 //! | `lend BYTES`, `give BYTES` | `applied`, or `no effect`: applied by reference, or moved in, to a dataset beside the node |
-//! | `ask BYTES` | `replied REPLY`, to the request on that dataset; or `quit` |
+//! | `ask BYTES` | `replied REPLY`, to the request on that dataset; or `quit`, or `rewrite` |
 //! | `due` | `due KEY`, the first key of that dataset that is past, or `nothing due` |
 //! | `rebuild` | `rebuilt TEXTS`, of the effects that make that dataset again |
 //!

@@ -25,19 +25,25 @@ pub fn tell_bytes(alloc: Global, bytes: &[u8], out: &mut Vec<u8>) -> Result<(), 
     tell(out, hex::encode(alloc, bytes)?.as_str())
 }
 
-/// The outs of a step, a letter each in their order, and then the bytes of the reply and of the effects.
+/// The outs of a step, a letter each in their order, and then the bytes of the reply, of the effects, and of a file that is replaced.
 pub fn tell_outs(alloc: Global, outs: &Outs, out: &mut Vec<u8>) -> Result<(), RehearsalFault> {
     tell(out, "done ")?;
     for part in outs.iter() {
         out.push(letter_of(part))?;
     }
     tell_bytes(alloc, outs.reply(), out)?;
-    tell_bytes(alloc, outs.grown(), out)
+    tell_bytes(alloc, outs.grown(), out)?;
+    match outs.replaced() {
+        Some(file) => tell_bytes(alloc, file, out),
+        None => Ok(()),
+    }
 }
 
 fn letter_of(part: Out<'_>) -> u8 {
     match part {
         Out::Grow(_) => b'g',
+        Out::Append(_) => b'a',
+        Out::Replace(_) => b'r',
         Out::Send(_, _) => b's',
         Out::Close(_) => b'c',
     }

@@ -66,11 +66,11 @@ fn doomed(
     room: u64,
     outs: &mut Outs,
 ) -> Result<Vec<Effect<'static>>, AllocError>
-    requires { outs.old.grown ≡ [] }
+    requires { (outs.old.grown ≡ []) × (outs.old.appended ≡ []) }
     ensures effects { IfOk result (λ es. es.items ≡ deletions now held.now room) }
     ensures deletions { IfOk result (λ es. All IsDeletion es.items) }
     ensures within { IfOk result (λ es. length (texts es.items) ≤ room) }
-    ensures outs { IfOk result (λ es. outs.new ≡ record outs.old { grown = texts es.items }) }
+    ensures outs { IfOk result (λ es. outs.new ≡ record outs.old { grown = texts es.items; appended = texts es.items }) }
 {
     let mut effects = Vec::new(alloc);
     for due in held.due_keys(alloc, now, MOST_DELETED)? {
@@ -85,7 +85,7 @@ fn doomed(
 /// Puts the text of a deletion into the outs, if there is room.
 fn tell(outs: &mut Outs, key: &[u8], room: u64) -> Result<bool, AllocError>
     ensures fits { IfOk result (λ fits. fits ≡ nat_le (length outs.old.grown + size (effect.Del key.now)) room) }
-    ensures outs { IfOk result (λ fits. outs.new ≡ if fits then record outs.old { grown = outs.old.grown ++ text (effect.Del key.now) } else outs.old) }
+    ensures outs { IfOk result (λ fits. outs.new ≡ if fits then record outs.old { grown = outs.old.grown ++ text (effect.Del key.now); appended = outs.old.appended ++ text (effect.Del key.now) } else outs.old) }
 {
     let key = Word::borrowed(key);
     let fits = outs.grow_within(&Effect::Del { key }, room)?;

@@ -1,6 +1,5 @@
-use Rattle.std.proofs.Common.{rules, ◌≡◌, ℕ, List, [], ◌++◌, Bool, true, false, Ok, Err, refl, sym, subst, ap, ◌∙◌, take}
-use Rattle.mr_node.specs.State.{NodeState, Agrees}
-use Rattle.mr_pipe.specs.Outside.{Outside, outside}
+use Rattle.std.proofs.Common.{rules, ◌≡◌, [], Ok, Err, sym, subst}
+use Rattle.mr_pipe.specs.Outside.{outside}
 use Rattle.mr_pipe.specs.Piped.{Relays, IsRound, IsPiped}
 use Rattle.mr_pipe.specs.declared.relay.Round.TheVariants as round
 use Rattle.mr_pipe.proofs.Relaying.{after_round, no_round, session_end, session_close, session_break, session_stop}

@@ -1,4 +1,4 @@
-use Rattle.std.proofs.Common.{ℕ, List, []}
+use Rattle.std.proofs.Common.{[]}
 use Rattle.mr_node.specs.State.{Agrees}
 use Rattle.mr_pipe.specs.Outside.{outside}
 use Rattle.mr_pipe.specs.Piped.{Relays}

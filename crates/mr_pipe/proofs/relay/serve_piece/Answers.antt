@@ -1,10 +1,9 @@
-use Rattle.std.proofs.Common.{rules, ◌≡◌, ℕ, List, [], ◌++◌, Bool, true, false, Ok, Err, refl, sym, subst, ap, ◌∙◌, take}
-use Rattle.mr_node.specs.State.{NodeState, Agrees}
-use Rattle.mr_pipe.specs.Outside.{Outside, outside}
+use Rattle.std.proofs.Common.{rules, ◌≡◌, ◌++◌, Ok, Err, refl, sym, subst, take}
+use Rattle.mr_pipe.specs.Outside.{outside}
 use Rattle.std.specs.Io.KnownBytes.{Keeps}
 use Rattle.std.proofs.KnownBytes.{Keeps-refl}
 use Rattle.mr_pipe.specs.Reading.{IsRead}
-use Rattle.mr_pipe.specs.Serving.{Drained, IsDrained}
+use Rattle.mr_pipe.specs.Serving.{IsDrained}
 use Rattle.mr_pipe.specs.Piped.{IsRound}
 use Rattle.mr_pipe.specs.declared.fault.PipeFault.TheVariants as fault
 use Rattle.mr_pipe.proofs.Relaying.{no_more, broken_round, read_failed, delivered, delivered_all, not_delivered, at_end_round}

@@ -1,7 +1,6 @@
-use Rattle.std.proofs.Common.{rules, ◌≡◌, ℕ, List, [], ◌++◌, Bool, true, false, Ok, Err, refl, sym, subst, ap, ◌∙◌, take}
-use Rattle.mr_node.specs.State.{NodeState, Agrees}
-use Rattle.mr_pipe.specs.Outside.{Outside, outside}
-use Rattle.mr_pipe.specs.Serving.{Going, IsDrained}
+use Rattle.std.proofs.Common.{◌++◌, Ok, refl}
+use Rattle.mr_pipe.specs.Outside.{outside}
+use Rattle.mr_pipe.specs.Serving.{IsDrained}
 use Rattle.mr_pipe.proofs.Deliveries.{flushed, not_flushed}
 use Rattle.mr_pipe.proofs.serve.deliver.Goals as goal
 

@@ -1,6 +1,5 @@
-use Rattle.std.proofs.Common.{rules, ◌≡◌, ℕ, List, [], ◌++◌, Bool, true, false, Ok, Err, refl, sym, subst, ap, ◌∙◌, take}
-use Rattle.mr_node.specs.State.{NodeState, Agrees}
-use Rattle.mr_pipe.specs.Outside.{Outside, outside}
+use Rattle.std.proofs.Common.{rules, ◌≡◌, Ok, Err, refl, sym, subst}
+use Rattle.mr_pipe.specs.Outside.{outside}
 use Rattle.mr_pipe.specs.Serving.{Going, IsStepped, IsDrained}
 use Rattle.mr_pipe.proofs.Goings.{starts, drained, ended, goes_on}
 use Rattle.mr_pipe.proofs.Deliveries.{breaks}

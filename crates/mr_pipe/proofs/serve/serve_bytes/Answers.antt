@@ -1,7 +1,7 @@
-use Rattle.std.proofs.Common.{rules, ◌≡◌, ℕ, List, [], ◌++◌, Bool, true, false, Ok, Err, refl, sym, subst, ap, ◌∙◌, take}
-use Rattle.mr_node.specs.State.{NodeState, Agrees}
-use Rattle.mr_pipe.specs.Outside.{Outside, outside}
-use Rattle.mr_pipe.specs.Serving.{Going, IsDrained}
+use Rattle.std.proofs.Common.{rules, ◌≡◌, ℕ, List, ◌++◌, Err, sym, subst}
+use Rattle.mr_node.specs.State.{Agrees}
+use Rattle.mr_pipe.specs.Outside.{outside}
+use Rattle.mr_pipe.specs.Serving.{IsDrained}
 use Rattle.mr_pipe.specs.Faults.{fault_of}
 use Rattle.mr_pipe.proofs.Deliveries.{drained_join, not_fed}
 use Rattle.mr_pipe.proofs.serve.serve_bytes.Goals as goal

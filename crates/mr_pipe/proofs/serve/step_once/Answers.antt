@@ -1,7 +1,7 @@
-use Rattle.std.proofs.Common.{rules, ◌≡◌, ℕ, List, [], ◌++◌, Bool, true, false, Ok, Err, refl, sym, subst, ap, ◌∙◌, take}
-use Rattle.mr_node.specs.State.{NodeState, Agrees}
-use Rattle.mr_pipe.specs.Outside.{Outside, outside}
+use Rattle.std.proofs.Common.{rules, ◌≡◌, Err, sym, subst}
+use Rattle.mr_pipe.specs.Outside.{outside}
 use Rattle.mr_node.specs.Rows.{ClientRow, StepRow}
+use Rattle.mr_pipe.specs.Sessions.{output_of}
 use Rattle.mr_pipe.specs.Serving.{IsStepped, IsCarriedOut}
 use Rattle.mr_pipe.proofs.Goings.{gives, left_out}
 use Rattle.mr_pipe.proofs.serve.step_once.Goals as goal
@@ -16,9 +16,9 @@ returns-in_err-carry_out-in-Done g c = λ u ag.
     subst (λ s. StepRow c.args.node.now c.args.link u c.args.given c.step.new.self s) c.in-Done.is (c.in_ok-step.ensures.row u ag) in
     let why = c.in_err-carry_out-in-Done.field-0.0 in
     let told : c.from_residual-in_err-carry_out-in-Done.result ≡ Err why = search rules in
-    let came : IsCarriedOut outs.grown outs.reply x y (Err why) = c.in_err-carry_out-in-Done.ensures in
+    let came : IsCarriedOut (output_of outs) x y (Err why) = c.in_err-carry_out-in-Done.ensures in
     subst (λ r. IsStepped c.args.given c.args.node.now c.args.link u x c.step.new.self y r) (sym told)
-    (left_out why c.args.given c.args.node.now.core u x y outs.grown outs.reply (gives c.args.node.now c.args.link u c.args.given c.step.new.self outs row) came)
+    (left_out why c.args.given c.args.node.now.core u x y (output_of outs) (gives c.args.node.now c.args.link u c.args.given c.step.new.self outs row) came)
 
 pub returns-then-closes : goal.returns-then-closes
 returns-then-closes g c = λ u ag. record {

@@ -1,10 +1,18 @@
-use Rattle.std.proofs.Common.{sym, ap, ◌∙◌}
+use Rattle.std.proofs.Common.{◌≡◌, sym, ap, subst, ◌∙◌}
 use Rattle.std.specs.FinMap.{FinMap, insert}
 use Rattle.mr_links.specs.LinkId.{id_cmp}
-use Rattle.mr_node.specs.State.{EndState}
+use Rattle.mr_node.specs.State.{NodeState, EndState, end_of}
+use Rattle.mr_node.specs.State.EndState.{client}
+use Rattle.mr_node.specs.Ending.{AgreesAt}
 use Rattle.mr_node.proofs.Nodes.{with_links}
-use Rattle.mr_node.proofs.Ends.{put_same}
+use Rattle.mr_node.proofs.Ends.{some_is, put_same}
 use Rattle.mr_node.proofs.node.Node.keep.Goals as goal
+
+pub keep-requires : goal.keep-requires
+keep-requires c =
+    let h = c.requires in
+    let is : c.in-Some.end.now ≡ client h.kept = some_is c.in-Some.end.now (client h.kept) (c.in-Some.ensures.value ∙ (ap (λ (s : NodeState). end_of s c.args.link) c.self.view_is ∙ h.found)) in
+    subst (AgreesAt c.args.progress) (sym is) h.agrees
 
 pub returns : goal.returns
 returns c =

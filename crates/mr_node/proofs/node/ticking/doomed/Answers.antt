@@ -10,7 +10,7 @@ loop-due-init c =
     let whole : c.into_iter-due-iterator.result.rest.items ≡ c.in_ok-due-items.due-items.items = search rules in (
       begin c.args.room _ (take most_deleted (due (to_z w64 (of_z w64 c.args.now)) c.args.held.now)) c.in_ok-due-items.due-items.items c.into_iter-due-iterator.result.rest.items c.new-effects.result.items refl
           c.in_ok-due-items.ensures.keys c.in_ok-due-items.ensures.words whole c.new-effects.ensures.items,
-      unchanged c.args.outs.now c.new-effects.result.items c.requires c.new-effects.ensures.items,
+      unchanged c.args.outs.now c.new-effects.result.items c.requires.0 c.requires.1 c.new-effects.ensures.items,
     )
 
 pub loop-due-preserved : goal.loop-due-preserved

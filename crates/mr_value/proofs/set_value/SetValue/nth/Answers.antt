@@ -1,5 +1,5 @@
 use Rattle.std.specs.FinMap.{keys}
-use Rattle.mr_value.proofs.Members.{first_from}
+use Rattle.mr_value.proofs.SetLemmas.{first_from}
 use Rattle.mr_value.proofs.set_value.SetValue.nth.Goals as goal
 
 pub returns : goal.returns

@@ -1,4 +1,0 @@
-pub mod PartLemmas
-pub mod HashLemmas
-pub mod ListLemmas
-pub mod SetLemmas

@@ -1,0 +1,5 @@
+use Rattle.mr_cmd_hash.proofs.LeftAndTold.{each_got}
+use Rattle.mr_cmd_hash.proofs.sequels.hmget_is_hget_of_each.Goals as goal
+
+pub returns : goal.returns
+returns c = each_got

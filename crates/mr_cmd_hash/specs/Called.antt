@@ -1,0 +1,23 @@
+-- The names of commands on hashes.
+use Rattle.mr_words.specs.declared.name.Name.{Name}
+use Rattle.mr_words.specs.declared.name.Name.TheVariants as name
+use Rattle.mr_cmd_hash.specs.declared.hash_ask.FieldsReply.TheVariants.{Added, Done}
+use Rattle.mr_cmd_hash.specs.declared.hash_ask.HashPart.TheVariants.{Pairs, Fields, Values}
+use Rattle.mr_cmd_hash.specs.declared.hash_ask.HashAsk.{HashAsk}
+use Rattle.mr_cmd_hash.specs.declared.hash_ask.HashAsk.TheVariants as hash
+
+-- of a command on hashes
+abbrev pub hash_name : HashAsk → Name
+hash_name (hash.SetFields key pairs Added) = name.HSet
+hash_name (hash.SetFields key pairs Done) = name.HMSet
+hash_name (hash.SetNewField key field value) = name.HSetNx
+hash_name (hash.GetField key field) = name.HGet
+hash_name (hash.GetFields key fields) = name.HMGet
+hash_name (hash.ListHash key Pairs) = name.HGetAll
+hash_name (hash.ListHash key Fields) = name.HKeys
+hash_name (hash.ListHash key Values) = name.HVals
+hash_name (hash.RemoveFields key fields) = name.HDel
+hash_name (hash.HasField key field) = name.HExists
+hash_name (hash.CountFields key) = name.HLen
+hash_name (hash.FieldLength key field) = name.HStrLen
+hash_name (hash.IncreaseField key field by) = name.HIncrBy

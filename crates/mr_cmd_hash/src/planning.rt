@@ -1,0 +1,120 @@
+// The plan of a command.
+ghost use Rattle.std.specs.Prelude.{◌≡◌, [], Some, IfOk, IsTrue, option_copied};
+ghost use Rattle.std.specs.List.{list_all};
+ghost use Rattle.std.specs.FinMap.{empty};
+ghost use Rattle.mr_resp.specs.ReplyView.{view};
+ghost use Rattle.mr_value.specs.Words.{fits};
+ghost use Rattle.mr_data.specs.Dataset.{IsDataset};
+ghost use Rattle.mr_entries.specs.Steps.{hashes, held};
+ghost use Rattle.mr_cmd_hash.specs.Carried.{hash_words};
+ghost use Rattle.mr_planning.specs.Commands.{IsPlan, IsFaithful, HasCommandTexts};
+ghost use Rattle.mr_cmd_hash.specs.Commands.{key_of, change, command, Makes};
+
+use crate::hash_ask::HashAsk;
+use crate::{reading, removing, setting};
+use mr_data::{Dataset, Entry, Given, Plan, Value};
+use mr_planning::{Effects, look, wrong_kind};
+use mr_resp::Reply;
+use mr_value::Hash;
+use mr_words::Argument;
+use std::alloc::{AllocError, Global};
+
+/// What a command on hashes is answered, and its effects. The dataset isn't changed, and the plan owns what it holds.
+pub fn plan(
+    alloc: Global,
+    held: &Dataset,
+    ask: &HashAsk<'_, '_>,
+    given: Given,
+) -> Result<Plan, AllocError>
+    ensures plan { IfOk result (λ p. IsPlan (command ask.now) given.now held.now (view p.reply) p.effects.items) }
+
+    // The effects lead to what the command leaves, and its own ones are there exactly where it changes something.
+    ensures faithful { IsTrue (list_all fits (hash_words ask.now)) → IsFaithful (command ask.now) given.now held.now }
+
+    // .. and their texts are command texts.
+    ensures texts { IsTrue (list_all fits (hash_words ask.now)) → HasCommandTexts (command ask.now) given.now held.now }
+{
+    planned(alloc, held, ask, given)
+}
+
+// The plan, and what the dataset keeps.
+fn planned(
+    alloc: Global,
+    held: &Dataset,
+    ask: &HashAsk<'_, '_>,
+    given: Given,
+) -> Result<Plan, AllocError>
+    ensures plan { IfOk result (λ p. IsPlan (command ask.now) given.now held.now (view p.reply) p.effects.items) }
+    ensures kept { IsDataset held.now }
+{
+    let mut effects = Effects::new(alloc);
+    let seen = look(alloc, held, key_of(ask), given, &mut effects)?;
+    let none = Hash::new(alloc);
+    let Some(hash) = hash_at(&none, seen) else {
+        return Ok(effects.into_plan(wrong_kind()));
+    };
+    let reply = change(alloc, ask, hash, &mut effects)?;
+    Ok(effects.into_plan(reply))
+}
+
+fn key_of<'c, 'a>(ask: &'c HashAsk<'a, '_>) -> &'c Argument<'a>
+    ensures { result.now ≡ key_of ask.now }
+{
+    match ask {
+        HashAsk::SetFields { key, .. } => key,
+        HashAsk::SetNewField { key, .. } => key,
+        HashAsk::GetField { key, .. } => key,
+        HashAsk::GetFields { key, .. } => key,
+        HashAsk::ListHash { key, .. } => key,
+        HashAsk::RemoveFields { key, .. } => key,
+        HashAsk::HasField { key, .. } => key,
+        HashAsk::CountFields { key } => key,
+        HashAsk::FieldLength { key, .. } => key,
+        HashAsk::IncreaseField { key, .. } => key,
+    }
+}
+
+// The hash that an entry is: the empty one where there is no entry.
+fn hash_at<'h>(none: &'h Hash, seen: Option<&'h Entry>) -> Option<&'h Hash>
+    requires { none.now ≡ empty }
+    ensures { option_copied result ≡ held hashes (option_copied seen.entry) }
+{
+    match seen {
+        None => Some(none),
+        Some(entry) => match &entry.value {
+            Value::Hash(hash) => Some(hash),
+            Value::Text(_) | Value::List(_) | Value::Set(_) | Value::SortedSet(_) => None,
+        },
+    }
+}
+
+// What a command does to a hash.
+fn change(
+    alloc: Global,
+    ask: &HashAsk<'_, '_>,
+    hash: &Hash,
+    effects: &mut Effects,
+) -> Result<Reply, AllocError>
+    ensures { IfOk result (λ r. Makes (change ask.now hash.now) (view r) effects.old effects.new) }
+{
+    match ask {
+        HashAsk::SetFields { key, pairs, reply } => {
+            setting::set_fields(alloc, key, pairs, *reply, hash, effects)
+        }
+        HashAsk::SetNewField { key, field, value } => {
+            setting::set_new_field(alloc, key, field, value, hash, effects)
+        }
+        HashAsk::GetField { key: _, field } => reading::get_field(alloc, field, hash),
+        HashAsk::GetFields { key: _, fields } => reading::get_fields(alloc, fields, hash),
+        HashAsk::ListHash { key: _, part } => reading::list_hash(alloc, *part, hash),
+        HashAsk::RemoveFields { key, fields } => {
+            removing::remove_fields(alloc, key, fields, hash, effects)
+        }
+        HashAsk::HasField { key: _, field } => Ok(reading::has_field(field, hash)),
+        HashAsk::CountFields { key: _ } => Ok(reading::count_fields(hash)),
+        HashAsk::FieldLength { key: _, field } => Ok(reading::field_length(field, hash)),
+        HashAsk::IncreaseField { key, field, by } => {
+            setting::increase_field(alloc, key, field, *by, hash, effects)
+        }
+    }
+}

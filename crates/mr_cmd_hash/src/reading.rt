@@ -1,0 +1,105 @@
+// What a hash has.
+ghost use Rattle.std.specs.Prelude.{◌≡◌, ◌<◌, ◌^◌, IfOk, option_copied};
+ghost use Rattle.mr_resp.specs.ReplyView.{view};
+ghost use Rattle.mr_cmd_hash.specs.Hashes.{value_reply, get_field, get_fields, list_hash, has_field, count_fields, field_length};
+
+use crate::hash_ask::HashPart;
+use mr_planning::{count, integer};
+use mr_resp::Reply;
+use mr_value::Hash;
+use mr_words::{Argument, Words};
+use std::alloc::{AllocError, Global};
+
+fn value(alloc: Global, value: Option<&[u8]>) -> Result<Reply, AllocError>
+    ensures { IfOk result (λ r. view r ≡ value_reply (option_copied value.entry)) }
+{
+    match value {
+        None => Ok(Reply::NullBulk),
+        Some(value) => Ok(Reply::Bulk(Vec::from_slice(alloc, value)?)),
+    }
+}
+
+/// `HGET`
+pub fn get_field(alloc: Global, field: &Argument<'_>, hash: &Hash) -> Result<Reply, AllocError>
+    ensures { IfOk result (λ r. view r ≡ (get_field field.now hash.now).reply) }
+{
+    value(alloc, hash.get(field.as_slice()))
+}
+
+/// `HMGET`
+pub fn get_fields(alloc: Global, fields: &Words<'_, '_>, hash: &Hash) -> Result<Reply, AllocError>
+    ensures { IfOk result (λ r. view r ≡ (get_fields fields.now hash.now).reply) }
+{
+    let fields = fields.as_slice();
+    let mut replies = Vec::with_capacity(alloc, fields.len())?;
+    for field in fields {
+        replies.push(value(alloc, hash.get(field.as_slice()))?)?;
+    }
+    Ok(Reply::Array(replies))
+}
+
+/// `HGETALL`, `HKEYS`, `HVALS`
+pub fn list_hash(alloc: Global, part: HashPart, hash: &Hash) -> Result<Reply, AllocError>
+    ensures { IfOk result (λ r. view r ≡ (list_hash part hash.now).reply) }
+{
+    match part {
+        HashPart::Pairs => pairs(alloc, hash),
+        HashPart::Fields => fields(alloc, hash),
+        HashPart::Values => values(alloc, hash),
+    }
+}
+
+/// `HEXISTS`
+pub fn has_field(field: &Argument<'_>, hash: &Hash) -> Reply
+    ensures { view result ≡ (has_field field.now hash.now).reply }
+{
+    integer(i64::from(hash.contains(field.as_slice())))
+}
+
+/// `HLEN`
+pub fn count_fields(hash: &Hash) -> Reply
+    ensures { view result ≡ (count_fields hash.now).reply }
+{
+    count(hash.len())
+}
+
+/// `HSTRLEN`
+pub fn field_length(field: &Argument<'_>, hash: &Hash) -> Reply
+    ensures { view result ≡ (field_length field.now hash.now).reply }
+{
+    match hash.get(field.as_slice()) {
+        None => count(0),
+        Some(value) => count(value.len()),
+    }
+}
+
+fn pairs(alloc: Global, hash: &Hash) -> Result<Reply, AllocError>
+    ensures { IfOk result (λ r. view r ≡ (list_hash HashPart.Pairs hash.now).reply) }
+{
+    let mut replies = Vec::with_capacity(alloc, hash.len() * 2)?;
+    for (field, value) in hash.iter() {
+        replies.push(Reply::Bulk(Vec::from_slice(alloc, field)?))?;
+        replies.push(Reply::Bulk(Vec::from_slice(alloc, value.as_slice())?))?;
+    }
+    Ok(Reply::Array(replies))
+}
+
+fn fields(alloc: Global, hash: &Hash) -> Result<Reply, AllocError>
+    ensures { IfOk result (λ r. view r ≡ (list_hash HashPart.Fields hash.now).reply) }
+{
+    let mut replies = Vec::with_capacity(alloc, hash.len())?;
+    for field in hash.fields() {
+        replies.push(Reply::Bulk(Vec::from_slice(alloc, field)?))?;
+    }
+    Ok(Reply::Array(replies))
+}
+
+fn values(alloc: Global, hash: &Hash) -> Result<Reply, AllocError>
+    ensures { IfOk result (λ r. view r ≡ (list_hash HashPart.Values hash.now).reply) }
+{
+    let mut replies = Vec::with_capacity(alloc, hash.len())?;
+    for (_, value) in hash.iter() {
+        replies.push(Reply::Bulk(Vec::from_slice(alloc, value.as_slice())?))?;
+    }
+    Ok(Reply::Array(replies))
+}

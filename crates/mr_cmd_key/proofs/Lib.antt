@@ -1,0 +1,11 @@
+pub mod PartLemmas
+pub mod ScanOrderLemmas
+pub mod ArgumentLemmas
+pub mod FitLemmas
+pub mod ReadLemmas
+pub mod FaultLemmas
+pub mod Renamings
+pub mod Deadlines
+pub mod Laws
+pub mod Listed
+pub mod PlanLemmas

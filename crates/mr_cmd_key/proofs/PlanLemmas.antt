@@ -1,0 +1,51 @@
+-- Plans from what was seen at several keys.
+use Rattle.std.proofs.Common.{◌≡◌, List, [], ◌∷◌, ◌++◌, length, true, ℤ, pos, refl, sym, ◌∙◌, ap, arith}
+use Rattle.std.specs.Prelude.{is_some, Option, false, Bool, ℕ, ◌+◌, ◌<◌, ◌≤◌, map, take, get_or}
+use Rattle.mr_entries.specs.declared.value.Entry.{Entry}
+use Rattle.std.specs.FinMap.{get}
+use Rattle.mr_map.specs.Bytes.{Bytes}
+use Rattle.mr_resp.specs.Replies as reply
+use Rattle.mr_entries.specs.Dataset.{Dataset}
+use Rattle.mr_data.specs.Dataset.{live, seen}
+use Rattle.mr_data.proofs.Seeing.{get-seen}
+use Rattle.mr_effect.specs.declared.effect.Effect.{Effect}
+use Rattle.mr_planning.specs.Keys.{chosen, dels, is_stored, past}
+use Rattle.mr_planning.specs.Commands.{IsPlan, on_keys}
+use Rattle.mr_planning.proofs.KeyLists.{present_seen, present_purged, more_words}
+use Rattle.mr_planning.proofs.PlanLemmas.{keys_plan}
+use Rattle.mr_cmd_key.specs.Outcomes.{one_if, present, present_at, deleted, counted}
+
+pub del_plan : (ks : List Bytes) (now : ℤ) (m : Dataset) (n : ℤ) (none first second list : List Effect) → none ≡ [] → first ≡ none ++ dels (chosen (is_stored now true) ks m) → n ≡ pos (length (chosen (is_stored now false) ks m)) → second ≡ first ++ dels (chosen (is_stored now false) ks m) → list ≡ second → IsPlan (on_keys ks (deleted ks)) now m (reply.int n) list
+del_plan ks now m n none first second list start es count more all = record {
+  reply_is = ap reply.int (count ∙ ap (λ (xs : List Bytes). pos (length xs)) (sym (present_seen now ks m)));
+  effects_are = all ∙ more
+      ∙ ap (λ xs. xs ++ dels (chosen (is_stored now false) ks m)) (es ∙ ap (λ xs. xs ++ dels (past now ks m)) start)
+      ∙ ap (λ (xs : List Bytes). dels (past now ks m) ++ dels xs) (sym (present_seen now ks m) ∙ sym (present_purged now ks m));
+}
+
+seen_count : (now : ℤ) (m : Dataset) (ks : List Bytes) → present_at now m ks ≡ present (seen now m) ks
+seen_count now m [] = refl
+seen_count now m (k ∷ ks) = ap (λ (o : Option Entry). one_if (is_some o) + present_at now m ks) (sym (get-seen now m k)) ∙ ap (λ n. one_if (is_some (get (seen now m) k)) + n) (seen_count now m ks)
+
+present-push : (now : ℤ) (m : Dataset) (ks : List Bytes) (k : Bytes) → present_at now m (ks ++ k ∷ []) ≡ present_at now m ks + one_if (is_some (live now (get m k)))
+present-push now m [] k = omega arith
+present-push now m (x ∷ ks) k = omega (arith, present-push now m ks k)
+
+-- how many of the first keys are there
+module _ {A : Type 0} (f : A → Bytes) (now : ℤ) (m : Dataset) (xs : List A) where
+  pub record Counts (n i : ℕ) : Type 0 where
+    pub count : n ≡ present_at now m (map f (take i xs))
+    pub few : n ≤ i
+
+  pub counts_word : (i : ℕ) (x : A) (k : Bytes) (n : ℕ) (b : Bool) → i < length xs → x ≡ get_or xs i x → k ≡ f x → is_some (live now (get m k)) ≡ b → Counts n i → Counts (n + one_if b) (i + 1)
+  counts_word i x k n b here is key there so_far = record {
+    count =
+        ap (λ c. n + one_if c) (sym there ∙ ap (λ y. is_some (live now (get m y))) key)
+        ∙ ap (λ c. c + one_if (is_some (live now (get m (f x))))) so_far.count
+        ∙ sym (present-push now m (map f (take i xs)) (f x))
+        ∙ ap (present_at now m) (sym (more_words f xs i x here is));
+    few = elim b as (λ c. n + one_if c ≤ i + 1) [ true ↦ omega (arith, so_far.few) | false ↦ omega (arith, so_far.few) ];
+  }
+
+pub exists_plan : (ks : List Bytes) (now : ℤ) (m : Dataset) (n : ℤ) (none first list : List Effect) → none ≡ [] → first ≡ none ++ dels (past now ks m) → n ≡ pos (present_at now m ks) → list ≡ first → IsPlan (on_keys ks (counted ks)) now m (reply.int n) list
+exists_plan ks now m n none first list start look count all = keys_plan ks (λ x. reply.int (pos (present x ks))) now m (reply.int n) none first list start look (ap reply.int (count ∙ ap pos (seen_count now m ks))) all

@@ -1,0 +1,14 @@
+pub mod Parts
+pub mod Options
+pub mod Arguments
+pub mod Carried
+pub mod Called
+pub mod Spelled
+pub mod Askable
+pub mod ArgumentFaults
+pub mod Turns
+pub mod Outcomes
+pub mod Renaming
+pub mod Listing
+pub mod Expiring
+pub mod Commands

@@ -1,0 +1,149 @@
+// Deadlines that keys get and lose, and what is told of them.
+ghost use Rattle.std.specs.Prelude.{◌≡◌, ◌≤ℤ◌, ◌^◌, pos, IfOk, IfSome, option_copied};
+ghost use Rattle.mr_resp.specs.ReplyView.{view};
+ghost use Rattle.mr_data.specs.Dataset.{IsLifetime};
+ghost use Rattle.mr_planning.specs.Turns.{Takes};
+ghost use Rattle.mr_cmd_key.specs.Expiring.{allows, deadline_in, expire_turn, in_seconds, is_until, lifetime_in, persist_turn, told_in};
+
+use crate::key_ask::ExpireCondition;
+use mr_data::{Effect, Entry, Given};
+use mr_planning::{Effects, count};
+use mr_resp::Reply;
+use mr_value::Word;
+use mr_words::Argument;
+use std::alloc::{AllocError, Global};
+
+/// `EXPIRE` and its kin
+pub fn expire(
+    alloc: Global,
+    key: &Argument<'_>,
+    condition: Option<ExpireCondition>,
+    deadline: i64,
+    seen: Option<&Entry>,
+    given: Given,
+    effects: &mut Effects,
+) -> Result<Reply, AllocError>
+    ensures { IfOk result (λ r. Takes (expire_turn key.now condition given.now deadline (option_copied seen.entry)) (view r) effects.old effects.new) }
+{
+    let Some(entry) = seen else {
+        return Ok(count(0));
+    };
+    if !allows(condition, entry.deadline, deadline) {
+        return Ok(count(0));
+    }
+    if deadline <= given.now() {
+        effects.push(Effect::Del {
+            key: Word::copied(alloc, key.as_slice())?,
+        })?;
+    } else if !is_until(deadline, entry.deadline) {
+        effects.push(Effect::Expire {
+            key: Word::copied(alloc, key.as_slice())?,
+            deadline,
+        })?;
+    }
+    Ok(count(1))
+}
+
+// Whether the condition lets a key with this deadline get another.
+fn allows(condition: Option<ExpireCondition>, held: Option<i64>, deadline: i64) -> bool
+    ensures { result ≡ allows condition held deadline }
+{
+    match condition {
+        None => true,
+        Some(ExpireCondition::Endless) => held.is_none(),
+        Some(ExpireCondition::Expiring) => held.is_some(),
+        Some(ExpireCondition::Later) => match held {
+            None => false,
+            Some(held) => held < deadline,
+        },
+        Some(ExpireCondition::Earlier) => match held {
+            None => true,
+            Some(held) => deadline < held,
+        },
+    }
+}
+
+// Whether this is the deadline.
+fn is_until(deadline: i64, held: Option<i64>) -> bool
+    ensures { result ≡ is_until deadline held }
+{
+    match held {
+        None => false,
+        Some(held) => held == deadline,
+    }
+}
+
+/// `PERSIST`
+pub fn persist(
+    alloc: Global,
+    key: &Argument<'_>,
+    seen: Option<&Entry>,
+    effects: &mut Effects,
+) -> Result<Reply, AllocError>
+    ensures { IfOk result (λ r. Takes (persist_turn key.now (option_copied seen.entry)) (view r) effects.old effects.new) }
+{
+    let Some(entry) = seen else {
+        return Ok(count(0));
+    };
+    if entry.deadline.is_none() {
+        return Ok(count(0));
+    }
+    effects.push(Effect::Persist {
+        key: Word::copied(alloc, key.as_slice())?,
+    })?;
+    Ok(count(1))
+}
+
+/// What a key's deadline is told as.
+#[derive(Clone, Copy)]
+pub enum DeadlineForm {
+    /// The seconds that are left (`TTL`).
+    SecondsLeft,
+    /// The milliseconds that are left (`PTTL`).
+    MillisecondsLeft,
+    /// The second (`EXPIRETIME`).
+    Second,
+    /// The millisecond (`PEXPIRETIME`).
+    Millisecond,
+}
+
+/// What is told of the deadline of a key: -2 where there is no key, and -1 where it has none.
+pub fn told_in(form: DeadlineForm, given: Given, seen: Option<&Entry>) -> i64
+    requires { IfSome (option_copied seen) (λ e. IsLifetime e.deadline) }
+    ensures { result ≡ told_in form given.now (option_copied seen.entry) }
+{
+    match seen {
+        None => -2,
+        Some(entry) => lifetime_in(form, given, entry.deadline),
+    }
+}
+
+fn lifetime_in(form: DeadlineForm, given: Given, deadline: Option<i64>) -> i64
+    requires { IsLifetime deadline }
+    ensures { result ≡ lifetime_in form given.now deadline }
+{
+    match deadline {
+        None => -1,
+        Some(deadline) => deadline_in(form, given, deadline),
+    }
+}
+
+fn deadline_in(form: DeadlineForm, given: Given, deadline: i64) -> i64
+    requires { IsLifetime (Some deadline) }
+    ensures { result ≡ deadline_in form given.now deadline }
+{
+    match form {
+        DeadlineForm::SecondsLeft => in_seconds(deadline - given.now()),
+        DeadlineForm::MillisecondsLeft => deadline - given.now(),
+        DeadlineForm::Second => in_seconds(deadline),
+        DeadlineForm::Millisecond => deadline,
+    }
+}
+
+// Milliseconds in seconds, rounded to the nearest number.
+fn in_seconds(milliseconds: i64) -> i64
+    requires { milliseconds ≤ℤ pos (2 ^ 62) }
+    ensures { result ≡ in_seconds milliseconds }
+{
+    (milliseconds + 500).div_euclid(1000)
+}

@@ -1,0 +1,73 @@
+// Commands that go over all keys of a dataset. Past ones are passed over.
+ghost use Rattle.std.specs.Prelude.{◌≡◌, IfOk, option_copied};
+ghost use Rattle.mr_resp.specs.ReplyView.{view};
+ghost use Rattle.mr_cmd_key.specs.Listing.{is_matched, is_listed_at, listed_at, bulks, scan_reply, from_cursor};
+
+use crate::key_ask::{Cursor, KindName};
+use crate::kinds::is_of_kind;
+use mr_data::{Dataset, Given};
+use mr_glob::glob;
+use mr_planning::{bulk, see};
+use mr_resp::Reply;
+use std::alloc::{AllocError, Global};
+
+/// The keys that match and are of the kind, in byte order.
+pub fn list_keys(
+    alloc: Global,
+    held: &Dataset,
+    pattern: Option<&[u8]>,
+    kind: Option<KindName>,
+    given: Given,
+) -> Result<Reply, AllocError>
+    ensures { IfOk result (λ r. view r ≡ bulks (listed_at given.now (option_copied pattern.entry) kind held.now)) }
+{
+    let mut replies = Vec::new(alloc);
+    for key in held.keys() {
+        if is_listed(held, key, pattern, kind, given) {
+            replies.push(bulk(alloc, key)?)?;
+        }
+    }
+    Ok(Reply::Array(replies))
+}
+
+fn is_listed(
+    held: &Dataset,
+    key: &[u8],
+    pattern: Option<&[u8]>,
+    kind: Option<KindName>,
+    given: Given,
+) -> bool
+    ensures { result ≡ is_listed_at given.now (option_copied pattern.entry) kind held.now key.now }
+{
+    is_matched(pattern, key) && is_of_kind(kind, see(held, key, given).0)
+}
+
+fn is_matched(pattern: Option<&[u8]>, key: &[u8]) -> bool
+    ensures { result ≡ is_matched (option_copied pattern.entry) key.now }
+{
+    match pattern {
+        None => true,
+        Some(pattern) => glob(pattern, key),
+    }
+}
+
+/// `SCAN`
+pub fn scan(
+    alloc: Global,
+    held: &Dataset,
+    cursor: Cursor,
+    pattern: Option<&[u8]>,
+    kind: Option<KindName>,
+    given: Given,
+) -> Result<Reply, AllocError>
+    ensures { IfOk result (λ r. view r ≡ scan_reply (from_cursor cursor (listed_at given.now (option_copied pattern.entry) kind held.now))) }
+{
+    let keys = match cursor {
+        Cursor::Start => list_keys(alloc, held, pattern, kind, given)?,
+        Cursor::Behind => Reply::Array(Vec::new(alloc)),
+    };
+    let mut parts = Vec::with_capacity(alloc, 2)?;
+    parts.push(bulk(alloc, b"0")?)?;
+    parts.push(keys)?;
+    Ok(Reply::Array(parts))
+}

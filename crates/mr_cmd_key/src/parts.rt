@@ -1,0 +1,132 @@
+// What single arguments say.
+ghost use Rattle.std.specs.Prelude.{◌≡◌};
+ghost use Rattle.std.specs.Cow.{cow_slice_items};
+ghost use Rattle.std.specs.Option.{option_map};
+ghost use Rattle.std.specs.Str.{bytes_eq};
+ghost use Rattle.mr_words.specs.Names.{lowered};
+ghost use Rattle.mr_words.specs.Parts.{not_below_1};
+ghost use Rattle.mr_cmd_key.specs.Parts.{positive, positive_if_any, cursor_at, cursor_of, timing_of, timing_text, is_kind, kind_of, expiring, key_expiry};
+ghost use Rattle.mr_expiry.specs.Expiry.{within_limit};
+
+use crate::key_ask::{Cursor, KindName, Timing};
+use mr_expiry::{Expiry, ExpiryUnit, within_limit};
+use mr_value::read_i64;
+use mr_words::{Argument, AskFault, BadValue, ExpiringCommand, integer, not_below_1};
+use std::borrow::CowSlice;
+
+/// A number from 1 on, where there is one.
+pub(crate) fn positive_if_any(word: &Option<Argument<'_>>) -> Result<Option<i64>, AskFault>
+    ensures { result ≡ positive_if_any word.now }
+{
+    match word {
+        None => Ok(None),
+        Some(word) => Ok(Some(positive(word.as_slice())?)),
+    }
+}
+
+fn positive(text: &[u8]) -> Result<i64, AskFault>
+    ensures { result ≡ positive text.now }
+{
+    not_below_1(AskFault::Syntax, read_i64(text).ok_or(AskFault::Integer)?)
+}
+
+/// Where a scan goes on at a cursor, which is a number that isn't below 0.
+pub(crate) fn cursor_of(word: &CowSlice<'_, u8>) -> Result<Cursor, AskFault>
+    ensures { result ≡ cursor_of (cow_slice_items word.now) }
+{
+    cursor_at(read_i64(word.as_slice()).ok_or(AskFault::Other(BadValue::Cursor))?)
+}
+
+fn cursor_at(number: i64) -> Result<Cursor, AskFault>
+    ensures { result ≡ cursor_at number }
+{
+    if number < 0 {
+        Err(AskFault::Other(BadValue::Cursor))
+    } else if number == 0 {
+        Ok(Cursor::Start)
+    } else {
+        Ok(Cursor::Behind)
+    }
+}
+
+/// `ASYNC` or `SYNC`, in any case.
+pub(crate) fn timing_of(word: &CowSlice<'_, u8>) -> Result<Timing, AskFault>
+    ensures { result ≡ timing_of (cow_slice_items word.now) }
+{
+    if is_timing(word, Timing::Later) {
+        Ok(Timing::Later)
+    } else if is_timing(word, Timing::Now) {
+        Ok(Timing::Now)
+    } else {
+        Err(AskFault::Syntax)
+    }
+}
+
+fn is_timing(word: &CowSlice<'_, u8>, timing: Timing) -> bool
+    ensures { result ≡ bytes_eq (lowered (cow_slice_items word.now)) (timing_text timing) }
+{
+    match timing {
+        Timing::Later => word.as_slice().eq_ignore_ascii_case(b"async"),
+        Timing::Now => word.as_slice().eq_ignore_ascii_case(b"sync"),
+    }
+}
+
+/// The kind that a word names, in any case, where there is one.
+pub(crate) fn kind_if_any(word: &Option<Argument<'_>>) -> Option<KindName>
+    ensures { result ≡ option_map kind_of word.now }
+{
+    match word {
+        None => None,
+        Some(word) => Some(kind_of(word.as_slice())),
+    }
+}
+
+fn kind_of(word: &[u8]) -> KindName
+    ensures { result ≡ kind_of word.now }
+{
+    if is_kind(word, KindName::Text) {
+        KindName::Text
+    } else if is_kind(word, KindName::Hash) {
+        KindName::Hash
+    } else if is_kind(word, KindName::List) {
+        KindName::List
+    } else if is_kind(word, KindName::Set) {
+        KindName::Set
+    } else if is_kind(word, KindName::SortedSet) {
+        KindName::SortedSet
+    } else {
+        KindName::Unknown
+    }
+}
+
+fn is_kind(word: &[u8], kind: KindName) -> bool
+    ensures { result ≡ is_kind word.now kind }
+{
+    match kind {
+        KindName::Text => word.eq_ignore_ascii_case(b"string"),
+        KindName::Hash => word.eq_ignore_ascii_case(b"hash"),
+        KindName::List => word.eq_ignore_ascii_case(b"list"),
+        KindName::Set => word.eq_ignore_ascii_case(b"set"),
+        KindName::SortedSet => word.eq_ignore_ascii_case(b"zset"),
+        KindName::Unknown => word.eq_ignore_ascii_case(b""),
+    }
+}
+
+// The command that sets a deadline in this unit.
+fn expiring(unit: ExpiryUnit) -> ExpiringCommand
+    ensures { result ≡ expiring unit }
+{
+    match unit {
+        ExpiryUnit::Seconds => ExpiringCommand::Expire,
+        ExpiryUnit::Milliseconds => ExpiringCommand::PExpire,
+        ExpiryUnit::AtSecond => ExpiringCommand::ExpireAt,
+        ExpiryUnit::AtMillisecond => ExpiringCommand::PExpireAt,
+    }
+}
+
+/// What the number of `EXPIRE` says, and of its kin.
+pub(crate) fn key_expiry(unit: ExpiryUnit, word: &CowSlice<'_, u8>) -> Result<Expiry, AskFault>
+    ensures { result ≡ key_expiry unit (cow_slice_items word.now) }
+{
+    within_limit(expiring(unit), unit, integer(word)?)
+}

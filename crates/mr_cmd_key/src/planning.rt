@@ -1,0 +1,235 @@
+// The plan of a command on keys, whatever they hold.
+ghost use Rattle.std.specs.Prelude.{◌≡◌, IfOk, IsTrue, option_copied};
+ghost use Rattle.std.specs.List.{list_all};
+ghost use Rattle.mr_value.specs.Words.{fits};
+ghost use Rattle.mr_resp.specs.ReplyView.{view};
+ghost use Rattle.mr_cmd_key.specs.Carried.{key_words};
+ghost use Rattle.mr_expiry.specs.Expiry.{deadline_at};
+ghost use Rattle.mr_planning.specs.Commands.{IsPlan, IsFaithful, HasCommandTexts, on_key, on_keys, on_none};
+ghost use Rattle.mr_cmd_key.specs.Commands.{command, HasDeadline};
+ghost use Rattle.mr_cmd_key.specs.Turns.{type_turn};
+ghost use Rattle.mr_cmd_key.specs.Expiring.{expire_turn, persist_turn, deadline_turn};
+ghost use Rattle.mr_cmd_key.specs.Outcomes.{deleted, counted};
+ghost use Rattle.mr_cmd_key.specs.Renaming.{cleared};
+ghost use Rattle.mr_cmd_key.specs.Listing.{matching, scanned, sized};
+
+use crate::counting::{count_keys, count_present};
+use crate::expiring::DeadlineForm;
+use crate::key_ask::{Cursor, ExpireCondition, KeyAsk, KindName};
+use crate::renaming::{rename, rename_new};
+use crate::{expiring, kinds, listing};
+use mr_data::{Dataset, Effect, Given, Plan};
+use mr_expiry::Expiry;
+use mr_planning::{Effects, count, done, integer, look, push_dels};
+use mr_words::{Argument, Words};
+use std::alloc::{AllocError, Global};
+
+/// What a command on keys is answered, and its effects. The dataset isn't changed, and the plan owns what it holds.
+///
+/// # Errors
+///
+/// Memory ran out.
+pub fn plan(
+    alloc: Global,
+    held: &Dataset,
+    ask: &KeyAsk<'_, '_>,
+    given: Given,
+) -> Result<Plan, AllocError>
+    ensures plan { IfOk result (λ p. IsPlan (command ask.now given.now) given.now held.now (view p.reply) p.effects.items) }
+
+    // The effects lead to what the command leaves, and its own ones are there exactly where it changes something.
+    ensures faithful { IsTrue (list_all fits (key_words ask.now)) → IsFaithful (command ask.now given.now) given.now held.now }
+
+    // .. and their texts are command texts.
+    ensures texts { IsTrue (list_all fits (key_words ask.now)) → HasCommandTexts (command ask.now given.now) given.now held.now }
+{
+    deadline_can_be_named(ask, given);
+    planned(alloc, held, ask, given)
+}
+
+// The deadline that a command sets was read within limits. Where it lies ahead, it is within those of effects.
+fn deadline_can_be_named(ask: &KeyAsk<'_, '_>, given: Given)
+    ensures { HasDeadline ask.now given.now }
+{
+    if let KeyAsk::Expire { expiry, .. } = ask {
+        let _deadline = expiry.deadline(given.now());
+    }
+}
+
+fn planned(
+    alloc: Global,
+    held: &Dataset,
+    ask: &KeyAsk<'_, '_>,
+    given: Given,
+) -> Result<Plan, AllocError>
+    ensures { IfOk result (λ p. IsPlan (command ask.now given.now) given.now held.now (view p.reply) p.effects.items) }
+{
+    match ask {
+        KeyAsk::Del { keys } => delete(alloc, held, keys, given),
+        KeyAsk::Unlink { keys } => delete(alloc, held, keys, given),
+        KeyAsk::Exists { keys } => exists(alloc, held, keys, given),
+        KeyAsk::KeyType { key } => key_type(alloc, held, key, given),
+        KeyAsk::MatchingKeys { pattern } => matching_keys(alloc, held, pattern, given),
+        KeyAsk::Scan {
+            cursor,
+            pattern,
+            kind,
+        } => scan(alloc, held, *cursor, pattern, *kind, given),
+        KeyAsk::CountKeys => key_count(alloc, held, given),
+        KeyAsk::Rename { from, to } => rename(alloc, held, from, to, given),
+        KeyAsk::RenameNew { from, to } => rename_new(alloc, held, from, to, given),
+        KeyAsk::Clear { .. } => clear(alloc, held, given),
+        KeyAsk::Expire {
+            key,
+            expiry,
+            condition,
+        } => expire(alloc, held, key, *expiry, *condition, given),
+        KeyAsk::Ttl { key } => deadline(alloc, held, key, DeadlineForm::SecondsLeft, given),
+        KeyAsk::PTtl { key } => deadline(alloc, held, key, DeadlineForm::MillisecondsLeft, given),
+        KeyAsk::ExpireTime { key } => deadline(alloc, held, key, DeadlineForm::Second, given),
+        KeyAsk::PExpireTime { key } => {
+            deadline(alloc, held, key, DeadlineForm::Millisecond, given)
+        }
+        KeyAsk::Persist { key } => persist(alloc, held, key, given),
+    }
+}
+
+fn delete(
+    alloc: Global,
+    held: &Dataset,
+    keys: &Words<'_, '_>,
+    given: Given,
+) -> Result<Plan, AllocError>
+    ensures { IfOk result (λ p. IsPlan (on_keys keys.now (deleted keys.now)) given.now held.now (view p.reply) p.effects.items) }
+{
+    let mut effects = Effects::new(alloc);
+    push_dels(alloc, held, keys, given, true, &mut effects)?;
+    let count = push_dels(alloc, held, keys, given, false, &mut effects)?;
+    Ok(effects.into_plan(integer(count)))
+}
+
+fn exists(
+    alloc: Global,
+    held: &Dataset,
+    keys: &Words<'_, '_>,
+    given: Given,
+) -> Result<Plan, AllocError>
+    ensures { IfOk result (λ p. IsPlan (on_keys keys.now (counted keys.now)) given.now held.now (view p.reply) p.effects.items) }
+{
+    let mut effects = Effects::new(alloc);
+    push_dels(alloc, held, keys, given, true, &mut effects)?;
+    let present = count_present(held, keys.as_slice(), given);
+    Ok(effects.into_plan(count(present)))
+}
+
+fn key_type(
+    alloc: Global,
+    held: &Dataset,
+    key: &Argument<'_>,
+    given: Given,
+) -> Result<Plan, AllocError>
+    ensures { IfOk result (λ p. IsPlan (on_key key.now type_turn) given.now held.now (view p.reply) p.effects.items) }
+{
+    let mut effects = Effects::new(alloc);
+    let seen = look(alloc, held, key, given, &mut effects)?;
+    let reply = kinds::key_type(seen);
+    Ok(effects.into_plan(reply))
+}
+
+fn matching_keys(
+    alloc: Global,
+    held: &Dataset,
+    pattern: &Argument<'_>,
+    given: Given,
+) -> Result<Plan, AllocError>
+    ensures { IfOk result (λ p. IsPlan (on_none (matching pattern.now)) given.now held.now (view p.reply) p.effects.items) }
+{
+    let reply = listing::list_keys(alloc, held, Some(pattern.as_slice()), None, given)?;
+    Ok(Effects::new(alloc).into_plan(reply))
+}
+
+fn scan(
+    alloc: Global,
+    held: &Dataset,
+    cursor: Cursor,
+    pattern: &Option<Argument<'_>>,
+    kind: Option<KindName>,
+    given: Given,
+) -> Result<Plan, AllocError>
+    ensures { IfOk result (λ p. IsPlan (on_none (scanned cursor pattern.now kind)) given.now held.now (view p.reply) p.effects.items) }
+{
+    let reply = listing::scan(alloc, held, cursor, bytes_of(pattern), kind, given)?;
+    Ok(Effects::new(alloc).into_plan(reply))
+}
+
+fn bytes_of<'a>(word: &Option<Argument<'a>>) -> Option<&'a [u8]>
+    ensures { option_copied result ≡ word.now }
+{
+    match word {
+        None => None,
+        Some(word) => Some(word.as_slice()),
+    }
+}
+
+fn key_count(alloc: Global, held: &Dataset, given: Given) -> Result<Plan, AllocError>
+    ensures { IfOk result (λ p. IsPlan (on_none sized) given.now held.now (view p.reply) p.effects.items) }
+{
+    let present = count_keys(held, given);
+    Ok(Effects::new(alloc).into_plan(count(present)))
+}
+
+fn clear(alloc: Global, held: &Dataset, given: Given) -> Result<Plan, AllocError>
+    ensures { IfOk result (λ p. IsPlan (on_none cleared) given.now held.now (view p.reply) p.effects.items) }
+{
+    let mut effects = Effects::new(alloc);
+    if !held.is_empty() {
+        effects.push(Effect::Clear)?;
+    }
+    Ok(effects.into_plan(done()))
+}
+
+fn expire(
+    alloc: Global,
+    held: &Dataset,
+    key: &Argument<'_>,
+    expiry: Expiry,
+    condition: Option<ExpireCondition>,
+    given: Given,
+) -> Result<Plan, AllocError>
+    ensures { IfOk result (λ p. IsPlan (on_key key.now (expire_turn key.now condition given.now (deadline_at given.now expiry))) given.now held.now (view p.reply) p.effects.items) }
+{
+    let mut effects = Effects::new(alloc);
+    let seen = look(alloc, held, key, given, &mut effects)?;
+    let deadline = expiry.deadline(given.now());
+    let reply = expiring::expire(alloc, key, condition, deadline, seen, given, &mut effects)?;
+    Ok(effects.into_plan(reply))
+}
+
+fn persist(
+    alloc: Global,
+    held: &Dataset,
+    key: &Argument<'_>,
+    given: Given,
+) -> Result<Plan, AllocError>
+    ensures { IfOk result (λ p. IsPlan (on_key key.now (persist_turn key.now)) given.now held.now (view p.reply) p.effects.items) }
+{
+    let mut effects = Effects::new(alloc);
+    let seen = look(alloc, held, key, given, &mut effects)?;
+    let reply = expiring::persist(alloc, key, seen, &mut effects)?;
+    Ok(effects.into_plan(reply))
+}
+
+fn deadline(
+    alloc: Global,
+    held: &Dataset,
+    key: &Argument<'_>,
+    form: DeadlineForm,
+    given: Given,
+) -> Result<Plan, AllocError>
+    ensures { IfOk result (λ p. IsPlan (on_key key.now (deadline_turn form given.now)) given.now held.now (view p.reply) p.effects.items) }
+{
+    let mut effects = Effects::new(alloc);
+    let seen = look(alloc, held, key, given, &mut effects)?;
+    let number = expiring::told_in(form, given, seen);
+    Ok(effects.into_plan(integer(number)))
+}

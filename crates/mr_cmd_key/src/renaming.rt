@@ -1,0 +1,125 @@
+// What one key has goes to another.
+ghost use Rattle.std.specs.Prelude.{◌≡◌, ◌∷◌, [], ◌++◌, IfOk, OnOk, option_copied};
+ghost use Rattle.std.specs.FinMap.{get};
+ghost use Rattle.std.specs.Str.{bytes_eq};
+ghost use Rattle.mr_resp.specs.ReplyView.{view};
+ghost use Rattle.mr_data.specs.Dataset.{live};
+ghost use Rattle.mr_entries.specs.Dataset.{Dataset as Map};
+ghost use Rattle.mr_planning.specs.Keys.{dels, past};
+ghost use Rattle.mr_planning.specs.Commands.{IsPlan, on_keys};
+ghost use Rattle.mr_cmd_key.specs.Renaming.{Gives, carried_if, no_key, renamed, renamed_new};
+
+use mr_data::{Dataset, Effect, Entry, Given, Plan};
+use mr_planning::{Effects, count, done, look};
+use mr_resp::Reply;
+use mr_value::Word;
+use mr_words::Argument;
+use std::alloc::{AllocError, Global};
+use std::borrow::CowSlice;
+
+/// `RENAME`
+pub fn rename(
+    alloc: Global,
+    held: &Dataset,
+    from: &Argument<'_>,
+    to: &Argument<'_>,
+    given: Given,
+) -> Result<Plan, AllocError>
+    ensures { IfOk result (λ p. IsPlan (on_keys (from.now ∷ to.now ∷ []) (renamed from.now to.now)) given.now held.now (view p.reply) p.effects.items) }
+{
+    let mut effects = Effects::new(alloc);
+    let (source, _) = look_at_both(alloc, held, from, to, given, &mut effects)?;
+    let reply = carry(alloc, from, to, done(), source, &mut effects)?;
+    Ok(effects.into_plan(reply))
+}
+
+/// `RENAMENX`
+pub fn rename_new(
+    alloc: Global,
+    held: &Dataset,
+    from: &Argument<'_>,
+    to: &Argument<'_>,
+    given: Given,
+) -> Result<Plan, AllocError>
+    ensures { IfOk result (λ p. IsPlan (on_keys (from.now ∷ to.now ∷ []) (renamed_new from.now to.now)) given.now held.now (view p.reply) p.effects.items) }
+{
+    let mut effects = Effects::new(alloc);
+    let (source, target) = look_at_both(alloc, held, from, to, given, &mut effects)?;
+    let reply = carry_new(alloc, from, to, source, target, &mut effects)?;
+    Ok(effects.into_plan(reply))
+}
+
+// What is seen at two keys, which may be one. Past ones get their DELs.
+fn look_at_both<'d>(
+    alloc: Global,
+    held: &'d Dataset,
+    from: &Argument<'_>,
+    to: &Argument<'_>,
+    given: Given,
+    effects: &mut Effects,
+) -> Result<(Option<&'d Entry>, Option<&'d Entry>), AllocError>
+    ensures source { IfOk result (λ r. option_copied r.0 ≡ live given.now (get held.now from.now)) }
+    ensures target { IfOk result (λ r. option_copied r.1 ≡ live given.now (get held.now to.now)) }
+    ensures past { IfOk result (λ _. effects.new ≡ effects.old ++ dels (past given.now (from.now ∷ to.now ∷ []) held.now)) }
+{
+    let source = look(alloc, held, from, given, effects)?;
+    let target = if same(from, to) {
+        source
+    } else {
+        look(alloc, held, to, given, effects)?
+    };
+    Ok((source, target))
+}
+
+// What the one key has goes to the other, and this is answered.
+fn carry(
+    alloc: Global,
+    from: &Argument<'_>,
+    to: &Argument<'_>,
+    reply: Reply,
+    source: Option<&Entry>,
+    effects: &mut Effects,
+) -> Result<Reply, AllocError>
+    ensures { IfOk result (λ r. (m : Map) → Gives (carried_if from.now to.now (view reply) (option_copied source.entry) m) (view r) effects.old effects.new) }
+{
+    if source.is_none() {
+        return Ok(no_key());
+    }
+    if !same(from, to) {
+        effects.push(Effect::Rename {
+            from: Word::copied(alloc, from.as_slice())?,
+            to: Word::copied(alloc, to.as_slice())?,
+        })?;
+    }
+    Ok(reply)
+}
+
+// .. unless the other is there.
+fn carry_new(
+    alloc: Global,
+    from: &Argument<'_>,
+    to: &Argument<'_>,
+    source: Option<&Entry>,
+    target: Option<&Entry>,
+    effects: &mut Effects,
+) -> Result<Reply, AllocError>
+    ensures { IfOk result (λ r. (m : Map) → get m from.now ≡ option_copied source.entry → get m to.now ≡ option_copied target.entry → Gives (renamed_new from.now to.now m) (view r) effects.old effects.new) }
+{
+    if source.is_some() && target.is_some() {
+        return Ok(count(0));
+    }
+    carry(alloc, from, to, count(1), source, effects)
+}
+
+fn no_key() -> Reply
+    ensures { view result ≡ no_key }
+{
+    Reply::Error(CowSlice::Borrowed(b"ERR no such key"))
+}
+
+// Whether two keys are one.
+fn same(from: &Argument<'_>, to: &Argument<'_>) -> bool
+    ensures { result ≡ bytes_eq from.now to.now }
+{
+    from.as_slice() == to.as_slice()
+}

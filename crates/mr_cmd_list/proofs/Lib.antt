@@ -1,0 +1,14 @@
+pub mod PartLemmas
+pub mod ArgumentLemmas
+pub mod PushLemmas
+pub mod PopLemmas
+pub mod MoveLemmas
+pub mod NumberLemmas
+pub mod OneEffect
+pub mod PushLaws
+pub mod Sizes
+pub mod PopLaws
+pub mod EditLaws
+pub mod MoveLaws
+pub mod Laws
+pub mod LeftAndTold

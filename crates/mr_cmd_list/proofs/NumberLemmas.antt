@@ -1,0 +1,27 @@
+-- The numbers in effects.
+use Rattle.std.proofs.Common.{ℕ, ◌≡◌, Option, Some, None, sym, subst}
+use Rattle.mr_entries.specs.declared.value.Entry.{Entry}
+use Rattle.mr_cmd_list.specs.declared.list_ask.ListAsk.{ListAsk}
+use Rattle.mr_cmd_list.specs.declared.list_ask.ListAsk.TheVariants as ask
+use Rattle.mr_cmd_list.specs.Numbers.{IsShortFor, HasNumbers}
+
+not_many : (count : Option ℕ) → IsShortFor count None
+not_many None = tt
+not_many (Some most) = tt
+
+not_there : (a : ListAsk) → HasNumbers a None
+not_there (ask.Push k end to items) = tt
+not_there (ask.Pop k end count) = not_many count
+not_there (ask.CountItems k) = tt
+not_there (ask.Range k first last) = tt
+not_there (ask.GetItem k index) = tt
+not_there (ask.SetItem k index item) = tt
+not_there (ask.InsertItem k side pivot item) = tt
+not_there (ask.RemoveItems k count item) = tt
+not_there (ask.Trim k first last) = tt
+not_there (ask.MoveItem from to taken put) = tt
+not_there (ask.MoveLastToFront from to) = tt
+
+-- with nothing at the key there are none
+pub nothing_seen : (a : ListAsk) (o : Option Entry) → o ≡ None → HasNumbers a o
+nothing_seen a o h = subst (HasNumbers a) (sym h) (not_there a)

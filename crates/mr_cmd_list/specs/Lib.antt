@@ -1,0 +1,15 @@
+pub mod Parts
+pub mod Arguments
+pub mod Carried
+pub mod Called
+pub mod Spelled
+pub mod Askable
+pub mod Lists
+pub mod Telling
+pub mod Pushes
+pub mod Pops
+pub mod Edits
+pub mod Moves
+pub mod Commands
+pub mod Numbers
+pub mod Laws

@@ -1,0 +1,161 @@
+// Items of a list replaced, inserted and removed.
+ghost use Rattle.std.specs.Prelude.{◌≡◌, ◌<◌, ◌^◌, IfOk, option_copied};
+ghost use Rattle.mr_resp.specs.ReplyView.{view};
+ghost use Rattle.mr_value.specs.Lists.{removed_count, count_of};
+ghost use Rattle.mr_planning.specs.Turns.{Takes};
+ghost use Rattle.mr_cmd_list.specs.Numbers.{IsShort, IsNumberFor};
+ghost use Rattle.mr_cmd_list.specs.Edits.{set_turn, insert_turn, remove_turn, trim_turn, is_item};
+
+use crate::replies::{no_such_key, out_of_range};
+use mr_data::{Effect, Entry, Value};
+use mr_planning::{Effects, done, integer, wrong_kind};
+use mr_resp::Reply;
+use mr_value::{ListValue, Side, Word, place, window};
+use mr_words::Argument;
+use std::alloc::{AllocError, Global};
+
+/// Another item in the place that an index names.
+pub fn set(
+    alloc: Global,
+    key: &Argument<'_>,
+    index: i64,
+    item: &Argument<'_>,
+    seen: Option<&Entry>,
+    effects: &mut Effects,
+) -> Result<Reply, AllocError>
+    ensures takes { IfOk result (λ r. Takes (set_turn key.now index item.now (option_copied seen.entry)) (view r) effects.old effects.new) }
+    ensures short { IsShort (option_copied seen.entry) }
+{
+    let Some(entry) = seen else {
+        return Ok(no_such_key());
+    };
+    let Value::List(list) = &entry.value else {
+        return Ok(wrong_kind());
+    };
+    let Some(place) = place(index, list.len()) else {
+        return Ok(out_of_range());
+    };
+    if !is_item(item.as_slice(), list.get(place)) {
+        effects.push(Effect::SetItem {
+            key: Word::copied(alloc, key.as_slice())?,
+            place: place as i64,
+            item: Word::copied(alloc, item.as_slice())?,
+        })?;
+    }
+    Ok(done())
+}
+
+// Whether this item is there already.
+fn is_item(item: &[u8], there: Option<&[u8]>) -> bool
+    ensures { result ≡ is_item item.now (option_copied there.entry) }
+{
+    match there {
+        None => false,
+        Some(there) => there == item,
+    }
+}
+
+/// An item beside the first pivot.
+pub fn insert(
+    alloc: Global,
+    key: &Argument<'_>,
+    side: Side,
+    pivot: &Argument<'_>,
+    item: &Argument<'_>,
+    seen: Option<&Entry>,
+    effects: &mut Effects,
+) -> Result<Reply, AllocError>
+    ensures { IfOk result (λ r. Takes (insert_turn key.now side pivot.now item.now (option_copied seen.entry)) (view r) effects.old effects.new) }
+{
+    let Some(entry) = seen else {
+        return Ok(integer(0));
+    };
+    let Value::List(list) = &entry.value else {
+        return Ok(wrong_kind());
+    };
+    if list.position(pivot.as_slice()).is_none() {
+        return Ok(integer(-1));
+    }
+    effects.push(Effect::InsertItem {
+        key: Word::copied(alloc, key.as_slice())?,
+        side,
+        pivot: Word::copied(alloc, pivot.as_slice())?,
+        item: Word::copied(alloc, item.as_slice())?,
+    })?;
+    Ok(integer((list.len() + 1) as i64))
+}
+
+/// Items that equal one removed.
+pub fn remove(
+    alloc: Global,
+    key: &Argument<'_>,
+    count: i64,
+    item: &Argument<'_>,
+    seen: Option<&Entry>,
+    effects: &mut Effects,
+) -> Result<Reply, AllocError>
+    ensures number { IsNumberFor count (option_copied seen.entry) }
+    ensures takes { IfOk result (λ r. Takes (remove_turn key.now count item.now (option_copied seen.entry)) (view r) effects.old effects.new) }
+{
+    let Some(entry) = seen else {
+        return Ok(integer(0));
+    };
+    let Value::List(list) = &entry.value else {
+        return Ok(wrong_kind());
+    };
+    let removed = removed_count(list, count, item.as_slice());
+    if removed != 0 {
+        effects.push(Effect::RemoveItems {
+            key: Word::copied(alloc, key.as_slice())?,
+            count,
+            item: Word::copied(alloc, item.as_slice())?,
+        })?;
+    }
+    Ok(integer(removed as i64))
+}
+
+// How many items go.
+fn removed_count(list: &ListValue, count: i64, item: &[u8]) -> usize
+    ensures count { result ≡ removed_count count (count_of item.now list.now) }
+    ensures small { result < 2 ^ 63 }
+{
+    let len = list.len();
+    let removed = list.count_removed(count, item);
+    prove!(removed <= len);
+    removed
+}
+
+/// The items between two indexes alone, both included.
+pub fn trim(
+    alloc: Global,
+    key: &Argument<'_>,
+    first: i64,
+    last: i64,
+    seen: Option<&Entry>,
+    effects: &mut Effects,
+) -> Result<Reply, AllocError>
+    ensures takes { IfOk result (λ r. Takes (trim_turn key.now first last (option_copied seen.entry)) (view r) effects.old effects.new) }
+    ensures short { IsShort (option_copied seen.entry) }
+{
+    let Some(entry) = seen else {
+        return Ok(done());
+    };
+    let Value::List(list) = &entry.value else {
+        return Ok(wrong_kind());
+    };
+    let len = list.len();
+    let Some((first, last)) = window(first, last, len) else {
+        effects.push(Effect::Del {
+            key: Word::copied(alloc, key.as_slice())?,
+        })?;
+        return Ok(done());
+    };
+    if first > 0 || last + 1 < len {
+        effects.push(Effect::Trim {
+            key: Word::copied(alloc, key.as_slice())?,
+            first: first as i64,
+            last: last as i64,
+        })?;
+    }
+    Ok(done())
+}

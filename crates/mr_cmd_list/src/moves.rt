@@ -1,0 +1,128 @@
+// An item taken from an end of one list and put at an end of another, or of the same.
+ghost use Rattle.std.specs.Prelude.{◌≡◌, ◌++◌, is_some, IfOk, option_copied};
+ghost use Rattle.std.specs.Str.{bytes_eq};
+ghost use Rattle.mr_resp.specs.ReplyView.{view};
+ghost use Rattle.mr_data.specs.Dataset.{IsDataset};
+ghost use Rattle.mr_entries.specs.Steps.{lists, held};
+ghost use Rattle.mr_planning.specs.Turns.{Takes};
+ghost use Rattle.mr_planning.specs.Commands.{IsPlan};
+ghost use Rattle.mr_cmd_list.specs.Moves.{rotate_turn, carry, moving};
+
+use crate::ends::{end_item, is_same_end};
+use mr_data::{Dataset, Effect, Entry, Given, Plan, Value};
+use mr_planning::{Effects, bulk, look, wrong_kind};
+use mr_resp::Reply;
+use mr_value::{End, Word};
+use mr_words::Argument;
+use std::alloc::{AllocError, Global};
+
+/// The plan of a command that moves an item. A key that is named twice is looked at once.
+pub fn move_item(
+    alloc: Global,
+    held: &Dataset,
+    from: &Argument<'_>,
+    to: &Argument<'_>,
+    taken: End,
+    put: End,
+    given: Given,
+) -> Result<Plan, AllocError>
+    ensures plan { IfOk result (λ p. IsPlan (moving from.now to.now taken put) given.now held.now (view p.reply) p.effects.items) }
+    ensures kept { IsDataset held.now }
+{
+    let mut effects = Effects::new(alloc);
+    let source = look(alloc, held, from, given, &mut effects)?;
+    if is_same_key(from, to) {
+        let reply = rotate(alloc, from, taken, put, source, &mut effects)?;
+        return Ok(effects.into_plan(reply));
+    }
+    let target = look(alloc, held, to, given, &mut effects)?;
+    let reply = carry(alloc, from, to, taken, put, source, target, &mut effects)?;
+    Ok(effects.into_plan(reply))
+}
+
+fn is_same_key(key: &Argument<'_>, other: &Argument<'_>) -> bool
+    ensures { result ≡ bytes_eq key.now other.now }
+{
+    key.as_slice() == other.as_slice()
+}
+
+/// From one end of a list to another of the same.
+pub fn rotate(
+    alloc: Global,
+    key: &Argument<'_>,
+    taken: End,
+    put: End,
+    seen: Option<&Entry>,
+    effects: &mut Effects,
+) -> Result<Reply, AllocError>
+    ensures { IfOk result (λ r. Takes (rotate_turn key.now taken put (option_copied seen.entry)) (view r) effects.old effects.new) }
+{
+    let Some(entry) = seen else {
+        return Ok(Reply::NullBulk);
+    };
+    let Value::List(list) = &entry.value else {
+        return Ok(wrong_kind());
+    };
+    let Some(item) = end_item(list, taken) else {
+        return Ok(Reply::NullBulk);
+    };
+    let reply = bulk(alloc, item)?;
+    if !is_same_end(taken, put) && !list.is_uniform() {
+        effects.push(Effect::MoveItem {
+            from: Word::copied(alloc, key.as_slice())?,
+            to: Word::copied(alloc, key.as_slice())?,
+            taken,
+            put,
+        })?;
+    }
+    Ok(reply)
+}
+
+// From one list to another.
+fn carry(
+    alloc: Global,
+    from: &Argument<'_>,
+    to: &Argument<'_>,
+    taken: End,
+    put: End,
+    source: Option<&Entry>,
+    target: Option<&Entry>,
+    effects: &mut Effects,
+) -> Result<Reply, AllocError>
+    ensures reply { IfOk result (λ r. view r ≡ (carry from.now to.now taken put (option_copied source.entry) (option_copied target.entry)).reply) }
+    ensures effects { IfOk result (λ _. effects.new ≡ effects.old ++ (carry from.now to.now taken put (option_copied source.entry) (option_copied target.entry)).effects) }
+{
+    let Some(entry) = source else {
+        return Ok(Reply::NullBulk);
+    };
+    let Value::List(list) = &entry.value else {
+        return Ok(wrong_kind());
+    };
+    if !takes_items(target) {
+        return Ok(wrong_kind());
+    }
+    let Some(item) = end_item(list, taken) else {
+        return Ok(Reply::NullBulk);
+    };
+    let reply = bulk(alloc, item)?;
+    effects.push(Effect::MoveItem {
+        from: Word::copied(alloc, from.as_slice())?,
+        to: Word::copied(alloc, to.as_slice())?,
+        taken,
+        put,
+    })?;
+    Ok(reply)
+}
+
+// Whether the key is absent or holds a list.
+fn takes_items(target: Option<&Entry>) -> bool
+    ensures { result ≡ is_some (held lists (option_copied target.entry)) }
+{
+    match target {
+        None => true,
+        Some(entry) => match &entry.value {
+            Value::List(_) => true,
+            Value::Text(_) | Value::Hash(_) | Value::Set(_) | Value::SortedSet(_) => false,
+        },
+    }
+}

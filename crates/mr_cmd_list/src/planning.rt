@@ -1,0 +1,142 @@
+// The plan of a command.
+ghost use Rattle.std.specs.Prelude.{IsTrue, IfOk, option_copied};
+ghost use Rattle.std.specs.List.{list_all};
+ghost use Rattle.std.specs.FinMap.{get};
+ghost use Rattle.mr_value.specs.Words.{fits};
+ghost use Rattle.mr_resp.specs.ReplyView.{view};
+ghost use Rattle.mr_data.specs.Dataset.{IsDataset, live};
+ghost use Rattle.mr_cmd_list.specs.Carried.{list_words};
+ghost use Rattle.mr_planning.specs.Turns.{Takes};
+ghost use Rattle.mr_planning.specs.Commands.{on_key, IsPlan, IsFaithful, HasCommandTexts};
+ghost use Rattle.mr_cmd_list.specs.Numbers.{HasNumbers, HasNumbersIn};
+ghost use Rattle.mr_cmd_list.specs.Commands.{turn, command};
+
+use crate::list_ask::ListAsk;
+use crate::{edits, moves, pops, pushes, telling};
+use mr_data::{Dataset, Entry, Given, Plan};
+use mr_planning::{Effects, look};
+use mr_resp::Reply;
+use mr_value::End;
+use mr_words::Argument;
+use std::alloc::{AllocError, Global};
+
+/// What a command on lists is answered, and its effects. The dataset isn't changed, and the plan owns what it holds.
+pub fn plan(
+    alloc: Global,
+    held: &Dataset,
+    ask: &ListAsk<'_, '_>,
+    given: Given,
+) -> Result<Plan, AllocError>
+    ensures plan { IfOk result (λ p. IsPlan (command ask.now) given.now held.now (view p.reply) p.effects.items) }
+
+    // The effects lead to what the command leaves, and its own ones are there exactly where it changes something.
+    ensures faithful { IsTrue (list_all fits (list_words ask.now)) → IsFaithful (command ask.now) given.now held.now }
+
+    // .. and their texts are command texts.
+    ensures texts { IsTrue (list_all fits (list_words ask.now)) → HasCommandTexts (command ask.now) given.now held.now }
+{
+    planned(alloc, held, ask, given)
+}
+
+// The plan, and what is known of the dataset.
+fn planned(
+    alloc: Global,
+    held: &Dataset,
+    ask: &ListAsk<'_, '_>,
+    given: Given,
+) -> Result<Plan, AllocError>
+    ensures plan { IfOk result (λ p. IsPlan (command ask.now) given.now held.now (view p.reply) p.effects.items) }
+    ensures kept { IsDataset held.now }
+    ensures numbers { HasNumbersIn ask.now given.now held.now }
+{
+    match ask {
+        ListAsk::Push { key, .. } => at_key(alloc, held, key, ask, given),
+        ListAsk::Pop { key, .. } => at_key(alloc, held, key, ask, given),
+        ListAsk::CountItems { key } => at_key(alloc, held, key, ask, given),
+        ListAsk::Range { key, .. } => at_key(alloc, held, key, ask, given),
+        ListAsk::GetItem { key, .. } => at_key(alloc, held, key, ask, given),
+        ListAsk::SetItem { key, .. } => at_key(alloc, held, key, ask, given),
+        ListAsk::InsertItem { key, .. } => at_key(alloc, held, key, ask, given),
+        ListAsk::RemoveItems { key, .. } => at_key(alloc, held, key, ask, given),
+        ListAsk::Trim { key, .. } => at_key(alloc, held, key, ask, given),
+        ListAsk::MoveItem {
+            from,
+            to,
+            taken,
+            put,
+        } => moves::move_item(alloc, held, from, to, *taken, *put, given),
+        ListAsk::MoveLastToFront { from, to } => {
+            moves::move_item(alloc, held, from, to, End::Right, End::Left, given)
+        }
+    }
+}
+
+// The plan of a command on one key.
+fn at_key(
+    alloc: Global,
+    held: &Dataset,
+    key: &Argument<'_>,
+    ask: &ListAsk<'_, '_>,
+    given: Given,
+) -> Result<Plan, AllocError>
+    ensures plan { IfOk result (λ p. IsPlan (on_key key.now (turn ask.now)) given.now held.now (view p.reply) p.effects.items) }
+    ensures kept { IsDataset held.now }
+    ensures numbers { HasNumbers ask.now (live given.now (get held.now key.now)) }
+{
+    let mut effects = Effects::new(alloc);
+    let seen = look(alloc, held, key, given, &mut effects)?;
+    let reply = turn(alloc, ask, seen, &mut effects)?;
+    Ok(effects.into_plan(reply))
+}
+
+// What a command does at a key, where it names no other.
+fn turn(
+    alloc: Global,
+    ask: &ListAsk<'_, '_>,
+    seen: Option<&Entry>,
+    effects: &mut Effects,
+) -> Result<Reply, AllocError>
+    ensures numbers { HasNumbers ask.now (option_copied seen.entry) }
+    ensures takes { IfOk result (λ r. Takes (turn ask.now (option_copied seen.entry)) (view r) effects.old effects.new) }
+{
+    match ask {
+        ListAsk::Push {
+            key,
+            end,
+            to,
+            items,
+        } => pushes::push(alloc, key, *end, *to, items, seen, effects),
+        ListAsk::Pop { key, end, count } => pops::pop(alloc, key, *end, *count, seen, effects),
+        ListAsk::CountItems { .. } => Ok(telling::length(seen)),
+        ListAsk::Range {
+            key: _,
+            first,
+            last,
+        } => telling::range(alloc, *first, *last, seen),
+        ListAsk::GetItem { key: _, index } => telling::item(alloc, *index, seen),
+        ListAsk::SetItem { key, index, item } => {
+            edits::set(alloc, key, *index, item, seen, effects)
+        }
+        ListAsk::InsertItem {
+            key,
+            side,
+            pivot,
+            item,
+        } => edits::insert(alloc, key, *side, pivot, item, seen, effects),
+        ListAsk::RemoveItems { key, count, item } => {
+            edits::remove(alloc, key, *count, item, seen, effects)
+        }
+        ListAsk::Trim { key, first, last } => {
+            edits::trim(alloc, key, *first, *last, seen, effects)
+        }
+        ListAsk::MoveItem {
+            from,
+            to: _,
+            taken,
+            put,
+        } => moves::rotate(alloc, from, *taken, *put, seen, effects),
+        ListAsk::MoveLastToFront { from, to: _ } => {
+            moves::rotate(alloc, from, End::Right, End::Left, seen, effects)
+        }
+    }
+}

@@ -1,0 +1,107 @@
+// Items taken from an end of a list.
+ghost use Rattle.std.specs.Prelude.{◌≡◌, ◌≤◌, min, length, map, IfOk, option_copied};
+ghost use Rattle.mr_resp.specs.ReplyView.{view};
+ghost use Rattle.mr_planning.specs.Turns.{Takes};
+ghost use Rattle.mr_cmd_list.specs.Lists.{items_reply};
+ghost use Rattle.mr_cmd_list.specs.Numbers.{IsShort, IsShortFor};
+ghost use Rattle.mr_cmd_list.specs.Pops.{pop_turn, taken_items};
+
+use crate::ends::end_item;
+use mr_data::{Effect, Entry, Value};
+use mr_planning::{Effects, bulk, wrong_kind};
+use mr_resp::Reply;
+use mr_value::{End, ListValue, Word};
+use mr_words::Argument;
+use std::alloc::{AllocError, Global};
+
+pub fn pop(
+    alloc: Global,
+    key: &Argument<'_>,
+    end: End,
+    count: Option<usize>,
+    seen: Option<&Entry>,
+    effects: &mut Effects,
+) -> Result<Reply, AllocError>
+    ensures takes { IfOk result (λ r. Takes (pop_turn key.now end count (option_copied seen.entry)) (view r) effects.old effects.new) }
+    ensures short { IsShortFor count (option_copied seen.entry) }
+{
+    match count {
+        None => pop_one(alloc, key, end, seen, effects),
+        Some(most) => pop_some(alloc, key, end, most, seen, effects),
+    }
+}
+
+fn pop_one(
+    alloc: Global,
+    key: &Argument<'_>,
+    end: End,
+    seen: Option<&Entry>,
+    effects: &mut Effects,
+) -> Result<Reply, AllocError>
+    ensures { IfOk result (λ r. Takes (pop_turn key.now end None (option_copied seen.entry)) (view r) effects.old effects.new) }
+{
+    let Some(entry) = seen else {
+        return Ok(Reply::NullBulk);
+    };
+    let Value::List(list) = &entry.value else {
+        return Ok(wrong_kind());
+    };
+    let Some(item) = end_item(list, end) else {
+        return Ok(Reply::NullBulk);
+    };
+    let reply = bulk(alloc, item)?;
+    effects.push(Effect::Pop {
+        key: Word::copied(alloc, key.as_slice())?,
+        end,
+        count: 1,
+    })?;
+    Ok(reply)
+}
+
+fn pop_some(
+    alloc: Global,
+    key: &Argument<'_>,
+    end: End,
+    most: usize,
+    seen: Option<&Entry>,
+    effects: &mut Effects,
+) -> Result<Reply, AllocError>
+    ensures takes { IfOk result (λ r. Takes (pop_turn key.now end (Some most) (option_copied seen.entry)) (view r) effects.old effects.new) }
+    ensures short { IsShort (option_copied seen.entry) }
+{
+    let Some(entry) = seen else {
+        return Ok(Reply::NullArray);
+    };
+    let Value::List(list) = &entry.value else {
+        return Ok(wrong_kind());
+    };
+    let count = most.min(list.len());
+    let reply = taken(alloc, list, end, count)?;
+    if count != 0 {
+        effects.push(Effect::Pop {
+            key: Word::copied(alloc, key.as_slice())?,
+            end,
+            count: count as i64,
+        })?;
+    }
+    Ok(reply)
+}
+
+// So many items at an end, in the order in which they are taken.
+fn taken(alloc: Global, list: &ListValue, end: End, count: usize) -> Result<Reply, AllocError>
+    requires { count ≤ length list.now }
+    ensures { IfOk result (λ r. view r ≡ items_reply (taken_items end count list.now)) }
+{
+    let mut replies = Vec::with_capacity(alloc, count)?;
+    for i in 0..count {
+        let place = match end {
+            End::Left => i,
+            End::Right => list.len() - 1 - i,
+        };
+        match list.get(place) {
+            Some(item) => replies.push(bulk(alloc, item)?)?,
+            None => unreachable!(),
+        }
+    }
+    Ok(Reply::Array(replies))
+}

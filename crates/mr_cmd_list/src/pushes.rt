@@ -1,0 +1,81 @@
+// Items put at an end of a list.
+ghost use Rattle.std.specs.Prelude.{◌≡◌, ◌+◌, ◌<◌, ◌^◌, ◌++◌, pos, length, map, IfOk, OnOk, option_copied};
+ghost use Rattle.std.specs.Cow.{cow_slice_items};
+ghost use Rattle.mr_resp.specs.Replies.{int};
+ghost use Rattle.mr_resp.specs.ReplyView.{view};
+ghost use Rattle.mr_entries.specs.Cuts.{cut};
+ghost use Rattle.mr_planning.specs.Turns.{Takes};
+ghost use Rattle.mr_cmd_list.specs.Pushes.{push_turn, push_effects};
+
+use crate::list_ask::PushTo;
+use mr_data::{Effect, Entry, Value};
+use mr_planning::{Effects, integer, wrong_kind};
+use mr_resp::Reply;
+use mr_value::{End, Word};
+use mr_words::{Argument, Words};
+use std::alloc::{AllocError, Global};
+use std::borrow::CowSlice;
+
+pub fn push(
+    alloc: Global,
+    key: &Argument<'_>,
+    end: End,
+    to: PushTo,
+    items: &Words<'_, '_>,
+    seen: Option<&Entry>,
+    effects: &mut Effects,
+) -> Result<Reply, AllocError>
+    ensures { IfOk result (λ r. Takes (push_turn key.now end to items.now (option_copied seen.entry)) (view r) effects.old effects.new) }
+{
+    let before = match seen {
+        None => match to {
+            PushTo::AnyKey => 0,
+            PushTo::ExistingKey => return Ok(integer(0)),
+        },
+        Some(entry) => match &entry.value {
+            Value::List(list) => list.len(),
+            Value::Text(_) | Value::Hash(_) | Value::Set(_) | Value::SortedSet(_) => {
+                return Ok(wrong_kind());
+            }
+        },
+    };
+    push_groups(alloc, key, end, items.as_slice(), effects)?;
+    Ok(integer((before + items.as_slice().len()) as i64))
+}
+
+/// The most items that one effect has.
+const MOST_ITEMS: usize = 64;
+
+// One effect for each group of items.
+fn push_groups(
+    alloc: Global,
+    key: &Argument<'_>,
+    end: End,
+    items: &[CowSlice<'_, u8>],
+    effects: &mut Effects,
+) -> Result<(), AllocError>
+    ensures { OnOk result (effects.new ≡ effects.old ++ push_effects key.now end (cut (map cow_slice_items items.now))) }
+{
+    let mut start = 0;
+    while start < items.len() {
+        let next = items.len().min(start + MOST_ITEMS);
+        effects.push(Effect::Push {
+            key: Word::copied(alloc, key.as_slice())?,
+            end,
+            items: copied(alloc, &items[start..next])?,
+        })?;
+        start = next;
+    }
+    Ok(())
+}
+
+// The words, with memory of their own.
+fn copied(alloc: Global, words: &[CowSlice<'_, u8>]) -> Result<mr_data::Words<'static>, AllocError>
+    ensures { IfOk result (λ ws. ws ≡ map cow_slice_items words.now) }
+{
+    let mut copied = mr_data::Words::new(alloc);
+    for word in words {
+        copied.push(Word::copied(alloc, word.as_slice())?)?;
+    }
+    Ok(copied)
+}

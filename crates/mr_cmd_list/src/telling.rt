@@ -1,0 +1,64 @@
+// Commands that tell of a list.
+ghost use Rattle.std.specs.Prelude.{◌≡◌, IfOk, option_copied};
+ghost use Rattle.mr_resp.specs.ReplyView.{view};
+ghost use Rattle.mr_cmd_list.specs.Telling.{length_turn, range_turn, index_turn};
+
+use crate::replies::{listed, none_listed};
+use mr_data::{Entry, Value};
+use mr_planning::{bulk, integer, wrong_kind};
+use mr_resp::Reply;
+use mr_value::{place, window};
+use std::alloc::{AllocError, Global};
+
+/// How many items there are.
+pub fn length(seen: Option<&Entry>) -> Reply
+    ensures { view result ≡ (length_turn (option_copied seen.entry)).reply }
+{
+    let Some(entry) = seen else {
+        return integer(0);
+    };
+    let Value::List(list) = &entry.value else {
+        return wrong_kind();
+    };
+    integer(list.len() as i64)
+}
+
+/// The items between two indexes, both included.
+pub fn range(
+    alloc: Global,
+    first: i64,
+    last: i64,
+    seen: Option<&Entry>,
+) -> Result<Reply, AllocError>
+    ensures { IfOk result (λ r. view r ≡ (range_turn first last (option_copied seen.entry)).reply) }
+{
+    let Some(entry) = seen else {
+        return Ok(none_listed(alloc));
+    };
+    let Value::List(list) = &entry.value else {
+        return Ok(wrong_kind());
+    };
+    let Some((first, last)) = window(first, last, list.len()) else {
+        return Ok(none_listed(alloc));
+    };
+    listed(alloc, list.range(first, last), last - first + 1)
+}
+
+/// The item that an index names.
+pub fn item(alloc: Global, index: i64, seen: Option<&Entry>) -> Result<Reply, AllocError>
+    ensures { IfOk result (λ r. view r ≡ (index_turn index (option_copied seen.entry)).reply) }
+{
+    let Some(entry) = seen else {
+        return Ok(Reply::NullBulk);
+    };
+    let Value::List(list) = &entry.value else {
+        return Ok(wrong_kind());
+    };
+    let Some(place) = place(index, list.len()) else {
+        return Ok(Reply::NullBulk);
+    };
+    match list.get(place) {
+        Some(item) => bulk(alloc, item),
+        None => Ok(Reply::NullBulk),
+    }
+}

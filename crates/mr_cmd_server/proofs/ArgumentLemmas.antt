@@ -1,0 +1,53 @@
+-- What is read of a command to the server itself is spelled by the words.
+use Rattle.std.proofs.Common.{rules, ℕ, ℤ, pos, ◌≡◌, List, [], ◌∷◌, true, false, refl, ◌∙◌, ap}
+use Rattle.std.specs.Prelude.{IfOk, if◌then◌else◌, Ok, Err}
+use Rattle.std.specs.Ordering.{int_eq}
+use Rattle.std.specs.Fmt.{signed_decimal}
+use Rattle.std.proofs.lemmas.Bool.Decides.{Decides-int_eq}
+use Rattle.mr_cmd_server.specs.Arguments.{ping, echo, select, quit, rewrite, command, client, database, setname, setinfo}
+use Rattle.mr_words.proofs.FitLemmas.{all_words}
+use Rattle.mr_cmd_server.specs.Spelled.{ServerSpells}
+use Rattle.mr_words.proofs.PartLemmas.{with_integer, with_keyword}
+use Rattle.mr_words.specs.declared.name.Name.TheVariants as name
+use Rattle.mr_cmd_server.specs.declared.server_ask.ServerAsk.TheVariants as server
+use Rattle.mr_words.specs.declared.fault.AskFault.{AskFault}
+use Rattle.mr_words.specs.declared.fault.AskFault.TheVariants.{Other}
+use Rattle.mr_words.specs.declared.fault.BadValue.TheVariants.{Database}
+
+same_number : (m n : ℤ) → int_eq m n ≡ true → m ≡ n
+same_number m n h = search (rules, Decides-int_eq)
+
+pub ping_carries : (ws : List (List ℕ)) → IfOk (ping ws) (ServerSpells name.Ping ws)
+ping_carries [] = record { name_is = refl; parts = tt }
+ping_carries (m ∷ []) = record { name_is = refl; parts = (refl, tt) }
+ping_carries _ = tt
+
+pub echo_carries : (ws : List (List ℕ)) → IfOk (echo ws) (ServerSpells name.Echo ws)
+echo_carries (m ∷ []) = record { name_is = refl; parts = (refl, tt) }
+echo_carries _ = tt
+
+database_carries : (w : List ℕ) (n : ℤ) → w ≡ signed_decimal n → IfOk (database n) (ServerSpells name.Select (w ∷ []))
+database_carries w n e = elim (int_eq n (pos 0)) as (λ b. int_eq n (pos 0) ≡ b → IfOk {E = AskFault} (if b then Ok server.Select else Err (Other Database)) (ServerSpells name.Select (w ∷ []))) [
+  | true ↦ λ s. record { name_is = refl; parts = (e ∙ ap signed_decimal (same_number n (pos 0) s), tt) }
+  | false ↦ λ s. tt
+] refl
+
+pub select_carries : (ws : List (List ℕ)) → IfOk (select ws) (ServerSpells name.Select ws)
+select_carries (w ∷ []) = with_integer w _ _ (database_carries w)
+select_carries _ = tt
+
+pub quit_carries : (ws : List (List ℕ)) → IfOk (quit ws) (ServerSpells name.Quit ws)
+quit_carries [] = record { name_is = refl; parts = tt }
+quit_carries _ = tt
+
+pub rewrite_carries : (ws : List (List ℕ)) → IfOk (rewrite ws) (ServerSpells name.BgRewriteAof ws)
+rewrite_carries [] = record { name_is = refl; parts = tt }
+rewrite_carries _ = tt
+
+pub command_carries : (ws : List (List ℕ)) → IfOk (command ws) (ServerSpells name.Command ws)
+command_carries ws = record { name_is = refl; parts = all_words ws }
+
+pub client_carries : (ws : List (List ℕ)) → IfOk (client ws) (ServerSpells name.Client ws)
+client_carries (o ∷ x ∷ []) = with_keyword o setname _ _ (λ e. record { name_is = refl; parts = (e, (refl, tt)) })
+client_carries (o ∷ x ∷ y ∷ []) = with_keyword o setinfo _ _ (λ e. record { name_is = refl; parts = (e, (refl, (refl, tt))) })
+client_carries _ = tt

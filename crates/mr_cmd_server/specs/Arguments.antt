@@ -1,0 +1,59 @@
+-- Commands to the server itself.
+use Rattle.std.specs.Prelude.{ℕ, ℤ, pos, List, [], ◌∷◌, if◌then◌else◌, Some, None, Result, Ok, Err, codes}
+use Rattle.std.specs.Str.{bytes_eq}
+use Rattle.std.specs.Ordering.{int_eq}
+use Rattle.mr_words.specs.Names.{lowered}
+use Rattle.mr_words.specs.Parts.{with, integer}
+use Rattle.mr_words.specs.declared.name.Name.TheVariants as name
+use Rattle.mr_words.specs.declared.fault.AskFault.{AskFault}
+use Rattle.mr_words.specs.declared.fault.AskFault.TheVariants.{Arity, Syntax, Other}
+use Rattle.mr_words.specs.declared.fault.BadValue.TheVariants.{Database}
+use Rattle.mr_cmd_server.specs.declared.server_ask.ServerAsk.{ServerAsk}
+use Rattle.mr_cmd_server.specs.declared.server_ask.ServerAsk.TheVariants as ask
+
+-- PING [message]
+abbrev pub ping : List (List ℕ) → Result ServerAsk AskFault
+ping [] = Ok (ask.Ping None)
+ping (message ∷ []) = Ok (ask.Ping (Some message))
+ping _ = Err (Arity name.Ping)
+
+-- ECHO message
+abbrev pub echo : List (List ℕ) → Result ServerAsk AskFault
+echo (message ∷ []) = Ok (ask.Echo message)
+echo _ = Err (Arity name.Echo)
+
+-- the only database
+abbrev pub database : ℤ → Result ServerAsk AskFault
+database index = if int_eq index (pos 0) then Ok ask.Select else Err (Other Database)
+
+-- SELECT 0
+abbrev pub select : List (List ℕ) → Result ServerAsk AskFault
+select (index ∷ []) = with (integer index) database
+select _ = Err (Arity name.Select)
+
+-- QUIT
+abbrev pub quit : List (List ℕ) → Result ServerAsk AskFault
+quit [] = Ok ask.Quit
+quit _ = Err (Arity name.Quit)
+
+-- BGREWRITEAOF
+abbrev pub rewrite : List (List ℕ) → Result ServerAsk AskFault
+rewrite [] = Ok ask.Rewrite
+rewrite _ = Err (Arity name.BgRewriteAof)
+
+-- COMMAND [argument ..]
+abbrev pub command : List (List ℕ) → Result ServerAsk AskFault
+command arguments = Ok (ask.Command arguments)
+
+-- option words, in lower case
+abbrev pub setname : List ℕ
+setname = codes "setname"
+
+abbrev pub setinfo : List ℕ
+setinfo = codes "setinfo"
+
+-- CLIENT SETNAME name, CLIENT SETINFO attribute value
+abbrev pub client : List (List ℕ) → Result ServerAsk AskFault
+client (option ∷ name ∷ []) = if bytes_eq (lowered option) setname then Ok (ask.SetClientName name) else Err Syntax
+client (option ∷ attribute ∷ value ∷ []) = if bytes_eq (lowered option) setinfo then Ok (ask.SetClientInfo attribute value) else Err Syntax
+client _ = Err Syntax

@@ -1,0 +1,16 @@
+-- The names of commands to the server itself.
+use Rattle.mr_words.specs.declared.name.Name.{Name}
+use Rattle.mr_words.specs.declared.name.Name.TheVariants as name
+use Rattle.mr_cmd_server.specs.declared.server_ask.ServerAsk.{ServerAsk}
+use Rattle.mr_cmd_server.specs.declared.server_ask.ServerAsk.TheVariants as server
+
+-- of a command to the server itself
+abbrev pub server_name : ServerAsk → Name
+server_name (server.Ping message) = name.Ping
+server_name (server.Echo message) = name.Echo
+server_name server.Select = name.Select
+server_name server.Quit = name.Quit
+server_name server.Rewrite = name.BgRewriteAof
+server_name (server.Command arguments) = name.Command
+server_name (server.SetClientName label) = name.Client
+server_name (server.SetClientInfo attribute value) = name.Client

@@ -1,0 +1,32 @@
+-- What commands to the server itself are answered.
+use Rattle.std.specs.Prelude.{List, ℕ, codes, Option, Some, None}
+use Rattle.mr_resp.specs.Replies as reply
+use Rattle.mr_resp.specs.Replies.{Tree}
+use Rattle.mr_planning.specs.Turns.{done}
+use Rattle.mr_cmd_server.specs.declared.server_ask.ServerAsk.{ServerAsk}
+use Rattle.mr_cmd_server.specs.declared.server_ask.ServerAsk.TheVariants as ask
+use Rattle.mr_planning.specs.Outcomes.{answered}
+use Rattle.mr_planning.specs.Commands.{Command, on_none}
+
+-- PING [message]
+abbrev pub pong : Option (List ℕ) → Tree
+pong None = reply.simple (codes "PONG")
+pong (Some message) = reply.bytes message
+
+-- BGREWRITEAOF
+abbrev pub rewriting : Tree
+rewriting = reply.simple (codes "Background append only file rewriting started")
+
+abbrev pub server_reply : ServerAsk → Tree
+server_reply (ask.Ping message) = pong message
+server_reply (ask.Echo message) = reply.bytes message
+server_reply ask.Select = done
+server_reply ask.Quit = done
+server_reply ask.Rewrite = rewriting
+server_reply (ask.Command arguments) = reply.array reply.none
+server_reply (ask.SetClientName label) = done
+server_reply (ask.SetClientInfo attribute value) = done
+
+-- what a command is
+abbrev pub command : ServerAsk → Command
+command it = on_none (answered (server_reply it))

@@ -1,0 +1,6 @@
+pub mod Arguments
+pub mod Carried
+pub mod Called
+pub mod Spelled
+pub mod ArgumentFaults
+pub mod Commands

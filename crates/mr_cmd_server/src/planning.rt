@@ -1,0 +1,49 @@
+// Commands to the server itself.
+ghost use Rattle.std.specs.Prelude.{◌≡◌, IfOk};
+ghost use Rattle.mr_resp.specs.ReplyView.{view};
+ghost use Rattle.mr_planning.specs.Commands.{IsPlan, IsFaithful, HasCommandTexts};
+ghost use Rattle.mr_cmd_server.specs.Commands.{command, server_reply};
+
+use crate::server_ask::ServerAsk;
+use mr_data::{Dataset, Given, Plan};
+use mr_planning::{Effects, bulk, done};
+use mr_resp::Reply;
+use std::alloc::{AllocError, Global};
+use std::borrow::CowSlice;
+
+/// What a command to the server itself is answered. It names no key and has no effect.
+pub fn plan(
+    alloc: Global,
+    _held: &Dataset,
+    ask: &ServerAsk<'_, '_>,
+    _given: Given,
+) -> Result<Plan, AllocError>
+    ensures plan { IfOk result (λ p. IsPlan (command ask.now) _given.now _held.now (view p.reply) p.effects.items) }
+    ensures faithful { IsFaithful (command ask.now) _given.now _held.now }
+
+    // .. and their texts are command texts.
+    ensures texts { HasCommandTexts (command ask.now) _given.now _held.now }
+{
+    let reply = reply_to(alloc, ask)?;
+    Ok(Effects::new(alloc).into_plan(reply))
+}
+
+fn reply_to(alloc: Global, ask: &ServerAsk<'_, '_>) -> Result<Reply, AllocError>
+    ensures { IfOk result (λ r. view r ≡ server_reply ask.now) }
+{
+    match ask {
+        ServerAsk::Ping { message: None } => Ok(Reply::Simple(CowSlice::Borrowed(b"PONG"))),
+        ServerAsk::Ping {
+            message: Some(message),
+        } => bulk(alloc, message.as_slice()),
+        ServerAsk::Echo { message } => bulk(alloc, message.as_slice()),
+        ServerAsk::Rewrite => Ok(Reply::Simple(CowSlice::Borrowed(
+            b"Background append only file rewriting started",
+        ))),
+        ServerAsk::Command { .. } => Ok(Reply::Array(Vec::new(alloc))),
+        ServerAsk::Select
+        | ServerAsk::Quit
+        | ServerAsk::SetClientName { .. }
+        | ServerAsk::SetClientInfo { .. } => Ok(done()),
+    }
+}

@@ -1,0 +1,34 @@
+// Commands to the server itself, with their arguments.
+use mr_words::{Argument, Words};
+
+/// A command to the server itself, with its arguments.
+#[derive(Drop)]
+pub enum ServerAsk<'a, 't> {
+    /// `PING [message]`
+    Ping {
+        message: Option<Argument<'a>>,
+    },
+    /// `ECHO message`
+    Echo {
+        message: Argument<'a>,
+    },
+    /// `SELECT 0`
+    Select,
+    /// `QUIT`
+    Quit,
+    /// `BGREWRITEAOF`
+    Rewrite,
+    /// `COMMAND [argument ..]`
+    Command {
+        arguments: Words<'a, 't>,
+    },
+    /// `CLIENT SETNAME name`
+    SetClientName {
+        name: Argument<'a>,
+    },
+    /// `CLIENT SETINFO attribute value`
+    SetClientInfo {
+        attribute: Argument<'a>,
+        value: Argument<'a>,
+    },
+}

@@ -1,0 +1,12 @@
+pub mod ArgumentLemmas
+pub mod Sets
+pub mod Pushing
+pub mod Single
+pub mod Draws
+pub mod Combinations
+pub mod Tells
+pub mod Groups
+pub mod Faithful
+pub mod Moves
+pub mod CommandLaws
+pub mod Meanings

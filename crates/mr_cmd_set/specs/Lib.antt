@@ -1,0 +1,12 @@
+pub mod Arguments
+pub mod Carried
+pub mod Called
+pub mod Spelled
+pub mod Askable
+pub mod Members
+pub mod Turns
+pub mod Grouping
+pub mod Moving
+pub mod Combining
+pub mod Finding
+pub mod SetCommands

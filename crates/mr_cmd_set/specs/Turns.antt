@@ -1,0 +1,106 @@
+-- What each command on one set answers, makes of it, and has as its effects.
+use Rattle.std.specs.Prelude.{ℕ, pos, List, [], ◌∷◌, map, Bool, if◌then◌else◌, Option, Some, None}
+use Rattle.std.specs.FinMap.{contains_key, keys, len}
+use Rattle.mr_map.specs.Bytes.{Bytes}
+use Rattle.mr_resp.specs.Replies as reply
+use Rattle.mr_resp.specs.Replies.{Tree}
+use Rattle.mr_resp.specs.ReplyView.{trees_of}
+use Rattle.mr_entries.specs.Collections.{with_members, without_members}
+use Rattle.mr_entries.specs.Steps.{sets}
+use Rattle.mr_entries.specs.declared.value.Entry.{Entry}
+use Rattle.mr_effect.specs.declared.effect.Effect.TheVariants as effect
+use Rattle.mr_planning.specs.Turns.{Turn}
+use Rattle.mr_planning.specs.Collections.{Change, telling, changing}
+use Rattle.mr_entries.specs.Cuts.{cut}
+use Rattle.mr_cmd_set.specs.Members.{Members, as_set, common, minus, drawn}
+
+-- ---- replies
+
+abbrev pub number : ℕ → Tree
+number n = reply.int (pos n)
+
+abbrev pub flag : Bool → Tree
+flag b = number (if b then 1 else 0)
+
+abbrev pub bulks : List Bytes → Tree
+bulks xs = reply.array (trees_of (map reply.bytes xs))
+
+-- ---- SISMEMBER, SMISMEMBER, SMEMBERS, SCARD
+
+abbrev pub has_member_turn : Bytes → Option Entry → Turn
+has_member_turn x = telling sets (λ s. flag (contains_key s x))
+
+abbrev pub flags : List Bytes → Members → Tree
+flags xs s = reply.array (trees_of (map (λ x. flag (contains_key s x)) xs))
+
+abbrev pub have_members_turn : List Bytes → Option Entry → Turn
+have_members_turn xs = telling sets (flags xs)
+
+abbrev pub list_members_turn : Option Entry → Turn
+list_members_turn = telling sets (λ s. bulks (keys s))
+
+abbrev pub count_members_turn : Option Entry → Turn
+count_members_turn = telling sets (λ s. number (len s))
+
+-- ---- SADD: how many of the words are no members yet, each counted once
+abbrev pub added : List Bytes → Members → Members
+added xs s = minus (as_set xs) s
+
+abbrev pub adding : Bytes → List Bytes → Members → Change Members
+adding k xs s = record {
+  reply = number (len (added xs s));
+  value = with_members xs s;
+  effects = map (effect.AddMembers k) (cut (keys (added xs s)));
+}
+
+abbrev pub add_members_turn : Bytes → List Bytes → Option Entry → Turn
+add_members_turn k xs = changing sets (adding k xs)
+
+-- ---- SREM: how many of the words are members, each counted once
+abbrev pub removed : List Bytes → Members → Members
+removed xs s = common (as_set xs) s
+
+abbrev pub removing : Bytes → List Bytes → Members → Change Members
+removing k xs s = record {
+  reply = number (len (removed xs s));
+  value = without_members xs s;
+  effects = map (effect.RemoveMembers k) (cut (keys (removed xs s)));
+}
+
+abbrev pub remove_members_turn : Bytes → List Bytes → Option Entry → Turn
+remove_members_turn k xs = changing sets (removing k xs)
+
+-- ---- SPOP, SRANDMEMBER: without a count one member, or nil where there is none; else an array
+abbrev pub count_or_one : Option ℕ → ℕ
+count_or_one None = 1
+count_or_one (Some n) = n
+
+abbrev pub first_bulk : List Bytes → Tree
+first_bulk [] = reply.null_bulk
+first_bulk (x ∷ xs) = reply.bytes x
+
+abbrev pub one_bulk : Option Bytes → Tree
+one_bulk None = reply.null_bulk
+one_bulk (Some x) = reply.bytes x
+
+abbrev pub drawn_reply : Option ℕ → List Bytes → Tree
+drawn_reply None xs = first_bulk xs
+drawn_reply (Some n) xs = bulks xs
+
+-- the members that the random word names, in order of taking
+abbrev pub taken : Option ℕ → ℕ → Members → List Bytes
+taken count word s = drawn word (count_or_one count) (keys s)
+
+abbrev pub draw_members_turn : Option ℕ → ℕ → Option Entry → Turn
+draw_members_turn count word = telling sets (λ s. drawn_reply count (taken count word s))
+
+-- the effects name them in byte order
+abbrev pub taking : Bytes → Option ℕ → ℕ → Members → Change Members
+taking k count word s = record {
+  reply = drawn_reply count (taken count word s);
+  value = without_members (taken count word s) s;
+  effects = map (effect.RemoveMembers k) (cut (keys (as_set (taken count word s))));
+}
+
+abbrev pub take_members_turn : Bytes → Option ℕ → ℕ → Option Entry → Turn
+take_members_turn k count word = changing sets (taking k count word)

@@ -1,0 +1,50 @@
+// Commands that put named members to a set, or take them out.
+ghost use Rattle.std.specs.Prelude.{IfOk, option_copied};
+ghost use Rattle.mr_resp.specs.ReplyView.{view};
+ghost use Rattle.mr_planning.specs.Turns.{Takes};
+ghost use Rattle.mr_cmd_set.specs.Turns.{add_members_turn, remove_members_turn};
+
+use crate::grouping::{Write, push_changes};
+use crate::replies::set_at;
+use mr_data::Entry;
+use mr_planning::{Effects, count, wrong_kind};
+use mr_resp::Reply;
+use mr_value::SetValue;
+use mr_words::{Argument, Words};
+use std::alloc::{AllocError, Global};
+
+/// `SADD`
+pub fn add_members(
+    alloc: Global,
+    key: &Argument<'_>,
+    members: &Words<'_, '_>,
+    seen: Option<&Entry>,
+    effects: &mut Effects,
+) -> Result<Reply, AllocError>
+    ensures { IfOk result (λ r. Takes (add_members_turn key.now members.now (option_copied seen.entry)) (view r) effects.old effects.new) }
+{
+    let empty = SetValue::new(alloc);
+    let Some(set) = set_at(seen, &empty) else {
+        return Ok(wrong_kind());
+    };
+    let added = push_changes(alloc, Write::Add, key, members, set, effects)?;
+    Ok(count(added))
+}
+
+/// `SREM`
+pub fn remove_members(
+    alloc: Global,
+    key: &Argument<'_>,
+    members: &Words<'_, '_>,
+    seen: Option<&Entry>,
+    effects: &mut Effects,
+) -> Result<Reply, AllocError>
+    ensures { IfOk result (λ r. Takes (remove_members_turn key.now members.now (option_copied seen.entry)) (view r) effects.old effects.new) }
+{
+    let empty = SetValue::new(alloc);
+    let Some(set) = set_at(seen, &empty) else {
+        return Ok(wrong_kind());
+    };
+    let removed = push_changes(alloc, Write::Remove, key, members, set, effects)?;
+    Ok(count(removed))
+}

@@ -1,0 +1,181 @@
+// SINTER, SUNION, SDIFF: the members that several sets give.
+ghost use Rattle.std.specs.Prelude.{◌≡◌, ◌++◌, filter, IfOk, OnOk};
+ghost use Rattle.std.specs.Option.{option_map};
+ghost use Rattle.std.specs.FinMap as map;
+ghost use Rattle.mr_resp.specs.ReplyView.{view};
+ghost use Rattle.mr_data.specs.Dataset.{seen};
+ghost use Rattle.mr_cmd_set.specs.declared.set_ask.SetOperation.TheVariants as operation;
+ghost use Rattle.mr_planning.specs.Keys.{dels, past};
+ghost use Rattle.mr_cmd_set.specs.Combining.{sets_at, combined, of_all};
+ghost use Rattle.mr_cmd_set.specs.Finding.{HasFound};
+ghost use Rattle.mr_cmd_set.specs.Members.{joined};
+ghost use Rattle.mr_cmd_set.specs.Grouping.{members_of, agrees, is_wanted};
+ghost use Rattle.mr_cmd_set.specs.Turns.{bulks};
+
+use crate::replies::set_at;
+use crate::set_ask::SetOperation;
+use mr_data::{Dataset, Given};
+use mr_map::SliceMap;
+use mr_planning::{Effects, bulk, push_dels, see};
+use mr_resp::Reply;
+use mr_value::SetValue;
+use mr_words::Words;
+use std::alloc::{AllocError, Global};
+
+/// Sets that lie in a dataset.
+#[derive(Drop)]
+pub struct Sets<'d> {
+    items: Vec<&'d SetValue>,
+}
+
+/// The sets at these keys, or none where one of them holds another kind. A past key gets its DEL.
+pub fn look_at_all<'d>(
+    alloc: Global,
+    held: &'d Dataset,
+    keys: &Words<'_, '_>,
+    given: Given,
+    empty: &'d SetValue,
+    effects: &mut Effects,
+) -> Result<Option<Sets<'d>>, AllocError>
+    requires { empty.now ≡ map.empty }
+    ensures sets { IfOk result (λ r. option_map (λ s. members_of s.items.items) r ≡ sets_at keys.now (seen given.now held.now)) }
+    ensures past { IfOk result (λ _. effects.new ≡ effects.old ++ dels (past given.now keys.now held.now)) }
+{
+    let found = find_all(alloc, held, keys, given, empty)?;
+    if found.past {
+        push_dels(alloc, held, keys, given, true, effects)?;
+    }
+    if found.other {
+        return Ok(None);
+    }
+    Ok(Some(Sets { items: found.sets }))
+}
+
+// The sets at some keys, whether one holds another kind, and whether one is past.
+#[derive(Drop)]
+struct Found<'d> {
+    sets: Vec<&'d SetValue>,
+    other: bool,
+    past: bool,
+}
+
+fn find_all<'d>(
+    alloc: Global,
+    held: &'d Dataset,
+    keys: &Words<'_, '_>,
+    given: Given,
+    empty: &'d SetValue,
+) -> Result<Found<'d>, AllocError>
+    requires { empty.now ≡ map.empty }
+    ensures { IfOk result (λ f. HasFound given.now held.now keys.now f.sets.items f.other f.past) }
+{
+    let words = keys.as_slice();
+    let mut found = Found {
+        sets: Vec::with_capacity(alloc, words.len())?,
+        other: false,
+        past: false,
+    };
+    for word in words {
+        let (seen, past) = see(held, word.as_slice(), given);
+        found.past |= past;
+        match set_at(seen, empty) {
+            Some(set) => found.sets.push(set)?,
+            None => found.other = true,
+        }
+    }
+    Ok(found)
+}
+
+/// What is made of these sets.
+pub fn combined(
+    alloc: Global,
+    operation: SetOperation,
+    sets: &Sets<'_>,
+) -> Result<Reply, AllocError>
+    ensures { IfOk result (λ r. view r ≡ bulks (map.keys (combined operation (members_of sets.now.items.items)))) }
+{
+    let Some((first, others)) = sets.items.as_slice().split_first() else {
+        return Ok(Reply::Array(Vec::new(alloc)));
+    };
+    match operation {
+        SetOperation::Intersection => members_where(alloc, first, others, true),
+        SetOperation::Union => union(alloc, first, others),
+        SetOperation::Difference => members_where(alloc, first, others, false),
+    }
+}
+
+// The members of the first set that each of the others has, or lacks.
+fn members_where(
+    alloc: Global,
+    first: &SetValue,
+    others: &[&SetValue],
+    wanted: bool,
+) -> Result<Reply, AllocError>
+    ensures { IfOk result (λ r. view r ≡ bulks (filter (is_wanted wanted others.now) (map.keys first.now))) }
+{
+    let mut replies = Vec::new(alloc);
+    for member in first.members() {
+        if is_wanted(member, others, wanted) {
+            replies.push(bulk(alloc, member)?)?;
+        }
+    }
+    Ok(Reply::Array(replies))
+}
+
+// Whether each of the sets has the member, or lacks it.
+fn is_wanted(member: &[u8], others: &[&SetValue], wanted: bool) -> bool
+    ensures { result ≡ is_wanted wanted others.now member.now }
+{
+    others.iter().all(|set| agrees(set, member, wanted))
+}
+
+fn agrees(set: &SetValue, member: &[u8], wanted: bool) -> bool
+    ensures { result ≡ agrees wanted set.now member.now }
+{
+    if wanted {
+        set.contains(member)
+    } else {
+        !set.contains(member)
+    }
+}
+
+// The members of any.
+fn union(alloc: Global, first: &SetValue, others: &[&SetValue]) -> Result<Reply, AllocError>
+    ensures { IfOk result (λ r. view r ≡ bulks (map.keys (of_all operation.Union first.now (members_of others.now)))) }
+{
+    let mut members = Joined {
+        members: SliceMap::new(alloc),
+    };
+    members.join(first)?;
+    for set in others {
+        members.join(set)?;
+    }
+    members.reply(alloc)
+}
+
+// Members of several sets, each once.
+#[derive(Drop)]
+struct Joined<'d> {
+    members: SliceMap<'d, ()>,
+}
+
+impl<'d> Joined<'d> {
+    fn join(&mut self, set: &'d SetValue) -> Result<(), AllocError>
+        ensures { OnOk result (self.new.members ≡ joined self.old.members set.now) }
+    {
+        for member in set.members() {
+            self.members.insert(member, ())?;
+        }
+        Ok(())
+    }
+
+    fn reply(&self, alloc: Global) -> Result<Reply, AllocError>
+        ensures { IfOk result (λ r. view r ≡ bulks (map.keys self.now.members)) }
+    {
+        let mut replies = Vec::with_capacity(alloc, self.members.len())?;
+        for (member, _) in self.members.iter() {
+            replies.push(bulk(alloc, member)?)?;
+        }
+        Ok(Reply::Array(replies))
+    }
+}

@@ -1,0 +1,190 @@
+// Commands that draw members by a random word.
+ghost use Rattle.std.specs.Prelude.{◌≡◌, ◌++◌, ◌%◌, ◌<◌, [], ◌∷◌, take, IfOk, OnOk, IfSome, IfNone, option_copied};
+ghost use Rattle.std.specs.FinMap as map;
+ghost use Rattle.mr_resp.specs.ReplyView.{view};
+ghost use Rattle.mr_planning.specs.Turns.{Takes};
+ghost use Rattle.mr_cmd_set.specs.Members.{drawn, as_set};
+ghost use Rattle.mr_cmd_set.specs.Grouping.{texts, group_effects};
+ghost use Rattle.mr_cmd_set.specs.declared.grouping.Write.TheVariants as write;
+ghost use Rattle.mr_cmd_set.specs.Turns.{draw_members_turn, take_members_turn, first_bulk, one_bulk, bulks};
+
+use crate::grouping::{Write, push_groups, push_member};
+use crate::replies::set_at;
+use mr_data::Entry;
+use mr_map::SliceMap;
+use mr_planning::{Effects, bulk, wrong_kind};
+use mr_resp::Reply;
+use mr_value::{Members, SetValue};
+use mr_words::Argument;
+use std::alloc::{AllocError, Global};
+
+// The place that a random word names.
+fn place(word: u64, len: usize) -> usize
+    requires { 0 < len }
+    ensures { result ≡ word % len }
+{
+    (word % len as u64) as usize
+}
+
+// The member that a random word names, if there is one.
+fn draw_one(set: &SetValue, word: u64) -> Option<&[u8]>
+    ensures some { IfSome result (λ x. drawn word 1 (map.keys set.now) ≡ x.now ∷ []) }
+    ensures none { IfNone result (drawn word 1 (map.keys set.now) ≡ []) }
+{
+    if set.is_empty() {
+        return None;
+    }
+    set.nth(place(word, set.len()))
+}
+
+// Members that lie in a set, in order.
+#[derive(Drop)]
+struct Drawn<'d> {
+    items: Vec<&'d [u8]>,
+}
+
+impl<'d> Drawn<'d> {
+    // Takes the next members, at most so many.
+    fn extend(&mut self, members: Members<'d>, count: usize) -> Result<(), AllocError>
+        ensures { OnOk result (texts self.new.items.items ≡ texts self.old.items.items ++ take count members.entry) }
+    {
+        let mut members = members;
+        for _ in 0..count {
+            if let Some(member) = members.next() {
+                self.items.push(member)?;
+            }
+        }
+        Ok(())
+    }
+}
+
+// The members that a random word names, at most so many.
+fn draw<'d>(
+    alloc: Global,
+    set: &'d SetValue,
+    word: u64,
+    count: usize,
+) -> Result<Drawn<'d>, AllocError>
+    ensures { IfOk result (λ d. texts d.items.items ≡ drawn word count (map.keys set.now)) }
+{
+    let len = set.len();
+    let count = count.min(len);
+    let mut drawn = Drawn {
+        items: Vec::with_capacity(alloc, count)?,
+    };
+    if len > 0 {
+        let place = place(word, len);
+        drawn.extend(set.members_from(place), count.min(len - place))?;
+        drawn.extend(set.members(), count - count.min(len - place))?;
+    }
+    Ok(drawn)
+}
+
+// The drawn members, in order of taking.
+fn bulks_of(alloc: Global, drawn: &[&[u8]]) -> Result<Reply, AllocError>
+    ensures { IfOk result (λ r. view r ≡ bulks (texts drawn.now)) }
+{
+    let mut replies = Vec::with_capacity(alloc, drawn.len())?;
+    for member in drawn {
+        replies.push(bulk(alloc, member)?)?;
+    }
+    Ok(Reply::Array(replies))
+}
+
+// The drawn members, in byte order.
+fn in_order<'d>(alloc: Global, drawn: &[&'d [u8]]) -> Result<SliceMap<'d, ()>, AllocError>
+    ensures { IfOk result (λ s. s ≡ as_set (texts drawn.now)) }
+{
+    let mut members = SliceMap::new(alloc);
+    for member in drawn {
+        members.insert(*member, ())?;
+    }
+    Ok(members)
+}
+
+/// `SRANDMEMBER`
+pub fn draw_members(
+    alloc: Global,
+    count: Option<usize>,
+    word: u64,
+    seen: Option<&Entry>,
+) -> Result<Reply, AllocError>
+    ensures { IfOk result (λ r. view r ≡ (draw_members_turn count word (option_copied seen.entry)).reply) }
+{
+    let empty = SetValue::new(alloc);
+    let Some(set) = set_at(seen, &empty) else {
+        return Ok(wrong_kind());
+    };
+    let Some(count) = count else {
+        return one_bulk(alloc, draw_one(set, word));
+    };
+    let drawn = draw(alloc, set, word, count)?;
+    bulks_of(alloc, drawn.items.as_slice())
+}
+
+// A member, or nil.
+fn one_bulk(alloc: Global, member: Option<&[u8]>) -> Result<Reply, AllocError>
+    ensures { IfOk result (λ r. view r ≡ one_bulk (option_copied member.entry)) }
+{
+    match member {
+        None => Ok(Reply::NullBulk),
+        Some(member) => bulk(alloc, member),
+    }
+}
+
+/// `SPOP`
+pub fn take_members(
+    alloc: Global,
+    key: &Argument<'_>,
+    count: Option<usize>,
+    word: u64,
+    seen: Option<&Entry>,
+    effects: &mut Effects,
+) -> Result<Reply, AllocError>
+    ensures { IfOk result (λ r. Takes (take_members_turn key.now count word (option_copied seen.entry)) (view r) effects.old effects.new) }
+{
+    let empty = SetValue::new(alloc);
+    let Some(set) = set_at(seen, &empty) else {
+        return Ok(wrong_kind());
+    };
+    match count {
+        None => take_one(alloc, key, word, set, effects),
+        Some(count) => take_some(alloc, key, count, word, set, effects),
+    }
+}
+
+fn take_one(
+    alloc: Global,
+    key: &Argument<'_>,
+    word: u64,
+    set: &SetValue,
+    effects: &mut Effects,
+) -> Result<Reply, AllocError>
+    ensures reply { IfOk result (λ r. view r ≡ first_bulk (drawn word 1 (map.keys set.now))) }
+    ensures effects { OnOk result (effects.new ≡ effects.old ++ group_effects write.Remove key.now (as_set (drawn word 1 (map.keys set.now)))) }
+{
+    let Some(member) = draw_one(set, word) else {
+        return Ok(Reply::NullBulk);
+    };
+    push_member(alloc, Write::Remove, key, member, effects)?;
+    let reply = bulk(alloc, member)?;
+    Ok(reply)
+}
+
+fn take_some(
+    alloc: Global,
+    key: &Argument<'_>,
+    count: usize,
+    word: u64,
+    set: &SetValue,
+    effects: &mut Effects,
+) -> Result<Reply, AllocError>
+    ensures reply { IfOk result (λ r. view r ≡ bulks (drawn word count (map.keys set.now))) }
+    ensures effects { OnOk result (effects.new ≡ effects.old ++ group_effects write.Remove key.now (as_set (drawn word count (map.keys set.now)))) }
+{
+    let drawn = draw(alloc, set, word, count)?;
+    let members = in_order(alloc, drawn.items.as_slice())?;
+    push_groups(alloc, Write::Remove, key, &members, effects)?;
+    let reply = bulks_of(alloc, drawn.items.as_slice())?;
+    Ok(reply)
+}

@@ -1,0 +1,146 @@
+// Effects on members, in groups.
+ghost use Rattle.std.specs.Prelude.{◌≡◌, ◌<◌, ◌^◌, [], ◌∷◌, ◌++◌, IfOk, OnOk};
+ghost use Rattle.std.specs.FinMap.{len};
+ghost use Rattle.mr_cmd_set.specs.Grouping.{changed_by, changes, group_effect, group_effects};
+
+use mr_data::{Effect, Words};
+use mr_map::SliceMap;
+use mr_planning::Effects;
+use mr_value::{SetValue, Word};
+use mr_words::{Argument, Words as Arguments};
+use std::alloc::{AllocError, Global};
+
+/// What is done to members of a set.
+#[derive(Clone, Copy)]
+pub enum Write {
+    Add,
+    Remove,
+}
+
+// So many members are in one effect at most.
+const MOST_ITEMS: usize = 64;
+
+// The words that change the set, each once.
+fn changed_by<'a>(
+    alloc: Global,
+    write: Write,
+    words: &Arguments<'a, '_>,
+    set: &SetValue,
+) -> Result<SliceMap<'a, ()>, AllocError>
+    ensures { IfOk result (λ s. s ≡ changed_by write words.now set.now) }
+{
+    let mut changed = SliceMap::new(alloc);
+    for word in words.as_slice() {
+        let member = word.as_slice();
+        if changes(write, set, member) {
+            changed.insert(member, ())?;
+        }
+    }
+    Ok(changed)
+}
+
+fn changes(write: Write, set: &SetValue, member: &[u8]) -> bool
+    ensures { result ≡ changes write set.now member.now }
+{
+    match write {
+        Write::Add => !set.contains(member),
+        Write::Remove => set.contains(member),
+    }
+}
+
+/// Effects that write those words that change the set, and how many these are.
+pub fn push_changes(
+    alloc: Global,
+    write: Write,
+    key: &Argument<'_>,
+    words: &Arguments<'_, '_>,
+    set: &SetValue,
+    effects: &mut Effects,
+) -> Result<usize, AllocError>
+    ensures changed { IfOk result (λ n. n ≡ len (changed_by write words.now set.now)) }
+    ensures small { IfOk result (λ n. n < 2 ^ 63) }
+    ensures effects { OnOk result (effects.new ≡ effects.old ++ group_effects write key.now (changed_by write words.now set.now)) }
+{
+    if let [word] = words.as_slice() {
+        return push_change(alloc, write, key, word.as_slice(), set, effects);
+    }
+    let changed = changed_by(alloc, write, words, set)?;
+    push_groups(alloc, write, key, &changed, effects)?;
+    Ok(changed.len())
+}
+
+// The same of one word, without putting words in order.
+fn push_change(
+    alloc: Global,
+    write: Write,
+    key: &Argument<'_>,
+    member: &[u8],
+    set: &SetValue,
+    effects: &mut Effects,
+) -> Result<usize, AllocError>
+    ensures changed { IfOk result (λ n. n ≡ len (changed_by write (member.now ∷ []) set.now)) }
+    ensures small { IfOk result (λ n. n < 2 ^ 63) }
+    ensures effects { OnOk result (effects.new ≡ effects.old ++ group_effects write key.now (changed_by write (member.now ∷ []) set.now)) }
+{
+    if !changes(write, set, member) {
+        return Ok(0);
+    }
+    push_member(alloc, write, key, member, effects)?;
+    Ok(1)
+}
+
+/// The effect that writes one member.
+pub fn push_member(
+    alloc: Global,
+    write: Write,
+    key: &Argument<'_>,
+    member: &[u8],
+    effects: &mut Effects,
+) -> Result<(), AllocError>
+    ensures { OnOk result (effects.new ≡ effects.old ++ group_effect write key.now (member.now ∷ []) ∷ []) }
+{
+    let mut members = Words::new(alloc);
+    members.push(Word::copied(alloc, member)?)?;
+    effects.push(group_effect(alloc, write, key, members)?)?;
+    Ok(())
+}
+
+/// Effects that write these members, in byte order.
+pub fn push_groups(
+    alloc: Global,
+    write: Write,
+    key: &Argument<'_>,
+    members: &SliceMap<'_, ()>,
+    effects: &mut Effects,
+) -> Result<(), AllocError>
+    ensures { OnOk result (effects.new ≡ effects.old ++ group_effects write key.now members.now) }
+{
+    let mut group = Words::new(alloc);
+    for (member, _) in members.iter() {
+        group.push(Word::copied(alloc, member)?)?;
+        if group.len() == MOST_ITEMS {
+            effects.push(group_effect(alloc, write, key, group)?)?;
+            group = Words::new(alloc);
+        }
+    }
+    if !group.is_empty() {
+        effects.push(group_effect(alloc, write, key, group)?)?;
+    }
+    Ok(())
+}
+
+// The effect that writes these members.
+fn group_effect(
+    alloc: Global,
+    write: Write,
+    key: &Argument<'_>,
+    members: Words<'static>,
+) -> Result<Effect<'static>, AllocError>
+    ensures { IfOk result (λ e. e ≡ group_effect write key.now members.entry) }
+{
+    let key = Word::copied(alloc, key.as_slice())?;
+    match write {
+        Write::Add => Ok(Effect::AddMembers { key, members }),
+        Write::Remove => Ok(Effect::RemoveMembers { key, members }),
+    }
+}

@@ -1,0 +1,57 @@
+// SMOVE: a member goes from one set into another.
+ghost use Rattle.std.specs.Prelude.{◌≡◌, IfOk, option_copied};
+ghost use Rattle.std.specs.FinMap.{get};
+ghost use Rattle.std.specs.Str.{bytes_eq};
+ghost use Rattle.mr_resp.specs.ReplyView.{view};
+ghost use Rattle.mr_entries.specs.Dataset.{Dataset as Map};
+ghost use Rattle.mr_cmd_set.specs.Moving.{move_member, Gives};
+
+use crate::replies::set_at;
+use mr_data::{Effect, Entry};
+use mr_planning::{Effects, count, wrong_kind};
+use mr_resp::Reply;
+use mr_value::{SetValue, Word};
+use mr_words::Argument;
+use std::alloc::{AllocError, Global};
+
+/// The answer, from what is seen at the source and at the target.
+pub fn moved(
+    alloc: Global,
+    from: &Argument<'_>,
+    to: &Argument<'_>,
+    member: &Argument<'_>,
+    source: Option<&Entry>,
+    target: Option<&Entry>,
+    effects: &mut Effects,
+) -> Result<Reply, AllocError>
+    ensures { IfOk result (λ r. (m : Map) → get m from.now ≡ option_copied source.entry → get m to.now ≡ option_copied target.entry → Gives (move_member from.now to.now member.now m) (view r) effects.old effects.new) }
+{
+    if source.is_none() {
+        return Ok(count(0));
+    }
+    let empty = SetValue::new(alloc);
+    let Some(set) = set_at(source, &empty) else {
+        return Ok(wrong_kind());
+    };
+    if set_at(target, &empty).is_none() {
+        return Ok(wrong_kind());
+    }
+    if !set.contains(member.as_slice()) {
+        return Ok(count(0));
+    }
+    if !same(from, to) {
+        effects.push(Effect::MoveMember {
+            from: Word::copied(alloc, from.as_slice())?,
+            to: Word::copied(alloc, to.as_slice())?,
+            member: Word::copied(alloc, member.as_slice())?,
+        })?;
+    }
+    Ok(count(1))
+}
+
+/// Whether two keys are one.
+pub fn same(from: &Argument<'_>, to: &Argument<'_>) -> bool
+    ensures { result ≡ bytes_eq from.now to.now }
+{
+    from.as_slice() == to.as_slice()
+}

@@ -1,0 +1,229 @@
+// The plan of a command.
+ghost use Rattle.std.specs.Prelude.{IsTrue, IfOk};
+ghost use Rattle.std.specs.List.{list_all};
+ghost use Rattle.mr_value.specs.Words.{fits};
+ghost use Rattle.mr_resp.specs.ReplyView.{view};
+ghost use Rattle.mr_data.specs.Dataset.{IsDataset};
+ghost use Rattle.mr_cmd_set.specs.Carried.{set_words};
+ghost use Rattle.mr_cmd_set.specs.declared.set_ask.SetAsk.TheVariants as asks;
+ghost use Rattle.mr_planning.specs.Commands.{IsPlan, IsFaithful, HasCommandTexts};
+ghost use Rattle.mr_cmd_set.specs.SetCommands.{command, RestsOn};
+
+use crate::combining::{combined, look_at_all};
+use crate::moving::{moved, same};
+use crate::set_ask::{SetAsk, SetOperation};
+use crate::{changing, drawing, telling};
+use mr_data::{Dataset, Given, Plan};
+use mr_planning::{Effects, look, wrong_kind};
+use mr_value::SetValue;
+use mr_words::{Argument, Words};
+use std::alloc::{AllocError, Global};
+
+/// What a command is answered, and its effects. The dataset isn't changed, and the plan owns what it holds.
+pub fn plan(
+    alloc: Global,
+    held: &Dataset,
+    ask: &SetAsk<'_, '_>,
+    given: Given,
+) -> Result<Plan, AllocError>
+    ensures plan { IfOk result (λ p. IsPlan (command ask.now given.word) given.now held.now (view p.reply) p.effects.items) }
+
+    // The effects lead to what the command leaves, and its own ones are there exactly where it changes something.
+    ensures faithful { IsTrue (list_all fits (set_words ask.now)) → IsFaithful (command ask.now given.word) given.now held.now }
+
+    // .. and their texts are command texts.
+    ensures texts { IsTrue (list_all fits (set_words ask.now)) → HasCommandTexts (command ask.now given.word) given.now held.now }
+{
+    planned(alloc, held, ask, given)
+}
+
+fn planned(
+    alloc: Global,
+    held: &Dataset,
+    ask: &SetAsk<'_, '_>,
+    given: Given,
+) -> Result<Plan, AllocError>
+    ensures plan { IfOk result (λ p. IsPlan (command ask.now given.word) given.now held.now (view p.reply) p.effects.items) }
+    ensures rests { RestsOn ask.now held.now }
+{
+    match ask {
+        SetAsk::AddMembers { key, members } => add_members(alloc, held, key, members, given),
+        SetAsk::RemoveMembers { key, members } => remove_members(alloc, held, key, members, given),
+        SetAsk::HasMember { key, member } => has_member(alloc, held, key, member, given),
+        SetAsk::HaveMembers { key, members } => have_members(alloc, held, key, members, given),
+        SetAsk::ListMembers { key } => list_members(alloc, held, key, given),
+        SetAsk::CountMembers { key } => count_members(alloc, held, key, given),
+        SetAsk::TakeMembers { key, count } => take_members(alloc, held, key, *count, given),
+        SetAsk::DrawMembers { key, count } => draw_members(alloc, held, key, *count, given),
+        SetAsk::MoveMember { from, to, member } => {
+            move_member(alloc, held, from, to, member, given)
+        }
+        SetAsk::Combine { operation, keys } => combine(alloc, held, *operation, keys, given),
+    }
+}
+
+fn add_members(
+    alloc: Global,
+    held: &Dataset,
+    key: &Argument<'_>,
+    members: &Words<'_, '_>,
+    given: Given,
+) -> Result<Plan, AllocError>
+    ensures plan { IfOk result (λ p. IsPlan (command (asks.AddMembers key.now members.now) given.word) given.now held.now (view p.reply) p.effects.items) }
+    ensures kept { IsDataset held.now }
+{
+    let mut effects = Effects::new(alloc);
+    let seen = look(alloc, held, key, given, &mut effects)?;
+    let reply = changing::add_members(alloc, key, members, seen, &mut effects)?;
+    Ok(effects.into_plan(reply))
+}
+
+fn remove_members(
+    alloc: Global,
+    held: &Dataset,
+    key: &Argument<'_>,
+    members: &Words<'_, '_>,
+    given: Given,
+) -> Result<Plan, AllocError>
+    ensures plan { IfOk result (λ p. IsPlan (command (asks.RemoveMembers key.now members.now) given.word) given.now held.now (view p.reply) p.effects.items) }
+    ensures kept { IsDataset held.now }
+{
+    let mut effects = Effects::new(alloc);
+    let seen = look(alloc, held, key, given, &mut effects)?;
+    let reply = changing::remove_members(alloc, key, members, seen, &mut effects)?;
+    Ok(effects.into_plan(reply))
+}
+
+fn has_member(
+    alloc: Global,
+    held: &Dataset,
+    key: &Argument<'_>,
+    member: &Argument<'_>,
+    given: Given,
+) -> Result<Plan, AllocError>
+    ensures plan { IfOk result (λ p. IsPlan (command (asks.HasMember key.now member.now) given.word) given.now held.now (view p.reply) p.effects.items) }
+    ensures kept { IsDataset held.now }
+{
+    let mut effects = Effects::new(alloc);
+    let seen = look(alloc, held, key, given, &mut effects)?;
+    let reply = telling::has_member(alloc, member, seen);
+    Ok(effects.into_plan(reply))
+}
+
+fn have_members(
+    alloc: Global,
+    held: &Dataset,
+    key: &Argument<'_>,
+    members: &Words<'_, '_>,
+    given: Given,
+) -> Result<Plan, AllocError>
+    ensures plan { IfOk result (λ p. IsPlan (command (asks.HaveMembers key.now members.now) given.word) given.now held.now (view p.reply) p.effects.items) }
+    ensures kept { IsDataset held.now }
+{
+    let mut effects = Effects::new(alloc);
+    let seen = look(alloc, held, key, given, &mut effects)?;
+    let reply = telling::have_members(alloc, members, seen)?;
+    Ok(effects.into_plan(reply))
+}
+
+fn list_members(
+    alloc: Global,
+    held: &Dataset,
+    key: &Argument<'_>,
+    given: Given,
+) -> Result<Plan, AllocError>
+    ensures plan { IfOk result (λ p. IsPlan (command (asks.ListMembers key.now) given.word) given.now held.now (view p.reply) p.effects.items) }
+    ensures kept { IsDataset held.now }
+{
+    let mut effects = Effects::new(alloc);
+    let seen = look(alloc, held, key, given, &mut effects)?;
+    let reply = telling::list_members(alloc, seen)?;
+    Ok(effects.into_plan(reply))
+}
+
+fn count_members(
+    alloc: Global,
+    held: &Dataset,
+    key: &Argument<'_>,
+    given: Given,
+) -> Result<Plan, AllocError>
+    ensures plan { IfOk result (λ p. IsPlan (command (asks.CountMembers key.now) given.word) given.now held.now (view p.reply) p.effects.items) }
+    ensures kept { IsDataset held.now }
+{
+    let mut effects = Effects::new(alloc);
+    let seen = look(alloc, held, key, given, &mut effects)?;
+    let reply = telling::count_members(alloc, seen);
+    Ok(effects.into_plan(reply))
+}
+
+fn take_members(
+    alloc: Global,
+    held: &Dataset,
+    key: &Argument<'_>,
+    count: Option<usize>,
+    given: Given,
+) -> Result<Plan, AllocError>
+    ensures plan { IfOk result (λ p. IsPlan (command (asks.TakeMembers key.now count) given.word) given.now held.now (view p.reply) p.effects.items) }
+    ensures kept { IsDataset held.now }
+{
+    let mut effects = Effects::new(alloc);
+    let seen = look(alloc, held, key, given, &mut effects)?;
+    let reply = drawing::take_members(alloc, key, count, given.word(), seen, &mut effects)?;
+    Ok(effects.into_plan(reply))
+}
+
+fn draw_members(
+    alloc: Global,
+    held: &Dataset,
+    key: &Argument<'_>,
+    count: Option<usize>,
+    given: Given,
+) -> Result<Plan, AllocError>
+    ensures plan { IfOk result (λ p. IsPlan (command (asks.DrawMembers key.now count) given.word) given.now held.now (view p.reply) p.effects.items) }
+    ensures kept { IsDataset held.now }
+{
+    let mut effects = Effects::new(alloc);
+    let seen = look(alloc, held, key, given, &mut effects)?;
+    let reply = drawing::draw_members(alloc, count, given.word(), seen)?;
+    Ok(effects.into_plan(reply))
+}
+
+fn move_member(
+    alloc: Global,
+    held: &Dataset,
+    from: &Argument<'_>,
+    to: &Argument<'_>,
+    member: &Argument<'_>,
+    given: Given,
+) -> Result<Plan, AllocError>
+    ensures plan { IfOk result (λ p. IsPlan (command (asks.MoveMember from.now to.now member.now) given.word) given.now held.now (view p.reply) p.effects.items) }
+    ensures kept { IsDataset held.now }
+{
+    let mut effects = Effects::new(alloc);
+    let source = look(alloc, held, from, given, &mut effects)?;
+    let target = if same(from, to) {
+        source
+    } else {
+        look(alloc, held, to, given, &mut effects)?
+    };
+    let reply = moved(alloc, from, to, member, source, target, &mut effects)?;
+    Ok(effects.into_plan(reply))
+}
+
+fn combine(
+    alloc: Global,
+    held: &Dataset,
+    operation: SetOperation,
+    keys: &Words<'_, '_>,
+    given: Given,
+) -> Result<Plan, AllocError>
+    ensures plan { IfOk result (λ p. IsPlan (command (asks.Combine operation keys.now) given.word) given.now held.now (view p.reply) p.effects.items) }
+{
+    let mut effects = Effects::new(alloc);
+    let empty = SetValue::new(alloc);
+    let reply = match look_at_all(alloc, held, keys, given, &empty, &mut effects)? {
+        Some(sets) => combined(alloc, operation, &sets)?,
+        None => wrong_kind(),
+    };
+    Ok(effects.into_plan(reply))
+}

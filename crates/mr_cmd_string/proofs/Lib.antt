@@ -1,0 +1,16 @@
+pub mod PartLemmas
+pub mod FewLemmas
+pub mod SetOrderLemmas
+pub mod ArgumentLemmas
+pub mod FitLemmas
+pub mod TimeLemmas
+pub mod ReadLemmas
+pub mod FaultLemmas
+pub mod SameTexts
+pub mod ChangingLaws
+pub mod SettingAllLaws
+pub mod Laws
+pub mod SettingAllPlans
+pub mod WritingOver
+pub mod PlanLemmas
+pub mod LeftAndTold

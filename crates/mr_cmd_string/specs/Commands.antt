@@ -1,0 +1,50 @@
+-- The commands on strings.
+use Rattle.std.specs.Prelude.{ℤ, IsTrue}
+use Rattle.mr_value.specs.Number.{is_i64}
+use Rattle.mr_planning.specs.Commands.{Command, on_key, on_keys}
+use Rattle.mr_cmd_string.specs.declared.text_ask.TextAsk.{TextAsk}
+use Rattle.mr_cmd_string.specs.declared.text_ask.TextAsk.TheVariants as ask
+use Rattle.mr_cmd_string.specs.Parts.{amount_number}
+use Rattle.mr_expiry.specs.Amounts.{is_amount}
+use Rattle.mr_expiry.specs.Expiry.{milliseconds}
+use Rattle.mr_expiry.specs.declared.expiry.Expiry.{Expiry}
+use Rattle.mr_expiry.specs.declared.expiry.Expiry.TheVariants.{Seconds, Milliseconds}
+use Rattle.mr_cmd_string.specs.declared.text_ask.Lifetime.TheVariants.{Until}
+use Rattle.mr_cmd_string.specs.Texts.{get_turn, length_turn, range_turn, texts}
+use Rattle.mr_cmd_string.specs.Setting.{said_at, set_turn, set_for_turn, set_new_turn, get_and_set_turn, get_and_delete_turn}
+use Rattle.mr_cmd_string.specs.SettingAll.{names, set_all, set_all_new}
+use Rattle.mr_cmd_string.specs.Changing.{append_turn, set_range_turn, increase_turn}
+
+-- at the moment `now`
+abbrev pub command : TextAsk → ℤ → Command
+command (ask.Get k) now = on_key k get_turn
+command (ask.Set k text condition reply lifetime) now = on_key k (set_turn k text condition reply (said_at now lifetime))
+command (ask.SetEx k n text) now = on_key k (set_for_turn k text (said_at now (Until (Seconds n))))
+command (ask.PSetEx k n text) now = on_key k (set_for_turn k text (said_at now (Until (Milliseconds n))))
+command (ask.TextLength k) now = on_key k length_turn
+command (ask.GetRange k first last) now = on_key k (range_turn first last)
+command (ask.GetAll ks) now = on_keys ks (texts ks)
+command (ask.SetNew k text) now = on_key k (set_new_turn k text)
+command (ask.GetAndSet k text) now = on_key k (get_and_set_turn k text)
+command (ask.GetAndDelete k) now = on_key k (get_and_delete_turn k)
+command (ask.SetAll pairs) now = on_keys (names pairs) (set_all pairs)
+command (ask.SetAllNew pairs) now = on_keys (names pairs) (set_all_new pairs)
+command (ask.Append k text) now = on_key k (append_turn k text)
+command (ask.SetRange k offset text) now = on_key k (set_range_turn k offset text)
+command (ask.Increase k by) now = on_key k (increase_turn k (amount_number by))
+
+-- the number in a command's effect has 64 bits
+abbrev pub HasNumber : TextAsk → Type 0
+HasNumber (ask.Increase k by) = IsTrue (is_i64 (amount_number by))
+HasNumber _ = Unit {0}
+
+-- an amount of time within the limit
+abbrev pub IsLimited : Expiry → Type 0
+IsLimited expiry = IsTrue (is_amount (milliseconds expiry))
+
+-- the time that a text is set for is within the limit
+abbrev pub HasLimit : TextAsk → Type 0
+HasLimit (ask.Set k text condition reply (Until expiry)) = IsLimited expiry
+HasLimit (ask.SetEx k n text) = IsLimited (Seconds n)
+HasLimit (ask.PSetEx k n text) = IsLimited (Milliseconds n)
+HasLimit _ = Unit {0}

@@ -1,0 +1,15 @@
+pub mod Parts
+pub mod Options
+pub mod Arguments
+pub mod Carried
+pub mod Called
+pub mod Spelled
+pub mod Askable
+pub mod ArgumentFaults
+pub mod Texts
+pub mod Setting
+pub mod Changing
+pub mod SettingAll
+pub mod Finding
+pub mod Commands
+pub mod Laws

@@ -1,0 +1,309 @@
+// The plan of a command on strings.
+ghost use Rattle.std.specs.Prelude.{◌≡◌, ◌<◌, length, IfOk, IsTrue};
+ghost use Rattle.std.specs.List.{list_all};
+ghost use Rattle.mr_value.specs.Number.{is_i64};
+ghost use Rattle.mr_value.specs.Words.{fits};
+ghost use Rattle.mr_resp.specs.ReplyView.{view};
+ghost use Rattle.mr_resp.specs.Usual.{commands};
+ghost use Rattle.mr_data.specs.Given.{IsMoment};
+ghost use Rattle.mr_cmd_string.specs.Carried.{text_words, IsTimed};
+ghost use Rattle.mr_planning.specs.Commands.{IsPlan, IsFaithful, HasCommandTexts, on_key, on_keys};
+ghost use Rattle.mr_cmd_string.specs.Commands.{command, HasNumber, HasLimit};
+ghost use Rattle.mr_cmd_string.specs.Texts.{get_turn, length_turn, range_turn, texts};
+ghost use Rattle.mr_cmd_string.specs.Setting.{said_at, set_turn, set_for_turn, set_new_turn, get_and_set_turn, get_and_delete_turn};
+ghost use Rattle.mr_cmd_string.specs.declared.text_ask.Lifetime.TheVariants.{Until};
+ghost use Rattle.mr_cmd_string.specs.Changing.{append_turn, set_range_turn, increase_turn};
+
+use crate::deadlines::NewDeadline;
+use crate::setting::SetRules;
+use crate::setting_all::{set_all, set_all_new};
+use crate::text_ask::{Lifetime, SetReply, TextAsk};
+use crate::{changing, setting, texts};
+use mr_data::{Dataset, Given, Plan};
+use mr_expiry::Expiry;
+use mr_planning::{Effects, look, push_dels};
+use mr_words::{Argument, Words};
+use std::alloc::{AllocError, Global};
+
+/// What a command on strings is answered, and its effects. The dataset isn't changed, and the plan owns what it holds.
+///
+/// # Errors
+///
+/// Memory ran out.
+pub fn plan(
+    alloc: Global,
+    held: &Dataset,
+    ask: &TextAsk<'_, '_>,
+    given: Given,
+) -> Result<Plan, AllocError>
+    ensures plan { IfOk result (λ p. IsPlan (command ask.now given.now) given.now held.now (view p.reply) p.effects.items) }
+
+    // The effects lead to what the command leaves, and its own ones are there exactly where it changes something.
+    ensures faithful { IsTrue (list_all fits (text_words ask.now)) → IsTimed ask.now → IsFaithful (command ask.now given.now) given.now held.now }
+
+    // .. and their texts are command texts. (MSET's effect has as many words as its request at most.)
+    ensures texts { IsTrue (list_all fits (text_words ask.now)) → IsTimed ask.now → length (text_words ask.now) < commands.words → HasCommandTexts (command ask.now given.now) given.now held.now }
+{
+    times_are_limited(ask, given);
+    planned(alloc, held, ask, given)
+}
+
+// What a request says of time is within its limit, and so is the moment.
+fn times_are_limited(ask: &TextAsk<'_, '_>, given: Given)
+    ensures moment { IsMoment given.now }
+    ensures limit { HasLimit ask.now }
+{
+    let _now = given.now();
+    match ask {
+        TextAsk::Set {
+            lifetime: Lifetime::Until(expiry),
+            ..
+        } => {
+            let _time = expiry.milliseconds();
+        }
+        TextAsk::SetEx { seconds, .. } => {
+            let _time = Expiry::Seconds(*seconds).milliseconds();
+        }
+        TextAsk::PSetEx { milliseconds, .. } => {
+            let _time = Expiry::Milliseconds(*milliseconds).milliseconds();
+        }
+        _ => {}
+    }
+}
+
+fn planned(
+    alloc: Global,
+    held: &Dataset,
+    ask: &TextAsk<'_, '_>,
+    given: Given,
+) -> Result<Plan, AllocError>
+    ensures number { HasNumber ask.now }
+    ensures plan { IfOk result (λ p. IsPlan (command ask.now given.now) given.now held.now (view p.reply) p.effects.items) }
+{
+    match ask {
+        TextAsk::Get { key } => get(alloc, held, key, given),
+        TextAsk::Set {
+            key,
+            value,
+            condition,
+            reply,
+            lifetime,
+        } => {
+            let rules = SetRules {
+                condition: *condition,
+                reply: *reply,
+                deadline: NewDeadline::said(*lifetime, given),
+            };
+            set(alloc, held, key, value, rules, given)
+        }
+        TextAsk::SetEx {
+            key,
+            seconds,
+            value,
+        } => set_for(alloc, held, key, Expiry::Seconds(*seconds), value, given),
+        TextAsk::PSetEx {
+            key,
+            milliseconds,
+            value,
+        } => set_for(
+            alloc,
+            held,
+            key,
+            Expiry::Milliseconds(*milliseconds),
+            value,
+            given,
+        ),
+        TextAsk::TextLength { key } => text_length(alloc, held, key, given),
+        TextAsk::GetRange { key, first, last } => get_range(alloc, held, key, *first, *last, given),
+        TextAsk::GetAll { keys } => get_all(alloc, held, keys, given),
+        TextAsk::SetNew { key, value } => set_new(alloc, held, key, value, given),
+        TextAsk::GetAndSet { key, value } => get_and_set(alloc, held, key, value, given),
+        TextAsk::GetAndDelete { key } => get_and_delete(alloc, held, key, given),
+        TextAsk::SetAll { pairs } => set_all(alloc, held, pairs, given),
+        TextAsk::SetAllNew { pairs } => set_all_new(alloc, held, pairs, given),
+        TextAsk::Append { key, value } => append(alloc, held, key, value, given),
+        TextAsk::SetRange { key, offset, value } => {
+            set_range(alloc, held, key, *offset, value, given)
+        }
+        TextAsk::Increase { key, by } => increase(alloc, held, key, by.number(), given),
+    }
+}
+
+fn get(alloc: Global, held: &Dataset, key: &Argument<'_>, given: Given) -> Result<Plan, AllocError>
+    ensures { IfOk result (λ p. IsPlan (on_key key.now get_turn) given.now held.now (view p.reply) p.effects.items) }
+{
+    let mut effects = Effects::new(alloc);
+    let seen = look(alloc, held, key, given, &mut effects)?;
+    let reply = texts::get(alloc, seen)?;
+    Ok(effects.into_plan(reply))
+}
+
+fn text_length(
+    alloc: Global,
+    held: &Dataset,
+    key: &Argument<'_>,
+    given: Given,
+) -> Result<Plan, AllocError>
+    ensures { IfOk result (λ p. IsPlan (on_key key.now length_turn) given.now held.now (view p.reply) p.effects.items) }
+{
+    let mut effects = Effects::new(alloc);
+    let seen = look(alloc, held, key, given, &mut effects)?;
+    let reply = texts::text_length(seen);
+    Ok(effects.into_plan(reply))
+}
+
+fn get_range(
+    alloc: Global,
+    held: &Dataset,
+    key: &Argument<'_>,
+    first: i64,
+    last: i64,
+    given: Given,
+) -> Result<Plan, AllocError>
+    ensures { IfOk result (λ p. IsPlan (on_key key.now (range_turn first last)) given.now held.now (view p.reply) p.effects.items) }
+{
+    let mut effects = Effects::new(alloc);
+    let seen = look(alloc, held, key, given, &mut effects)?;
+    let reply = texts::get_range(alloc, first, last, seen)?;
+    Ok(effects.into_plan(reply))
+}
+
+fn get_all(
+    alloc: Global,
+    held: &Dataset,
+    keys: &Words<'_, '_>,
+    given: Given,
+) -> Result<Plan, AllocError>
+    ensures { IfOk result (λ p. IsPlan (on_keys keys.now (texts keys.now)) given.now held.now (view p.reply) p.effects.items) }
+{
+    let mut effects = Effects::new(alloc);
+    push_dels(alloc, held, keys, given, true, &mut effects)?;
+    let reply = texts::get_all(alloc, held, keys, given)?;
+    Ok(effects.into_plan(reply))
+}
+
+fn set(
+    alloc: Global,
+    held: &Dataset,
+    key: &Argument<'_>,
+    value: &Argument<'_>,
+    rules: SetRules,
+    given: Given,
+) -> Result<Plan, AllocError>
+    ensures { IfOk result (λ p. IsPlan (on_key key.now (set_turn key.now value.now rules.condition rules.reply rules.deadline)) given.now held.now (view p.reply) p.effects.items) }
+{
+    let mut effects = Effects::new(alloc);
+    let seen = look(alloc, held, key, given, &mut effects)?;
+    let reply = setting::set(alloc, key, value, rules, seen, &mut effects)?;
+    Ok(effects.into_plan(reply))
+}
+
+// SETEX, PSETEX
+fn set_for(
+    alloc: Global,
+    held: &Dataset,
+    key: &Argument<'_>,
+    expiry: Expiry,
+    value: &Argument<'_>,
+    given: Given,
+) -> Result<Plan, AllocError>
+    ensures { IfOk result (λ p. IsPlan (on_key key.now (set_for_turn key.now value.now (said_at given.now (Until expiry)))) given.now held.now (view p.reply) p.effects.items) }
+{
+    let rules = SetRules {
+        condition: None,
+        reply: SetReply::Done,
+        deadline: NewDeadline::said(Lifetime::Until(expiry), given),
+    };
+    set(alloc, held, key, value, rules, given)
+}
+
+fn set_new(
+    alloc: Global,
+    held: &Dataset,
+    key: &Argument<'_>,
+    value: &Argument<'_>,
+    given: Given,
+) -> Result<Plan, AllocError>
+    ensures { IfOk result (λ p. IsPlan (on_key key.now (set_new_turn key.now value.now)) given.now held.now (view p.reply) p.effects.items) }
+{
+    let mut effects = Effects::new(alloc);
+    let seen = look(alloc, held, key, given, &mut effects)?;
+    let reply = setting::set_new(alloc, key, value, seen, &mut effects)?;
+    Ok(effects.into_plan(reply))
+}
+
+fn get_and_set(
+    alloc: Global,
+    held: &Dataset,
+    key: &Argument<'_>,
+    value: &Argument<'_>,
+    given: Given,
+) -> Result<Plan, AllocError>
+    ensures { IfOk result (λ p. IsPlan (on_key key.now (get_and_set_turn key.now value.now)) given.now held.now (view p.reply) p.effects.items) }
+{
+    let mut effects = Effects::new(alloc);
+    let seen = look(alloc, held, key, given, &mut effects)?;
+    let reply = setting::get_and_set(alloc, key, value, seen, &mut effects)?;
+    Ok(effects.into_plan(reply))
+}
+
+fn get_and_delete(
+    alloc: Global,
+    held: &Dataset,
+    key: &Argument<'_>,
+    given: Given,
+) -> Result<Plan, AllocError>
+    ensures { IfOk result (λ p. IsPlan (on_key key.now (get_and_delete_turn key.now)) given.now held.now (view p.reply) p.effects.items) }
+{
+    let mut effects = Effects::new(alloc);
+    let seen = look(alloc, held, key, given, &mut effects)?;
+    let reply = setting::get_and_delete(alloc, key, seen, &mut effects)?;
+    Ok(effects.into_plan(reply))
+}
+
+fn append(
+    alloc: Global,
+    held: &Dataset,
+    key: &Argument<'_>,
+    more: &Argument<'_>,
+    given: Given,
+) -> Result<Plan, AllocError>
+    ensures { IfOk result (λ p. IsPlan (on_key key.now (append_turn key.now more.now)) given.now held.now (view p.reply) p.effects.items) }
+{
+    let mut effects = Effects::new(alloc);
+    let seen = look(alloc, held, key, given, &mut effects)?;
+    let reply = changing::append(alloc, key, more, seen, &mut effects)?;
+    Ok(effects.into_plan(reply))
+}
+
+fn set_range(
+    alloc: Global,
+    held: &Dataset,
+    key: &Argument<'_>,
+    offset: usize,
+    part: &Argument<'_>,
+    given: Given,
+) -> Result<Plan, AllocError>
+    ensures { IfOk result (λ p. IsPlan (on_key key.now (set_range_turn key.now offset part.now)) given.now held.now (view p.reply) p.effects.items) }
+{
+    let mut effects = Effects::new(alloc);
+    let seen = look(alloc, held, key, given, &mut effects)?;
+    let reply = changing::set_range(alloc, key, offset, part, seen, &mut effects)?;
+    Ok(effects.into_plan(reply))
+}
+
+fn increase(
+    alloc: Global,
+    held: &Dataset,
+    key: &Argument<'_>,
+    by: i64,
+    given: Given,
+) -> Result<Plan, AllocError>
+    ensures number { IsTrue (is_i64 by) }
+    ensures plan { IfOk result (λ p. IsPlan (on_key key.now (increase_turn key.now by)) given.now held.now (view p.reply) p.effects.items) }
+{
+    let mut effects = Effects::new(alloc);
+    let seen = look(alloc, held, key, given, &mut effects)?;
+    let reply = changing::increase(alloc, key, by, seen, &mut effects)?;
+    Ok(effects.into_plan(reply))
+}

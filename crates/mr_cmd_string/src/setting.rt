@@ -1,0 +1,232 @@
+// Commands that set a text, or take one away.
+ghost use Rattle.std.specs.Prelude.{◌≡◌, [], ◌∷◌, ◌++◌, IfOk, OnOk, option_copied};
+ghost use Rattle.mr_resp.specs.Replies.{bytes};
+ghost use Rattle.mr_resp.specs.ReplyView.{view};
+ghost use Rattle.mr_effect.specs.declared.effect.Effect.TheVariants as effect;
+ghost use Rattle.mr_planning.specs.Turns.{Takes};
+ghost use Rattle.mr_cmd_string.specs.declared.text_ask.SetReply.TheVariants as asked;
+ghost use Rattle.mr_cmd_string.specs.Setting.{put, set_turn, set_new_turn, get_and_set_turn, get_and_delete_turn, allows, is_text, is_plain, holds_until, is_other, holds_other};
+
+use crate::deadlines::{NewDeadline, is_same};
+use crate::text_ask::{SetCondition, SetReply};
+use crate::texts::get;
+use mr_data::{Effect, Entry, Value};
+use mr_planning::{Effects, bulk, count, done, wrong_kind};
+use mr_resp::Reply;
+use mr_value::Word;
+use mr_words::Argument;
+use std::alloc::{AllocError, Global};
+
+/// What a `SET` is told besides its key and its text.
+#[derive(Clone, Copy)]
+pub struct SetRules {
+    pub condition: Option<SetCondition>,
+    pub reply: SetReply,
+    pub deadline: NewDeadline,
+}
+
+/// `SET`
+pub fn set(
+    alloc: Global,
+    key: &Argument<'_>,
+    text: &Argument<'_>,
+    rules: SetRules,
+    seen: Option<&Entry>,
+    effects: &mut Effects,
+) -> Result<Reply, AllocError>
+    ensures { IfOk result (λ r. Takes (set_turn key.now text.now rules.condition rules.reply rules.deadline (option_copied seen.entry)) (view r) effects.old effects.new) }
+{
+    match rules.reply {
+        SetReply::Done => set_and_say(alloc, key, text, rules, seen, effects),
+        SetReply::Before => set_and_get(alloc, key, text, rules, seen, effects),
+    }
+}
+
+// SET without GET.
+fn set_and_say(
+    alloc: Global,
+    key: &Argument<'_>,
+    text: &Argument<'_>,
+    rules: SetRules,
+    seen: Option<&Entry>,
+    effects: &mut Effects,
+) -> Result<Reply, AllocError>
+    ensures { IfOk result (λ r. Takes (set_turn key.now text.now rules.condition asked.Done rules.deadline (option_copied seen.entry)) (view r) effects.old effects.new) }
+{
+    if !allows(rules.condition, seen) {
+        return Ok(Reply::NullBulk);
+    }
+    put(alloc, key, text, rules.deadline, done(), seen, effects)
+}
+
+// SET with GET.
+fn set_and_get(
+    alloc: Global,
+    key: &Argument<'_>,
+    text: &Argument<'_>,
+    rules: SetRules,
+    seen: Option<&Entry>,
+    effects: &mut Effects,
+) -> Result<Reply, AllocError>
+    ensures { IfOk result (λ r. Takes (set_turn key.now text.now rules.condition asked.Before rules.deadline (option_copied seen.entry)) (view r) effects.old effects.new) }
+{
+    if holds_other(seen) {
+        return Ok(wrong_kind());
+    }
+    let before = get(alloc, seen)?;
+    if !allows(rules.condition, seen) {
+        return Ok(before);
+    }
+    put(alloc, key, text, rules.deadline, before, seen, effects)
+}
+
+/// `SETNX`
+pub fn set_new(
+    alloc: Global,
+    key: &Argument<'_>,
+    text: &Argument<'_>,
+    seen: Option<&Entry>,
+    effects: &mut Effects,
+) -> Result<Reply, AllocError>
+    ensures { IfOk result (λ r. Takes (set_new_turn key.now text.now (option_copied seen.entry)) (view r) effects.old effects.new) }
+{
+    if seen.is_some() {
+        return Ok(count(0));
+    }
+    put(
+        alloc,
+        key,
+        text,
+        NewDeadline::Endless,
+        count(1),
+        seen,
+        effects,
+    )
+}
+
+/// `GETSET`
+pub fn get_and_set(
+    alloc: Global,
+    key: &Argument<'_>,
+    text: &Argument<'_>,
+    seen: Option<&Entry>,
+    effects: &mut Effects,
+) -> Result<Reply, AllocError>
+    ensures { IfOk result (λ r. Takes (get_and_set_turn key.now text.now (option_copied seen.entry)) (view r) effects.old effects.new) }
+{
+    let rules = SetRules {
+        condition: None,
+        reply: SetReply::Before,
+        deadline: NewDeadline::Endless,
+    };
+    set_and_get(alloc, key, text, rules, seen, effects)
+}
+
+/// `GETDEL`
+pub fn get_and_delete(
+    alloc: Global,
+    key: &Argument<'_>,
+    seen: Option<&Entry>,
+    effects: &mut Effects,
+) -> Result<Reply, AllocError>
+    ensures { IfOk result (λ r. Takes (get_and_delete_turn key.now (option_copied seen.entry)) (view r) effects.old effects.new) }
+{
+    let Some(entry) = seen else {
+        return Ok(Reply::NullBulk);
+    };
+    match &entry.value {
+        Value::Text(text) => take(alloc, key, text.as_slice(), effects),
+        Value::Hash(_) | Value::List(_) | Value::Set(_) | Value::SortedSet(_) => Ok(wrong_kind()),
+    }
+}
+
+// The text is answered, and the key goes.
+fn take(
+    alloc: Global,
+    key: &Argument<'_>,
+    text: &[u8],
+    effects: &mut Effects,
+) -> Result<Reply, AllocError>
+    ensures reply { IfOk result (λ r. view r ≡ bytes text.now) }
+    ensures effects { OnOk result (effects.new ≡ effects.old ++ effect.Del key.now ∷ []) }
+{
+    effects.push(Effect::Del {
+        key: Word::copied(alloc, key.as_slice())?,
+    })?;
+    let reply = bulk(alloc, text)?;
+    Ok(reply)
+}
+
+// The key gets the text with its deadline, and this is answered.
+fn put(
+    alloc: Global,
+    key: &Argument<'_>,
+    text: &Argument<'_>,
+    deadline: NewDeadline,
+    reply: Reply,
+    seen: Option<&Entry>,
+    effects: &mut Effects,
+) -> Result<Reply, AllocError>
+    ensures { IfOk result (λ r. Takes (put key.now text.now deadline (view reply) (option_copied seen.entry)) (view r) effects.old effects.new) }
+{
+    if !holds_until(text.as_slice(), deadline.until(seen), seen) {
+        effects.push(deadline.effect(alloc, key, text)?)?;
+    }
+    Ok(reply)
+}
+
+// Whether the condition lets the key be set.
+fn allows(condition: Option<SetCondition>, seen: Option<&Entry>) -> bool
+    ensures { result ≡ allows condition (option_copied seen.entry) }
+{
+    match condition {
+        None => true,
+        Some(SetCondition::Absent) => seen.is_none(),
+        Some(SetCondition::Present) => seen.is_some(),
+    }
+}
+
+// Whether the key holds another kind of value.
+fn holds_other(seen: Option<&Entry>) -> bool
+    ensures { result ≡ holds_other (option_copied seen.entry) }
+{
+    match seen {
+        None => false,
+        Some(entry) => is_other(&entry.value),
+    }
+}
+
+fn is_other(value: &Value) -> bool
+    ensures { result ≡ is_other value.now }
+{
+    match value {
+        Value::Text(_) => false,
+        Value::Hash(_) | Value::List(_) | Value::Set(_) | Value::SortedSet(_) => true,
+    }
+}
+
+/// Whether the entry is this text already, without a deadline.
+pub fn is_plain(text: &[u8], seen: Option<&Entry>) -> bool
+    ensures { result ≡ is_plain text.now (option_copied seen.entry) }
+{
+    holds_until(text, None, seen)
+}
+
+// Whether the entry is this text already, with this deadline.
+fn holds_until(text: &[u8], deadline: Option<i64>, seen: Option<&Entry>) -> bool
+    ensures { result ≡ holds_until text.now deadline (option_copied seen.entry) }
+{
+    let Some(entry) = seen else {
+        return false;
+    };
+    is_same(entry.deadline, deadline) && is_text(text, &entry.value)
+}
+
+fn is_text(text: &[u8], value: &Value) -> bool
+    ensures { result ≡ is_text text.now value.now }
+{
+    match value {
+        Value::Text(held) => held.as_slice() == text,
+        Value::Hash(_) | Value::List(_) | Value::Set(_) | Value::SortedSet(_) => false,
+    }
+}

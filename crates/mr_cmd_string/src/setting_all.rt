@@ -1,0 +1,165 @@
+// Commands that set texts at several keys.
+ghost use Rattle.std.specs.Prelude.{◌≡◌, ◌++◌, map, IfOk, OnOk};
+ghost use Rattle.std.specs.FinMap.{entries};
+ghost use Rattle.mr_resp.specs.ReplyView.{view};
+ghost use Rattle.mr_planning.specs.Keys.{dels, past};
+ghost use Rattle.mr_planning.specs.Commands.{IsPlan, on_keys};
+ghost use Rattle.mr_cmd_string.specs.SettingAll.{names, last_texts, set_effects, set_all, set_all_new};
+ghost use Rattle.mr_cmd_string.specs.Finding.{is_any_live, is_any_past, changed_at};
+
+use crate::setting::is_plain;
+use mr_data::{Dataset, Effect, Given, Pairs as Texts, Plan};
+use mr_map::SliceMap;
+use mr_planning::{Effects, count, done, push_dels, see};
+use mr_value::Word;
+use mr_words::{Argument, Pairs, Words};
+use std::alloc::{AllocError, Global};
+use std::borrow::CowSlice;
+
+/// `MSET`
+pub fn set_all(
+    alloc: Global,
+    held: &Dataset,
+    pairs: &Pairs<'_, '_>,
+    given: Given,
+) -> Result<Plan, AllocError>
+    ensures { IfOk result (λ p. IsPlan (on_keys (names pairs.now) (set_all pairs.now)) given.now held.now (view p.reply) p.effects.items) }
+{
+    let values = last_texts(alloc, pairs)?;
+    let changed = find_changed(alloc, held, &values, given)?;
+    let mut effects = Effects::new(alloc);
+    if changed.past {
+        push_past(alloc, held, pairs, given, &mut effects)?;
+    }
+    push_texts(changed.texts, &mut effects)?;
+    Ok(effects.into_plan(done()))
+}
+
+/// `MSETNX`
+pub fn set_all_new(
+    alloc: Global,
+    held: &Dataset,
+    pairs: &Pairs<'_, '_>,
+    given: Given,
+) -> Result<Plan, AllocError>
+    ensures { IfOk result (λ p. IsPlan (on_keys (names pairs.now) (set_all_new pairs.now)) given.now held.now (view p.reply) p.effects.items) }
+{
+    let (there, past) = find_any(held, pairs, given);
+    let mut effects = Effects::new(alloc);
+    if past {
+        push_past(alloc, held, pairs, given, &mut effects)?;
+    }
+    if there {
+        return Ok(effects.into_plan(count(0)));
+    }
+    let values = last_texts(alloc, pairs)?;
+    let texts = copied(alloc, &values)?;
+    push_texts(texts, &mut effects)?;
+    Ok(effects.into_plan(count(1)))
+}
+
+// The keys that pairs name, each with its last text. They are not copied.
+fn last_texts<'a>(
+    alloc: Global,
+    pairs: &Pairs<'a, '_>,
+) -> Result<SliceMap<'a, Argument<'a>>, AllocError>
+    ensures { IfOk result (λ values. values ≡ last_texts pairs.now) }
+{
+    let mut values = SliceMap::new(alloc);
+    for (key, text) in pairs.iter() {
+        values.insert(key, Argument::new(text))?;
+    }
+    Ok(values)
+}
+
+// The texts that change what their keys hold, and whether one of the keys is past.
+#[derive(Drop)]
+struct Changed {
+    texts: Texts<'static>,
+    past: bool,
+}
+
+fn find_changed(
+    alloc: Global,
+    held: &Dataset,
+    values: &SliceMap<'_, Argument<'_>>,
+    given: Given,
+) -> Result<Changed, AllocError>
+    ensures texts { IfOk result (λ c. c.texts ≡ changed_at given.now (entries values.now) held.now) }
+    ensures past { IfOk result (λ c. c.past ≡ is_any_past given.now (entries values.now) held.now) }
+{
+    let mut changed = Changed {
+        texts: Texts::new(alloc),
+        past: false,
+    };
+    for (key, text) in values.iter() {
+        let (seen, past) = see(held, key, given);
+        changed.past |= past;
+        if !is_plain(text.as_slice(), seen) {
+            changed.texts.push(
+                Word::copied(alloc, key)?,
+                Word::copied(alloc, text.as_slice())?,
+            )?;
+        }
+    }
+    Ok(changed)
+}
+
+// Whether one of the keys is there and not past, and whether one is past.
+fn find_any(held: &Dataset, pairs: &Pairs<'_, '_>, given: Given) -> (bool, bool)
+    ensures there { result.0 ≡ is_any_live given.now pairs.now held.now }
+    ensures past { result.1 ≡ is_any_past given.now pairs.now held.now }
+{
+    let mut any_there = false;
+    let mut any_past = false;
+    for (key, _) in pairs.iter() {
+        let (seen, past) = see(held, key, given);
+        any_there |= seen.is_some();
+        any_past |= past;
+    }
+    (any_there, any_past)
+}
+
+// All keys with their texts.
+fn copied(alloc: Global, values: &SliceMap<'_, Argument<'_>>) -> Result<Texts<'static>, AllocError>
+    ensures { IfOk result (λ texts. texts ≡ entries values.now) }
+{
+    let mut texts = Texts::new(alloc);
+    for (key, text) in values.iter() {
+        texts.push(
+            Word::copied(alloc, key)?,
+            Word::copied(alloc, text.as_slice())?,
+        )?;
+    }
+    Ok(texts)
+}
+
+// A DEL for each of the keys that is past.
+fn push_past(
+    alloc: Global,
+    held: &Dataset,
+    pairs: &Pairs<'_, '_>,
+    given: Given,
+    effects: &mut Effects,
+) -> Result<(), AllocError>
+    ensures { OnOk result (effects.new ≡ effects.old ++ dels (past given.now (names pairs.now) held.now)) }
+{
+    let mut keys = Vec::new(alloc);
+    for (key, _) in pairs.iter() {
+        keys.push(CowSlice::Borrowed(key))?;
+    }
+    let keys = Words::new(keys.as_slice());
+    push_dels(alloc, held, &keys, given, true, effects)?;
+    Ok(())
+}
+
+// The effect of texts that keys get, unless there is none.
+fn push_texts(texts: Texts<'static>, effects: &mut Effects) -> Result<(), AllocError>
+    ensures { OnOk result (effects.new ≡ effects.old ++ set_effects texts.entry) }
+{
+    if texts.is_empty() {
+        return Ok(());
+    }
+    effects.push(Effect::SetAll { pairs: texts })?;
+    Ok(())
+}

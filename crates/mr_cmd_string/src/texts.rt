@@ -1,0 +1,103 @@
+// Commands that tell of the texts at keys.
+ghost use Rattle.std.specs.Prelude.{◌≡◌, map, IfOk, option_copied};
+ghost use Rattle.std.specs.Cow.{cow_slice_items};
+ghost use Rattle.mr_resp.specs.Replies as replies;
+ghost use Rattle.mr_resp.specs.ReplyView.{view, trees_of};
+ghost use Rattle.mr_data.specs.Dataset.{live};
+ghost use Rattle.mr_cmd_string.specs.Texts.{get_reply, length_reply, range_reply, part, found, text_or_null, texts_at};
+
+use mr_data::{Dataset, Entry, Given, Value};
+use mr_planning::{bulk, count, see, wrong_kind};
+use mr_resp::Reply;
+use mr_value::window;
+use mr_words::Words;
+use std::alloc::{AllocError, Global};
+
+/// `GET`
+pub fn get(alloc: Global, seen: Option<&Entry>) -> Result<Reply, AllocError>
+    ensures { IfOk result (λ r. view r ≡ get_reply (option_copied seen.entry)) }
+{
+    let Some(entry) = seen else {
+        return Ok(Reply::NullBulk);
+    };
+    match &entry.value {
+        Value::Text(text) => bulk(alloc, text.as_slice()),
+        Value::Hash(_) | Value::List(_) | Value::Set(_) | Value::SortedSet(_) => Ok(wrong_kind()),
+    }
+}
+
+/// `STRLEN`
+pub fn text_length(seen: Option<&Entry>) -> Reply
+    ensures { view result ≡ length_reply (option_copied seen.entry) }
+{
+    let Some(entry) = seen else {
+        return count(0);
+    };
+    match &entry.value {
+        Value::Text(text) => count(text.as_slice().len()),
+        Value::Hash(_) | Value::List(_) | Value::Set(_) | Value::SortedSet(_) => wrong_kind(),
+    }
+}
+
+/// `GETRANGE`
+pub fn get_range(
+    alloc: Global,
+    first: i64,
+    last: i64,
+    seen: Option<&Entry>,
+) -> Result<Reply, AllocError>
+    ensures { IfOk result (λ r. view r ≡ range_reply first last (option_copied seen.entry)) }
+{
+    let Some(entry) = seen else {
+        return Ok(Reply::Bulk(Vec::new(alloc)));
+    };
+    let Value::Text(text) = &entry.value else {
+        return Ok(wrong_kind());
+    };
+    part(alloc, text.as_slice(), first, last)
+}
+
+// The bytes from one place to another.
+fn part(alloc: Global, text: &[u8], first: i64, last: i64) -> Result<Reply, AllocError>
+    ensures { IfOk result (λ r. view r ≡ replies.bytes (part first last text.now)) }
+{
+    match window(first, last, text.len()) {
+        None => Ok(Reply::Bulk(Vec::new(alloc))),
+        Some((first, last)) => bulk(alloc, &text[first..last + 1]),
+    }
+}
+
+/// `MGET`
+pub fn get_all(
+    alloc: Global,
+    held: &Dataset,
+    keys: &Words<'_, '_>,
+    given: Given,
+) -> Result<Reply, AllocError>
+    ensures { IfOk result (λ r. view r ≡ replies.array (trees_of (texts_at given.now keys.now held.now))) }
+{
+    let words = keys.as_slice();
+    let mut replies = Vec::with_capacity(alloc, words.len())?;
+    for word in words {
+        replies.push(found(alloc, see(held, word.as_slice(), given).0)?)?;
+    }
+    Ok(Reply::Array(replies))
+}
+
+fn found(alloc: Global, seen: Option<&Entry>) -> Result<Reply, AllocError>
+    ensures { IfOk result (λ r. view r ≡ found (option_copied seen.entry)) }
+{
+    match seen {
+        None => Ok(Reply::NullBulk),
+        Some(entry) => text_or_null(alloc, &entry.value),
+    }
+}
+
+fn text_or_null(alloc: Global, value: &Value) -> Result<Reply, AllocError>
+    ensures { IfOk result (λ r. view r ≡ text_or_null value.now) }
+{
+    match value {
+        Value::Text(text) => bulk(alloc, text.as_slice()),
+        _ => Ok(Reply::NullBulk),
+    }
+}

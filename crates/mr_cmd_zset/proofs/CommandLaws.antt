@@ -1,0 +1,78 @@
+-- The law of faithful effects for each command on sorted sets.
+use Rattle.std.proofs.Common.{◌≡◌, ℤ, ◌+ℤ◌, List, [], ◌∷◌, true, false, Option, Some, refl}
+use Rattle.std.specs.Prelude.{IsTrue, if◌then◌else◌}
+use Rattle.std.specs.List.{list_all}
+use Rattle.std.specs.FinMap.{get, insert, len}
+use Rattle.mr_map.specs.Bytes.{Bytes}
+use Rattle.mr_value.specs.Words.{fits}
+use Rattle.mr_value.specs.Window.{window_of, windowed}
+use Rattle.mr_zset.specs.Score.{is_score}
+use Rattle.mr_zset.specs.Pairs.{pairs_of, range_of}
+use Rattle.mr_resp.specs.Replies.{Tree}
+use Rattle.mr_entries.specs.Dataset.{Dataset}
+use Rattle.mr_data.specs.Dataset.{IsDataset}
+use Rattle.mr_entries.specs.Steps.{sorted_sets, held}
+use Rattle.mr_entries.specs.declared.value.Entry.{Entry}
+use Rattle.mr_cmd_zset.specs.Carried.{zset_words, members_of}
+use Rattle.mr_zset_options.specs.Scored.{is_scored}
+use Rattle.mr_cmd_zset.specs.declared.zset_ask.ZSetAsk.{ZSetAsk}
+use Rattle.mr_cmd_zset.specs.declared.zset_ask.ZSetAsk.TheVariants as ask
+use Rattle.mr_zset_options.specs.declared.choices.ScoreCondition.{ScoreCondition}
+use Rattle.mr_zset_options.specs.declared.choices.Comparison.{Comparison}
+use Rattle.mr_planning.specs.Collections.{telling}
+use Rattle.mr_planning.specs.Commands.{on_key, before}
+use Rattle.mr_planning.proofs.Laws.{faithful, at_key_faithful, IsLawful}
+use Rattle.mr_planning.proofs.Changing.{IsFaithfulChange, telling_faithful}
+use Rattle.mr_cmd_zset.specs.Scores.{Scores, score_reply, unchanged, set_to}
+use Rattle.mr_cmd_zset.specs.Adding.{is_set, with_pair, with_pairs, add_scores, increase_score, set_score, out_of_range, score_or_0}
+use Rattle.mr_cmd_zset.specs.Removing.{members_of as names_of, taken, remove_members, take_pairs, remove_ranks, remove_scores}
+use Rattle.mr_cmd_zset.specs.Commands.{command, HasScores}
+use Rattle.mr_data.proofs.Folds.{is_kept}
+use Rattle.mr_cmd_zset.proofs.Changes.{both, left, right, AreKept, IsGrown, insert_kept, insert_grown, set_faithful, reduced_faithful, unchanged_faithful, changing_set}
+
+-- ---- pairs one after another
+module _ (only : Option ScoreCondition) (than : Option Comparison) where
+  pair_kept : (p : ℤ × Bytes) (s : Scores) → AreKept s → is_kept (p.1, p.0) ≡ true → AreKept (with_pair only than p s)
+  pair_kept p s kept new = elim (is_set only than (get s p.1) p.0) as (λ b. AreKept (if b then insert s p.1 p.0 else s)) [ true ↦ insert_kept s p.1 p.0 kept new | false ↦ kept ]
+
+  pairs_kept : (ps : List (ℤ × Bytes)) (s : Scores) → AreKept s → list_all is_scored ps ≡ true → list_all fits (members_of ps) ≡ true → AreKept (with_pairs only than ps s)
+  pairs_kept [] s kept scores fit = kept
+  pairs_kept (p ∷ ps) s kept scores fit =
+      pairs_kept ps (with_pair only than p s)
+      (pair_kept p s kept (both (fits p.1) _ (left (fits p.1) _ fit) (left (is_scored p) _ scores)))
+      (right (is_scored p) _ scores) (right (fits p.1) _ fit)
+
+  pair_grown : (p : ℤ × Bytes) (s : Scores) → IsGrown s (with_pair only than p s)
+  pair_grown p s = elim (is_set only than (get s p.1) p.0) as (λ b. IsGrown s (if b then insert s p.1 p.0 else s)) [ true ↦ insert_grown s p.1 p.0 | false ↦ λ q h. h ]
+
+  pairs_grown : (ps : List (ℤ × Bytes)) (s : Scores) → IsGrown s (with_pairs only than ps s)
+  pairs_grown [] s q h = h
+  pairs_grown (p ∷ ps) s q h = pairs_grown ps (with_pair only than p s) q (pair_grown p s q h)
+
+sum_faithful : (k x : Bytes) (n : ℤ) (s : Scores) (o : Option Entry) → fits k ≡ true → fits x ≡ true → AreKept s → held sorted_sets o ≡ Some s → IsFaithfulChange sorted_sets (set_score k x n s) s k o
+sum_faithful k x n s o a b kept is = elim (is_score n) as (λ t. is_score n ≡ t → IsFaithfulChange sorted_sets (if t then set_to k (score_reply n) s (insert s x n) else unchanged out_of_range s) s k o) [
+  | true ↦ λ t. set_faithful k (score_reply n) s (insert s x n) o a (insert_kept s x n kept (both (fits x) _ b t)) (insert_grown s x n) is
+  | false ↦ λ t. unchanged_faithful out_of_range s k o
+] refl
+
+told_faithful : (k : Bytes) (answer : Scores → Tree) (now : ℤ) (m : Dataset) → fits k ≡ true → IsLawful (on_key k (telling sorted_sets answer)) now m
+told_faithful k answer now m h =
+    let c = on_key k (telling sorted_sets answer) in
+    faithful c now m (both (fits k) true h refl) (at_key_faithful k (telling sorted_sets answer) (before c now m) (telling_faithful sorted_sets answer k (before c now m)))
+
+pub zset_faithful : (c : ZSetAsk) (now : ℤ) (m : Dataset) → IsDataset m → HasScores c → IsTrue (list_all fits (zset_words c)) → IsLawful (command c) now m
+zset_faithful (ask.AddScores k only than reply ps) now m kept scores h = changing_set k (add_scores only than k reply ps) now m kept (left (fits k) _ h) (λ s o fine is.
+    set_faithful k _ s (with_pairs only than ps s) o (left (fits k) _ h) (pairs_kept only than ps s fine scores (right (fits k) _ h)) (pairs_grown only than ps s) is)
+zset_faithful (ask.IncreaseScore k by x) now m kept scores h = changing_set k (increase_score k by x) now m kept (left (fits k) _ h) (λ s o fine is.
+    sum_faithful k x (score_or_0 (get s x) +ℤ by) s o (left (fits k) _ h) (left (fits x) _ (right (fits k) _ h)) fine is)
+zset_faithful (ask.RemoveMembers k xs) now m kept scores h = changing_set k (remove_members k xs) now m kept (left (fits k) _ h) (λ s o fine is. reduced_faithful k _ xs s o (left (fits k) _ h) fine is)
+zset_faithful (ask.CountMembers k) now m kept scores h = told_faithful k _ now m (left (fits k) _ h)
+zset_faithful (ask.CountScores k min max) now m kept scores h = told_faithful k _ now m (left (fits k) _ h)
+zset_faithful (ask.GetScore k x) now m kept scores h = told_faithful k _ now m (left (fits k) _ h)
+zset_faithful (ask.GetScores k xs) now m kept scores h = told_faithful k _ now m (left (fits k) _ h)
+zset_faithful (ask.GetRank k x order) now m kept scores h = told_faithful k _ now m (left (fits k) _ h)
+zset_faithful (ask.RangeByRank k first last order reply) now m kept scores h = told_faithful k _ now m (left (fits k) _ h)
+zset_faithful (ask.RangeByScore k min max order limit reply) now m kept scores h = told_faithful k _ now m (left (fits k) _ h)
+zset_faithful (ask.TakePairs k order count) now m kept scores h = changing_set k (take_pairs k order count) now m kept (left (fits k) _ h) (λ s o fine is. reduced_faithful k _ (names_of (taken order count s)) s o (left (fits k) _ h) fine is)
+zset_faithful (ask.RemoveRanks k first last) now m kept scores h = changing_set k (remove_ranks k first last) now m kept (left (fits k) _ h) (λ s o fine is. reduced_faithful k _ (names_of (windowed (window_of first last (len s)) (pairs_of s))) s o (left (fits k) _ h) fine is)
+zset_faithful (ask.RemoveScores k min max) now m kept scores h = changing_set k (remove_scores k min max) now m kept (left (fits k) _ h) (λ s o fine is. reduced_faithful k _ (names_of (range_of min max s)) s o (left (fits k) _ h) fine is)

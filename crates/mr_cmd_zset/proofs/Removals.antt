@@ -1,0 +1,217 @@
+-- Members that go.
+use Rattle.std.proofs.Common.{ℕ, zero, suc, ℤ, ◌≡◌, ◌+◌, ◌<◌, List, [], ◌∷◌, ◌++◌, map, length, take, drop, reverse, get_or, Bool, true, false, ◌&&◌, not, cond, Option, Some, None, refl, sym, ◌∙◌, ap, subst}
+use Rattle.std.proofs.lemmas.Grind.{reverse_onto}
+use Rattle.std.specs.Prelude.{◌||◌, is_some, filter, if◌then◌else◌}
+use Rattle.std.specs.List.{AllByRecursion}
+use Rattle.std.specs.Ordering.{is_lt}
+use Rattle.std.specs.FinMap.{get, empty, insert, keys, len, entries, contains_key, retain_keys, get-empty, get-insert, len-entries}
+use Rattle.std.proofs.lemmas.List.{length-map}
+use Rattle.std.proofs.lemmas.Cmp.{nat_list_cmp_total}
+use Rattle.mr_map.specs.Bytes.{Bytes, ByteMap, bytes_cmp}
+use Rattle.mr_map.proofs.Domains.{same_keys}
+use Rattle.mr_value.specs.Window.{windowed}
+use Rattle.mr_resp.specs.Replies.{Tree}
+use Rattle.mr_effect.specs.declared.effect.Effect.{Effect}
+use Rattle.mr_effect.specs.declared.effect.Effect.TheVariants as effect
+use Rattle.mr_entries.specs.Cuts.{cut}
+use Rattle.mr_zset.specs.Order.{placed, in_order}
+use Rattle.mr_zset.specs.Pairs.{pair_cmp, pairs_of, range_of}
+use Rattle.mr_zset.specs.Bounds.{is_within}
+use Rattle.mr_zset.specs.declared.bound.Bound.{Bound}
+use Rattle.mr_zset_options.specs.declared.choices.Order.{Order}
+use Rattle.mr_zset_options.specs.declared.choices.Order.TheVariants as order
+use Rattle.mr_zset_options.specs.declared.choices.RangeReply.TheVariants.{WithScores}
+use Rattle.mr_entries.specs.Collections.{with_members, without_scores}
+use Rattle.mr_planning.specs.Taken.{is_key, has}
+use Rattle.mr_entries.proofs.Maps.{same_key}
+use Rattle.mr_planning.proofs.KeyLists.{more_words}
+use Rattle.mr_cmd_zset.specs.Scores.{Scores, number, lost, pairs_in, reduced_to, Makes}
+use Rattle.mr_cmd_zset.specs.Removing.{members_of, as_set, remove_all}
+use Rattle.mr_cmd_zset.specs.Ranges.{pairs_reply}
+use Rattle.mr_data.proofs.Entries.{own_entries}
+use Rattle.mr_cmd_zset.proofs.Maps.{get_without, get_retained}
+
+-- ---- sets of words
+some_or : (b : Bool) (x : Option (Unit {0})) → is_some (cond b (Some tt) x) ≡ (b || is_some x)
+some_or true x = refl
+some_or false x = refl
+
+or_next : (a b c : Bool) → (b || (a || c)) ≡ ((a || b) || c)
+or_next true true c = refl
+or_next true false c = refl
+or_next false b c = refl
+
+or_false : (b : Bool) → (b || false) ≡ b
+or_false true = refl
+or_false false = refl
+
+contains_insert : (s : ByteMap (Unit {0})) (x q : Bytes) → contains_key (insert s x tt) q ≡ (is_key q x || contains_key s q)
+contains_insert s x q = ap is_some (get-insert nat_list_cmp_total s x tt q) ∙ some_or (is_key q x) (get s q)
+
+contains_with : (xs : List Bytes) (s : ByteMap (Unit {0})) (q : Bytes) → contains_key (with_members xs s) q ≡ (has xs q || contains_key s q)
+contains_with [] s q = refl
+contains_with (x ∷ xs) s q = contains_with xs (insert s x tt) q ∙ ap (λ b. has xs q || b) (contains_insert s x q) ∙ or_next (is_key q x) (has xs q) (contains_key s q)
+
+contains_none : (q : Bytes) → contains_key {X = Unit {0}} (empty {R = bytes_cmp}) q ≡ false
+contains_none q = ap is_some (get-empty bytes_cmp q)
+
+contains_as_set : (xs : List Bytes) (q : Bytes) → contains_key (as_set xs) q ≡ has xs q
+contains_as_set xs q = contains_with xs empty q ∙ ap (λ b. has xs q || b) (contains_none q) ∙ or_false (has xs q)
+
+pub len_keys : (s : ByteMap (Unit {0})) → len s ≡ length (keys s)
+len_keys s = len-entries s ∙ sym (length-map (entries s) (λ e. e.0))
+
+-- ---- the members that go are those of these words that are there
+abbrev misses : Scores → Bytes → Bool
+misses t x = not (contains_key t x)
+
+contains_lost : (xs : List Bytes) (s : Scores) (q : Bytes) → contains_key (retain_keys s (misses (without_scores xs s))) q ≡ (has xs q && is_some (get s q))
+contains_lost xs s q =
+    ap is_some (get_retained s (misses (without_scores xs s)) q)
+    ∙ ap (λ o. is_some (cond (not (is_some o)) (get s q) None)) (get_without xs s q)
+    ∙ joint (has xs q) (get s q)
+  where
+    joint : (b : Bool) (o : Option ℤ) → is_some (cond (not (is_some (cond b None o))) o None) ≡ (b && is_some o)
+    joint true o = refl
+    joint false None = refl
+    joint false (Some z) = refl
+
+pub those_lost : (there : ByteMap (Unit {0})) (xs : List Bytes) (s : Scores) → ((q : Bytes) → contains_key there q ≡ (has xs q && is_some (get s q))) → keys there ≡ lost s (without_scores xs s)
+those_lost there xs s h = same_keys there (retain_keys s (misses (without_scores xs s))) (λ q. h q ∙ sym (contains_lost xs s q))
+
+-- ---- a loop over words
+has_append : (xs ys : List Bytes) (q : Bytes) → has (xs ++ ys) q ≡ (has xs q || has ys q)
+has_append [] ys q = refl
+has_append (x ∷ xs) ys q = ap (λ b. is_key q x || b) (has_append xs ys q) ∙ assoc (is_key q x) (has xs q) (has ys q)
+  where
+    assoc : (a b c : Bool) → (a || (b || c)) ≡ ((a || b) || c)
+    assoc true b c = refl
+    assoc false b c = refl
+
+abbrev pub IsThere : ByteMap (Unit {0}) → List Bytes → Scores → Type 0
+IsThere there xs s = (q : Bytes) → contains_key there q ≡ (has xs q && is_some (get s q))
+
+pub none_there : (there : ByteMap (Unit {0})) (s : Scores) → there ≡ empty → IsThere there [] s
+none_there there s h q = ap (λ (m : ByteMap (Unit {0})). contains_key m q) h ∙ contains_none q
+
+has_one : (xs : List Bytes) (x q : Bytes) → has (xs ++ x ∷ []) q ≡ (has xs q || is_key q x)
+has_one xs x q = has_append xs (x ∷ []) q ∙ ap (λ b. has xs q || b) (or_false (is_key q x))
+
+module _ {A : Type 0} (f : A → Bytes) (xs : List A) (i : ℕ) (x : A) (here : i < length xs) (is : x ≡ get_or xs i x) (w : Bytes) (word : w ≡ f x) (s : Scores) (there : ByteMap (Unit {0})) (before : IsThere there (map f (take i xs)) s) where
+  more : map f (take (i + 1) xs) ≡ map f (take i xs) ++ w ∷ []
+  more = more_words f xs i x here is ∙ ap (λ y. map f (take i xs) ++ y ∷ []) (sym word)
+
+  pub word_there : (t : ByteMap (Unit {0})) → is_some (get s w) ≡ true → t ≡ insert there w tt → IsThere t (map f (take (i + 1) xs)) s
+  word_there t some e q =
+      ap (λ (m : ByteMap (Unit {0})). contains_key m q) e ∙ contains_insert there w q
+      ∙ ap (λ b. is_key q w || b) (before q)
+      ∙ elim (is_key q w) as (λ b. is_key q w ≡ b → (b || (has (map f (take i xs)) q && is_some (get s q))) ≡ ((has (map f (take i xs)) q || b) && is_some (get s q))) [
+        | true ↦ λ t. sym (ap (λ c. c && is_some (get s q)) (or_true (has (map f (take i xs)) q)) ∙ ap (λ (k : Bytes). is_some (get s k)) (same_key q w t) ∙ some)
+        | false ↦ λ t. ap (λ c. c && is_some (get s q)) (sym (or_false (has (map f (take i xs)) q)))
+      ] refl
+      ∙ ap (λ b. b && is_some (get s q)) (sym (ap (λ ys. has ys q) more ∙ has_one (map f (take i xs)) w q))
+    where
+      or_true : (b : Bool) → (b || true) ≡ true
+      or_true true = refl
+      or_true false = refl
+
+  pub word_absent : is_some (get s w) ≡ false → IsThere there (map f (take (i + 1) xs)) s
+  word_absent none q =
+      before q
+      ∙ elim (is_key q w) as (λ b. is_key q w ≡ b → (has (map f (take i xs)) q && is_some (get s q)) ≡ ((has (map f (take i xs)) q || b) && is_some (get s q))) [
+        | true ↦ λ t. let no : is_some (get s q) ≡ false = ap (λ (k : Bytes). is_some (get s k)) (same_key q w t) ∙ none in ap (λ c. has (map f (take i xs)) q && c) no ∙ and_false (has (map f (take i xs)) q) ∙ sym (ap (λ c. (has (map f (take i xs)) q || true) && c) no ∙ and_false (has (map f (take i xs)) q || true))
+        | false ↦ λ t. ap (λ c. c && is_some (get s q)) (sym (or_false (has (map f (take i xs)) q)))
+      ] refl
+      ∙ ap (λ b. b && is_some (get s q)) (sym (ap (λ ys. has ys q) more ∙ has_one (map f (take i xs)) w q))
+    where
+      and_false : (b : Bool) → b && false ≡ false
+      and_false true = refl
+      and_false false = refl
+
+-- ---- pairs of a set are there
+abbrev pub AreIn : Scores → List (Bytes × ℤ) → Type 0
+AreIn s ps = AllByRecursion (λ (p : Bytes × ℤ). get s p.0 ≡ Some p.1) ps
+
+module _ (s : Scores) where
+  placed_in : (p : Bytes × ℤ) (ps : List (Bytes × ℤ)) → get s p.0 ≡ Some p.1 → AreIn s ps → AreIn s (placed pair_cmp p ps)
+  placed_in p [] h a = (h, tt)
+  placed_in p (q ∷ qs) h a = elim (is_lt (pair_cmp q p)) as (λ b. AreIn s (if b then q ∷ placed pair_cmp p qs else p ∷ q ∷ qs)) [
+    | true ↦ (a.0, placed_in p qs h a.1)
+    | false ↦ (h, a)
+  ]
+
+  ordered_in : (ps : List (Bytes × ℤ)) → AreIn s ps → AreIn s (in_order pair_cmp ps)
+  ordered_in [] a = tt
+  ordered_in (p ∷ ps) a = placed_in p (in_order pair_cmp ps) a.0 (ordered_in ps a.1)
+
+  pub pairs_are_in : AreIn s (pairs_of s)
+  pairs_are_in = ordered_in (entries s) (own_entries s)
+
+  pub take_in : (n : ℕ) (ps : List (Bytes × ℤ)) → AreIn s ps → AreIn s (take n ps)
+  take_in zero ps a = tt
+  take_in (suc n) [] a = tt
+  take_in (suc n) (p ∷ ps) a = (a.0, take_in n ps a.1)
+
+  drop_in : (n : ℕ) (ps : List (Bytes × ℤ)) → AreIn s ps → AreIn s (drop n ps)
+  drop_in zero ps a = a
+  drop_in (suc n) [] a = tt
+  drop_in (suc n) (p ∷ ps) a = drop_in n ps a.1
+
+  append_in : (ps qs : List (Bytes × ℤ)) → AreIn s ps → AreIn s qs → AreIn s (ps ++ qs)
+  append_in [] qs a b = b
+  append_in (p ∷ ps) qs a b = (a.0, append_in ps qs a.1 b)
+
+  pub reverse_in : (ps : List (Bytes × ℤ)) → AreIn s ps → AreIn s (reverse ps)
+  reverse_in [] a = tt
+  reverse_in (p ∷ ps) a = subst (AreIn s) (sym (reverse_onto ps p [])) (append_in (reverse ps) (p ∷ []) (reverse_in ps a.1) (a.0, tt))
+
+  pub filter_in : (test : Bytes × ℤ → Bool) (ps : List (Bytes × ℤ)) → AreIn s ps → AreIn s (filter test ps)
+  filter_in test [] a = tt
+  filter_in test (p ∷ ps) a = elim (test p) as (λ b. AreIn s (cond b (p ∷ filter test ps) (filter test ps))) [
+    | true ↦ (a.0, filter_in test ps a.1)
+    | false ↦ filter_in test ps a.1
+  ]
+
+  pub windowed_in : (w : Option (ℕ × ℕ)) (ps : List (Bytes × ℤ)) → AreIn s ps → AreIn s (windowed w ps)
+  windowed_in None ps a = tt
+  windowed_in (Some w) ps a = take_in _ (drop w.0 ps) (drop_in w.0 ps a)
+
+  pub range_in : (from to : Bound) → AreIn s (range_of from to s)
+  range_in from to = filter_in (λ p. is_within from to p.1) (pairs_of s) pairs_are_in
+
+  pub turned_in : (o : Order) → AreIn s (pairs_in o s)
+  turned_in order.Ascending = pairs_are_in
+  turned_in order.Descending = reverse_in (pairs_of s) pairs_are_in
+
+  named_in : (ps : List (Bytes × ℤ)) (q : Bytes) → AreIn s ps → has (members_of ps) q ≡ true → is_some (get s q) ≡ true
+  named_in [] q a h = cc
+  named_in (p ∷ ps) q a h = elim (is_key q p.0) as (λ b. is_key q p.0 ≡ b → (b || has (members_of ps) q) ≡ true → is_some (get s q) ≡ true) [
+    | true ↦ λ t i. ap (λ (k : Bytes). is_some (get s k)) (same_key q p.0 t) ∙ ap is_some a.0
+    | false ↦ λ t i. named_in ps q a.1 i
+  ] refl h
+
+  -- the members of pairs that are there all go
+  pub all_lost : (ps : List (Bytes × ℤ)) → AreIn s ps → keys (as_set (members_of ps)) ≡ lost s (without_scores (members_of ps) s)
+  all_lost ps a = those_lost (as_set (members_of ps)) (members_of ps) s (λ q. contains_as_set (members_of ps) q ∙ there (has (members_of ps) q) (is_some (get s q)) (named_in ps q a))
+    where
+      there : (b c : Bool) → (b ≡ true → c ≡ true) → b ≡ (b && c)
+      there true c h = sym (h refl)
+      there false c h = refl
+
+-- ---- what is made of a set
+pub reduced_made : (k : Bytes) (xs : List Bytes) (s : Scores) (there : ByteMap (Unit {0})) (r : Tree) (n : ℕ) (old new : List Effect) → keys there ≡ lost s (without_scores xs s) → r ≡ number n → n ≡ len there → new ≡ old ++ map (effect.RemoveScores k) (cut (keys there)) → Makes (remove_all k xs s) r old new
+reduced_made k xs s there r n old new same told count put = record {
+  reply_is = told ∙ ap number (count ∙ len_keys there ∙ ap length same);
+  effects_are = put ∙ ap (λ ks. old ++ map (effect.RemoveScores k) (cut ks)) same;
+}
+
+pub pairs_made : (k : Bytes) (ps qs : List (Bytes × ℤ)) (s : Scores) (r : Tree) (old new : List Effect) → qs ≡ ps → AreIn s ps → r ≡ number (len (as_set (members_of qs))) → new ≡ old ++ map (effect.RemoveScores k) (cut (keys (as_set (members_of qs)))) → Makes (remove_all k (members_of ps) s) r old new
+pairs_made k ps qs s r old new same a told put =
+    let keys_are = ap (λ (xs : List (Bytes × ℤ)). keys (as_set (members_of xs))) same ∙ all_lost s ps a in
+    reduced_made k (members_of ps) s (as_set (members_of qs)) r _ old new keys_are told refl put
+
+pub taken_made : (k : Bytes) (ps qs : List (Bytes × ℤ)) (s : Scores) (r : Tree) (there : ByteMap (Unit {0})) (old new : List Effect) → qs ≡ ps → AreIn s ps → there ≡ as_set (members_of qs) → r ≡ pairs_reply WithScores qs → new ≡ old ++ map (effect.RemoveScores k) (cut (keys there)) → Makes (reduced_to k (pairs_reply WithScores ps) s (without_scores (members_of ps) s)) r old new
+taken_made k ps qs s r there old new same a is told put = record {
+  reply_is = told ∙ ap (pairs_reply WithScores) same;
+  effects_are = put ∙ ap (λ ks. old ++ map (effect.RemoveScores k) (cut ks)) (ap keys is ∙ ap (λ (xs : List (Bytes × ℤ)). keys (as_set (members_of xs))) same ∙ all_lost s ps a);
+}

@@ -1,0 +1,25 @@
+use Rattle.std.proofs.Common.{◌≡◌, ◌∙◌, ◌+◌, ◌-◌, ◌≤◌, sym, ap, map, length, arith}
+use Rattle.std.specs.Prelude.{slice_range, option_copied}
+use Rattle.mr_zset.specs.Pairs.{pairs_of, range_of, shown}
+use Rattle.mr_zset.proofs.PairLemmas.{if_ok}
+use Rattle.mr_zset.proofs.StoredChanges.{range_len}
+use Rattle.mr_cmd_zset.specs.Ranges.{ordered, pairs_reply, scored}
+use Rattle.mr_cmd_zset.proofs.RangeLemmas.{part_of_part, scored_part, told_of}
+use Rattle.mr_cmd_zset.proofs.ranges.by_score.Goals as goal
+
+pub returns : goal.returns
+returns c =
+    let set = c.in-Some.set.now in
+    let found = range_of c.args.min c.args.max set in
+    let first = c.places-first.result.0 in
+    let past = c.places-first.result.1 in
+    let start = c.places_in-start.result.0 in
+    let end = c.places_in-start.result.1 in
+    let count : past - first ≡ length found = range_len set found first past c.places-first.ensures.ordered c.places-first.ensures.within c.places-first.ensures.range in
+    let up : start ≤ end = omega (arith, c.places_in-start.ensures.as_many) in
+    let part = part_of_part (pairs_of set) first past start end up c.places_in-start.ensures.within ∙ ap (λ ps. slice_range ps start end) (sym c.places-first.ensures.range) in
+    if_ok c.listed.result (λ r listed.
+    listed
+    ∙ ap (λ ps. pairs_reply c.args.shape (ordered c.args.order ps)) (ap (map shown) c.as_slice.ensures.value ∙ c.in_ok-pairs.ensures ∙ part)
+    ∙ ap (pairs_reply c.args.shape) (scored_part c.args.limit c.args.order found (past - first) start end c.limited_places-start.result.0 c.limited_places-start.result.1 (sym count) c.places_in-start.ensures.same c.limited_places-start.ensures.same)
+    ∙ told_of (λ scores. pairs_reply c.args.shape (scored c.args.min c.args.max c.args.order c.args.limit scores)) (option_copied c.args.seen) set c.in-Some.ensures) c.listed.ensures

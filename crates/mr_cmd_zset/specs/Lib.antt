@@ -1,0 +1,11 @@
+pub mod Arguments
+pub mod Carried
+pub mod Spelled
+pub mod Askable
+pub mod ArgumentFaults
+pub mod Scores
+pub mod Telling
+pub mod Ranges
+pub mod Adding
+pub mod Removing
+pub mod Commands

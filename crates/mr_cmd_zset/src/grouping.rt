@@ -1,0 +1,65 @@
+// The effects of members whose scores are others than before, and of members that go.
+ghost use Rattle.std.specs.Prelude.{◌≡◌, ◌++◌, map, OnOk};
+ghost use Rattle.std.specs.FinMap.{keys};
+ghost use Rattle.mr_effect.specs.declared.effect.Effect.TheVariants as made;
+ghost use Rattle.mr_entries.specs.Cuts.{cut};
+ghost use Rattle.mr_cmd_zset.specs.Scores.{changed, changed_alone};
+
+use crate::groups::{MemberGroup, ScoreGroup, end_members, end_scores};
+use mr_map::SliceMap;
+use mr_planning::Effects;
+use mr_words::Argument;
+use mr_zset::ZSet;
+use std::alloc::{AllocError, Global};
+
+/// Effects that set these scores, in byte order of the members. What a set has already is left out.
+pub fn push_changed(
+    alloc: Global,
+    key: &Argument<'_>,
+    scores: &SliceMap<'_, i64>,
+    set: &ZSet,
+    effects: &mut Effects,
+) -> Result<(), AllocError>
+    ensures { OnOk result (effects.new ≡ effects.old ++ map (made.SetScores key.now) (cut (changed set.now scores.now))) }
+{
+    let mut group = ScoreGroup::new(alloc, key.as_slice());
+    for (member, score) in scores.iter() {
+        group.push(member, set.score(member), Some(*score), effects)?;
+    }
+    end_scores(group, effects)?;
+    Ok(())
+}
+
+/// The effect of one member's score, where it is another than before.
+pub fn push_changed_alone(
+    alloc: Global,
+    key: &Argument<'_>,
+    member: &[u8],
+    before: Option<i64>,
+    after: Option<i64>,
+    effects: &mut Effects,
+) -> Result<(), AllocError>
+    ensures { OnOk result (effects.new ≡ effects.old ++ map (made.SetScores key.now) (cut (changed_alone member.now before after))) }
+{
+    let mut group = ScoreGroup::new(alloc, key.as_slice());
+    group.push(member, before, after, effects)?;
+    end_scores(group, effects)?;
+    Ok(())
+}
+
+/// Effects that take these members out, in byte order.
+pub fn push_lost(
+    alloc: Global,
+    key: &Argument<'_>,
+    members: &SliceMap<'_, ()>,
+    effects: &mut Effects,
+) -> Result<(), AllocError>
+    ensures { OnOk result (effects.new ≡ effects.old ++ map (made.RemoveScores key.now) (cut (keys members.now))) }
+{
+    let mut group = MemberGroup::new(alloc, key.as_slice());
+    for (member, _) in members.iter() {
+        group.push(member, effects)?;
+    }
+    end_members(group, effects)?;
+    Ok(())
+}

@@ -1,0 +1,151 @@
+// The plan of a command.
+ghost use Rattle.std.specs.Prelude.{◌≡◌, IsTrue, IfOk, option_copied};
+ghost use Rattle.std.specs.List.{list_all};
+ghost use Rattle.mr_value.specs.Words.{fits};
+ghost use Rattle.mr_resp.specs.ReplyView.{view};
+ghost use Rattle.mr_data.specs.Dataset.{IsDataset};
+ghost use Rattle.mr_cmd_zset.specs.Carried.{zset_words};
+ghost use Rattle.mr_planning.specs.Turns.{Takes};
+ghost use Rattle.mr_planning.specs.Commands.{IsPlan, IsFaithful, HasCommandTexts};
+ghost use Rattle.mr_cmd_zset.specs.Commands.{key_of, turn, command, HasScores};
+
+use crate::rules::Rules;
+use crate::zset_ask::ZSetAsk;
+use crate::{adding, ranges, removing, telling};
+use mr_data::{Dataset, Entry, Given, Plan};
+use mr_planning::{Effects, look};
+use mr_resp::Reply;
+use mr_words::Argument;
+use std::alloc::{AllocError, Global};
+
+/// What a command on sorted sets is answered, and its effects. The dataset isn't changed, and the plan owns what it holds.
+pub fn plan(
+    alloc: Global,
+    held: &Dataset,
+    ask: &ZSetAsk<'_, '_>,
+    given: Given,
+) -> Result<Plan, AllocError>
+    ensures plan { IfOk result (λ p. IsPlan (command ask.now) given.now held.now (view p.reply) p.effects.items) }
+
+    // The effects lead to what the command leaves, and its own ones are there exactly where it changes something.
+    ensures faithful { IsTrue (list_all fits (zset_words ask.now)) → IsFaithful (command ask.now) given.now held.now }
+
+    // .. and their texts are command texts.
+    ensures texts { IsTrue (list_all fits (zset_words ask.now)) → HasCommandTexts (command ask.now) given.now held.now }
+{
+    scores_are_limited(ask);
+    planned(alloc, held, ask, given)
+}
+
+// Each score that a command sets was read from its text, so it is within the limits of scores.
+fn scores_are_limited(ask: &ZSetAsk<'_, '_>)
+    ensures { HasScores ask.now }
+{
+    if let ZSetAsk::AddScores { pairs, .. } = ask {
+        let _scores = pairs.iter();
+    }
+}
+
+// The plan, and what the dataset keeps.
+fn planned(
+    alloc: Global,
+    held: &Dataset,
+    ask: &ZSetAsk<'_, '_>,
+    given: Given,
+) -> Result<Plan, AllocError>
+    ensures plan { IfOk result (λ p. IsPlan (command ask.now) given.now held.now (view p.reply) p.effects.items) }
+    ensures kept { IsDataset held.now }
+{
+    let mut effects = Effects::new(alloc);
+    let seen = look(alloc, held, key_of(ask), given, &mut effects)?;
+    let reply = turn(alloc, ask, seen, &mut effects)?;
+    Ok(effects.into_plan(reply))
+}
+
+fn key_of<'c, 'a>(ask: &'c ZSetAsk<'a, '_>) -> &'c Argument<'a>
+    ensures { result.now ≡ key_of ask.now }
+{
+    match ask {
+        ZSetAsk::AddScores { key, .. } => key,
+        ZSetAsk::IncreaseScore { key, .. } => key,
+        ZSetAsk::RemoveMembers { key, .. } => key,
+        ZSetAsk::CountMembers { key } => key,
+        ZSetAsk::CountScores { key, .. } => key,
+        ZSetAsk::GetScore { key, .. } => key,
+        ZSetAsk::GetScores { key, .. } => key,
+        ZSetAsk::GetRank { key, .. } => key,
+        ZSetAsk::RangeByRank { key, .. } => key,
+        ZSetAsk::RangeByScore { key, .. } => key,
+        ZSetAsk::TakePairs { key, .. } => key,
+        ZSetAsk::RemoveRanks { key, .. } => key,
+        ZSetAsk::RemoveScores { key, .. } => key,
+    }
+}
+
+// What a command does at its key.
+fn turn(
+    alloc: Global,
+    ask: &ZSetAsk<'_, '_>,
+    seen: Option<&Entry>,
+    effects: &mut Effects,
+) -> Result<Reply, AllocError>
+    ensures { IfOk result (λ r. Takes (turn ask.now (option_copied seen.entry)) (view r) effects.old effects.new) }
+{
+    match ask {
+        ZSetAsk::AddScores {
+            key,
+            condition,
+            comparison,
+            reply,
+            pairs,
+        } => {
+            let rules = Rules {
+                condition: *condition,
+                comparison: *comparison,
+                reply: *reply,
+            };
+            adding::add_scores(alloc, key, rules, pairs, seen, effects)
+        }
+        ZSetAsk::IncreaseScore { key, by, member } => {
+            adding::increase_score(alloc, key, *by, member, seen, effects)
+        }
+        ZSetAsk::RemoveMembers { key, members } => {
+            removing::remove_members(alloc, key, members, seen, effects)
+        }
+        ZSetAsk::TakePairs { key, order, count } => {
+            removing::take_pairs(alloc, key, *order, *count, seen, effects)
+        }
+        ZSetAsk::RemoveRanks { key, first, last } => {
+            removing::remove_ranks(alloc, key, *first, *last, seen, effects)
+        }
+        ZSetAsk::RemoveScores { key, min, max } => {
+            removing::remove_scores(alloc, key, *min, *max, seen, effects)
+        }
+        ZSetAsk::CountMembers { key: _ } => Ok(telling::count_members(alloc, seen)),
+        ZSetAsk::CountScores { key: _, min, max } => {
+            Ok(telling::count_scores(alloc, *min, *max, seen))
+        }
+        ZSetAsk::GetScore { key: _, member } => telling::score(alloc, member, seen),
+        ZSetAsk::GetScores { key: _, members } => telling::scores(alloc, members, seen),
+        ZSetAsk::GetRank {
+            key: _,
+            member,
+            order,
+        } => Ok(telling::rank(alloc, *order, member, seen)),
+        ZSetAsk::RangeByRank {
+            key: _,
+            first,
+            last,
+            order,
+            reply,
+        } => ranges::by_rank(alloc, *first, *last, *order, *reply, seen),
+        ZSetAsk::RangeByScore {
+            key: _,
+            min,
+            max,
+            order,
+            limit,
+            reply,
+        } => ranges::by_score(alloc, *min, *max, *order, *limit, *reply, seen),
+    }
+}

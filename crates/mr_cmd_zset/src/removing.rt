@@ -1,0 +1,217 @@
+// Commands that take members out.
+ghost use Rattle.std.specs.Prelude.{◌≡◌, ◌++◌, map, take, IfOk, OnOk, Some, option_copied};
+ghost use Rattle.std.specs.FinMap as finite;
+ghost use Rattle.std.specs.FinMap.{keys};
+ghost use Rattle.mr_resp.specs.ReplyView.{view};
+ghost use Rattle.mr_value.specs.Window.{window_of, windowed};
+ghost use Rattle.mr_zset.specs.Pairs.{pairs_of, shown};
+ghost use Rattle.mr_entries.specs.Collections.{without_scores};
+ghost use Rattle.mr_entries.specs.Steps.{sorted_sets};
+ghost use Rattle.mr_effect.specs.declared.effect.Effect.TheVariants as made;
+ghost use Rattle.mr_entries.specs.Cuts.{cut};
+ghost use Rattle.mr_planning.specs.Turns.{Takes};
+ghost use Rattle.mr_planning.specs.Collections.{changing};
+ghost use Rattle.mr_cmd_zset.specs.Scores.{number, pairs_in, lost, Makes};
+ghost use Rattle.mr_cmd_zset.specs.Removing.{members_of, remove_members, remove_ranks, remove_scores, as_set, take_pairs};
+
+use crate::grouping::push_lost;
+use crate::ranges::forward;
+use crate::replies::set_at;
+use mr_data::Entry;
+use mr_map::SliceMap;
+use mr_planning::{Effects, count, wrong_kind};
+use mr_resp::Reply;
+use mr_value::window;
+use mr_words::{Argument, Words};
+use mr_zset::{Bound, Pair, ZSet};
+use mr_zset_options::{Order, RangeReply};
+use std::alloc::{AllocError, Global};
+
+/// `ZREM`
+pub fn remove_members(
+    alloc: Global,
+    key: &Argument<'_>,
+    members: &Words<'_, '_>,
+    seen: Option<&Entry>,
+    effects: &mut Effects,
+) -> Result<Reply, AllocError>
+    ensures { IfOk result (λ r. Takes (changing sorted_sets (remove_members key.now members.now) (option_copied seen.entry)) (view r) effects.old effects.new) }
+{
+    let empty = ZSet::new(alloc);
+    let Some(set) = set_at(seen, &empty) else {
+        return Ok(wrong_kind());
+    };
+    let reply = remove_named(alloc, key, members, set, effects)?;
+    Ok(reply)
+}
+
+fn remove_named(
+    alloc: Global,
+    key: &Argument<'_>,
+    members: &Words<'_, '_>,
+    set: &ZSet,
+    effects: &mut Effects,
+) -> Result<Reply, AllocError>
+    ensures { IfOk result (λ r. Makes (remove_members key.now members.now set.now) (view r) effects.old effects.new) }
+{
+    let lost = named_there(alloc, members, set)?;
+    push_lost(alloc, key, &lost, effects)?;
+    Ok(count(lost.len()))
+}
+
+// The members that are named and there, each once. They are not copied.
+fn named_there<'a>(
+    alloc: Global,
+    members: &Words<'a, '_>,
+    set: &ZSet,
+) -> Result<SliceMap<'a, ()>, AllocError>
+    ensures { IfOk result (λ there. keys there ≡ lost set.now (without_scores members.now set.now)) }
+{
+    let mut there = SliceMap::new(alloc);
+    for word in members.as_slice() {
+        let member = word.as_slice();
+        if set.score(member).is_some() {
+            there.insert(member, ())?;
+        }
+    }
+    Ok(there)
+}
+
+/// `ZREMRANGEBYRANK`
+pub fn remove_ranks(
+    alloc: Global,
+    key: &Argument<'_>,
+    first: i64,
+    last: i64,
+    seen: Option<&Entry>,
+    effects: &mut Effects,
+) -> Result<Reply, AllocError>
+    ensures { IfOk result (λ r. Takes (changing sorted_sets (remove_ranks key.now first last) (option_copied seen.entry)) (view r) effects.old effects.new) }
+{
+    let empty = ZSet::new(alloc);
+    let Some(set) = set_at(seen, &empty) else {
+        return Ok(wrong_kind());
+    };
+    let pairs = pairs_at(alloc, set, first, last)?;
+    let reply = remove_pairs(alloc, key, &pairs, effects)?;
+    Ok(reply)
+}
+
+// The pairs between two indexes, both included.
+fn pairs_at(alloc: Global, set: &ZSet, first: i64, last: i64) -> Result<Vec<Pair<'_>>, AllocError>
+    ensures { IfOk result (λ pairs. map shown pairs.items ≡ windowed (window_of first last (finite.len set.now)) (pairs_of set.now)) }
+{
+    match window(first, last, set.len()) {
+        Some((first, last)) => set.by_rank(first, last),
+        None => Ok(Vec::new(alloc)),
+    }
+}
+
+/// `ZREMRANGEBYSCORE`
+pub fn remove_scores(
+    alloc: Global,
+    key: &Argument<'_>,
+    min: Bound,
+    max: Bound,
+    seen: Option<&Entry>,
+    effects: &mut Effects,
+) -> Result<Reply, AllocError>
+    ensures { IfOk result (λ r. Takes (changing sorted_sets (remove_scores key.now min max) (option_copied seen.entry)) (view r) effects.old effects.new) }
+{
+    let empty = ZSet::new(alloc);
+    let Some(set) = set_at(seen, &empty) else {
+        return Ok(wrong_kind());
+    };
+    let pairs = set.by_score(min, max)?;
+    let reply = remove_pairs(alloc, key, &pairs, effects)?;
+    Ok(reply)
+}
+
+// Takes pairs out, and answers how many they are.
+fn remove_pairs(
+    alloc: Global,
+    key: &Argument<'_>,
+    pairs: &[Pair<'_>],
+    effects: &mut Effects,
+) -> Result<Reply, AllocError>
+    ensures reply { IfOk result (λ r. view r ≡ number (finite.len (as_set (members_of (map shown pairs.now))))) }
+    ensures effects { OnOk result (effects.new ≡ effects.old ++ map (made.RemoveScores key.now) (cut (keys (as_set (members_of (map shown pairs.now)))))) }
+{
+    let lost = in_byte_order(alloc, pairs)?;
+    push_lost(alloc, key, &lost, effects)?;
+    Ok(count(lost.len()))
+}
+
+// The members of pairs in byte order. They are not copied.
+fn in_byte_order<'d>(alloc: Global, pairs: &[Pair<'d>]) -> Result<SliceMap<'d, ()>, AllocError>
+    ensures { IfOk result (λ members. members ≡ as_set (members_of (map shown pairs.now))) }
+{
+    let mut members = SliceMap::new(alloc);
+    for pair in pairs {
+        members.insert(pair.member, ())?;
+    }
+    Ok(members)
+}
+
+/// `ZPOPMIN`, `ZPOPMAX`
+pub fn take_pairs(
+    alloc: Global,
+    key: &Argument<'_>,
+    order: Order,
+    count: Option<usize>,
+    seen: Option<&Entry>,
+    effects: &mut Effects,
+) -> Result<Reply, AllocError>
+    ensures { IfOk result (λ r. Takes (changing sorted_sets (take_pairs key.now order count) (option_copied seen.entry)) (view r) effects.old effects.new) }
+{
+    let empty = ZSet::new(alloc);
+    let Some(set) = set_at(seen, &empty) else {
+        return Ok(wrong_kind());
+    };
+    let reply = take_from(alloc, key, order, count.unwrap_or(1), set, effects)?;
+    Ok(reply)
+}
+
+fn take_from(
+    alloc: Global,
+    key: &Argument<'_>,
+    order: Order,
+    count: usize,
+    set: &ZSet,
+    effects: &mut Effects,
+) -> Result<Reply, AllocError>
+    ensures { IfOk result (λ r. Makes (take_pairs key.now order (Some count) set.now) (view r) effects.old effects.new) }
+{
+    let pairs = first_pairs(alloc, order, count, set)?;
+    let lost = in_byte_order(alloc, &pairs)?;
+    push_lost(alloc, key, &lost, effects)?;
+    let reply = forward(alloc, &pairs, RangeReply::WithScores)?;
+    Ok(reply)
+}
+
+// The first pairs in this order, at most so many.
+fn first_pairs(
+    alloc: Global,
+    order: Order,
+    count: usize,
+    set: &ZSet,
+) -> Result<Vec<Pair<'_>>, AllocError>
+    ensures { IfOk result (λ pairs. map shown pairs.items ≡ take count (pairs_in order set.now)) }
+{
+    let len = set.len();
+    let count = count.min(len);
+    if count == 0 {
+        return Ok(Vec::new(alloc));
+    }
+    match order {
+        Order::Ascending => {
+            let pairs = set.by_rank(0, count - 1)?;
+            Ok(pairs)
+        }
+        Order::Descending => {
+            let mut pairs = set.by_rank(len - count, len - 1)?;
+            pairs.reverse();
+            Ok(pairs)
+        }
+    }
+}

@@ -1,0 +1,111 @@
+// Commands that tell of the members of a sorted set.
+ghost use Rattle.std.specs.Prelude.{◌≡◌, ◌<◌, IfOk, option_copied};
+ghost use Rattle.mr_resp.specs.ReplyView.{view};
+ghost use Rattle.mr_cmd_zset.specs.Telling.{count_members_turn, count_scores_turn, counted_from, found_scores, rank_turn, score_or_nil, score_turn, scores_turn};
+
+use crate::replies::{score_bulk, set_at};
+use mr_data::Entry;
+use mr_planning::{count, wrong_kind};
+use mr_resp::Reply;
+use mr_words::{Argument, Words};
+use mr_zset::{Bound, ZSet};
+use mr_zset_options::Order;
+use std::alloc::{AllocError, Global};
+
+/// `ZCARD`
+pub fn count_members(alloc: Global, seen: Option<&Entry>) -> Reply
+    ensures { view result ≡ (count_members_turn (option_copied seen.entry)).reply }
+{
+    let empty = ZSet::new(alloc);
+    match set_at(seen, &empty) {
+        Some(set) => count(set.len()),
+        None => wrong_kind(),
+    }
+}
+
+/// `ZCOUNT`
+pub fn count_scores(alloc: Global, min: Bound, max: Bound, seen: Option<&Entry>) -> Reply
+    ensures { view result ≡ (count_scores_turn min max (option_copied seen.entry)).reply }
+{
+    let empty = ZSet::new(alloc);
+    match set_at(seen, &empty) {
+        Some(set) => count(set.count(min, max)),
+        None => wrong_kind(),
+    }
+}
+
+/// `ZSCORE`
+pub fn score(
+    alloc: Global,
+    member: &Argument<'_>,
+    seen: Option<&Entry>,
+) -> Result<Reply, AllocError>
+    ensures { IfOk result (λ r. view r ≡ (score_turn member.now (option_copied seen.entry)).reply) }
+{
+    let empty = ZSet::new(alloc);
+    match set_at(seen, &empty) {
+        Some(set) => score_or_nil(alloc, set.score(member.as_slice())),
+        None => Ok(wrong_kind()),
+    }
+}
+
+/// `ZMSCORE`
+pub fn scores(
+    alloc: Global,
+    members: &Words<'_, '_>,
+    seen: Option<&Entry>,
+) -> Result<Reply, AllocError>
+    ensures { IfOk result (λ r. view r ≡ (scores_turn members.now (option_copied seen.entry)).reply) }
+{
+    let empty = ZSet::new(alloc);
+    match set_at(seen, &empty) {
+        Some(set) => scores_in(alloc, members, set),
+        None => Ok(wrong_kind()),
+    }
+}
+
+fn scores_in(alloc: Global, members: &Words<'_, '_>, set: &ZSet) -> Result<Reply, AllocError>
+    ensures { IfOk result (λ r. view r ≡ found_scores members.now set.now) }
+{
+    let words = members.as_slice();
+    let mut replies = Vec::with_capacity(alloc, words.len())?;
+    for word in words {
+        replies.push(score_or_nil(alloc, set.score(word.as_slice()))?)?;
+    }
+    Ok(Reply::Array(replies))
+}
+
+fn score_or_nil(alloc: Global, score: Option<i64>) -> Result<Reply, AllocError>
+    ensures { IfOk result (λ r. view r ≡ score_or_nil score) }
+{
+    match score {
+        Some(score) => score_bulk(alloc, score),
+        None => Ok(Reply::NullBulk),
+    }
+}
+
+/// `ZRANK`, `ZREVRANK`
+pub fn rank(alloc: Global, order: Order, member: &Argument<'_>, seen: Option<&Entry>) -> Reply
+    ensures { view result ≡ (rank_turn order member.now (option_copied seen.entry)).reply }
+{
+    let empty = ZSet::new(alloc);
+    let Some(set) = set_at(seen, &empty) else {
+        return wrong_kind();
+    };
+    match set.rank(member.as_slice()) {
+        Some(rank) => count(counted_from(order, set.len(), rank)),
+        None => Reply::NullBulk,
+    }
+}
+
+// A place of so many, counted from the least or from the greatest pair.
+fn counted_from(order: Order, count: usize, place: usize) -> usize
+    requires { place < count }
+    ensures place { result ≡ counted_from order count place }
+    ensures within { result < count }
+{
+    match order {
+        Order::Ascending => place,
+        Order::Descending => count - 1 - place,
+    }
+}

@@ -1,0 +1,3 @@
+pub mod Amounts
+pub mod Expiry
+pub mod Askable

@@ -1,0 +1,6 @@
+//! When a key becomes past, as a request says it.
+#![tactic(auto)]
+
+mod expiry;
+
+pub use expiry::{Expiry, ExpiryUnit, Milliseconds, Seconds, within_limit};

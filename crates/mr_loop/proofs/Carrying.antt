@@ -1,0 +1,22 @@
+-- What a step gave out, where it isn't told to anybody.
+use Rattle.std.proofs.Common.{Bool, ℕ, List, Option, Err, refl}
+use Rattle.mr_links.specs.Links.{Links}
+use Rattle.mr_links.specs.declared.link_id.LinkId.{LinkId}
+use Rattle.mr_aof.specs.declared.log.SyncMode.{SyncMode}
+use Rattle.mr_data.specs.declared.given.Given.{Given}
+use Rattle.mr_node.specs.State.{NodeState}
+use Rattle.mr_node.specs.Outs.{OutsState}
+use Rattle.mr_node.specs.declared.step.Step.TheVariants as step
+use Rattle.mr_wire.specs.Wire.{LinkState}
+use Rattle.mr_loop.specs.declared.fault.LoopFault.{LoopFault}
+use Rattle.mr_loop.specs.declared.fault.LoopFault.TheVariants as fault
+use Rattle.mr_loop.specs.Stage.{LoopState, ClientState, stage}
+use Rattle.mr_loop.specs.Rows.{Has, Stepped, Went, spills, tears}
+use Rattle.mr_loop.specs.Going.{IsCarriedOut}
+use Rattle.mr_loop.proofs.Runs.{went_one}
+
+pub not_told : (tells : Bool) (mode : SyncMode) (n n2 : NodeState) (o o2 : LoopState) (w : Links LinkState) (told told2 : Option (List ℕ)) (synced synced2 : Option ℕ) (k : LinkId) (given : Given) (outs : OutsState) (client : ClientState) (why : LoopFault)
+    → Has o k client → Stepped n client.link given n2 (step.Done outs) → IsCarriedOut outs k o told synced o2 told2 synced2 (Err why) → Went tells mode (stage n o w told synced) (stage n2 o2 w told2 synced2)
+not_told tells mode n n2 o o2 w told told2 synced synced2 k given outs client fault.File has node h = went_one (tears k given outs) (record { client = client; has = has; node = node; wire = refl; bytes = h.bytes; replaced = h.is; written = h.written })
+not_told tells mode n n2 o o2 w told told2 synced synced2 k given outs client fault.Stopped has node h = went_one (spills k given outs) (record { client = client; has = has; node = node; wire = refl; file = h })
+not_told tells mode n n2 o o2 w told told2 synced synced2 k given outs client fault.Listener has node h = absurd h

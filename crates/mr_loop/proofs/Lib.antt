@@ -1,0 +1,5 @@
+pub mod Carrying
+pub mod Nothing
+pub mod Places
+pub mod Runs
+pub mod Waiting

@@ -1,0 +1,34 @@
+use Rattle.std.proofs.Common.{◌≡◌, ◌∙◌, ap, inr, refl}
+use Rattle.mr_loop.specs.declared.client.Phase.TheVariants as phase
+use Rattle.mr_loop.specs.Stage.{LoopState, client_of, put_client}
+use Rattle.mr_loop.specs.Rows.{is_deaf}
+use Rattle.mr_loop.proofs.Places.{some_at}
+use Rattle.mr_loop.proofs.Runs.{went_one}
+use Rattle.mr_loop.proofs.Waiting.{put_there, stays_put, stays_same}
+use Rattle.mr_loop.proofs.writing.give_up_deaf.Goals as goal
+
+pub returns-then-is_burdened-clause-went : goal.returns-then-is_burdened-clause-went
+returns-then-is_burdened-clause-went c = λ node tells w m t s.
+    let b = c.is_burdened.ensures c.if-is_burdened.true in
+    went_one (is_deaf c.args.k) (record {
+      client = b.client;
+      too_much = b.too_much;
+      given_up = record {
+        has = record { is = b.is };
+        serving = b.serving;
+        wire = refl;
+        node = refl;
+        own = some_at (λ q. c.set_phase.new.self ≡ put_client c.args.links.now c.args.k (record q { phase = phase.Lost })) (client_of c.args.links.now c.args.k) b.client b.is c.set_phase.ensures;
+        file = (refl, refl);
+      };
+    })
+
+pub returns-then-is_burdened-clause-client : goal.returns-then-is_burdened-clause-client
+returns-then-is_burdened-clause-client c =
+    let b = c.is_burdened.ensures c.if-is_burdened.true in
+    let after = record b.client { phase = phase.Lost } in
+    let own = some_at (λ q. c.set_phase.new.self ≡ put_client c.args.links.now c.args.k (record q { phase = phase.Lost })) (client_of c.args.links.now c.args.k) b.client b.is c.set_phase.ensures in
+    stays_put (client_of c.args.links.now c.args.k) (client_of c.set_phase.new.self c.args.k) b.client after b.is (ap (λ (o : LoopState). client_of o c.args.k) own ∙ put_there c.args.links.now c.args.k after) (record { link = refl; phase = inr refl })
+
+pub returns-else-is_burdened-clause-client : goal.returns-else-is_burdened-clause-client
+returns-else-is_burdened-clause-client c = stays_same (client_of c.args.links.now c.args.k) (client_of c.args.links.now c.args.k) refl

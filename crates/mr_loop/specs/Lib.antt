@@ -1,0 +1,4 @@
+pub mod Going
+pub mod Quiet
+pub mod Rows
+pub mod Stage

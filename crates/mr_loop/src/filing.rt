@@ -1,0 +1,48 @@
+// What waits for the file.
+ghost use Rattle.std.specs.Prelude.{◌≡◌, [], OnOk};
+ghost use Rattle.std.specs.Option.{option_map};
+ghost use Rattle.mr_loop.specs.Going.{Files, IsReplacing};
+
+use crate::fault::LoopFault;
+use crate::links::Links;
+use mr_aof::Log;
+use mr_file::LogFile;
+
+/// Appends what waits for the file, and syncs it with `Always`. Where nothing waits, no call is made.
+pub(crate) fn commit<F: LogFile>(links: &mut Links, log: &mut Log<F>) -> Result<(), LoopFault>
+    ensures went { Files log.old.mode links.old (F.told log.old.file) (F.synced log.old.file) links.new (F.told log.new.file) (F.synced log.new.file) }
+    ensures all { OnOk result (links.new ≡ record links.old { batch = [] }) }
+    ensures mode { log.new.mode ≡ log.old.mode }
+{
+    if links.batch().is_empty() {
+        return Ok(());
+    }
+    match log.append(links.batch()) {
+        Ok(()) => {
+            links.clear_batch();
+            Ok(())
+        }
+        Err(_fault) => Err(LoopFault::File),
+    }
+}
+
+/// Replaces the file at once, where there is something to replace it by. That has all effects so far, so that nothing waits any more.
+pub(crate) fn replace<F: LogFile>(
+    links: &mut Links,
+    log: &mut Log<F>,
+    whole: Option<&[u8]>,
+) -> Result<(), LoopFault>
+    ensures went { IsReplacing (option_map (λ bytes. bytes.now) whole.entry) links.old (F.told log.old.file) (F.synced log.old.file) links.new (F.told log.new.file) (F.synced log.new.file) result }
+    ensures mode { log.new.mode ≡ log.old.mode }
+{
+    let Some(bytes) = whole else {
+        return Ok(());
+    };
+    match log.replace(bytes) {
+        Ok(()) => {
+            links.clear_batch();
+            Ok(())
+        }
+        Err(_fault) => Err(LoopFault::File),
+    }
+}

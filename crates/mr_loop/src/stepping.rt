@@ -1,0 +1,106 @@
+// What the node makes of what clients sent.
+ghost use Rattle.std.specs.Prelude.{◌≡◌, IfOk};
+ghost use Rattle.mr_loop.specs.Stage.{client_of};
+ghost use Rattle.mr_loop.specs.Going.{GoesAlone, GoesWithFile, IsCarriedOut};
+ghost use Rattle.mr_loop.specs.Quiet.{AllWait, WaitsBut, WaitsButLost, WaitsUnless};
+
+use crate::client::Phase;
+use crate::fault::LoopFault;
+use crate::filing::replace;
+use crate::links::Links;
+use mr_aof::Log;
+use mr_data::Given;
+use mr_file::LogFile;
+use mr_links::LinkId;
+use mr_node::{Node, NodeFault, Outs, Step};
+use mr_repl::ReplId;
+
+/// The next step on a client's link. It answers whether something was used.
+pub(crate) fn step<F: LogFile>(
+    node: &mut Node,
+    links: &mut Links,
+    log: &mut Log<F>,
+    k: LinkId,
+    given: Given,
+    fresh: ReplId,
+) -> Result<bool, LoopFault>
+    ensures went { GoesWithFile log.old.mode node.old links.old (F.told log.old.file) (F.synced log.old.file) node.new links.new (F.told log.new.file) (F.synced log.new.file) }
+    ensures mode { log.new.mode ≡ log.old.mode }
+    ensures quiet { WaitsBut (client_of links.old k) node.old → IfOk result (λ used. WaitsUnless used (client_of links.new k) node.new) }
+{
+    let Some(client) = links.client(k) else {
+        return Ok(false);
+    };
+    if !client.is_serving() {
+        return Ok(false);
+    }
+    let link = client.link();
+    match node.step(link, given, fresh) {
+        Ok(Step::Done(outs)) => {
+            let carried = carry_out(links, log, k, &outs);
+            node.reuse(outs);
+            match carried {
+                Ok(()) => Ok(true),
+                Err(fault) => Err(fault),
+            }
+        }
+        Ok(Step::Idle) => Ok(false),
+        Ok(Step::Closed) => Ok(false),
+        Err(NodeFault::Stopped) => Err(LoopFault::Stopped),
+        Err(_refused) => {
+            links.set_phase(k, Phase::Lost);
+            hang_up(node, links, k);
+            Ok(false)
+        }
+    }
+}
+
+/// Has the node close its end of a client's link, if the client is lost.
+pub(crate) fn hang_up(node: &mut Node, links: &Links, k: LinkId)
+    ensures went { GoesAlone node.old links.now node.new links.now }
+    ensures quiet { WaitsButLost (client_of links.now k) node.old → WaitsBut (client_of links.now k) node.new }
+{
+    let Some(client) = links.client(k) else {
+        return;
+    };
+    if !client.is_lost() {
+        return;
+    }
+    let link = client.link();
+    node.close(link);
+}
+
+/// What a step gave out waits: for the file, and for its client. A file that is replaced is so at once.
+fn carry_out<F: LogFile>(
+    links: &mut Links,
+    log: &mut Log<F>,
+    k: LinkId,
+    outs: &Outs,
+) -> Result<(), LoopFault>
+    ensures went { IsCarriedOut outs.now k links.old (F.told log.old.file) (F.synced log.old.file) links.new (F.told log.new.file) (F.synced log.new.file) result }
+    ensures mode { log.new.mode ≡ log.old.mode }
+{
+    match links.queue(k, outs) {
+        Ok(()) => replace(links, log, outs.replaced()),
+        Err(_refused) => Err(LoopFault::Stopped),
+    }
+}
+
+/// Time passes at the node.
+pub(crate) fn tick(node: &mut Node, links: &mut Links, given: Given) -> Result<(), LoopFault>
+    ensures went { GoesAlone node.old links.old node.new links.new }
+    ensures quiet { AllWait node.old → AllWait node.new }
+{
+    match node.tick(given) {
+        Ok(outs) => {
+            let filed = links.file(outs.appended());
+            node.reuse(outs);
+            match filed {
+                Ok(()) => Ok(()),
+                Err(_refused) => Err(LoopFault::Stopped),
+            }
+        }
+        Err(NodeFault::Stopped) => Err(LoopFault::Stopped),
+        Err(_refused) => Ok(()),
+    }
+}

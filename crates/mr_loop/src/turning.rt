@@ -1,0 +1,220 @@
+// A turn.
+ghost use Rattle.std.specs.Prelude.{◌≡◌, [], false, IfOk, OnOk, IsErrOf};
+ghost use Rattle.mr_loop.specs.Stage.{client_of, stage};
+ghost use Rattle.mr_loop.specs.Rows.{Went};
+ghost use Rattle.mr_loop.specs.Quiet.{AllWait, WaitsBut, WaitsUnless};
+
+use crate::accepting::accept_all;
+use crate::fault::LoopFault;
+use crate::filing::commit;
+use crate::links::Links;
+use crate::moment::Moment;
+use crate::reading::read_piece;
+use crate::stepping::{step, tick};
+use crate::writing::{close_all, unburden, write_all};
+use mr_aof::Log;
+use mr_file::LogFile;
+use mr_links::LinkId;
+use mr_node::Node;
+use mr_source::Source;
+use mr_wire::Wire;
+
+/// A turn waits so many milliseconds at most.
+const LONGEST_WAIT: u64 = 100;
+
+/// So many pieces of a client are read in one turn at most.
+const MOST_PIECES: u32 = 64;
+
+/// Where more bytes wait for the file, they don't wait for the end of the turn.
+const MOST_BATCH: usize = 1_048_576;
+
+/// One turn: waits until something is ready, accepts links, reads of each client and steps as far as its requests go, appends what
+/// they changed to the file, sends the replies, and lets time pass at the node. Where the file fails, or memory runs out for what
+/// the node gave out, the node is stopped.
+pub fn turn<W: Wire, F: LogFile, S: Source>(
+    node: &mut Node,
+    links: &mut Links,
+    wire: &mut W,
+    log: &mut Log<F>,
+    source: &mut S,
+) -> Result<(), LoopFault>
+    requires { links.old.batch ≡ [] }
+    ensures went { Went W.tells log.old.mode (stage node.old links.old (W.links wire.old) (F.told log.old.file) (F.synced log.old.file)) (stage node.new links.new (W.links wire.new) (F.told log.new.file) (F.synced log.new.file)) }
+    ensures written { OnOk result (links.new.batch ≡ []) }
+    ensures mode { log.new.mode ≡ log.old.mode }
+    ensures quiet { AllWait node.old → OnOk result (AllWait node.new) }
+    ensures file { IsErrOf result LoopFault.File → node.new.core.up ≡ false }
+    ensures stopped { IsErrOf result LoopFault.Stopped → node.new.core.up ≡ false }
+{
+    match go_on(node, links, wire, log, source) {
+        Ok(()) => Ok(()),
+        Err(LoopFault::Listener) => Err(LoopFault::Listener),
+        Err(fault) => {
+            node.file_failed();
+            Err(fault)
+        }
+    }
+}
+
+/// A turn, whose node goes on whatever comes of it.
+fn go_on<W: Wire, F: LogFile, S: Source>(
+    node: &mut Node,
+    links: &mut Links,
+    wire: &mut W,
+    log: &mut Log<F>,
+    source: &mut S,
+) -> Result<(), LoopFault>
+    requires { links.old.batch ≡ [] }
+    ensures went { Went W.tells log.old.mode (stage node.old links.old (W.links wire.old) (F.told log.old.file) (F.synced log.old.file)) (stage node.new links.new (W.links wire.new) (F.told log.new.file) (F.synced log.new.file)) }
+    ensures written { OnOk result (links.new.batch ≡ []) }
+    ensures mode { log.new.mode ≡ log.old.mode }
+    ensures quiet { AllWait node.old → OnOk result (AllWait node.new) }
+{
+    wait(links, wire)?;
+    let mut moment = Moment::new(source);
+    let accepts = accept_all(node, links, wire)?;
+    let reads = read_all(node, links, wire, log, &mut moment)?;
+    commit(links, log)?;
+    write_all(links, wire);
+    close_all(node, links, wire);
+    tick(node, links, moment.given())?;
+    commit(links, log)?;
+    links.set_hurries(accepts || reads);
+    Ok(())
+}
+
+/// Waits until something is ready. Behind a turn that met a limit nothing is waited for.
+fn wait<W: Wire>(links: &Links, wire: &mut W) -> Result<(), LoopFault>
+    ensures { W.links wire.new ≡ W.links wire.old }
+{
+    let millis = if links.hurries() { 0 } else { LONGEST_WAIT };
+    match wire.wait(millis) {
+        Ok(()) => Ok(()),
+        Err(_failed) => Err(LoopFault::Listener),
+    }
+}
+
+/// Serves each client. It answers whether one of them may have more to read.
+fn read_all<W: Wire, F: LogFile, S: Source>(
+    node: &mut Node,
+    links: &mut Links,
+    wire: &mut W,
+    log: &mut Log<F>,
+    moment: &mut Moment<'_, S>,
+) -> Result<bool, LoopFault>
+    ensures went { Went W.tells log.old.mode (stage node.old links.old (W.links wire.old) (F.told log.old.file) (F.synced log.old.file)) (stage node.new links.new (W.links wire.new) (F.told log.new.file) (F.synced log.new.file)) }
+    ensures mode { log.new.mode ≡ log.old.mode }
+    ensures quiet { AllWait node.old → OnOk result (AllWait node.new) }
+{
+    let mut piece = links.take_piece();
+    let read = read_each(node, links, wire, log, moment, &mut piece);
+    links.put_piece(piece);
+    read
+}
+
+fn read_each<W: Wire, F: LogFile, S: Source>(
+    node: &mut Node,
+    links: &mut Links,
+    wire: &mut W,
+    log: &mut Log<F>,
+    moment: &mut Moment<'_, S>,
+    piece: &mut [u8],
+) -> Result<bool, LoopFault>
+    ensures went { Went W.tells log.old.mode (stage node.old links.old (W.links wire.old) (F.told log.old.file) (F.synced log.old.file)) (stage node.new links.new (W.links wire.new) (F.told log.new.file) (F.synced log.new.file)) }
+    ensures mode { log.new.mode ≡ log.old.mode }
+    ensures quiet { AllWait node.old → OnOk result (AllWait node.new) }
+{
+    let mut more = false;
+    for index in 0..links.count() {
+        let left = read_at(node, links, wire, log, moment, piece, index)?;
+        more = more || left;
+    }
+    Ok(more)
+}
+
+fn read_at<W: Wire, F: LogFile, S: Source>(
+    node: &mut Node,
+    links: &mut Links,
+    wire: &mut W,
+    log: &mut Log<F>,
+    moment: &mut Moment<'_, S>,
+    piece: &mut [u8],
+    index: usize,
+) -> Result<bool, LoopFault>
+    ensures went { Went W.tells log.old.mode (stage node.old links.old (W.links wire.old) (F.told log.old.file) (F.synced log.old.file)) (stage node.new links.new (W.links wire.new) (F.told log.new.file) (F.synced log.new.file)) }
+    ensures mode { log.new.mode ≡ log.old.mode }
+    ensures quiet { AllWait node.old → OnOk result (AllWait node.new) }
+{
+    match links.at(index) {
+        Some(k) => read_client(node, links, wire, log, moment, piece, k),
+        None => Ok(false),
+    }
+}
+
+/// Reads of a client and steps, until nothing more is there. It answers whether it left off before that.
+fn read_client<W: Wire, F: LogFile, S: Source>(
+    node: &mut Node,
+    links: &mut Links,
+    wire: &mut W,
+    log: &mut Log<F>,
+    moment: &mut Moment<'_, S>,
+    piece: &mut [u8],
+    k: LinkId,
+) -> Result<bool, LoopFault>
+    ensures went { Went W.tells log.old.mode (stage node.old links.old (W.links wire.old) (F.told log.old.file) (F.synced log.old.file)) (stage node.new links.new (W.links wire.new) (F.told log.new.file) (F.synced log.new.file)) }
+    ensures mode { log.new.mode ≡ log.old.mode }
+    ensures quiet { AllWait node.old → OnOk result (AllWait node.new) }
+{
+    for _ in 0..MOST_PIECES {
+        if !read_piece(node, links, wire, k, piece) {
+            return Ok(false);
+        }
+        step_all(node, links, wire, log, moment, k)?;
+    }
+    Ok(true)
+}
+
+/// Steps until nothing whole is there.
+fn step_all<W: Wire, F: LogFile, S: Source>(
+    node: &mut Node,
+    links: &mut Links,
+    wire: &mut W,
+    log: &mut Log<F>,
+    moment: &mut Moment<'_, S>,
+    k: LinkId,
+) -> Result<(), LoopFault>
+    ensures went { Went W.tells log.old.mode (stage node.old links.old (W.links wire.old) (F.told log.old.file) (F.synced log.old.file)) (stage node.new links.new (W.links wire.new) (F.told log.new.file) (F.synced log.new.file)) }
+    ensures mode { log.new.mode ≡ log.old.mode }
+    ensures quiet { WaitsBut (client_of links.old k) node.old → OnOk result (AllWait node.new) }
+{
+    for _ in 0..u64::MAX {
+        if !step_next(node, links, wire, log, moment, k)? {
+            return Ok(());
+        }
+    }
+    // No input is that long.
+    Err(LoopFault::Stopped)
+}
+
+/// The next step on a client's link, unless the client left too much unread. It answers whether something was used.
+fn step_next<W: Wire, F: LogFile, S: Source>(
+    node: &mut Node,
+    links: &mut Links,
+    wire: &mut W,
+    log: &mut Log<F>,
+    moment: &mut Moment<'_, S>,
+    k: LinkId,
+) -> Result<bool, LoopFault>
+    ensures went { Went W.tells log.old.mode (stage node.old links.old (W.links wire.old) (F.told log.old.file) (F.synced log.old.file)) (stage node.new links.new (W.links wire.new) (F.told log.new.file) (F.synced log.new.file)) }
+    ensures mode { log.new.mode ≡ log.old.mode }
+    ensures quiet { WaitsBut (client_of links.old k) node.old → IfOk result (λ used. WaitsUnless used (client_of links.new k) node.new) }
+{
+    unburden(node, links, wire, log, k)?;
+    let given = moment.given();
+    let fresh = moment.fresh();
+    let used = step(node, links, log, k, given, fresh)?;
+    if links.batch().len() > MOST_BATCH {
+        commit(links, log)?;
+    }
+    Ok(used)
+}

@@ -1,5 +1,0 @@
-use Rattle.mr_plan_hash.proofs.LeftAndTold.{each_got}
-use Rattle.mr_plan_hash.proofs.sequels.hmget_is_hget_of_each.Goals as goal
-
-pub returns : goal.returns
-returns c = each_got

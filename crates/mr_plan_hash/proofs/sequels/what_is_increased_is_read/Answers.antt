@@ -1,5 +1,0 @@
-use Rattle.mr_plan_hash.proofs.LeftAndTold.{increase_read}
-use Rattle.mr_plan_hash.proofs.sequels.what_is_increased_is_read.Goals as goal
-
-pub returns : goal.returns
-returns c = increase_read

@@ -1,5 +1,0 @@
-use Rattle.mr_plan_hash.proofs.LeftAndTold.{remove_counts}
-use Rattle.mr_plan_hash.proofs.sequels.what_is_removed_is_counted.Goals as goal
-
-pub returns : goal.returns
-returns c = remove_counts

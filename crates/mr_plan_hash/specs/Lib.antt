@@ -1,3 +1,0 @@
-pub mod Hashes
-pub mod Commands
-pub mod Laws

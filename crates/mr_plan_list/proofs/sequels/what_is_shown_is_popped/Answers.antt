@@ -1,5 +1,0 @@
-use Rattle.mr_plan_list.proofs.LeftAndTold.{pop_end}
-use Rattle.mr_plan_list.proofs.sequels.what_is_shown_is_popped.Goals as goal
-
-pub returns : goal.returns
-returns c = pop_end

@@ -1,8 +1,0 @@
-use Rattle.mr_plan_text.proofs.Laws.{texts_faithful}
-use Rattle.mr_plan_text.proofs.planning.plan.Goals as goal
-
-pub returns-clause-faithful : goal.returns-clause-faithful
-returns-clause-faithful c = λ fit timed. (texts_faithful c.args.ask.now c.args.given.now c.args.held.now fit c.times_are_limited.ensures.moment timed c.times_are_limited.ensures.limit c.planned.ensures.number).faithful
-
-pub returns-clause-texts : goal.returns-clause-texts
-returns-clause-texts c = λ fit timed. (texts_faithful c.args.ask.now c.args.given.now c.args.held.now fit c.times_are_limited.ensures.moment timed c.times_are_limited.ensures.limit c.planned.ensures.number).texts

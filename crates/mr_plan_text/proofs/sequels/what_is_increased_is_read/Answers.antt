@@ -1,8 +1,0 @@
-use Rattle.mr_plan_text.proofs.LeftAndTold.{increase_read, increase_sum}
-use Rattle.mr_plan_text.proofs.sequels.what_is_increased_is_read.Goals as goal
-
-pub returns-clause-read : goal.returns-clause-read
-returns-clause-read c = increase_read
-
-pub returns-clause-sum : goal.returns-clause-sum
-returns-clause-sum c = increase_sum

@@ -1,7 +1,0 @@
-use Rattle.std.proofs.Common.{◌≡◌, ◌++◌, map}
-use Rattle.std.specs.Cow.{cow_slice_items}
-use Rattle.mr_plan_text.specs.SettingAll.{names}
-use Rattle.mr_plan_text.proofs.setting_all.push_past.Given as goal
-
-abbrev pub invariant-loop-key : goal.invariant-loop-key
-invariant-loop-key l = map cow_slice_items l.keys.items ++ names l.key-iterator ≡ names l.pairs

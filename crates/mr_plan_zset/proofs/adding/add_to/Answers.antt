@@ -1,5 +1,0 @@
-use Rattle.mr_plan_zset.proofs.Adds.{adds_made}
-use Rattle.mr_plan_zset.proofs.adding.add_to.Goals as goal
-
-pub returns : goal.returns
-returns c = adds_made c.args.key.now c.args.set.now _ c.in_ok-scores.scores _ _ _ _ _ c.count.ensures c.in_ok-scores.ensures.count c.in_ok-scores.ensures.scores c.in_ok-push_changed.ensures

@@ -1,7 +1,0 @@
-use Rattle.std.proofs.Common.{map, take}
-use Rattle.std.specs.Cow.{cow_slice_items}
-use Rattle.mr_plan_zset.proofs.Removals.{IsThere}
-use Rattle.mr_plan_zset.proofs.removing.named_there.Given as goal
-
-abbrev pub invariant-loop-word : goal.invariant-loop-word
-invariant-loop-word l = IsThere l.there (map cow_slice_items (take l.word-index l.word-items)) l.set

@@ -1,0 +1,26 @@
+-- What a command does to a dataset in which no key that it names is past.
+use Rattle.std.specs.Prelude.{List, [], Option}
+use Rattle.std.specs.FinMap.{get}
+use Rattle.mr_map.specs.Bytes.{Bytes}
+use Rattle.mr_resp.specs.Replies.{Tree}
+use Rattle.mr_entries.specs.Dataset.{Dataset, put_at}
+use Rattle.mr_entries.specs.declared.value.Entry.{Entry}
+use Rattle.mr_effect.specs.declared.effect.Effect.{Effect}
+use Rattle.mr_planning.specs.Turns.{Turn}
+
+pub record Outcome : Type 0 where
+  pub reply : Tree
+  pub after : Dataset
+  pub effects : List Effect
+
+-- nothing changes
+abbrev pub answered : Tree → Dataset → Outcome
+answered answer m = record { reply = answer; after = m; effects = [] }
+
+-- a command on one key, by its turn
+abbrev pub at_key : Bytes → (Option Entry → Turn) → Dataset → Outcome
+at_key k turn m = record {
+  reply = (turn (get m k)).reply;
+  after = put_at m k (turn (get m k)).entry;
+  effects = (turn (get m k)).effects;
+}

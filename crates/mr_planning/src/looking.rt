@@ -1,0 +1,118 @@
+// The keys of a dataset that a command names, past ones and others.
+ghost use Rattle.std.specs.Prelude.{◌≡◌, [], ◌∷◌, ◌++◌, pos, length, true, None, IfOk, OnErr, option_copied};
+ghost use Rattle.std.specs.FinMap as map;
+ghost use Rattle.mr_data.specs.Dataset.{IsDataset, is_past, live};
+ghost use Rattle.mr_planning.specs.Keys.{chosen, dels, is_stored, past};
+
+use crate::effects::Effects;
+use crate::taken::Taken;
+use mr_data::{Dataset, Effect, Entry, Given};
+use mr_value::Word;
+use mr_words::{Argument, Words};
+use std::alloc::{AllocError, Global};
+
+/// Whether an entry with this deadline is past.
+fn is_past(now: i64, deadline: Option<i64>) -> bool
+    ensures { result ≡ is_past now deadline }
+{
+    match deadline {
+        None => false,
+        Some(deadline) => deadline <= now,
+    }
+}
+
+/// What is seen at a key, and whether the key is past. It takes no memory.
+pub fn see<'d>(held: &'d Dataset, key: &[u8], given: Given) -> (Option<&'d Entry>, bool)
+    ensures seen { option_copied result.0 ≡ live given.now (map.get held.now key.now) }
+    ensures past { result.1 ≡ is_stored given.now true (map.get held.now key.now) }
+{
+    match held.entry(key) {
+        None => (None, false),
+        Some(entry) if is_past(given.now(), entry.deadline) => (None, true),
+        Some(entry) => (Some(entry), false),
+    }
+}
+
+/// What is seen at a key. A past one gets its DEL, which alone takes memory. What the dataset keeps is known from here on.
+pub fn look<'d>(
+    alloc: Global,
+    held: &'d Dataset,
+    key: &Argument<'_>,
+    given: Given,
+    effects: &mut Effects,
+) -> Result<Option<&'d Entry>, AllocError>
+    ensures seen { IfOk result (λ e. option_copied e ≡ live given.now (map.get held.now key.now)) }
+    ensures past { IfOk result (λ _. effects.new ≡ effects.old ++ dels (past given.now (key.now ∷ []) held.now)) }
+    ensures err { OnErr result (live given.now (map.get held.now key.now) ≡ None) }
+    ensures kept { IsDataset held.now }
+{
+    let Some(entry) = held.entry(key.as_slice()) else {
+        return Ok(None);
+    };
+    if !is_past(given.now(), entry.deadline) {
+        return Ok(Some(entry));
+    }
+    effects.push(Effect::Del {
+        key: Word::copied(alloc, key.as_slice())?,
+    })?;
+    Ok(None)
+}
+
+// Whether there is an entry, and it is past as asked.
+fn is_stored(now: i64, past: bool, entry: Option<&Entry>) -> bool
+    ensures { result ≡ is_stored now past (option_copied entry.entry) }
+{
+    match entry {
+        None => false,
+        Some(entry) => is_past(now, entry.deadline) == past,
+    }
+}
+
+// A DEL for one key, without a list of the keys that were taken.
+fn push_del(
+    alloc: Global,
+    held: &Dataset,
+    key: &[u8],
+    given: Given,
+    past: bool,
+    effects: &mut Effects,
+) -> Result<i64, AllocError>
+    ensures count { IfOk result (λ count. count ≡ pos (length (chosen (is_stored given.now past) (key.now ∷ []) held.now))) }
+    ensures dels { IfOk result (λ _. effects.new ≡ effects.old ++ dels (chosen (is_stored given.now past) (key.now ∷ []) held.now)) }
+{
+    if !is_stored(given.now(), past, held.entry(key)) {
+        return Ok(0);
+    }
+    effects.push(Effect::Del {
+        key: Word::copied(alloc, key)?,
+    })?;
+    Ok(1)
+}
+
+/// A DEL for each of the keys that are stored and past, or stored and not past, and how many these are.
+pub fn push_dels(
+    alloc: Global,
+    held: &Dataset,
+    keys: &Words<'_, '_>,
+    given: Given,
+    past: bool,
+    effects: &mut Effects,
+) -> Result<i64, AllocError>
+    ensures count { IfOk result (λ count. count ≡ pos (length (chosen (is_stored given.now past) keys.now held.now))) }
+    ensures dels { IfOk result (λ _. effects.new ≡ effects.old ++ dels (chosen (is_stored given.now past) keys.now held.now)) }
+{
+    if let [only] = keys.as_slice() {
+        return push_del(alloc, held, only.as_slice(), given, past, effects);
+    }
+    let now = given.now();
+    let mut taken = Taken::new(alloc);
+    for word in keys.as_slice() {
+        let key = word.as_slice();
+        if is_stored(now, past, held.entry(key)) && taken.take(key)? {
+            effects.push(Effect::Del {
+                key: Word::copied(alloc, key)?,
+            })?;
+        }
+    }
+    Ok(taken.len() as i64)
+}

@@ -1,0 +1,224 @@
+-- Members in a list, and the set of them.
+use Rattle.std.proofs.Common.{◌≡◌, ℕ, zero, suc, ◌+◌, ◌<◌, ◌≤◌, List, [], ◌∷◌, length, map, min, drop, get_or, Bool, true, false, ◌||◌, ◌&&◌, not, Option, Some, None, refl, sym, ap, ap₂, subst, ◌∙◌, inl, inr, arith}
+use Rattle.std.specs.Prelude.{Result, Ok, Err, cond, is_some, slice_get, option_copied}
+use Rattle.std.specs.Borrow.{Bor}
+use Rattle.std.specs.Iterator.{YieldsFirstRef}
+use Rattle.std.specs.Global.{Vec}
+use Rattle.std.specs.FinMap as finite
+use Rattle.std.specs.FinMap.Entries.{put}
+use Rattle.std.specs.List.{AllWithin, insert, remove, list_any}
+use Rattle.std.specs.List.Sorted.{IsStrictlySortedBy}
+use Rattle.std.specs.Ordering.{eq_by_cmp, is_eq}
+use Rattle.std.specs.Result.{is_ok}
+use Rattle.std.specs.declared.cmp.Ordering.{Ordering}
+use Rattle.std.specs.declared.cmp.Ordering.TheVariants.{Less, Equal, Greater}
+use Rattle.std.proofs.lemmas.Bool.{cases_lt}
+use Rattle.std.proofs.lemmas.Cmp.{nat_list_cmp_total}
+use Rattle.std.proofs.lemmas.List.{length-map}
+use Rattle.std.proofs.lemmas.Map.Lookups.{exact_bytes}
+use Rattle.std.proofs.Math.ListN.{drop_of_length-le}
+use Rattle.mr_map.specs.Bytes.{bytes_cmp, texts, ByteMap}
+use Rattle.mr_order.specs.Standing.{IsPlaceOf, StandsAt, StandsBefore}
+use Rattle.mr_value.specs.Members.{set_of}
+
+abbrev Set : Type 0
+Set = ByteMap (Unit {0})
+
+-- how two members stand in a list
+abbrev pub member_cmp : Vec ℕ → Vec ℕ → Ordering
+member_cmp x y = bytes_cmp x.items y.items
+
+-- how bytes stand to a member
+abbrev pub standing : List ℕ → Vec ℕ → Ordering
+standing q x = bytes_cmp q x.items
+
+-- whether these bytes are the member
+abbrev is_same : List ℕ → List ℕ → Bool
+is_same q k = eq_by_cmp bytes_cmp q k
+
+-- whether one of the members is these bytes
+abbrev has : List (Vec ℕ) → List ℕ → Bool
+has xs q = list_any (is_same q) (texts xs)
+
+tied : (r : Ordering) → is_eq r ≡ true → r ≡ Equal
+tied Less e = cc
+tied Equal e = refl
+tied Greater e = cc
+
+same_bytes : (q k : List ℕ) → is_same q k ≡ true → q ≡ k
+same_bytes q k e = exact_bytes q k (tied _ e)
+
+or_true : (a : Bool) → (a || true) ≡ true
+or_true true = refl
+or_true false = refl
+
+or_swap : (a b c : Bool) → (a || (b || c)) ≡ (b || (a || c))
+or_swap true true c = refl
+or_swap true false c = refl
+or_swap false b c = refl
+
+some_or : (b : Bool) (o : Option (Unit {0})) → is_some (cond b (Some tt) o) ≡ (b || is_some o)
+some_or true o = refl
+some_or false o = refl
+
+none_and : (b : Bool) (o : Option (Unit {0})) → is_some (cond b None o) ≡ (not b && is_some o)
+none_and true o = refl
+none_and false o = refl
+
+one_unit : (a b : Option (Unit {0})) → is_some a ≡ is_some b → a ≡ b
+one_unit None None e = refl
+one_unit None (Some y) e = cc
+one_unit (Some x) None e = cc
+one_unit (Some x) (Some y) e = refl
+
+-- sets that have the same members are one
+same : (s t : Set) → ((q : List ℕ) → finite.contains_key s q ≡ finite.contains_key t q) → s ≡ t
+same s t is = finite.same_map nat_list_cmp_total exact_bytes s t (λ q. one_unit _ _ (is q))
+
+after_insert : (s : Set) (k q : List ℕ) → finite.contains_key (finite.insert s k tt) q ≡ (is_same q k || finite.contains_key s q)
+after_insert s k q = ap is_some (finite.get-insert nat_list_cmp_total s k tt q) ∙ some_or (is_same q k) (finite.get s q)
+
+after_remove : (s : Set) (k q : List ℕ) → finite.contains_key (finite.remove s k) q ≡ (not (is_same q k) && finite.contains_key s q)
+after_remove s k q = ap is_some (finite.get-remove nat_list_cmp_total s k q) ∙ none_and (is_same q k) (finite.get s q)
+
+contains_is : (xs : List (Vec ℕ)) (q : List ℕ) → finite.contains_key (set_of xs) q ≡ has xs q
+contains_is [] q = ap is_some (finite.get-empty bytes_cmp q)
+contains_is (x ∷ xs) q = after_insert (set_of xs) x.items q ∙ ap (λ b. is_same q x.items || b) (contains_is xs q)
+
+-- what a search has told
+
+there : (q : List ℕ) (xs : List (Vec ℕ)) (at : ℕ) → at < length xs → ((d : Vec ℕ) → standing q (get_or xs at d) ≡ Equal) → has xs q ≡ true
+there q [] at within here = absurd (omega arith)
+there q (x ∷ xs) zero within here = ap (λ r. is_eq r || has xs q) (here x)
+there q (x ∷ xs) (suc at) within here = ap (λ b. is_same q x.items || b) (there q xs at (omega arith) here) ∙ or_true (is_same q x.items)
+
+absent : (q : List ℕ) (xs : List (Vec ℕ)) (p : ℕ) → AllWithin (λ y. standing q y ≡ Greater) xs 0 p → AllWithin (λ y. standing q y ≡ Less) xs p (length xs) → has xs q ≡ false
+absent q [] p front back = refl
+absent q (x ∷ xs) zero front back =
+    ap (λ r. is_eq r || has xs q) (back zero x (omega arith) (omega arith))
+    ∙ absent q xs zero (λ k d lo lt. absurd (omega arith)) (λ k d lo lt. back (suc k) d (omega arith) (omega arith))
+absent q (x ∷ xs) (suc p) front back =
+    ap (λ r. is_eq r || has xs q) (front zero x (omega arith) (omega arith))
+    ∙ absent q xs p (λ k d lo lt. front (suc k) d (omega arith) (omega arith)) (λ k d lo lt. back (suc k) d (omega arith) (omega arith))
+
+module _ (q k : List ℕ) (xs : List (Vec ℕ)) (s : Set) (named : q ≡ k) (is : set_of xs ≡ s) where
+  pub contains_found : (at : ℕ) → StandsAt (standing q) xs at → finite.contains_key s k ≡ true
+  contains_found at stands = sym (ap₂ (λ (m : Set) (n : List ℕ). finite.contains_key m n) is named) ∙ contains_is xs q ∙ there q xs at stands.within stands.here
+
+  pub contains_missed : (p : ℕ) → StandsBefore (standing q) xs p → finite.contains_key s k ≡ false
+  contains_missed p stands = sym (ap₂ (λ (m : Set) (n : List ℕ). finite.contains_key m n) is named) ∙ contains_is xs q ∙ absent q xs p stands.front stands.back
+
+pub contains_told : (q : List ℕ) (xs : List (Vec ℕ)) (r : Result ℕ ℕ) → IsPlaceOf (standing q) xs r → is_ok r ≡ finite.contains_key (set_of xs) q
+contains_told q xs (Ok at) stands = sym (contains_found q q xs (set_of xs) refl refl at stands)
+contains_told q xs (Err p) stands = sym (contains_missed q q xs (set_of xs) refl refl p stands)
+
+-- what is known of one member, as a fact on each
+at_one : (s : Set) (k q : List ℕ) (b : Bool) → finite.contains_key s k ≡ b → is_same q k ≡ true → finite.contains_key s q ≡ b
+at_one s k q b is e = ap (λ (n : List ℕ). finite.contains_key s n) (same_bytes q k e) ∙ is
+
+pub insert_present : (s : Set) (k : List ℕ) → finite.contains_key s k ≡ true → finite.insert s k tt ≡ s
+insert_present s k is = same _ _ (λ q. after_insert s k q ∙ elim (is_same q k) as (λ b. is_same q k ≡ b → (b || finite.contains_key s q) ≡ finite.contains_key s q) [
+  | true ↦ λ e. sym (at_one s k q true is e)
+  | false ↦ λ e. refl
+] refl)
+
+pub remove_absent : (s : Set) (k : List ℕ) → finite.contains_key s k ≡ false → finite.remove s k ≡ s
+remove_absent s k is = same _ _ (λ q. after_remove s k q ∙ elim (is_same q k) as (λ b. is_same q k ≡ b → (not b && finite.contains_key s q) ≡ finite.contains_key s q) [
+  | true ↦ λ e. sym (at_one s k q false is e)
+  | false ↦ λ e. refl
+] refl)
+
+-- a member comes
+
+one_more : (xs : List (Vec ℕ)) (at : ℕ) (v : Vec ℕ) (q : List ℕ) → at ≤ length xs → has (insert xs at v) q ≡ (is_same q v.items || has xs q)
+one_more [] zero v q within = refl
+one_more [] (suc at) v q within = absurd (omega arith)
+one_more (x ∷ xs) zero v q within = refl
+one_more (x ∷ xs) (suc at) v q within = ap (λ b. is_same q x.items || b) (one_more xs at v q (omega arith)) ∙ or_swap (is_same q x.items) (is_same q v.items) (has xs q)
+
+pub set_inserted : (xs : List (Vec ℕ)) (at : ℕ) (v : Vec ℕ) → at ≤ length xs → set_of (insert xs at v) ≡ finite.insert (set_of xs) v.items tt
+set_inserted xs at v within = same _ _ (λ q.
+    contains_is (insert xs at v) q ∙ one_more xs at v q within
+    ∙ sym (after_insert (set_of xs) v.items q ∙ ap (λ b. is_same q v.items || b) (contains_is xs q)))
+
+-- a member goes
+
+gone : (k : List ℕ) (xs : List (Vec ℕ)) (at : ℕ) → at < length xs → AllWithin (λ y. standing k y ≡ Greater) xs 0 at → AllWithin (λ y. standing k y ≡ Less) xs (at + 1) (length xs) → has (remove xs at) k ≡ false
+gone k [] at within front back = absurd (omega arith)
+gone k (x ∷ xs) zero within front back = absent k xs zero (λ j d lo lt. absurd (omega arith)) (λ j d lo lt. back (suc j) d (omega arith) (omega arith))
+gone k (x ∷ xs) (suc at) within front back =
+    ap (λ r. is_eq r || has (remove xs at) k) (front zero x (omega arith) (omega arith))
+    ∙ gone k xs at (omega arith) (λ j d lo lt. front (suc j) d (omega arith) (omega arith)) (λ j d lo lt. back (suc j) d (omega arith) (omega arith))
+
+others : (k : List ℕ) (xs : List (Vec ℕ)) (at : ℕ) (q : List ℕ) → at < length xs → ((d : Vec ℕ) → standing k (get_or xs at d) ≡ Equal) → is_same q k ≡ false → has (remove xs at) q ≡ has xs q
+others k [] at q within here apart = absurd (omega arith)
+others k (x ∷ xs) zero q within here apart = sym (ap (λ b. b || has xs q) (subst (λ (y : List ℕ). is_same q y ≡ false) (exact_bytes k x.items (here x)) apart))
+others k (x ∷ xs) (suc at) q within here apart = ap (λ b. is_same q x.items || b) (others k xs at q (omega arith) here apart)
+
+pub set_removed : (k : List ℕ) (xs : List (Vec ℕ)) (at : ℕ) → StandsAt (standing k) xs at → set_of (remove xs at) ≡ finite.remove (set_of xs) k
+set_removed k xs at stands = same _ _ (λ q.
+    contains_is (remove xs at) q
+    ∙ elim (is_same q k) as (λ b. is_same q k ≡ b → has (remove xs at) q ≡ (not b && has xs q)) [
+      | true ↦ λ e. ap (λ (n : List ℕ). has (remove xs at) n) (same_bytes q k e) ∙ gone k xs at stands.within stands.front stands.back
+      | false ↦ λ e. others k xs at q stands.within stands.here e
+    ] refl
+    ∙ sym (after_remove (set_of xs) k q ∙ ap (λ b. not (is_same q k) && b) (contains_is xs q)))
+
+-- the members of a list in order
+
+bare : List (List ℕ) → List (List ℕ × Unit {0})
+bare ks = map {B = List ℕ × Unit {0}} (λ k. (k, tt)) ks
+
+nothing : {A : Type 0} (es : List A) → length es ≡ 0 → es ≡ []
+nothing [] e = refl
+nothing (x ∷ es) e = absurd (omega arith)
+
+put_first : (x : Vec ℕ) (xs : List (Vec ℕ)) → IsStrictlySortedBy member_cmp (x ∷ xs) → put bytes_cmp x.items tt (bare (texts xs)) ≡ bare (texts (x ∷ xs))
+unfolding IsStrictlySortedBy bare
+put_first x [] h = refl
+put_first x (y ∷ ys) h = rw h.0.0 refl
+
+entries_listed : (xs : List (Vec ℕ)) → IsStrictlySortedBy member_cmp xs → finite.entries (set_of xs) ≡ bare (texts xs)
+unfolding IsStrictlySortedBy bare
+entries_listed [] h = nothing _ (sym (finite.len-entries (set_of [])) ∙ finite.len-empty bytes_cmp (Unit {0}))
+entries_listed (x ∷ xs) h =
+    finite.entries-insert nat_list_cmp_total (set_of xs) x.items tt
+    ∙ ap (put bytes_cmp x.items tt) (entries_listed xs h.1)
+    ∙ put_first x xs h
+
+names_bare : (ks : List (List ℕ)) → map (λ e. e.0) (bare ks) ≡ ks
+unfolding bare
+names_bare [] = refl
+names_bare (k ∷ ks) = ap (λ ls. k ∷ ls) (names_bare ks)
+
+pub keys_listed : (xs : List (Vec ℕ)) → IsStrictlySortedBy member_cmp xs → finite.keys (set_of xs) ≡ texts xs
+keys_listed xs h = ap (map (λ e. e.0)) (entries_listed xs h) ∙ names_bare (texts xs)
+
+pub len_listed : (xs : List (Vec ℕ)) → IsStrictlySortedBy member_cmp xs → finite.len (set_of xs) ≡ length xs
+len_listed xs h =
+    finite.len-entries (set_of xs) ∙ sym (length-map (finite.entries (set_of xs)) (λ e. e.0))
+    ∙ ap length (keys_listed xs h) ∙ length-map xs (λ k. k.items)
+
+-- members from a place on, and at a place
+
+pub texts_drop : (n : ℕ) (xs : List (Vec ℕ)) → texts (drop n xs) ≡ drop n (texts xs)
+texts_drop zero xs = refl
+texts_drop (suc n) [] = refl
+texts_drop (suc n) (x ∷ xs) = texts_drop n xs
+
+pub drop_min : (n k : ℕ) (xs : List (List ℕ)) → k ≡ min n (length xs) → drop k xs ≡ drop n xs
+drop_min n k xs e =
+    elim (cases_lt n (length xs)) [
+      | inl within ↦ ap (λ i. drop i xs) (omega arith)
+      | inr past ↦ drop_of_length-le xs (omega arith) ∙ sym (drop_of_length-le xs past)
+    ]
+
+front_of_drop : (xs : List (List ℕ)) (i : ℕ) → slice_get (drop i xs) 0 ≡ slice_get xs i
+front_of_drop [] zero = refl
+front_of_drop [] (suc i) = refl
+front_of_drop (x ∷ xs) zero = refl
+front_of_drop (x ∷ xs) (suc i) = front_of_drop xs i
+
+pub first_from : (xs : List (List ℕ)) (i : ℕ) (s t : List (List ℕ)) (r : Option (Bor (List ℕ))) → s ≡ drop i xs → YieldsFirstRef (λ x. x) s r t → option_copied r ≡ slice_get xs i
+first_from xs i s t None e h = sym (ap (λ zs. slice_get zs 0) (sym e ∙ h.0)) ∙ front_of_drop xs i
+first_from xs i s t (Some x) e h = sym (ap (λ zs. slice_get zs 0) (sym e ∙ h)) ∙ front_of_drop xs i
