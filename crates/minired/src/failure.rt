@@ -1,7 +1,9 @@
 //! Why the program ends with another status than 0.
 use mr_file::OpenFault;
+use mr_loop::LoopFault;
 use mr_options::UsageFault;
 use mr_pipe::PipeFault;
+use std::io;
 use thiserror::Error;
 
 /// What failed with the append-only file.
@@ -13,9 +15,9 @@ pub enum FileFault {
     /// It can't be read, or what stands behind its last effect can't be cut off.
     #[error("could not be read, or its end not be cut off")]
     Load,
-    /// What was to be appended can't be written, or not be synced.
+    /// What was to be written there can't be written, or not be synced.
     #[error("could not be written")]
-    Append,
+    Write,
 }
 
 /// Why the program fails. Its text stands on standard error, behind the program's name.
@@ -25,9 +27,20 @@ pub enum Failure {
     Usage(UsageFault),
     #[error("{0}")]
     Pipe(PipeFault),
+    #[error("{0}")]
+    Loop(LoopFault),
+    /// This port can't be listened on.
+    #[error("socket failed\nport {0}: {1}")]
+    Listen(u16, io::Error),
     /// The append-only file at this path failed.
     #[error("file failed\n{0}: {1}")]
     File(String, FileFault),
+    /// The system gives no random bytes.
+    #[error("file failed\nrandom bytes: {0}")]
+    Random(io::Error),
+    /// There was no memory to begin.
+    #[error("out of memory")]
+    Memory,
 }
 
 impl Failure {
@@ -40,7 +53,10 @@ impl Failure {
     {
         match self {
             Failure::Usage(UsageFault::Line(_)) | Failure::Usage(UsageFault::BadValue) => 1,
-            Failure::Usage(UsageFault::Memory) | Failure::Pipe(_) | Failure::File(_, _) => 3,
+            Failure::Loop(LoopFault::Listener) | Failure::Listen(_, _) => 2,
+            Failure::Loop(LoopFault::File) | Failure::Loop(LoopFault::Stopped) => 3,
+            Failure::Usage(UsageFault::Memory) | Failure::Pipe(_) | Failure::Memory => 3,
+            Failure::File(_, _) | Failure::Random(_) => 3,
         }
     }
 }

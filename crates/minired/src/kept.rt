@@ -1,4 +1,4 @@
-//! A pipe whose dataset is kept in a file.
+//! The append-only file of a node.
 use crate::failure::{Failure, FileFault};
 use mr_aof::{Loaded, Log, LogFault, SyncMode};
 use mr_data::Dataset;
@@ -8,32 +8,33 @@ use std::hash::RandomState;
 use std::io::Write;
 
 /// The failure of the file at this path.
-fn file_failure(rt: &HostRuntime, path: &str, fault: FileFault) -> Failure {
+pub fn file_failure(rt: &HostRuntime, path: &str, fault: FileFault) -> Failure {
     match String::from_str(rt.alloc(), path) {
         Ok(path) => Failure::File(path, fault),
-        Err(_refused) => Failure::Pipe(PipeFault::Memory),
+        Err(_refused) => Failure::Memory,
     }
 }
 
 /// The log of the file at this path, and the dataset that is kept there.
-fn opened(
+pub fn opened(
     rt: &HostRuntime,
     path: &str,
+    sync: SyncMode,
     seed: RandomState,
 ) -> Result<(Log<SystemFile>, Dataset), Failure> {
     let Ok(of_file) = rt.clone() else {
-        return Err(Failure::Pipe(PipeFault::Memory));
+        return Err(Failure::Memory);
     };
     let file = match SystemFile::open(of_file, path) {
         Ok(file) => file,
         Err(fault) => return Err(file_failure(rt, path, FileFault::Open(fault))),
     };
-    match Log::open(rt.alloc(), seed, file, SyncMode::Always) {
+    match Log::open(rt.alloc(), seed, file, sync) {
         Ok((log, loaded)) => {
             let Loaded { dataset, used: _ } = loaded;
             Ok((log, dataset))
         }
-        Err((LogFault::Memory, _file)) => Err(Failure::Pipe(PipeFault::Memory)),
+        Err((LogFault::Memory, _file)) => Err(Failure::Memory),
         Err((LogFault::Device, _file)) | Err((LogFault::Broken, _file)) => {
             Err(file_failure(rt, path, FileFault::Load))
         }
@@ -48,7 +49,7 @@ pub fn run_kept<W: Write>(
     seed: RandomState,
     output: &mut W,
 ) -> Result<(), Failure> {
-    let (mut log, dataset) = opened(rt, path, seed)?;
+    let (mut log, dataset) = opened(rt, path, SyncMode::Always, seed)?;
     let ended = pipe_with(
         rt.alloc(),
         config,
@@ -60,7 +61,7 @@ pub fn run_kept<W: Write>(
     // After a failed append too the replies before it are due.
     let _ = output.flush();
     match ended {
-        Err(PipeFault::File) => Err(file_failure(rt, path, FileFault::Append)),
+        Err(PipeFault::File) => Err(file_failure(rt, path, FileFault::Write)),
         Err(fault) => Err(Failure::Pipe(fault)),
         Ok(()) => Ok(()),
     }

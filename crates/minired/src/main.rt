@@ -1,16 +1,18 @@
-//! The program: reads its words, runs what they name over its standard streams, and tells how it ended.
+//! The program: reads its words, runs what they name, and tells how it ended.
 #![tactic(auto)]
 
 ghost use Rattle.mr_data.specs.Given.{IsMoment};
 
 mod failure;
 mod kept;
+mod served;
 
 use failure::Failure;
 use kept::run_kept;
 use mr_data::Given;
 use mr_options::{Options, PipeOptions, UsageFault, options};
-use mr_pipe::{PipeConfig, PipeFault, pipe};
+use mr_pipe::{PipeConfig, pipe};
+use served::run_server;
 use std::env;
 use std::hash::RandomState;
 use std::io::{BufWriter, ErrorKind};
@@ -34,6 +36,14 @@ fn words(rt: &HostRuntime) -> Result<Vec<String>, UsageFault> {
     Ok(words)
 }
 
+/// What the keys' hashes are taken with.
+fn seed_of(rt: &HostRuntime) -> Result<RandomState, Failure> {
+    match RandomState::new(rt) {
+        Ok(seed) => Ok(seed),
+        Err(error) => Err(Failure::Random(error)),
+    }
+}
+
 /// One node, asked by one client on standard input and answered on standard output.
 fn run_pipe(rt: &HostRuntime, options: &PipeOptions<'_>) -> Result<(), Failure>
     requires { IsMoment options.now.now }
@@ -45,11 +55,9 @@ fn run_pipe(rt: &HostRuntime, options: &PipeOptions<'_>) -> Result<(), Failure>
         id: options.id,
         given,
     };
-    let Ok(seed) = RandomState::new(rt) else {
-        return Err(Failure::Pipe(PipeFault::Read));
-    };
+    let seed = seed_of(rt)?;
     let Ok(mut output) = BufWriter::with_capacity(rt.alloc(), REPLIES, rt.stdout()) else {
-        return Err(Failure::Pipe(PipeFault::Memory));
+        return Err(Failure::Memory);
     };
     if let Some(path) = options.aof {
         return run_kept(rt, path, &config, seed, &mut output);
@@ -61,9 +69,9 @@ fn run_pipe(rt: &HostRuntime, options: &PipeOptions<'_>) -> Result<(), Failure>
 fn run(rt: &HostRuntime) -> Result<(), Failure> {
     let words = words(rt)?;
     match options(rt.alloc(), words.as_slice())? {
-        Options::Pipe(options) => run_pipe(rt, &options)?,
+        Options::Pipe(options) => run_pipe(rt, &options),
+        Options::Serve(options) => run_server(rt, &options, seed_of(rt)?),
     }
-    Ok(())
 }
 
 fn main(rt: HostRuntime) -> ExitCode {

@@ -1,0 +1,98 @@
+//! A server: a node asked over TCP.
+use crate::failure::{Failure, FileFault};
+use crate::kept::{file_failure, opened};
+use mr_aof::Log;
+use mr_data::Dataset;
+use mr_file::LogFile;
+use mr_loop::{Links, LoopFault, serve};
+use mr_node::{Config, Node};
+use mr_options::ServeOptions;
+use mr_source::{Source, SystemSource};
+use mr_wire::SocketWire;
+use std::hash::RandomState;
+use std::net::{Ipv4Addr, SocketAddr};
+
+/// How many bytes of its stream the node keeps for its replicas.
+const BACKLOG: usize = 1_048_576;
+
+/// A server, whose dataset is kept in a file where the options name one. That is opened before anything is listened on.
+pub fn run_server(
+    rt: &HostRuntime,
+    options: &ServeOptions<'_>,
+    seed: RandomState,
+) -> Result<(), Failure> {
+    match options.aof {
+        Some(path) => {
+            let (mut log, dataset) = opened(rt, path, options.sync, seed)?;
+            match serve_node(rt, options, dataset, &mut log) {
+                Err(Failure::Loop(LoopFault::File)) => {
+                    Err(file_failure(rt, path, FileFault::Write))
+                }
+                ended => ended,
+            }
+        }
+        None => serve_node(rt, options, Dataset::new(rt.alloc(), seed), &mut Log::none()),
+    }
+}
+
+/// Serves the clients of a node that begins with this dataset.
+fn serve_node<F: LogFile>(
+    rt: &HostRuntime,
+    options: &ServeOptions<'_>,
+    dataset: Dataset,
+    log: &mut Log<F>,
+) -> Result<(), Failure> {
+    let mut source = source_of(rt)?;
+    let mut wire = listening(rt, options.port)?;
+    let Ok(mut links) = Links::new(rt.alloc()) else {
+        return Err(Failure::Memory);
+    };
+    let keys = dataset.len();
+    let Some(config) = Config::new(false, options.port, BACKLOG) else {
+        unreachable!()
+    };
+    let Ok(mut node) = Node::start(rt.alloc(), source.id(), dataset, config) else {
+        return Err(Failure::Memory);
+    };
+    tell_ready(rt, options, keys);
+    match serve(
+        &mut node,
+        &mut links,
+        &mut wire,
+        log,
+        &mut source,
+        options.turns,
+    ) {
+        Ok(()) => Ok(()),
+        Err(fault) => Err(Failure::Loop(fault)),
+    }
+}
+
+/// The system's clock and chance.
+fn source_of(rt: &HostRuntime) -> Result<SystemSource, Failure> {
+    let Ok(of_source) = rt.clone() else {
+        return Err(Failure::Memory);
+    };
+    match SystemSource::new(of_source) {
+        Ok(source) => Ok(source),
+        Err(error) => Err(Failure::Random(error)),
+    }
+}
+
+/// A wire of this machine's own address.
+fn listening(rt: &HostRuntime, port: u16) -> Result<SocketWire, Failure> {
+    let address = SocketAddr::from((Ipv4Addr::LOCALHOST, port));
+    match SocketWire::listen(rt, rt.alloc(), address) {
+        Ok(wire) => Ok(wire),
+        Err(error) => Err(Failure::Listen(port, error)),
+    }
+}
+
+/// The line that says that clients may come. One that can't be written is left out.
+fn tell_ready(rt: &HostRuntime, options: &ServeOptions<'_>, keys: usize) {
+    let port = options.port;
+    let _ = match options.aof {
+        Some(path) => println!(rt; "minired: ready on 127.0.0.1:{port}, {keys} keys from {path}"),
+        None => println!(rt; "minired: ready on 127.0.0.1:{port}, {keys} keys"),
+    };
+}
