@@ -1,0 +1,84 @@
+"""The pages: each file that one of them links to or names is there, and so is each edit that docs/PROMISES.md names."""
+
+import glob
+import os
+import re
+import unittest
+
+from program import ROOT
+
+LINK = re.compile(r"\]\(([^)#\s]+)?(#[^)\s]+)?\)")
+# a path of the repository, as it is named in a page
+NAMED = re.compile(r"`((?:crates/)?(?:mr_\w+|minired|rehearse\w*)/(?:src|specs|proofs|must-fail)/[\w/.-]+|(?:docs|tests|tools|bench)/[\w/.-]+\.\w+)`")
+EDIT = re.compile(r"(?<![\w`./:])([a-z][a-z0-9]*(?:_[a-z0-9]+)+)(?![\w*`])")
+
+
+def found(pattern):
+    return [os.path.relpath(path, ROOT) for path in sorted(glob.glob(os.path.join(ROOT, pattern)))]
+
+
+def read(page):
+    with open(os.path.join(ROOT, page), encoding="utf-8") as it:
+        return it.read()
+
+
+def pages():
+    """The text of each page."""
+    return {page: read(page) for page in ["README.md", *found("docs/*.md"), *found("crates/*/README.md")]}
+
+
+def without_code(text):
+    """The text without blocks and pieces of code."""
+    return re.sub(r"`[^`\n]*`", "", re.sub(r"^```.*?^```", "", text, flags=re.M | re.S))
+
+
+def anchors(text):
+    """The places of a page that a link can name, by their heads."""
+    heads = re.findall(r"^#+ (.*)$", re.sub(r"^```.*?^```", "", text, flags=re.M | re.S), re.M)
+    return {"#" + re.sub(r"[^\w\- ]", "", head.lower()).replace(" ", "-") for head in heads}
+
+
+def there(path):
+    return os.path.exists(os.path.join(ROOT, path))
+
+
+class Links(unittest.TestCase):
+    def test_each_link_leads_to_a_file_and_a_head_of_it(self):
+        texts = pages()
+        lost = []
+        for page, text in texts.items():
+            for path, head in LINK.findall(without_code(text)):
+                if path.startswith(("http:", "https:")):
+                    continue
+                to = os.path.normpath(os.path.join(os.path.dirname(page), path)) if path else page
+                if not there(to) or (head and head not in anchors(texts.get(to, ""))):
+                    lost.append((page, path + head))
+        self.assertEqual(lost, [])
+
+    def test_each_file_that_is_named_by_its_path_is_there(self):
+        lost = []
+        for page, text in pages().items():
+            for path in NAMED.findall(text):
+                own = os.path.join("crates", path) if path.startswith(("mr_", "minired", "rehearse")) else path
+                if "*" not in path and "NAME" not in path and "must-fail" not in path and not there(own):
+                    lost.append((page, path))
+        self.assertEqual(lost, [])
+
+
+class Edits(unittest.TestCase):
+    """The gate plays the tables in a copy without the edits: there nothing is looked up."""
+
+    def test_each_wrong_body_of_the_promises_is_an_edit(self):
+        edits = {os.path.basename(path)[:-5] for path in found("crates/*/must-fail/*.edit")}
+        lost = []
+        for line in pages()["docs/PROMISES.md"].split("\n"):
+            cells = re.split(r" \| ", line.strip().strip("|")) if line.startswith("|") else []
+            refused = cells[2] if len(cells) == 3 else ""
+            for name in EDIT.findall(refused.split("tests:")[0].split("test:")[0]):
+                if edits and name not in edits:
+                    lost.append(name)
+        self.assertEqual(lost, [])
+
+
+if __name__ == "__main__":
+    unittest.main()
