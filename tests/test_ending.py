@@ -35,6 +35,21 @@ BAD_LINES = [
     (["pipe", "--word", "0x4"], b"0x4"),
     (["pipe", "--id"], b"--id <id>"),
     ([""], b""),
+    (["serve"], b"--port <port>"),
+    (["serve", "--turns", "1"], b"--port <port>"),
+    (["serve", "--port"], b"--port <port>"),
+    (["serve", "--port", "x"], b"x"),
+    (["serve", "--port", "-1"], b"-1"),
+    (["serve", "--port", "0"], b"0 is not in 1..=65535"),
+    (["serve", "--port", "65536"], b"65536 is not in 1..=65535"),
+    (["serve", "--port", "1", "--port", "2"], b"multiple times"),
+    (["serve", "--port", "1", "--turns", "x"], b"x"),
+    (["serve", "--port", "1", "--turns", "18446744073709551616"], b"18446744073709551616"),
+    (["serve", "--port", "1", "--sync"], b"--sync <sync>"),
+    (["serve", "--port", "1", "--sync", "no", "--sync", "no"], b"multiple times"),
+    (["serve", "--port", "1", "--now", "1"], b"--now"),
+    (["serve", "--port", "1", "more"], b"more"),
+    (["pipe", "--port", "1"], b"--port"),
 ]
 
 
@@ -63,6 +78,12 @@ class Options(unittest.TestCase):
         for name in ("", 39 * "a", 41 * "a", 39 * "a" + "A", 39 * "a" + "g"):
             with self.subTest(name=name):
                 ran = run(PING, "pipe", "--id=" + name)
+                self.assertEqual((ran.returncode, ran.stdout, ran.stderr), (1, b"", b"minired: bad value\n"))
+
+    def test_a_mode_that_is_none_is_a_bad_value(self):
+        for mode in ("", "maybe", "Always", "NO", "no ", "always,no"):
+            with self.subTest(mode=mode):
+                ran = run(PING, "serve", "--port=1", "--sync=" + mode)
                 self.assertEqual((ran.returncode, ran.stdout, ran.stderr), (1, b"", b"minired: bad value\n"))
 
 

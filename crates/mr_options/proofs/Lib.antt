@@ -1,4 +1,5 @@
 pub mod Lines
 pub mod Numbers
 pub mod Passing
+pub mod Ranges
 pub mod Rows

@@ -1,94 +1,148 @@
--- What the parser lets through of `pipe`.
-use Rattle.std.proofs.Common.{◌≡◌, ◌∙◌, ◌^◌, ◌-◌, List, [], ◌∷◌, Option, Some, None, Bool, true, false, sym, ap, refl, subst, cond, codes, arith}
-use Rattle.std.specs.Option.{option_map, option_map_or, unwrap_or}
-use Rattle.clap.specs.Words.{Row, Rule, Shape, Text, fault_of, subcommand_of}
-use Rattle.clap.specs.Faults.{entered_fault, level_fault, walk_fault}
-use Rattle.clap.specs.Simple.{argument_words, built, built_leaf, entered, inherited, names_of, rows_at}
+-- What the parser lets through of each subcommand.
+use Rattle.std.proofs.Common.{◌≡◌, ◌≢◌, ◌∙◌, ◌^◌, ◌-◌, ◌⊎◌, inl, inr, ◌&&◌, List, [], ◌∷◌, Option, Some, None, Bool, true, false, not, sym, ap, refl, subst, cond, codes, arith}
+use Rattle.std.specs.Prelude.{fold}
+use Rattle.std.specs.List.{find}
+use Rattle.std.specs.Option.{option_map, option_map_or}
+use Rattle.std.specs.Str.{bytes_eq}
+use Rattle.std.proofs.lemmas.List.Folds.{list_any-from_Any}
+use Rattle.clap.specs.Words.{Kinds, Row, Rule, Shape, Text, fault_of, subcommand_of}
+use Rattle.clap.specs.Faults.{check_fault, defaults_fault, entered_fault, level_fault, settle_fault, walk_fault}
+use Rattle.clap.specs.Kinds.{check_kinds}
+use Rattle.clap.specs.Simple.{argument_words, built, built_leaf, entered, inherited, label_of, names_of, rows_at}
+use Rattle.clap.specs.Takes.{is_given}
 use Rattle.clap.specs.Walk.{answers_to, has_row, nothing_held, rows_after, settled, stop_after, walk, walk_from, with_default}
 use Rattle.clap.specs.declared.builder.value_parser.ValueParser.{ValueParser}
 use Rattle.clap.specs.declared.builder.value_parser.ValueParser.TheVariants as vp
-use Rattle.mr_options.specs.Lines.{line, pipe_line}
-use Rattle.mr_options.specs.Values.{NumbersPass}
-use Rattle.mr_options.proofs.Rows.{AreOptions, IsKnown, RowsFine, first_none, number_there, one_valued, second_none, settled_fine}
+use Rattle.clap.specs.declared.error.kind.ErrorKind.TheVariants.{MissingRequiredArgument}
+use Rattle.mr_options.specs.Lines.{line, pipe_line, serve_line}
+use Rattle.mr_options.specs.Outcomes.{IsLineOf, IsPipeLine, IsServeLine}
+use Rattle.mr_options.specs.Values.{PipeNumbersPass, ServeNumbersPass, usual_turns}
+use Rattle.mr_options.proofs.Ranges.{number_given, number_there}
+use Rattle.mr_options.proofs.Rows.{AreOptions, Each, IsKnown, RowsFine, first_none, one_valued, option_known, second_none, settled_fine, some_of}
+
+-- ---- the words of one subcommand, whose options have no usual values of the parser's
+
+no_default : (c : List Rule) (a : Rule) → IsKnown c a → (rows : List Row) → with_default rows a ≡ rows
+no_default c a k rows =
+    let P : Rule → Type 0 = λ x. with_default rows x ≡ rows in
+    subst P (sym k.is) (elim (has_row k.name rows) as (λ b. cond b rows rows ≡ rows) [ true ↦ refl | false ↦ refl ])
+
+no_defaults : (c xs : List Rule) → Each (IsKnown c) xs → (rows : List Row) → fold with_default rows xs ≡ rows
+no_defaults c [] all rows = refl
+no_defaults c (a ∷ rest) all rows = ap (λ (r : List Row). fold with_default r rest) (no_default c a all.0 rows) ∙ no_defaults c rest all.1 rows
+
+-- the rows are those of this subcommand, and passed
+record Passes (s : Shape) (name : Text) (rows : List Row) : Type 0 where
+  named : s.name ≡ name
+  fine : RowsFine s.rules rows
+  checked : check_fault s rows false ≡ []
+
+-- P holds of one of the subcommands
+abbrev OneOf : (Shape → Type 0) → List Shape → Type 0
+OneOf P [] = ⊥
+OneOf P (s ∷ rest) = P s ⊎ OneOf P rest
+
+-- the words behind a subcommand are without a fault, and give this
+abbrev Entered : List Text → Text × List Row → Shape → Type 0
+Entered words p s = (level_fault s [] nothing_held words false [] ≡ []) × (rows_at s words ≡ p)
+
+level_passes : (s : Shape) → AreOptions s.rules → s.args_override_self ≡ false → (words : List Text) (p : Text × List Row) → Entered words p s → Passes s p.0 p.1
+level_passes s o once words p h =
+    let end = (walk s.rules [] nothing_held words).held in
+    let rows = (settled s.rules end).rows in
+    let behind = second_none (walk_fault s [] (walk_from nothing_held) words) _ h.0 in
+    let last = second_none (defaults_fault rows s.rules) _ (second_none (settle_fault s.rules s.args_override_self end) _ behind) in
+    let fine = subst (RowsFine s.rules) (sym (no_defaults s.rules s.rules o.all rows)) (settled_fine s o once words h.0) in
+    let P : Text × List Row → Type 0 = λ q. Passes s q.0 q.1 in
+    subst P h.1 (record { named = refl; fine = fine; checked = last })
+
+entered_one : (shapes : List Shape) (word : Text) (words : List Text) (p : Text × List Row) → option_map_or (λ (s : Shape). level_fault s [] nothing_held words false []) (find (λ (s : Shape). answers_to word (label_of s)) shapes) [] ≡ []
+    → option_map (λ (s : Shape). rows_at s words) (find (λ (s : Shape). answers_to word (label_of s)) shapes) ≡ Some p → OneOf (Entered words p) shapes
+entered_one [] word words p e is = absurd (let wrong : ◌≡◌ {A = Option (Text × List Row)} None (Some p) = is in cc)
+entered_one (s ∷ ss) word words p e is =
+    let on : Option Shape = find (λ (s : Shape). answers_to word (label_of s)) ss in
+    elim (answers_to word (label_of s)) as (λ b. option_map_or (λ (s : Shape). level_fault s [] nothing_held words false []) (cond b (Some s) on) [] ≡ [] → option_map (λ (s : Shape). rows_at s words) (cond b (Some s) on) ≡ Some p → OneOf (Entered words p) (s ∷ ss)) [
+      | true ↦ λ e is. inl (e, some_of (rows_at s words) p is)
+      | false ↦ λ e is. inr (entered_one ss word words p e is)
+    ] e is
+
+-- ---- the two subcommands
+
+abbrev pipe_rules : List Rule
+pipe_rules =
+    one_valued (codes "id") vp.String false ∷ one_valued (codes "now") (vp.Unsigned 0 (2 ^ 61)) false ∷ one_valued (codes "word") (vp.Unsigned 0 (2 ^ 64 - 1)) false ∷ one_valued (codes "aof") vp.String false ∷ []
 
 abbrev pipe_shape : Shape
 pipe_shape = built_leaf (inherited (built line).top pipe_line.top)
 
-abbrev id_rule : Rule
-id_rule = one_valued (codes "id") vp.String
-
-abbrev now_rule : Rule
-now_rule = one_valued (codes "now") (vp.Unsigned 0 (2 ^ 61))
-
-abbrev word_rule : Rule
-word_rule = one_valued (codes "word") (vp.Unsigned 0 (2 ^ 64 - 1))
-
-abbrev aof_rule : Rule
-aof_rule = one_valued (codes "aof") vp.String
-
-abbrev rules : List Rule
-rules = id_rule ∷ now_rule ∷ word_rule ∷ aof_rule ∷ []
-
-same_rule : (x y : Rule) → ◌≡◌ {A = Option Rule} (Some x) (Some y) → y ≡ x
-same_rule x y e = cc
-
-known_fourth : (b : Bool) (a : Rule) → cond b (Some aof_rule) None ≡ Some a → IsKnown rules a
-known_fourth true a e = record { name = codes "aof"; parser = vp.String; is = same_rule aof_rule a e; there = refl }
-known_fourth false a e = absurd (let wrong : ◌≡◌ {A = Option Rule} None (Some a) = e in cc)
-
-known_third : (b : Bool) (fourth : Option Rule) (a : Rule) → (fourth ≡ Some a → IsKnown rules a) → cond b (Some word_rule) fourth ≡ Some a → IsKnown rules a
-known_third true fourth a on e = record { name = codes "word"; parser = vp.Unsigned 0 (2 ^ 64 - 1); is = same_rule word_rule a e; there = refl }
-known_third false fourth a on e = on e
-
-known_second : (b : Bool) (third : Option Rule) (a : Rule) → (third ≡ Some a → IsKnown rules a) → cond b (Some now_rule) third ≡ Some a → IsKnown rules a
-known_second true third a on e = record { name = codes "now"; parser = vp.Unsigned 0 (2 ^ 61); is = same_rule now_rule a e; there = refl }
-known_second false third a on e = on e
-
-known_first : (b : Bool) (second : Option Rule) (a : Rule) → (second ≡ Some a → IsKnown rules a) → cond b (Some id_rule) second ≡ Some a → IsKnown rules a
-known_first true second a on e = record { name = codes "id"; parser = vp.String; is = same_rule id_rule a e; there = refl }
-known_first false second a on e = on e
-
-are_options : AreOptions rules
-are_options = record {
-  known = λ q a e. known_first (q id_rule) _ a (known_second (q now_rule) _ a (known_third (q word_rule) _ a (known_fourth (q aof_rule) a))) e;
+are_pipe : AreOptions pipe_rules
+are_pipe = record {
+  all = (option_known pipe_rules (codes "id") vp.String false refl, (option_known pipe_rules (codes "now") (vp.Unsigned 0 (2 ^ 61)) false refl, (option_known pipe_rules (codes "word") (vp.Unsigned 0 (2 ^ 64 - 1)) false refl, (option_known pipe_rules (codes "aof") vp.String false refl, tt))));
   no_short = λ x. refl;
   no_index = λ i. refl;
 }
 
-no_default : (name : Text) (p : ValueParser) (rows : List Row) → with_default rows (one_valued name p) ≡ rows
-no_default name p rows = elim (has_row name rows) as (λ b. cond b rows rows ≡ rows) [ true ↦ refl | false ↦ refl ]
+abbrev serve_rules : List Rule
+serve_rules =
+    one_valued (codes "port") (vp.Unsigned 1 65535) true ∷ one_valued (codes "aof") vp.String false ∷ one_valued (codes "sync") vp.String false ∷ one_valued (codes "turns") (vp.Unsigned 0 (2 ^ 64 - 1)) false ∷ []
 
-no_defaults : (rows : List Row) → with_default (with_default (with_default (with_default rows id_rule) now_rule) word_rule) aof_rule ≡ rows
-no_defaults rows =
-    ap (λ (xs : List Row). with_default (with_default (with_default xs now_rule) word_rule) aof_rule) (no_default (codes "id") vp.String rows)
-    ∙ ap (λ (xs : List Row). with_default (with_default xs word_rule) aof_rule) (no_default (codes "now") (vp.Unsigned 0 (2 ^ 61)) rows)
-    ∙ ap (λ (xs : List Row). with_default xs aof_rule) (no_default (codes "word") (vp.Unsigned 0 (2 ^ 64 - 1)) rows)
-    ∙ no_default (codes "aof") vp.String rows
+abbrev serve_shape : Shape
+serve_shape = built_leaf (inherited (built line).top serve_line.top)
 
-rows_pass : (words : List Text) → level_fault pipe_shape [] nothing_held words false [] ≡ [] → RowsFine rules (rows_after rules [] words)
-rows_pass words e =
-    let rows = (settled rules (walk rules [] nothing_held words).held).rows in
-    subst (RowsFine rules) (sym (no_defaults rows)) (settled_fine pipe_shape are_options refl words e)
+are_serve : AreOptions serve_rules
+are_serve = record {
+  all = (option_known serve_rules (codes "port") (vp.Unsigned 1 65535) true refl, (option_known serve_rules (codes "aof") vp.String false refl, (option_known serve_rules (codes "sync") vp.String false refl, (option_known serve_rules (codes "turns") (vp.Unsigned 0 (2 ^ 64 - 1)) false refl, tt))));
+  no_short = λ x. refl;
+  no_index = λ i. refl;
+}
 
-rows_are : (s : Shape) (words : List Text) (p : Text × List Row) → ◌≡◌ {A = Option (Text × List Row)} (Some (rows_at s words)) (Some p) → rows_after s.rules [] words ≡ p.1
-rows_are s words p e = ap (λ (o : Option (Text × List Row)). unwrap_or (option_map (λ (q : Text × List Row). q.1) o) (rows_after s.rules [] words)) e
+abbrev EitherPasses : Text × List Row → Type 0
+EitherPasses p = Passes pipe_shape p.0 p.1 ⊎ Passes serve_shape p.0 p.1
 
-entered_pass : (b : Bool) (words : List Text) (p : Text × List Row) → option_map_or (λ (s : Shape). level_fault s [] nothing_held words false []) (cond b (Some pipe_shape) None) [] ≡ []
-    → option_map (λ (s : Shape). rows_at s words) (cond b (Some pipe_shape) None) ≡ Some p → RowsFine rules p.1
-entered_pass true words p e is = subst (RowsFine rules) (rows_are pipe_shape words p is) (rows_pass words e)
-entered_pass false words p e is = absurd (let wrong : ◌≡◌ {A = Option (Text × List Row)} None (Some p) = is in cc)
+either_of : (words : List Text) (p : Text × List Row) → OneOf (Entered words p) (pipe_shape ∷ serve_shape ∷ []) → EitherPasses p
+either_of words p (inl h) = inl (level_passes pipe_shape are_pipe refl words p h)
+either_of words p (inr (inl h)) = inr (level_passes serve_shape are_serve refl words p h)
+either_of words p (inr (inr h)) = absurd h
 
-stop_pass : (stop : Option (Text × List Text)) (p : Text × List Row) → entered_fault (built line) stop ≡ [] → entered (built line) stop ≡ Some p → RowsFine rules p.1
-stop_pass None p e is = absurd (let wrong : ◌≡◌ {A = Option (Text × List Row)} None (Some p) = is in cc)
-stop_pass (Some q) p e is = entered_pass (answers_to q.0 (codes "pipe", [])) q.1 p e is
+stop_passes : (stop : Option (Text × List Text)) (p : Text × List Row) → entered_fault (built line) stop ≡ [] → entered (built line) stop ≡ Some p → EitherPasses p
+stop_passes None p e is = absurd (let wrong : ◌≡◌ {A = Option (Text × List Row)} None (Some p) = is in cc)
+stop_passes (Some q) p e is = either_of q.1 p (entered_one (pipe_shape ∷ serve_shape ∷ []) q.0 q.1 p e is)
 
--- the numbers of a line without a fault are within their ranges
-pub numbers_pass : (words : List Text) (rows : List Row) → fault_of line words ≡ [] → subcommand_of line words ≡ Some (codes "pipe", rows) → NumbersPass rows
-numbers_pass words rows e is =
+line_passes : (name : Text) (words : List Text) (rows : List Row) → IsLineOf name words rows → EitherPasses (name, rows)
+line_passes name words rows h =
     let a = built line in
     let given = argument_words a words in
     let stop = stop_after a.top.rules (names_of a) given in
-    let below = first_none (entered_fault a stop) _ (second_none (walk_fault a.top (names_of a) (walk_from nothing_held) given) _ e) in
-    let fine = stop_pass stop (codes "pipe", rows) below is in
-    let word = number_there rules (codes "word") (2 ^ 64 - 1) 0 rows refl (omega arith) fine in
-    record { now = number_there rules (codes "now") (2 ^ 61) 0 rows refl (omega arith) fine; word = (word.0, word.1.1) }
+    let below = first_none (entered_fault a stop) _ (second_none (walk_fault a.top (names_of a) (walk_from nothing_held) given) _ h.0) in
+    stop_passes stop (name, rows) below h.1
+
+apart : codes "serve" ≢ codes "pipe"
+apart e = let wrong : false ≡ true = ap (λ (t : Text). bytes_eq t (codes "pipe")) e in cc
+
+-- ---- their numbers
+
+pub pipe_numbers : (words : List Text) (rows : List Row) → IsPipeLine words rows → PipeNumbersPass rows
+pipe_numbers words rows h = elim (line_passes (codes "pipe") words rows h) [
+  | inl passed ↦
+      let word = number_there pipe_rules (codes "word") 0 (2 ^ 64 - 1) false rows refl passed.fine 0 (omega arith) in
+      record { now = number_there pipe_rules (codes "now") 0 (2 ^ 61) false rows refl passed.fine 0 (omega arith); word = (word.0, word.1.1) }
+  | inr passed ↦ absurd (apart passed.named)
+]
+
+port_given : (rows : List Row) → check_fault serve_shape rows false ≡ [] → is_given (codes "port") rows ≡ true
+port_given rows e =
+    let is_missing : Rule → Bool = λ a. a.required && not (is_given a.id rows) in
+    elim (is_given (codes "port") rows) as (λ b. is_given (codes "port") rows ≡ b → b ≡ true) [
+      | true ↦ λ is. refl
+      | false ↦ λ is.
+          let missing = list_any-from_Any is_missing serve_rules (0, one_valued (codes "port") (vp.Unsigned 1 65535) true, omega arith, refl, ap not is) in
+          absurd (let wrong : ◌≡◌ {A = Kinds} (MissingRequiredArgument ∷ []) [] = sym (ap (λ (b : Bool). check_kinds false false b) missing) ∙ e in cc)
+    ] refl
+
+pub serve_numbers : (words : List Text) (rows : List Row) → IsServeLine words rows → ServeNumbersPass rows
+serve_numbers words rows h = elim (line_passes (codes "serve") words rows h) [
+  | inl passed ↦ absurd (apart (sym passed.named))
+  | inr passed ↦
+      let turns = number_there serve_rules (codes "turns") 0 (2 ^ 64 - 1) false rows refl passed.fine usual_turns (omega arith) in
+      record { port = number_given serve_rules (codes "port") 1 65535 true rows refl passed.fine (port_given rows passed.checked); turns = (turns.0, turns.1.1) }
+]

@@ -1,25 +1,17 @@
 -- The values that a parse without a fault lets through: each passed the parser of its option.
-use Rattle.std.proofs.Common.{◌≡◌, ◌∙◌, ◌<◌, ◌≤◌, ◌&&◌, ◌||◌, ◌++◌, ℕ, zero, suc, List, [], ◌∷◌, Option, Some, None, Bool, true, false, not, sym, ap, refl, subst, cond, length, arith, append-nil}
+use Rattle.std.proofs.Common.{◌≡◌, ◌∙◌, ◌<◌, ◌&&◌, ◌||◌, ◌++◌, ℕ, zero, suc, List, [], ◌∷◌, Option, Some, None, Bool, true, false, not, sym, ap, refl, subst, cond, length, arith, append-nil}
 use Rattle.std.specs.Prelude.{IfSome, drop, encode_utf8, fold, slice_get}
 use Rattle.std.specs.List.{find}
 use Rattle.std.specs.Option.{is_some, option_and_then, option_map, option_map_or}
 use Rattle.std.specs.Str.{bytes_eq, chars}
-use Rattle.std.proofs.lemmas.Slice.Eq.{bytes_eq-Decides}
 use Rattle.clap.specs.Words.{Kinds, Row, Rule, Shape, Text, new_rule}
 use Rattle.clap.specs.Kinds.{or_else, range_kinds, value_kinds, values_kinds}
 use Rattle.clap.specs.Faults.{flag_word_fault, level_fault, long_fault, option_fault, other_fault, repeat_fault, settle_fault, step_fault, turn_fault, use_fault, values_fault, walk_fault, word_fault}
 use Rattle.clap.specs.Lexer.{long_of, short_of}
-use Rattle.clap.specs.Values.{read_as}
-use Rattle.clap.proofs.ValueTestLemmas.{accepts-Accepts}
-use Rattle.std.specs.Str.Parse.{digits_value, without_leading_plus}
-use Rattle.clap.specs.declared.builder.value_parser.Reading.{Reading}
-use Rattle.clap.specs.declared.builder.value_parser.Reading.TheVariants.{AsWritten}
-use Rattle.mr_options.specs.Values.{HasNumber, IsNumber}
 use Rattle.clap.specs.Walk.{Held, Outcome, Step, Waiting, Walk, after_flag, after_step, arg_by_id, arg_by_index, arg_by_long, arg_by_short, at_row, bundle, bundle_met, bundle_step, done, has_long, has_row, idle, long_met, long_or_other, more_values, next, nothing_held, option_met, option_word, plain, plain_word, positional, reading_by, refused, row_text, settled, settled_rows, short_met, short_or_plain, subcommand, subcommand_met, subcommand_or_other, to_positional, trailing, used, used_by_id, value, waits, walk, walk_from, walked, walked_from, with_values, without, word_met}
 use Rattle.clap.specs.Walk.{option as option_waits}
 use Rattle.clap.specs.declared.builder.action.ArgAction.TheVariants.{Set}
 use Rattle.clap.specs.declared.builder.value_parser.ValueParser.{ValueParser}
-use Rattle.clap.specs.declared.builder.value_parser.ValueParser.TheVariants as vp
 use Rattle.clap.specs.declared.error.kind.ErrorKind.{ErrorKind}
 use Rattle.clap.specs.declared.error.kind.ErrorKind.TheVariants.{ArgumentConflict, InvalidValue}
 use Rattle.clap.specs.declared.parser.matches.ValueSource.TheVariants.{CommandLine}
@@ -32,27 +24,53 @@ pub second_none : (a b : Kinds) → or_else a b ≡ [] → b ≡ []
 second_none [] b e = e
 second_none (k ∷ ks) b e = absurd (let wrong : ◌≡◌ {A = Kinds} (k ∷ ks) [] = e in cc)
 
+pub some_of : {X : Type 0} (x y : X) → ◌≡◌ {A = Option X} (Some x) (Some y) → x ≡ y
+some_of x y e = cc
+
 -- an option of one value, as building leaves it
-abbrev pub one_valued : Text → ValueParser → Rule
-one_valued name p = record (new_rule name) {
+abbrev pub one_valued : Text → ValueParser → Bool → Rule
+one_valued name p is_needed = record (new_rule name) {
   long = Some name;
   parser = Some p;
   action = Some Set;
   range = Some (record { start_inclusive = 1; end_inclusive = 1 });
+  required = is_needed;
 }
 
 -- the rule is such an option, and the one that its id finds
 pub record IsKnown (c : List Rule) (a : Rule) : Type 0 where
   pub name : Text
   pub parser : ValueParser
-  pub is : a ≡ one_valued name parser
-  pub there : arg_by_id c name ≡ Some (one_valued name parser)
+  pub is_needed : Bool
+  pub is : a ≡ one_valued name parser is_needed
+  pub there : arg_by_id c name ≡ Some (one_valued name parser is_needed)
 
--- each rule that a search finds is known, and none has a short name or a place
+-- such an option, among these
+pub option_known : (c : List Rule) (name : Text) (p : ValueParser) (is_needed : Bool) → arg_by_id c name ≡ Some (one_valued name p is_needed) → IsKnown c (one_valued name p is_needed)
+option_known c name p is_needed there = record { name = name; parser = p; is_needed = is_needed; is = refl; there = there }
+
+-- P holds of each rule
+abbrev pub Each : (Rule → Type 0) → List Rule → Type 0
+Each P [] = Unit {0}
+Each P (a ∷ rest) = P a × Each P rest
+
+-- each rule is known, and none has a short name or a place
 pub record AreOptions (c : List Rule) : Type 0 where
-  pub known : (q : Rule → Bool) (a : Rule) → find q c ≡ Some a → IsKnown c a
+  pub all : Each (IsKnown c) c
   pub no_short : (x : ℕ) → arg_by_short c x ≡ None
   pub no_index : (i : ℕ) → arg_by_index c i ≡ None
+
+found_in : (P : Rule → Type 0) (q : Rule → Bool) (xs : List Rule) (a : Rule) → Each P xs → find q xs ≡ Some a → P a
+found_in P q [] a all e = absurd (let wrong : ◌≡◌ {A = Option Rule} None (Some a) = e in cc)
+found_in P q (x ∷ xs) a all e =
+    elim (q x) as (λ b. cond b (Some x) (find q xs) ≡ Some a → P a) [
+      | true ↦ λ e. subst P (some_of x a e) all.0
+      | false ↦ λ e. found_in P q xs a all.1 e
+    ] e
+
+-- what a search finds is known
+known : (c : List Rule) → AreOptions c → (q : Rule → Bool) (a : Rule) → find q c ≡ Some a → IsKnown c a
+known c o q a e = found_in (IsKnown c) q c a o.all e
 
 abbrev pub ValuesFine : Row → Rule → Type 0
 ValuesFine r a = (0 < length r.values) × ((values_fault a r.values ≡ []) × (r.reading ≡ reading_by a))
@@ -83,10 +101,11 @@ none_here : (b : Bool) → cond (b && true) (ArgumentConflict ∷ []) [] ≡ [] 
 none_here true e = absurd (let wrong : ◌≡◌ {A = Kinds} (ArgumentConflict ∷ []) [] = e in cc)
 none_here false e = refl
 
-use_fine : (c : List Rule) (name : Text) (p : ValueParser) (values : List Text) (rows : List Row) → arg_by_id c name ≡ Some (one_valued name p) → use_fault false (one_valued name p) values rows ≡ [] → RowsFine c rows → RowsFine c (used (one_valued name p) values rows)
-use_fine c name p [] rows there e h = absurd (let wrong : ◌≡◌ {A = Kinds} (InvalidValue ∷ []) [] = e in cc)
-use_fine c name p (v ∷ vs) rows there e h =
-    let a = one_valued name p in
+use_fine : (c : List Rule) (name : Text) (p : ValueParser) (is_needed : Bool) (values : List Text) (rows : List Row) → arg_by_id c name ≡ Some (one_valued name p is_needed) → use_fault false (one_valued name p is_needed) values rows ≡ [] → RowsFine c rows
+    → RowsFine c (used (one_valued name p is_needed) values rows)
+use_fine c name p is_needed [] rows there e h = absurd (let wrong : ◌≡◌ {A = Kinds} (InvalidValue ∷ []) [] = e in cc)
+use_fine c name p is_needed (v ∷ vs) rows there e h =
+    let a = one_valued name p is_needed in
     let acted = second_none (range_kinds 1 1 (length (v ∷ vs))) _ e in
     let fresh = none_here (has_row name rows) (first_none (repeat_fault false name rows) (values_fault a (v ∷ vs)) acted) in
     let passes = second_none (repeat_fault false name rows) (values_fault a (v ∷ vs)) acted in
@@ -101,7 +120,7 @@ use_fine c name p (v ∷ vs) rows there e h =
 used_fine : (c : List Rule) (a : Rule) → IsKnown c a → (values : List Text) (rows : List Row) → use_fault false a values rows ≡ [] → RowsFine c rows → RowsFine c (used a values rows)
 used_fine c a k values rows e h =
     let P : Rule → Type 0 = λ x. use_fault false x values rows ≡ [] → RowsFine c (used x values rows) in
-    subst P (sym k.is) (λ e. use_fine c k.name k.parser values rows k.there e h) e
+    subst P (sym k.is) (λ e. use_fine c k.name k.parser k.is_needed values rows k.there e h) e
 
 -- ---- the walk
 
@@ -111,7 +130,7 @@ module _ (c : List Rule) (o : AreOptions c) where
   settle_rows (Some p) rows e h =
       elim (arg_by_id c p.0) as (λ x. arg_by_id c p.0 ≡ x → option_map_or (λ (a : Rule). use_fault false a p.1 rows) x [] ≡ [] → RowsFine c (used_by_id x p.1 rows)) [
         | None ↦ λ is e. h
-        | Some a ↦ λ is e. used_fine c a (o.known (λ (r : Rule). bytes_eq r.id p.0) a is) p.1 rows e h
+        | Some a ↦ λ is e. used_fine c a (known c o (λ (r : Rule). bytes_eq r.id p.0) a is) p.1 rows e h
       ] refl e
 
   settle_fine : (h : Held) → settle_fault c false h ≡ [] → RowsFine c h.rows → RowsFine c (settled c h).rows
@@ -123,12 +142,12 @@ module _ (c : List Rule) (o : AreOptions c) where
       used_fine c a k (v ∷ []) (settled c h).rows (second_none (settle_fault c false h) _ e) (settle_fine h (first_none (settle_fault c false h) _ e) fine)
 
   long_fine : (found : Option Rule) → ((a : Rule) → found ≡ Some a → IsKnown c a) → (v : Option Text) (h : Held) → long_fault c false found v h ≡ [] → RowsFine c h.rows → RowsFine c (long_met c found v h).0.rows
-  long_fine None known v h e fine = fine
-  long_fine (Some a) known v h e fine =
-      let k = known a refl in
+  long_fine None all v h e fine = fine
+  long_fine (Some a) all v h e fine =
+      let k = all a refl in
       let P : Rule → Type 0 = λ x. long_fault c false (Some x) v h ≡ [] → RowsFine c (long_met c (Some x) v h).0.rows in
-      let here : IsKnown c (one_valued k.name k.parser) = record { name = k.name; parser = k.parser; is = refl; there = k.there } in
-      subst P (sym k.is) (λ e. option_fine (one_valued k.name k.parser) here v h e fine) e
+      let here = option_known c k.name k.parser k.is_needed k.there in
+      subst P (sym k.is) (λ e. option_fine (one_valued k.name k.parser k.is_needed) here v h e fine) e
 
   step_same : (first : Option ℕ) (flags : Text) (skip : ℕ) (so_far : Outcome) (h : Held) (on : Text → ℕ → Outcome → Held → Held × Outcome)
       → ((f : Text) (s : ℕ) (x : Outcome) → (on f s x h).0 ≡ h) → (bundle_step c first flags skip so_far h on).0 ≡ h
@@ -169,7 +188,7 @@ module _ (c : List Rule) (o : AreOptions c) where
   other_fine (Some p) waiting word h e fine =
       let met = long_met c (arg_by_long c p.0) p.1 h in
       let named : Rule → Bool = λ a. not (is_some a.index) && has_long a p.0 in
-      subst (RowsFine c) (sym (after_same waiting word met.0 met.1)) (long_fine (arg_by_long c p.0) (o.known named) p.1 h e fine)
+      subst (RowsFine c) (sym (after_same waiting word met.0 met.1)) (long_fine (arg_by_long c p.0) (known c o named) p.1 h e fine)
   other_fine None waiting word h e fine = shorts_fine (short_of word) waiting word h fine
 
   step_held : (w : Walk) (word : Text) (h : Held) (x : Step) → (after_step c word w h x).held ≡ h
@@ -227,44 +246,3 @@ module _ (s : Shape) (o : AreOptions s.rules) (once : s.args_override_self ≡ f
       let fine = walk_fine words (walk_from nothing_held) (first_none W _ e) tt in
       let P : Bool → Type 0 = λ again. settle_fault s.rules again end ≡ [] in
       settle_fine s.rules o end (subst P once (first_none (settle_fault s.rules s.args_override_self end) _ (second_none W _ e))) fine
-
--- ---- the number of an option
-
-some_of : {X : Type 0} (x y : X) → ◌≡◌ {A = Option X} (Some x) (Some y) → x ≡ y
-some_of x y e = cc
-
-taken : (b : Bool) (k : ErrorKind) → cond b [] (k ∷ []) ≡ [] → b ≡ true
-taken true k e = refl
-taken false k e = absurd (let wrong : ◌≡◌ {A = Kinds} (k ∷ []) [] = e in cc)
-
-number_in : (most usual : ℕ) (values : List Text) (how : Reading) → 0 < length values → values_kinds false (vp.Unsigned 0 most) values ≡ [] → how ≡ AsWritten
-    → (n : ℕ) × ((n ≤ most) × IsNumber (option_map (read_as how) (slice_get values 0)) usual n)
-number_in most usual [] how lt e is = absurd (omega arith)
-number_in most usual (v ∷ vs) how lt e is =
-    let parser = vp.Unsigned 0 most in
-    let fits = accepts-Accepts false parser v (taken _ _ (first_none (value_kinds false parser v) _ e)) in
-    let P : Reading → Type 0 = λ r. (n : ℕ) × ((n ≤ most) × IsNumber (Some (read_as r v)) usual n) in
-    subst P (sym is) (digits_value 10 (without_leading_plus v), (fits.3, ((fits.0, fits.1), refl)))
-
-found_row : (c : List Rule) (name : Text) (rows : List Row) (r : Row) → find (λ (x : Row). bytes_eq x.id name) rows ≡ Some r → RowsFine c rows → RowFine c r × (bytes_eq r.id name ≡ true)
-found_row c name [] r e fine = absurd (let wrong : ◌≡◌ {A = Option Row} None (Some r) = e in cc)
-found_row c name (x ∷ xs) r e fine =
-    let P : Row → Type 0 = λ y. RowFine c y × (bytes_eq y.id name ≡ true) in
-    elim (bytes_eq x.id name) as (λ b. bytes_eq x.id name ≡ b → cond b (Some x) (find (λ (x : Row). bytes_eq x.id name) xs) ≡ Some r → RowFine c r × (bytes_eq r.id name ≡ true)) [
-      | true ↦ λ is e. subst P (some_of x r e) (fine.0, is)
-      | false ↦ λ is e. found_row c name xs r e fine.1
-    ] refl e
-
-pub number_there : (c : List Rule) (name : Text) (most usual : ℕ) (rows : List Row) → arg_by_id c name ≡ Some (one_valued name (vp.Unsigned 0 most)) → usual ≤ most → RowsFine c rows
-    → (n : ℕ) × ((n ≤ most) × HasNumber rows name usual n)
-number_there c name most usual rows there le fine =
-    elim (find (λ (r : Row). bytes_eq r.id name) rows) as (λ o. find (λ (r : Row). bytes_eq r.id name) rows ≡ o → (n : ℕ) × ((n ≤ most) × IsNumber (option_and_then row_text o) usual n)) [
-      | None ↦ λ is. (usual, (le, refl))
-      | Some r ↦ λ is.
-          let found = found_row c name rows r is fine in
-          let P : Text → Type 0 = λ id. IfSome (arg_by_id c id) (ValuesFine r) in
-          let here = subst P ((bytes_eq-Decides r.id name).0 found.1) found.0 in
-          let Q : Option Rule → Type 0 = λ o. IfSome o (ValuesFine r) in
-          let values = subst Q there here in
-          number_in most usual r.values r.reading values.0 values.1.0 values.1.1
-    ] refl

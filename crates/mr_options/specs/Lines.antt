@@ -7,18 +7,31 @@ use Rattle.clap.specs.declared.builder.value_parser.ValueParser.TheVariants as v
 abbrev pub text_rule : Text → Rule
 text_rule name = record (new_rule name) { long = Some name }
 
--- an option that is a number from 0 to this one
-abbrev pub number_rule : Text → ℕ → Rule
-number_rule name most = record (new_rule name) { long = Some name; parser = Some (vp.Unsigned 0 most) }
+-- an option that is a number from the first to the second, both included
+abbrev pub number_rule : Text → ℕ → ℕ → Rule
+number_rule name least most = record (new_rule name) { long = Some name; parser = Some (vp.Unsigned least most) }
+
+-- an option that every line of its subcommand has
+abbrev pub needed : Rule → Rule
+needed rule = record rule { required = true }
 
 -- `pipe [--id H] [--now N] [--word N] [--aof PATH]`
 abbrev pub pipe_line : App
 pipe_line =
     with_rule
     (with_rule
-    (with_rule (with_rule (new_app (codes "pipe")) (text_rule (codes "id"))) (number_rule (codes "now") (2 ^ 61)))
-    (number_rule (codes "word") (2 ^ 64 - 1)))
+    (with_rule (with_rule (new_app (codes "pipe")) (text_rule (codes "id"))) (number_rule (codes "now") 0 (2 ^ 61)))
+    (number_rule (codes "word") 0 (2 ^ 64 - 1)))
     (text_rule (codes "aof"))
+
+-- `serve --port P [--aof PATH] [--sync MODE] [--turns N]`
+abbrev pub serve_line : App
+serve_line =
+    with_rule
+    (with_rule
+    (with_rule (with_rule (new_app (codes "serve")) (needed (number_rule (codes "port") 1 65535))) (text_rule (codes "aof")))
+    (text_rule (codes "sync")))
+    (number_rule (codes "turns") 0 (2 ^ 64 - 1))
 
 -- the program: one of its subcommands is named, and nothing answers with a help text
 abbrev pub bare : App
@@ -33,4 +46,4 @@ bare = record (new_app (codes "minired")) {
 
 -- the program's words, its name left out
 abbrev pub line : App
-line = with_subcommand bare pipe_line.top
+line = with_subcommand (with_subcommand bare pipe_line.top) serve_line.top

@@ -2,7 +2,7 @@
 ghost use Rattle.std.specs.Prelude.{◌≡◌, IfOk, false};
 ghost use Rattle.clap.specs.declared.builder.command.Command.TheViews.{out-Command};
 ghost use Rattle.clap.specs.Words.{app_of, rule_of};
-ghost use Rattle.mr_options.specs.Lines.{line, pipe_line, number_rule, text_rule};
+ghost use Rattle.mr_options.specs.Lines.{line, needed, pipe_line, serve_line, number_rule, text_rule};
 
 use clap::builder::ValueParser;
 use clap::{Arg, Command};
@@ -11,6 +11,9 @@ use std::alloc::{AllocError, Global};
 /// The greatest time, in milliseconds.
 const MOST_NOW: u64 = 1 << 61;
 
+/// The greatest port.
+const MOST_PORT: u64 = 65_535;
+
 fn text_option<'a>(alloc: Global, name: &'a str) -> Arg<'a>
     ensures rule { rule_of result ≡ text_rule name.entry.now }
     ensures local { result.global ≡ false }
@@ -18,13 +21,22 @@ fn text_option<'a>(alloc: Global, name: &'a str) -> Arg<'a>
     Arg::new(alloc, name).long(name)
 }
 
-fn number_option<'a>(alloc: Global, name: &'a str, most: u64) -> Arg<'a>
-    ensures rule { rule_of result ≡ number_rule name.entry.now most }
+/// A number from `least` to `most`.
+fn number_option<'a>(alloc: Global, name: &'a str, least: u64, most: u64) -> Arg<'a>
+    ensures rule { rule_of result ≡ number_rule name.entry.now least most }
     ensures local { result.global ≡ false }
 {
     Arg::new(alloc, name)
         .long(name)
-        .value_parser(ValueParser::unsigned(0, most))
+        .value_parser(ValueParser::unsigned(least, most))
+}
+
+/// A number from `least` to `most` that every line names.
+fn needed_number_option<'a>(alloc: Global, name: &'a str, least: u64, most: u64) -> Arg<'a>
+    ensures rule { rule_of result ≡ needed (number_rule name.entry.now least most) }
+    ensures local { result.global ≡ false }
+{
+    number_option(alloc, name, least, most).required(true)
 }
 
 fn pipe_command<'a>(alloc: Global) -> Result<Command<'a>, AllocError>
@@ -32,13 +44,28 @@ fn pipe_command<'a>(alloc: Global) -> Result<Command<'a>, AllocError>
     ensures local { IfOk result (λ c. (out-Command c).has_globals ≡ false) }
 {
     let id = text_option(alloc, "id");
-    let now = number_option(alloc, "now", MOST_NOW);
-    let word = number_option(alloc, "word", u64::MAX);
+    let now = number_option(alloc, "now", 0, MOST_NOW);
+    let word = number_option(alloc, "word", 0, u64::MAX);
     let aof = text_option(alloc, "aof");
     let first = Command::new(alloc, "pipe").arg(id)?;
     let second = first.arg(now)?;
     let third = second.arg(word)?;
     let fourth = third.arg(aof)?;
+    Ok(fourth)
+}
+
+fn serve_command<'a>(alloc: Global) -> Result<Command<'a>, AllocError>
+    ensures shape { IfOk result (λ c. app_of c ≡ serve_line) }
+    ensures local { IfOk result (λ c. (out-Command c).has_globals ≡ false) }
+{
+    let port = needed_number_option(alloc, "port", 1, MOST_PORT);
+    let aof = text_option(alloc, "aof");
+    let sync = text_option(alloc, "sync");
+    let turns = number_option(alloc, "turns", 0, u64::MAX);
+    let first = Command::new(alloc, "serve").arg(port)?;
+    let second = first.arg(aof)?;
+    let third = second.arg(sync)?;
+    let fourth = third.arg(turns)?;
     Ok(fourth)
 }
 
@@ -51,6 +78,8 @@ pub(crate) fn whole_command<'a>(alloc: Global) -> Result<Command<'a>, AllocError
         .disable_help_subcommand(true)
         .subcommand_required(true);
     let pipe = pipe_command(alloc)?;
-    let whole = command.subcommand(pipe)?;
-    Ok(whole)
+    let serve = serve_command(alloc)?;
+    let one = command.subcommand(pipe)?;
+    let both = one.subcommand(serve)?;
+    Ok(both)
 }

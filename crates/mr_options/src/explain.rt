@@ -1,7 +1,7 @@
 //! What an error of the parser comes to.
 ghost use Rattle.std.specs.Prelude.{◌≡◌, IfOk, false, string_bytes};
 ghost use Rattle.std.specs.Char.{is_control};
-ghost use Rattle.mr_options.specs.Values.{IsFaultOf, IsOneLine};
+ghost use Rattle.mr_options.specs.Outcomes.{IsFaultOf, IsOneLine};
 
 use crate::fault::UsageFault;
 use clap::error::ErrorKind;

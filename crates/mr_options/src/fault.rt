@@ -5,10 +5,11 @@ use thiserror::Error;
 /// Why the program's words were refused. Its text is one line.
 #[derive(Debug, Drop, Error)]
 pub enum UsageFault {
-    /// What the parser says: an unknown word, a number outside its range, an option given twice.
+    /// What the parser says: an unknown word, a number outside its range, an option given twice, a port left out.
     #[error("{0}")]
     Line(String),
-    /// A value that the parser takes, and that is none: an id not of 40 lower-case hexadecimal digits.
+    /// A value that the parser takes, and that is none: an id not of 40 lower-case hexadecimal digits, or a mode that is
+    /// neither `always` nor `no`.
     #[error("bad value")]
     BadValue,
     /// There was no memory to read the words.

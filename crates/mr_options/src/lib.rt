@@ -1,22 +1,48 @@
 //! The program's command line.
 #![tactic(auto)]
 
-ghost use Rattle.std.specs.Prelude.{◌≡◌, IfOk, IfErr, map, string_bytes, []};
-ghost use Rattle.mr_options.specs.Values.{AreOptionsOf, ExplainsFault, IsInRange, usual_pipe};
+ghost use Rattle.std.specs.Prelude.{◌≡◌, IfOk, IfErr, List, map, string_bytes, []};
+ghost use Rattle.clap.specs.Words.{Text, found_of, rows_of};
+ghost use Rattle.mr_options.specs.Outcomes.{AreOptionsOf, ExplainsFault, IsLineOf, SaysOptions};
+ghost use Rattle.mr_options.specs.Values.{IsInRange, usual_pipe};
 
 use crate::command::whole_command;
 use crate::explain::fault_from;
-use crate::values::pipe_of;
+use crate::pipe_values::pipe_of;
+use crate::serve_values::serve_of;
+use clap::ArgMatches;
 use std::alloc::Global;
 
 mod command;
 mod explain;
 mod fault;
 mod line;
+mod pipe_values;
+mod serve_values;
 mod values;
 
 pub use fault::UsageFault;
-pub use line::{Options, PipeOptions};
+pub use line::{Options, PipeOptions, ServeOptions};
+
+/// The options of the subcommand `name`, or the fault where a value is none.
+fn options_of<'a>(name: &str, matches: &ArgMatches<'a>) -> Result<Options<'a>, UsageFault>
+    requires { (words : List Text) × IsLineOf name.now words (rows_of (found_of matches.now)) }
+    ensures ok { (words : List Text) → IsLineOf name.now words (rows_of (found_of matches.now)) → IfOk result (SaysOptions words) }
+    ensures range { IfOk result IsInRange }
+    ensures err { (words : List Text) → IsLineOf name.now words (rows_of (found_of matches.now)) → IfErr result (ExplainsFault words) }
+{
+    match name {
+        "pipe" => match pipe_of(matches) {
+            Some(options) => Ok(Options::Pipe(options)),
+            None => Err(UsageFault::BadValue),
+        },
+        "serve" => match serve_of(matches) {
+            Some(options) => Ok(Options::Serve(options)),
+            None => Err(UsageFault::BadValue),
+        },
+        _ => unreachable!(),
+    }
+}
 
 /// Reads the program's words, its name left out.
 pub fn options<'a>(alloc: Global, words: &'a [String]) -> Result<Options<'a>, UsageFault>
@@ -36,11 +62,5 @@ pub fn options<'a>(alloc: Global, words: &'a [String]) -> Result<Options<'a>, Us
     let Some((name, inner)) = matches.subcommand() else {
         unreachable!()
     };
-    match name {
-        "pipe" => match pipe_of(inner) {
-            Some(options) => Ok(Options::Pipe(options)),
-            None => Err(UsageFault::BadValue),
-        },
-        _ => unreachable!(),
-    }
+    options_of(name, inner)
 }

@@ -1,4 +1,5 @@
 //! What a command line says.
+use mr_aof::SyncMode;
 use mr_repl::ReplId;
 
 /// The options of `pipe`: one node, asked by one client on standard input.
@@ -31,8 +32,22 @@ impl<'a> PipeOptions<'a> {
     }
 }
 
+/// The options of `serve`: one node, asked by many clients over the network.
+#[derive(Clone, Copy, Debug, PartialEq, Eq)]
+pub struct ServeOptions<'a> {
+    /// The port at which clients are met, from 1 to 65535.
+    pub port: u16,
+    /// The append-only file, where there is one.
+    pub aof: Option<&'a str>,
+    /// Whether each append to that file is synced.
+    pub sync: SyncMode,
+    /// After so many turns of the event loop `serve` ends.
+    pub turns: u64,
+}
+
 /// A subcommand with the values of its options.
 #[derive(Clone, Copy, Debug, PartialEq, Eq)]
 pub enum Options<'a> {
     Pipe(PipeOptions<'a>),
+    Serve(ServeOptions<'a>),
 }

@@ -1,57 +1,32 @@
-//! The values of a subcommand's options.
-ghost use Rattle.std.specs.Prelude.{ℕ, IfSome, IfNone, option_map};
+//! The values of options that more than one subcommand has.
+ghost use Rattle.std.specs.Prelude.{ℕ, option_map};
 ghost use Rattle.clap.specs.Words.{found_of, rows_of};
-ghost use Rattle.mr_options.specs.Values.{ArePipeOf, HasId, HasNumber, HasPath, IsInRange, NamesNoId, NumbersPass};
-ghost use Rattle.mr_options.specs.declared.line.Options.TheVariants.{Pipe};
+ghost use Rattle.mr_options.specs.Values.{HasNumber, HasPath, NamesNumber};
 
-use crate::line::PipeOptions;
 use clap::ArgMatches;
-use mr_repl::ReplId;
 
 /// The value of a number's option, or the usual one.
-fn number_of(matches: &ArgMatches<'_>, name: &str, usual: u64) -> u64
+pub(crate) fn number_of(matches: &ArgMatches<'_>, name: &str, usual: u64) -> u64
     requires { (n : ℕ) × HasNumber (rows_of (found_of matches.now)) name.now usual n }
     ensures { HasNumber (rows_of (found_of matches.now)) name.now usual result }
 {
     matches.get_one::<u64>(name).unwrap_or(usual)
 }
 
-/// The replication id, or None where the line names an id that is none.
-fn id_of(matches: &ArgMatches<'_>) -> Option<ReplId>
-    ensures some { IfSome result (HasId (rows_of (found_of matches.now))) }
-    ensures none { IfNone result (NamesNoId (rows_of (found_of matches.now))) }
+/// The value of a number's option that every line names.
+pub(crate) fn needed_number_of(matches: &ArgMatches<'_>, name: &str) -> u64
+    requires { (n : ℕ) × NamesNumber (rows_of (found_of matches.now)) name.now n }
+    ensures { NamesNumber (rows_of (found_of matches.now)) name.now result }
 {
-    match matches.get_str("id") {
-        None => Some(PipeOptions::usual().id),
-        Some(text) => {
-            let id = ReplId::read(text.as_bytes())?;
-            Some(id)
-        }
-    }
+    let Some(number) = matches.get_one::<u64>(name) else {
+        unreachable!()
+    };
+    number
 }
 
 /// The path of the append-only file, where the line names one.
-fn path_of<'a>(matches: &ArgMatches<'a>) -> Option<&'a str>
+pub(crate) fn path_of<'a>(matches: &ArgMatches<'a>) -> Option<&'a str>
     ensures { HasPath (rows_of (found_of matches.now)) (option_map (λ s. s.now) result) }
 {
     matches.get_str("aof")
-}
-
-/// The values of `pipe`, or None where the line names an id that is none.
-pub(crate) fn pipe_of<'a>(matches: &ArgMatches<'a>) -> Option<PipeOptions<'a>>
-    requires { NumbersPass (rows_of (found_of matches.now)) }
-    ensures some { IfSome result (ArePipeOf (rows_of (found_of matches.now))) }
-    ensures range { IfSome result (λ options. IsInRange (Pipe options)) }
-    ensures none { IfNone result (NamesNoId (rows_of (found_of matches.now))) }
-{
-    let id = id_of(matches)?;
-    let now = number_of(matches, "now", 0);
-    let word = number_of(matches, "word", 0);
-    let aof = path_of(matches);
-    Some(PipeOptions {
-        id,
-        now: now as i64,
-        word,
-        aof,
-    })
 }

@@ -2,7 +2,7 @@ use Rattle.std.proofs.Common.{◌≡◌, ◌++◌, ℕ, false, [], ◌∷◌, ap
 use Rattle.std.specs.Char.{encode_utf8, is_control}
 use Rattle.std.proofs.lemmas.Str.{NoCharPasses-append}
 use Rattle.clap.specs.Words.{Text}
-use Rattle.mr_options.specs.Values.{IsOneLine}
+use Rattle.mr_options.specs.Outcomes.{IsOneLine}
 use Rattle.mr_options.proofs.explain.one_line.Goals as goal
 
 one_more : (text : Text) (c : ℕ) → is_control c ≡ false → IsOneLine text → IsOneLine (text ++ encode_utf8 c)

@@ -6,7 +6,7 @@ use Rattle.clap.proofs.WalkLemmas.{first_value-rows}
 use Rattle.mr_repl.specs.ReplId.{IsId, digits_of}
 use Rattle.mr_options.specs.Values.{HasId, IsIdText, NamesNoId}
 use Rattle.mr_options.specs.declared.line.PipeOptions.{PipeOptions}
-use Rattle.mr_options.proofs.values.id_of.Goals as goal
+use Rattle.mr_options.proofs.pipe_values.id_of.Goals as goal
 
 whatever : {P : Type 0} (r : Option (List ℕ)) → P → IfNone r P
 whatever None p = p
