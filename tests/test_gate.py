@@ -68,12 +68,19 @@ class SideBySide(unittest.TestCase):
 
     CI = "import time\nfor it in ('low', 'high'):\n    print(f'== {it}\\nrt: {it} proved', flush=True)\n    time.sleep(0.1)\n"
     EDITS = "import sys\nnames = [it.strip() for it in sys.stdin]\nprint(*(f'refused {it}/one.edit' for it in names), sep='\\n')\n"
-    # an edit's trial that would go on for long
-    ENDLESS = "import sys, time\nprint(f'tries {sys.stdin.readline()}', end='', flush=True)\ntime.sleep(1000)\n"
+    # the one waits for the other, whose trial would go on for long
+    WAITS = "import os, time\nprint('rt: low proved', flush=True)\nwhile not os.path.exists(os.environ['TRIED']):\n    time.sleep(0.01)\n"
+    TRIES = "import os, sys, time\nprint(f'tries {sys.stdin.readline()}', end='', flush=True)\nopen(os.environ['TRIED'], 'w').close()\n"
+    ENDLESS = TRIES + "time.sleep(1000)\n"
+
+    def setUp(self):
+        room = tempfile.TemporaryDirectory()
+        self.addCleanup(room.cleanup)
+        self.tried = os.path.join(room.name, "tried")
 
     def play(self, ci, edits):
         said, words = io.StringIO(), [sys.executable, "-u", "-c"]
-        with contextlib.redirect_stdout(said):
+        with contextlib.redirect_stdout(said), mock.patch.dict(os.environ, TRIED=self.tried):
             started = run.Part("edits", [*words, edits], ROOT, stdin=subprocess.PIPE)
             try:
                 value = run.side_by_side(run.Part("rt ci", [*words, ci], ROOT), started)
@@ -87,21 +94,19 @@ class SideBySide(unittest.TestCase):
         self.assertEqual(sorted(said), sorted(["== low", "rt: low proved", "== high", "rt: high proved", "rt ci: 2 passed, 0 failed", "refused low/one.edit", "refused high/one.edit", "edits: 3 passed, 0 failed"]))
 
     def test_an_edit_is_tried_while_rt_ci_goes_on(self):
-        waits = "print('rt: low proved', flush=True)\nwhile not os.path.exists(FILE):\n    time.sleep(0.01)\nprint('1 passed, 0 failed')\n"
-        with tempfile.TemporaryDirectory() as room:
-            file = os.path.join(room, "tried")
-            value, said, _ = self.play(f"import os, time\nFILE = {file!r}\n{waits}", f"import sys\nsys.stdin.readline()\nopen({file!r}, 'w').close()\nprint('1 passed, 0 failed')\n")
-        self.assertEqual((value, len(said)), (2, 3))
+        value, said, _ = self.play(self.WAITS + "print('1 passed, 0 failed')", self.TRIES + "print('1 passed, 0 failed')")
+        self.assertEqual(value, 2)
+        self.assertEqual(sorted(said), ["edits: 1 passed, 0 failed", "rt ci: 1 passed, 0 failed", "rt: low proved", "tries low"])
 
     def test_where_rt_ci_fails_the_edits_are_stopped(self):
-        value, said, edits = self.play(self.CI + "print('1 passed, 1 failed')", self.ENDLESS)
+        value, said, edits = self.play(self.WAITS + "print('1 passed, 1 failed')", self.ENDLESS)
         self.assertEqual(value, 1)
         self.assertEqual(edits.ran.returncode, -signal.SIGTERM)
-        self.assertIn("tries low", said)
-        self.assertEqual(said[-3:], ["rt ci: 1 passed, 1 failed", "minired's tests: rt ci failed, so no more edits were tried", "1 passed, 1 failed"])
+        self.assertEqual(sorted(said[:-2]), ["rt ci: 1 passed, 1 failed", "rt: low proved", "tries low"])
+        self.assertEqual(said[-2:], ["minired's tests: rt ci failed, so no more edits were tried", "1 passed, 1 failed"])
 
     def test_where_rt_ci_breaks_off_the_gate_fails(self):
-        value, said, _ = self.play(self.CI + "raise SystemExit(2)", self.ENDLESS)
+        value, said, _ = self.play(self.WAITS + "raise SystemExit(2)", self.ENDLESS)
         self.assertEqual((value, said[-1]), (1, "0 passed, 1 failed"))
 
     def test_where_an_edit_is_not_refused_the_gate_fails_with_the_sum(self):
