@@ -160,7 +160,7 @@ def batched(root=ROOT):
         words = [sys.executable, "-u", os.path.join(ROOT, "tests", "edits.py"), "--proved", copy, "--edits", root, "--follow", at_once]
         # first the edits: they measure the memory that is free before rt ci takes any
         edits = Part("edits", words, ROOT, stdin=subprocess.PIPE, TMPDIR=kept)
-        return tables_in(copy, side_by_side(Part("rt ci", ["rt", "ci"], copy, RT_JOBS=at_once), edits))
+        return tables_in(copy, side_by_side(Part("rt ci", ["rt", "ci"], copy), edits))
 
 
 def main(words):
