@@ -1,4 +1,4 @@
-"""Tries the must-fail edits of the crates in batches: `edits.py [--proved FOLDER] [--at-once N] [--alone] [--plan] [CRATE..]`.
+"""Tries the must-fail edits of the crates in batches: `edits.py [--proved FOLDER [--follow N]] [--at-once N] [--alone] [--plan] [CRATE..]`.
 
 An edit is a file crates/NAME/must-fail/*.edit, as `rt must-fail` reads it. Edits of different functions of a crate are put into one
 copy and checked by one `rattle check --only F1 --only F2 ..`: the theorem of another function cites a function's contract and never
@@ -9,7 +9,8 @@ An edit counts as refused only for a reason of a function that it changes: an op
 edit is tried alone. An edit whose reach isn't known (of a clause, a type, a definition, a lemma) is tried alone, with the whole crate.
 
 Nothing is proved here but what is edited. The crates themselves are proved elsewhere: --proved names a copy of this repository in which
-`rt ci` has just run. Without it, what isn't proved in this repository is proved first. The last line is `N passed, M failed`."""
+`rt ci` has just run, or with --follow still runs: standard input then names each crate that it has proved, and a crate's edits are tried once its own name
+and those of the crates below it have come. Without --proved, what isn't proved in this repository is proved first. The last line is `N passed, M failed`."""
 
 import argparse
 import difflib
@@ -31,6 +32,7 @@ sys.path.insert(0, os.path.join(ROOT, "tools"))
 from kit import Kit, NoKit
 from lanes import Task, in_lanes
 from answers import Answer, Strength
+from following import Following, give_way
 from sources import Sources
 
 
@@ -173,6 +175,8 @@ class Trial:
     sources: Sources
     alone: bool = False
     processor: float = 0.0
+    # the most memory that one of its checks took, in bytes
+    memory: int = 0
     checks: int = 0
     notes: list = field(default_factory=list)
 
@@ -184,7 +188,12 @@ class Trial:
                 with tempfile.TemporaryDirectory(prefix="edits-") as empty:
                     edit.verdict = self.verdict_of(edit, empty)
         sizes, took = ", ".join(str(len(it)) for it in groups), time.monotonic() - begun
-        self.notes.append(f"{self.crate.name}: {len(self.edits)} edits, in batches of {sizes}; {self.checks} checks, {self.processor:.0f} s of processor, {took:.0f} s")
+        self.notes.append(f"{self.crate.name}: {len(self.edits)} edits, in batches of {sizes}; {self.checks} checks, {self.processor:.0f} s of processor, {took:.0f} s, {self.memory / 1e9:.1f} GB")
+
+    def give_up(self):
+        """Fails the edits of a trial that was not run."""
+        for edit in (it for it in self.edits if not it.verdict):
+            edit.verdict = Verdict(False, f"NOT TRIED {edit.name}: its crate, or one below it, was not proved")
 
     def try_batches(self, groups, kept):
         """Sets each edit's verdict, and returns the edits that the work kept by earlier checks may have refused wrongly."""
@@ -240,11 +249,11 @@ class Trial:
                 with open(os.path.join(room, path), "w", encoding="utf-8") as it:
                     it.write(text)
             words = [*self.crate.check(), "--incremental", kept, *[word for name in sorted(only) for word in ("--only", name)]]
-            status, said, processor = timed(words, room)
+            status, said, processor, memory = timed(words, room)
             if status == -signal.SIGKILL:
                 self.notes.append(f"{self.crate.name}: a check was killed, most likely for want of memory: once more")
-                status, said, processor = timed(words, room)
-        self.checks, self.processor = self.checks + 1, self.processor + processor
+                status, said, processor, memory = timed(words, room)
+        self.checks, self.processor, self.memory = self.checks + 1, self.processor + processor, max(self.memory, memory)
         return Answer(self.crate, self.sources, status, said, texts, only)
 
     def text_of(self, path):
@@ -252,13 +261,13 @@ class Trial:
 
 
 def timed(words, folder):
-    """Runs a command, and returns its status, what it printed, and its processor time in seconds."""
+    """Runs a command, and returns its status, what it printed, its processor time in seconds, and the most memory that it took in bytes."""
     with tempfile.TemporaryFile("w+", errors="replace") as out:
         ran = subprocess.Popen(words, cwd=folder, stdin=subprocess.DEVNULL, stdout=out, stderr=subprocess.STDOUT)
         _, status, used = os.wait4(ran.pid, 0)
         ran.returncode = os.waitstatus_to_exitcode(status)
         out.seek(0)
-        return ran.returncode, out.read(), used.ru_utime + used.ru_stime
+        return ran.returncode, out.read(), used.ru_utime + used.ru_stime, 1024 * used.ru_maxrss
 
 
 def read_edits(kit, crate, folder, sources):
@@ -282,10 +291,10 @@ def read(file):
         return it.read()
 
 
-def trials(kit, options):
-    """The trial of each crate that has edits, and verdicts on the edits that can't be made."""
+def trials(kit, crates, options):
+    """The trial of each of these crates that has edits, and verdicts on the edits that can't be made."""
     found, bad = [], []
-    for crate in kit.crates(options.proved or ROOT):
+    for crate in crates:
         if options.crates and crate.name not in options.crates:
             continue
         sources = Sources(crate.folder)
@@ -306,40 +315,56 @@ def stands(trial, after_ci):
     return True
 
 
-def run_all(found, kit, at_once):
-    """Runs the trials side by side, those with most to do first, and prints what each found."""
-    tasks = [Task(it.crate.name, [], len(it.edits) * it.crate.lines(), it.crate.memory(), lambda jobs, it=it: it.run() or it) for it in found]
-    for _, trial in in_lanes(tasks, at_once or kit.lanes(), kit.memory()):
-        for edit in trial.edits:
-            print(edit.verdict.text)
-        print(*trial.notes, sep="\n", flush=True)
+def run_all(found, at_once, memory, following=None):
+    """Runs the trials side by side, those with most to do first, and prints what each found; those that wait for `rt ci`, as it proves their crates."""
+    tasks = following.tasks() if following else []
+    for it in found:
+        after = following.after(it.crate) if following else []
+        tasks.append(Task(it.crate.name, after, len(it.edits) * it.crate.lines(), it.crate.memory(), lambda jobs, it=it: it.run() or it))
+    for task, trial in in_lanes(tasks, at_once, memory):
+        if not task.is_awaited:
+            for edit in trial.edits:
+                print(edit.verdict.text)
+            print(*trial.notes, sep="\n", flush=True)
+    for trial in found:
+        trial.give_up()
 
 
 def options_of(words):
     parser = argparse.ArgumentParser(description=__doc__.split("\n")[0])
     parser.add_argument("crates", nargs="*")
     parser.add_argument("--proved", help="a copy of the repository in which `rt ci` has just run")
+    parser.add_argument("--follow", type=int, metavar="N", help="`rt ci` still runs there, with N crates at a time; standard input names those proved, one a line")
     parser.add_argument("--edits", help="the repository whose edits are tried, if it isn't this one")
     parser.add_argument("--at-once", type=int, help="how many crates are tried at a time")
     parser.add_argument("--alone", action="store_true", help="try each edit by itself")
     parser.add_argument("--plan", action="store_true", help="only print the batches, and which edits can't be made")
-    return parser.parse_intermixed_args(words)
+    options = parser.parse_intermixed_args(words)
+    if options.follow and not options.proved:
+        parser.error("--follow needs the folder in which `rt ci` runs: --proved")
+    return options
 
 
 def main(words):
-    options = options_of(words)
+    options, following = options_of(words), None
+    if options.follow:
+        give_way()
     try:
         kit = Kit()
     except NoKit as error:
         print(f"edits: {error}\n0 passed, 1 failed")
         return 1
-    found, bad = trials(kit, options)
+    free, memory, crates = kit.free(), kit.memory(), kit.crates(options.proved or ROOT)
+    found, bad = trials(kit, crates, options)
     if options.plan:
         return plan(found, bad, options.alone)
-    if not all(stands(it, bool(options.proved)) for it in found):
+    if options.follow:
+        following = Following(crates, options.follow, free, memory)
+        following.begin(sys.stdin)
+    elif not all(stands(it, bool(options.proved)) for it in found):
         print("0 passed, 1 failed")
         return 1
-    run_all(found, kit, options.at_once)
+    run_all(found, options.at_once or kit.lanes(), following.memory if following else memory, following)
     return tell(found, bad)
 
 

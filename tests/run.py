@@ -2,23 +2,24 @@
 
 Each stops at the first part that fails. The last line is `N passed, M failed`, and stands alone. docs/GATE.md says what each shows."""
 
+import contextlib
 import os
 import re
 import shutil
 import subprocess
 import sys
 import tempfile
+import threading
 import unittest
 
+from following import proved_in
 from program import LAUNCHER, ROOT
 
 sys.path.insert(0, os.path.join(ROOT, "tools"))
 
-from kit import Kit, NoKit
+from kit import OF_A_CHECK, Kit, NoKit
 
 COUNT = re.compile(r"(\d+) passed, (\d+) failed\s*\Z")
-# what a check is likely to take at most, in bytes
-OF_A_CHECK = 3 << 30
 # what a clone of the repository doesn't have, and the edits
 NOT_COPIED = (".git", "out", "__pycache__", "*.pyc", "must-fail")
 
@@ -28,25 +29,85 @@ def end(passed, failed):
     sys.exit(1 if failed else 0)
 
 
+class Part:
+    """A part of the gate as it runs: a command that ends in a count. It has no session of its own, so that one of less priority gives way to another."""
+
+    printing = threading.Lock()
+
+    def __init__(self, name, words, folder, stdin=subprocess.DEVNULL, **environment):
+        self.name, self.count, self.ran = name, None, None
+        how = {"cwd": folder, "stdin": stdin, "stdout": subprocess.PIPE, "env": {**os.environ, **environment}}
+        try:
+            self.ran = subprocess.Popen(words, text=True, errors="replace", **how)
+        except OSError as error:
+            print(f"{name}: {error}")
+
+    def read(self, hears=lambda line: None):
+        """Prints each line as it comes, whole, and hands it on, until the part ends. Its count isn't printed alone: the last line is the sum."""
+        if not self.ran:
+            return
+        for line in self.ran.stdout:
+            self.count = COUNT.match(line)
+            with self.printing:
+                print(f"{self.name}: {line}" if self.count else line, end="", flush=True)
+            hears(line)
+        self.ran.stdout.close()
+        self.ran.wait()
+
+    def send(self, line):
+        """Writes a line to the part's standard input. Where it has ended, its count tells."""
+        with contextlib.suppress(OSError, ValueError, AttributeError):
+            print(line, file=self.ran.stdin, flush=True)
+
+    def send_no_more(self):
+        with contextlib.suppress(OSError, AttributeError):
+            self.ran.stdin.close()
+
+    def stop(self):
+        """Ends the part, and with it what it runs."""
+        if self.ran:
+            self.ran.terminate()
+
+    def result(self):
+        """How many passed and how many failed; one has, where the part ended without a count, or badly."""
+        well, failed = (int(it) for it in self.count.groups()) if self.count else (0, 1)
+        return well, 1 if self.ran and self.ran.returncode and not failed else failed
+
+
 def part(name, words, folder, passed, **environment):
-    """Runs a part of the gate, which ends in a count, and returns how many passed with it. The count isn't printed alone: the last line is the sum."""
-    how = {"cwd": folder, "stdin": subprocess.DEVNULL, "stdout": subprocess.PIPE, "env": {**os.environ, **environment}}
-    try:
-        ran = subprocess.Popen(words, text=True, errors="replace", **how)
-    except OSError as error:
-        print(f"{name}: {error}")
-        end(passed, 1)
-    count = None
-    with ran:
-        for line in ran.stdout:
-            count = COUNT.match(line)
-            print(f"{name}: {line}" if count else line, end="", flush=True)
-    well, failed = (int(it) for it in count.groups()) if count else (0, 1)
-    if ran.returncode and not failed:
-        failed = 1
+    """Runs a part of the gate, and returns how many passed with it."""
+    it = Part(name, words, folder, **environment)
+    it.read()
+    well, failed = it.result()
     if failed:
         end(passed + well, failed)
     return passed + well
+
+
+def side_by_side(ci, edits):
+    """Lets the edits follow `rt ci`: each crate that it proves is named to them. Returns how many passed with both.
+
+    Where rt ci fails, the edits are stopped: what was found of them by then isn't counted, unless they had all been tried."""
+
+    def hears(line):
+        if proved_in(line):
+            edits.send(proved_in(line))
+
+    reader = threading.Thread(target=edits.read, daemon=True)
+    reader.start()
+    ci.read(hears)
+    well, failed = ci.result()
+    if failed:
+        edits.stop()
+    edits.send_no_more()
+    reader.join()
+    is_stopped = failed and not edits.count
+    of_edits, not_refused = (0, 0) if is_stopped else edits.result()
+    lost = " and ".join(it.name for it, bad in ((ci, failed), (edits, not_refused)) if bad)
+    if lost:
+        print(f"minired's tests: {lost} failed{', so no more edits were tried' if is_stopped else ''}", flush=True)
+        end(well + of_edits, failed + not_refused)
+    return well + of_edits
 
 
 def crates_at_once():
@@ -59,10 +120,10 @@ def crates_at_once():
     return max(1, min(kit.lanes(), kit.memory() // OF_A_CHECK))
 
 
-def copied(to):
+def copied(root, to):
     """Copies what the repository holds, without the edits."""
     copy = os.path.join(to, "repository")
-    shutil.copytree(ROOT, copy, ignore=shutil.ignore_patterns(*NOT_COPIED))
+    shutil.copytree(root, copy, ignore=shutil.ignore_patterns(*NOT_COPIED))
     return copy
 
 
@@ -90,13 +151,16 @@ def everything():
     return tables_in(ROOT, part("rt ci", ["rt", "ci"], ROOT, 0))
 
 
-def batched():
-    """The same, with the edits in batches: in a copy without them, rt ci proves each crate from nothing; over these crates the edits are tried."""
-    with tempfile.TemporaryDirectory(prefix="minired-gate-") as room:
-        copy = copied(room)
-        passed = part("rt ci", ["rt", "ci"], copy, 0, RT_JOBS=str(crates_at_once()))
-        words = [sys.executable, "-u", os.path.join(ROOT, "tests", "edits.py"), "--proved", copy]
-        return tables_in(copy, part("edits", words, ROOT, passed))
+def batched(root=ROOT):
+    """The same, with the edits in batches: in a copy of this repository without them, rt ci proves each crate from nothing; over these crates the edits
+    are tried, each as soon as its crate and those below it are proved."""
+    with tempfile.TemporaryDirectory(prefix="minired-gate-", ignore_cleanup_errors=True) as room:
+        copy, kept, at_once = copied(root, room), os.path.join(room, "edits"), str(crates_at_once())
+        os.mkdir(kept)
+        words = [sys.executable, "-u", os.path.join(ROOT, "tests", "edits.py"), "--proved", copy, "--edits", root, "--follow", at_once]
+        # first the edits: they measure the memory that is free before rt ci takes any
+        edits = Part("edits", words, ROOT, stdin=subprocess.PIPE, TMPDIR=kept)
+        return tables_in(copy, side_by_side(Part("rt ci", ["rt", "ci"], copy), edits))
 
 
 def main(words):

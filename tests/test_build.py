@@ -91,6 +91,79 @@ class Lanes(unittest.TestCase):
             list(in_lanes([Task("map", [], 1, 1, fails)], 1, 1))
 
 
+class Awaited(unittest.TestCase):
+    """Tasks that wait for what is done elsewhere: each is let go by its name, and well or not."""
+
+    def setUp(self):
+        self.said, self.changed, self.begun, self.ended = {}, threading.Condition(), [], []
+
+    def let_go(self, name, well=True):
+        with self.changed:
+            self.said[name] = well
+            self.changed.notify_all()
+
+    def waits(self, name):
+        with self.changed:
+            self.changed.wait_for(lambda: name in self.said, timeout=LONGEST)
+            return self.said.get(name)
+
+    def awaited(self, *names):
+        return [Task(it, [], 0, 0, lambda jobs, it=it: self.waits(it), is_awaited=True) for it in names]
+
+    def task(self, name, *after, work=1, memory=1):
+        def run(_):
+            self.begun.append(name)
+            return True
+
+        return Task(name, [*after], work, memory, run)
+
+    def run_all(self, tasks, lanes, memory, releases):
+        """Runs the tasks, and lets go what `releases` has under the name of each task that ends, and first what it has under an empty one."""
+
+        def release(ended):
+            for name, well in releases.get(ended, {}).items():
+                self.let_go(name, well)
+
+        release("")
+        for task, _ in in_lanes(tasks, lanes, memory):
+            self.ended.append(task.name)
+            release(task.name)
+
+    def test_what_is_awaited_takes_no_processor_and_no_memory(self):
+        tasks = [*self.awaited("low", "high"), self.task("first", memory=9), self.task("edits of low", "low", memory=9)]
+        self.run_all(tasks, 1, 9, {"first": {"low": True}, "edits of low": {"high": True}})
+        self.assertEqual(self.ended, ["first", "low", "edits of low", "high"])
+
+    def test_a_task_begins_once_all_are_let_go_that_it_waits_for(self):
+        tasks = [*self.awaited("low", "middle", "high"), self.task("edits of high", "low", "high"), self.task("edits of middle", "low", "middle"), self.task("edits of low", "low")]
+        self.run_all(tasks, 4, 9, {"": {"high": True}, "high": {"low": True}, "edits of high": {"middle": True}})
+        self.assertEqual(self.ended[:2], ["high", "low"])
+        self.assertEqual(set(self.begun[:2]), {"edits of high", "edits of low"})
+        self.assertEqual(self.ended[-2:], ["middle", "edits of middle"])
+
+    def test_of_those_let_go_at_once_the_longest_comes_first(self):
+        tasks = [*self.awaited("low"), self.task("short", "low", work=2), self.task("long", "low", work=9), self.task("middle", "low", work=5)]
+        self.run_all(tasks, 1, 9, {"": {"low": True}})
+        self.assertEqual(self.begun, ["long", "middle", "short"])
+
+    def test_what_is_let_go_badly_has_no_task_behind_it_run_and_the_others_go_on(self):
+        tasks = [*self.awaited("low", "high"), self.task("edits of high", "low", "high"), self.task("edits of low", "low")]
+        self.run_all(tasks, 2, 9, {"": {"high": False, "low": True}})
+        self.assertEqual(self.begun, ["edits of low"])
+        self.assertEqual(set(self.ended), {"low", "high", "edits of low"})
+
+    def test_memory_is_asked_anew_as_each_ends(self):
+        left = {"": 1, "low": 3, "high": 7}
+        tasks = [*self.awaited("low", "high"), self.task("large", memory=5), self.task("middle", memory=3), self.task("small", memory=1)]
+        self.run_all(tasks, 4, lambda: left[max(self.said, key=list(left).index, default="")], {"small": {"low": True}, "middle": {"high": True}})
+        self.assertEqual(self.begun, ["small", "middle", "large"])
+
+    def test_one_wants_more_memory_than_there_is_and_waits_until_nothing_is_awaited(self):
+        tasks = [*self.awaited("low"), self.task("large", memory=5), self.task("small", memory=1)]
+        self.run_all(tasks, 4, 2, {"small": {"low": True}})
+        self.assertEqual(self.ended, ["small", "low", "large"])
+
+
 class Lines(unittest.TestCase):
     """What is said on standard error."""
 
@@ -115,10 +188,8 @@ class OfATinyProgram(unittest.TestCase):
     """Builds of a program that stands on two crates."""
 
     CRATES = {
+        **tiny.PAIR,
         "crates.txt": "low:\nhigh: low\nminired: high\n",
-        "HANDLES": tiny.HANDLES,
-        "crates/low/src/lib.rt": "//! One number.\n#![tactic(auto)]\n\nghost use Rattle.std.specs.Prelude.{◌≡◌};\n\npub fn one() -> u8\n    ensures { result ≡ 1 }\n{\n    1\n}\n",
-        "crates/high/src/lib.rt": "//! Another number.\n#![tactic(auto)]\n\nghost use Rattle.std.specs.Prelude.{◌≡◌};\n\npub fn two() -> u8\n    ensures { result ≡ 2 }\n{\n    low::one() + 1\n}\n",
         "crates/minired/src/main.rt": "//! A program that ends at once.\n#![tactic(auto)]\n\nfn main() {\n    let _two = high::two();\n}\n",
     }
 

@@ -122,6 +122,36 @@ decreases-is_odd l = l.n
 """,
 }
 
+# two crates of one function each, one above the other
+PAIR = {
+    "crates.txt": "low:\nhigh: low\n",
+    "HANDLES": HANDLES,
+    "crates/low/src/lib.rt": """\
+//! One number.
+#![tactic(auto)]
+
+ghost use Rattle.std.specs.Prelude.{◌≡◌};
+
+pub fn one() -> u8
+    ensures { result ≡ 1 }
+{
+    1
+}
+""",
+    "crates/high/src/lib.rt": """\
+//! Another number.
+#![tactic(auto)]
+
+ghost use Rattle.std.specs.Prelude.{◌≡◌};
+
+pub fn two() -> u8
+    ensures { result ≡ 2 }
+{
+    low::one() + 1
+}
+""",
+}
+
 # edits by name: a file, an old text and a new one
 UP_BY_TWO = ("src/steps.rt", "    n + 1", "    n + 2")
 UP_BY_NONE = ("src/steps.rt", "    n + 1", "    n")
@@ -133,6 +163,8 @@ ODD_IN_OTHER_WORDS = ("src/steps.rt", "{ false }", "{ n == 1 }")
 LEVEL_IS_HALVED = ("src/steps.rt", "Level { height }", "Level { height: height / 2 }")
 LEVEL_IS_SEVEN = ("src/level.rt", "Level { height }", "Level { height: 7 }")
 ELEVEN_IS_LOW = ("src/levels.rt", "*height < 10", "*height < 11")
+ONE_IS_TWO = ("src/lib.rt", "    1", "    2")
+TWO_IS_THREE = ("src/lib.rt", "one() + 1", "one() + 2")
 LEMMA_IS_FALSE = ("proofs/Sums.antt", "1 + 1 ≡ 2", "1 + 1 ≡ 3")
 
 
@@ -154,3 +186,9 @@ def repository(root, edits):
     crate = {f"crates/tiny/{path}": text for path, text in CRATE.items()}
     crate.update({f"crates/tiny/must-fail/{name}.edit": edit_text(*edit) for name, edit in edits.items()})
     write(root, {"crates.txt": LIST, "HANDLES": HANDLES, **crate})
+
+
+def pair(root):
+    """Writes the repository of two crates with an edit of each."""
+    edits = {"crates/low/must-fail/one_is_two.edit": edit_text(*ONE_IS_TWO), "crates/high/must-fail/two_is_three.edit": edit_text(*TWO_IS_THREE)}
+    write(root, {**PAIR, **edits})

@@ -10,6 +10,9 @@ import shutil
 import sys
 import types
 
+# what a check is likely to take at most, in bytes; one crate's takes twice as much
+OF_A_CHECK = 3 << 30
+
 
 class NoKit(Exception):
     """The command rt of the Rattle kit is not on PATH, or isn't the script that is known here."""
@@ -59,9 +62,13 @@ class Kit:
         number = os.environ.get("RT_JOBS", "")
         return int(number) if number.isdigit() and int(number) else self.processors()
 
+    def free(self):
+        """How many bytes of memory are free, under the limit of a container too."""
+        return self.rt.free()
+
     def memory(self):
-        """How many bytes of memory to use: of those that are free, under the limit of a container too, all but a reserve."""
-        return int(0.85 * self.rt.free())
+        """How many bytes of memory to use: of those that are free, all but a reserve."""
+        return int(0.85 * self.free())
 
     def lock(self, crates):
         """Keeps any other rt out of these crates' folders until the files that it returns are closed."""

@@ -21,6 +21,8 @@ class Task:
     memory: int
     # takes the number of processors that it may use
     run: Callable
+    # it only waits for what is done elsewhere: it begins at once, and takes no processor and no memory
+    is_awaited: bool = False
 
 
 def chains(tasks):
@@ -38,35 +40,65 @@ def share(idle, ready, most):
     return max(1, min(most, idle - (ready - 1)))
 
 
+class Lanes:
+    """The tasks that run, and how many processors and how much memory they leave to others."""
+
+    def __init__(self, tasks, lanes, memory, most):
+        self.behind, self.lanes, self.most = chains(tasks), lanes, most
+        self.memory = memory if callable(memory) else lambda: memory
+        self.running, self.results = {}, queue.Queue()
+
+    def jobs_for(self, task, ready):
+        """How many processors this task gets, of so many that are ready; none where it is to wait."""
+        if task.is_awaited:
+            return 1
+        idle = self.lanes - sum(jobs for jobs, _ in self.running.values())
+        room = self.memory() - sum(needs for _, needs in self.running.values())
+        if self.running and (idle <= 0 or task.memory > room):
+            return 0
+        jobs = share(idle, ready, self.most)
+        # what all else waits for longest gets half, however many are ready
+        if self.behind[task.name] > max((self.behind[name] for name in self.running), default=0):
+            jobs = max(jobs, min(idle, self.lanes // 2, self.most))
+        while jobs > 1 and memory_of(task, jobs) > room:
+            jobs -= 1
+        return jobs
+
+    def start(self, task, jobs):
+        self.running[task.name] = (0, 0) if task.is_awaited else (jobs, memory_of(task, jobs))
+        threading.Thread(target=_run, args=(task, jobs, self.results), daemon=True).start()
+
+    def ended(self):
+        """Waits until a task ends, and returns it with what its call returned."""
+        task, value, error = self.results.get()
+        del self.running[task.name]
+        if error:
+            raise error
+        return task, value
+
+
+def memory_of(task, jobs):
+    return task.memory * (1 + OF_ANOTHER * (jobs - 1))
+
+
 def in_lanes(tasks, lanes, memory, most=1):
     """Runs the tasks, and yields each with what its call returned as it ends. A task whose forerunner returned something false is not run.
 
     A task gets up to `most` processors where there are more than ready tasks, and that with the longest chain half of all, where they
-    are idle. One runs even where it wants more memory than there is."""
-    behind, results = chains(tasks), queue.Queue()
-    waiting, running, well = sorted(tasks, key=lambda it: -behind[it.name]), {}, set()
-    while waiting or running:
+    are idle. The memory is a number of bytes, or a call that tells how many there are by now: it is asked anew as each task ends. Where
+    nothing else runs or is awaited, one runs even if it wants more memory than there is."""
+    beside, well = Lanes(tasks, lanes, memory, most), set()
+    waiting = sorted(tasks, key=lambda it: (not it.is_awaited, -beside.behind[it.name]))
+    while waiting or beside.running:
         ready = [it for it in waiting if well.issuperset(it.after)]
         for at, task in enumerate(ready):
-            idle = lanes - sum(jobs for jobs, _ in running.values())
-            room = memory - sum(needs for _, needs in running.values())
-            if running and (idle <= 0 or task.memory > room):
-                continue
-            jobs = share(idle, len(ready) - at, most)
-            # what all else waits for longest gets half, however many are ready
-            if behind[task.name] > max((behind[name] for name in running), default=0):
-                jobs = max(jobs, min(idle, lanes // 2, most))
-            while jobs > 1 and task.memory * (1 + OF_ANOTHER * (jobs - 1)) > room:
-                jobs -= 1
-            waiting.remove(task)
-            running[task.name] = jobs, task.memory * (1 + OF_ANOTHER * (jobs - 1))
-            threading.Thread(target=_run, args=(task, jobs, results), daemon=True).start()
-        if not running:
+            jobs = beside.jobs_for(task, len(ready) - at)
+            if jobs:
+                waiting.remove(task)
+                beside.start(task, jobs)
+        if not beside.running:
             return
-        task, value, error = results.get()
-        del running[task.name]
-        if error:
-            raise error
+        task, value = beside.ended()
         if value:
             well.add(task.name)
         yield task, value
