@@ -16,6 +16,7 @@ from program import ROOT
 
 sys.path.insert(0, os.path.join(ROOT, "tools"))
 
+from borrow import borrowed, proved_by
 from build import Progress, last_lines, length_of
 from lanes import Task, chains, in_lanes, share
 
@@ -239,6 +240,56 @@ class OfATinyProgram(unittest.TestCase):
         log = os.path.join(self.root, "out", "build.log")
         self.assertEqual(lines[-1], f"minired: the build failed at low: the lines above are the last of it, and all are in {log}")
         self.assertTrue(os.path.isfile(log))
+
+
+class Fake:
+    """A crate of a clone, which takes libraries in name only."""
+
+    def __init__(self, root, name, below=(), proved=False):
+        self.name, self.below, self.proved, self.taken = name, list(below), proved, []
+        self.folder = os.path.join(root, "crates", name)
+
+    def parts(self):
+        return ["src"]
+
+    def is_proved(self):
+        return self.proved
+
+    def take_library(self, folder):
+        self.taken.append(folder)
+
+
+class Borrowing(unittest.TestCase):
+    """Libraries of another clone's gate."""
+
+    def setUp(self):
+        self.rooms = [tempfile.TemporaryDirectory() for _ in range(2)]
+        for room in self.rooms:
+            self.addCleanup(room.cleanup)
+        self.here, self.there = (it.name for it in self.rooms)
+
+    def write(self, name, here, there):
+        for root, text in ((self.here, here), (self.there, there)):
+            folder = os.path.join(root, "crates", name, "src")
+            os.makedirs(folder)
+            with open(os.path.join(folder, "lib.rt"), "w", encoding="utf-8") as file:
+                file.write(text)
+
+    def test_only_what_is_proved_there_of_the_same_text_over_the_same_crates_is_taken(self):
+        for name, here, there in (("map", "a", "a"), ("value", "b", "b"), ("glob", "c", "d"), ("effect", "e", "e"), ("node", "f", "f")):
+            self.write(name, here, there)
+        low = Fake(self.here, "map", proved=True)
+        value, other = Fake(self.here, "value", [low]), Fake(self.here, "glob")
+        over, late = Fake(self.here, "effect", [value, other]), Fake(self.here, "node", [value])
+        crates = [low, value, other, over, late]
+        self.assertEqual(borrowed(crates, self.there, {"map", "value", "glob", "effect"}), ["map", "value"])
+        self.assertEqual([it.taken for it in crates], [[], [os.path.join(self.there, "crates", "value")], [], [], []])
+
+    def test_what_is_proved_is_read_from_what_rt_ci_says(self):
+        log = os.path.join(self.here, "log")
+        with open(log, "w", encoding="utf-8") as file:
+            file.write("== map\nrt: map proved\nrt: value NOT PROVED\nrt: glob is kept: an earlier run proved the same files\n")
+        self.assertEqual(proved_by(log), {"map", "glob"})
 
 
 if __name__ == "__main__":

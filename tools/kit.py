@@ -116,6 +116,14 @@ class Crate:
         """Whether `rt ci` has built its library in this folder: it leaves no stamp, for nothing may take that library later."""
         return os.path.isdir(self.inner.rlib) and not os.path.exists(os.path.join(os.path.dirname(self.inner.rlib), "stamp"))
 
+    def take_library(self, folder):
+        """Takes the library that `rt ci` has built in this folder from the same text, by links, as if it had been built here."""
+        to = os.path.dirname(self.inner.rlib)
+        shutil.rmtree(to, ignore_errors=True)
+        shutil.copytree(os.path.join(folder, "out", os.path.basename(to)), to, copy_function=os.link)
+        with open(os.path.join(to, "stamp"), "w", encoding="utf-8") as stamp:
+            stamp.write(self.inner.stamp())
+
     def prove(self, jobs, log):
         """Proves the crate over the work that it keeps, and builds its library. It writes to `log`, and returns the exit status, which is negative where a signal ended it."""
         self.inner.out = log
