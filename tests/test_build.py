@@ -252,6 +252,9 @@ class Fake:
     def parts(self):
         return ["src"]
 
+    def is_library(self):
+        return self.name != "program"
+
     def is_proved(self):
         return self.proved
 
@@ -276,14 +279,14 @@ class Borrowing(unittest.TestCase):
                 file.write(text)
 
     def test_only_what_is_proved_there_of_the_same_text_over_the_same_crates_is_taken(self):
-        for name, here, there in (("map", "a", "a"), ("value", "b", "b"), ("glob", "c", "d"), ("effect", "e", "e"), ("node", "f", "f")):
+        for name, here, there in (("map", "a", "a"), ("value", "b", "b"), ("glob", "c", "d"), ("effect", "e", "e"), ("node", "f", "f"), ("program", "g", "g")):
             self.write(name, here, there)
         low = Fake(self.here, "map", proved=True)
         value, other = Fake(self.here, "value", [low]), Fake(self.here, "glob")
         over, late = Fake(self.here, "effect", [value, other]), Fake(self.here, "node", [value])
-        crates = [low, value, other, over, late]
-        self.assertEqual(borrowed(crates, self.there, {"map", "value", "glob", "effect"}), ["map", "value"])
-        self.assertEqual([it.taken for it in crates], [[], [os.path.join(self.there, "crates", "value")], [], [], []])
+        crates = [low, value, other, over, late, Fake(self.here, "program", [low])]
+        self.assertEqual(borrowed(crates, self.there, {"map", "value", "glob", "effect", "program"}), ["map", "value"])
+        self.assertEqual([it.taken for it in crates], [[], [os.path.join(self.there, "crates", "value")], [], [], [], []])
 
     def test_what_is_proved_is_read_from_what_rt_ci_says(self):
         log = os.path.join(self.here, "log")

@@ -38,7 +38,7 @@ def borrowed(crates, copy, proved):
     taken = []
     for crate in crates:
         there = os.path.join(copy, "crates", crate.name)
-        if crate.name not in proved or not {it.name for it in crate.below} <= set(taken):
+        if not crate.is_library() or crate.name not in proved or not {it.name for it in crate.below} <= set(taken):
             continue
         if all(is_same(os.path.join(there, part), os.path.join(crate.folder, part)) for part in crate.parts()):
             taken.append(crate.name)

@@ -31,7 +31,12 @@ pub fn run_server(
                 ended => ended,
             }
         }
-        None => serve_node(rt, options, Dataset::new(rt.alloc(), seed), &mut Log::none()),
+        None => serve_node(
+            rt,
+            options,
+            Dataset::new(rt.alloc(), seed),
+            &mut Log::none(),
+        ),
     }
 }
 
