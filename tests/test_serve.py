@@ -397,6 +397,8 @@ class Links(Serving):
 
     def test_a_thousand_links_at_once_each_with_a_session(self):
         it = self.serve()
+        other = self.client(it)
+        self.assertEqual(other.asks("PING"), PONG)
         before = it.descriptors()
         links = [self.client(it) for _ in range(MANY)]
         for at, link in enumerate(links):
