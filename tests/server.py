@@ -11,7 +11,7 @@ import struct
 import subprocess
 import time
 
-from program import LATE, LAUNCHER, request
+from program import LATE, LAUNCHER, PROGRAM, request
 
 HOST = "127.0.0.1"
 READY = re.compile(rb"minired: ready on 127\.0\.0\.1:(\d+), (\d+) keys(?: from (.*))?\n")
@@ -59,6 +59,8 @@ class NotReady(Exception):
 class Server:
     """A running `minired serve` on a free port, or on the one that is named."""
 
+    program = LAUNCHER
+
     def __init__(self, port=None, aof=None, sync=None, turns=None, limits=None, **how):
         def begin():
             # who runs the tests may have started them with this signal ignored
@@ -78,7 +80,7 @@ class Server:
 
     def words(self, aof, sync, turns):
         given = {"--port": self.port, "--aof": aof, "--sync": sync, "--turns": turns}
-        return [LAUNCHER, "serve"] + [str(it) for name, value in given.items() if value is not None for it in (name, value)]
+        return [self.program, "serve"] + [str(it) for name, value in given.items() if value is not None for it in (name, value)]
 
     def wait_until_ready(self):
         """Reads the one line that says that the program listens."""
@@ -139,6 +141,12 @@ class Server:
     def peak(self):
         """The most that it has had in memory so far."""
         return self.status("VmHWM")
+
+
+class BareServer(Server):
+    """The program itself, without what starts it."""
+
+    program = PROGRAM
 
 
 class RedisServer(Server):

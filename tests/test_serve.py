@@ -14,7 +14,7 @@ import unittest
 import zlib
 
 import server
-from program import LATE, compiler, request, run
+from program import LATE, LAUNCHER, compiler, request, run
 from replies import NIL, OK, UNKNOWN, array, bulk, number
 from server import HOST, READY, UNREAD, free_port, has_redis, raise_limit, until
 from test_aof import Made
@@ -185,7 +185,9 @@ class Ending(Serving):
                 ended = it.signalled(sent)
                 self.assertEqual((ended.returncode, ended.stdout, ended.stderr), (-sent, b"", b""))
                 self.assertEqual(client.rest(), b"")
-                self.assertEqual(self.client(self.serve(aof=self.path)).asks("GET", "k"), bulk(sent.name))
+                again = self.serve(aof=self.path)
+                self.assertEqual(self.client(again).asks("GET", "k"), bulk(sent.name))
+                again.kill()
 
     def test_a_port_in_use(self):
         self.write(SET_V)
@@ -215,7 +217,7 @@ class Ending(Serving):
         self.assertEqual(self.client(self.serve(aof=self.path)).asks("GET", "k"), bulk("x"))
 
     def test_a_file_that_pipe_has(self):
-        pipe = subprocess.Popen([server.LAUNCHER, "pipe", "--aof", self.path], stdin=subprocess.PIPE, stdout=subprocess.PIPE, bufsize=0)
+        pipe = subprocess.Popen([LAUNCHER, "pipe", "--aof", self.path], stdin=subprocess.PIPE, stdout=subprocess.PIPE, bufsize=0)
         pipe.stdin.write(SET_V)
         self.assertEqual(pipe.stdout.read(len(OK)), OK)
         self.file_failed(self.asked())
@@ -637,7 +639,9 @@ class Syncing(Serving):
         subprocess.run([*compiler(), "-shared", "-fPIC", "-O1", "-nostdlib", "-o", cls.shim, source], check=True)
 
     def serve_with(self, sync, fails):
-        return self.serve(aof=self.path, sync=sync, env={**os.environ, "LD_PRELOAD": self.shim, "FAIL_SYNC": str(fails)})
+        it = server.BareServer(aof=self.path, sync=sync, env={**os.environ, "LD_PRELOAD": self.shim, "FAIL_SYNC": str(fails)})
+        self.addCleanup(it.stop)
+        return it
 
     def test_a_write_is_synced_before_its_reply(self):
         for sync in (None, "always"):
