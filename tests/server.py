@@ -199,6 +199,13 @@ class Client:
     def send(self, data):
         self.socket.sendall(data)
 
+    def send_what_goes(self, data):
+        """Sends as much as the server takes: it may close the link within these bytes."""
+        try:
+            self.send(data)
+        except (ConnectionResetError, BrokenPipeError):
+            pass
+
     def more(self):
         """Takes what there is into what is kept, at least a byte, and says whether there was one: there is none at the end."""
         piece = self.socket.recv(1 << 20)
