@@ -47,6 +47,21 @@ def asked(lines):
     return b"".join(request(*line.split()) for line in lines)
 
 
+def read(reply, at=0):
+    """A reply as texts, numbers and lists of them, and where it ends."""
+    end = reply.index(b"\r\n", at) + 2
+    kind, head = reply[at : at + 1], reply[at + 1 : end - 2]
+    if kind == b"$" and head != b"-1":
+        return reply[end : end + int(head)], end + int(head) + 2
+    if kind == b"*" and head != b"-1":
+        items = []
+        for _ in range(int(head)):
+            item, end = read(reply, end)
+            items.append(item)
+        return items, end
+    return reply[at : end - 2], end
+
+
 class Answering(unittest.TestCase):
     def answers(self, rows, *words):
         """Each command on its own, so that the first wrong reply is told."""

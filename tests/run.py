@@ -20,6 +20,8 @@ sys.path.insert(0, os.path.join(ROOT, "tools"))
 from kit import OF_A_CHECK, Kit, NoKit
 
 COUNT = re.compile(r"(\d+) passed, (\d+) failed\s*\Z")
+# how the reason begins for which a test of a client is skipped that the machine doesn't have
+ABSENT = "absent: "
 # what a clone of the repository doesn't have, and the edits
 NOT_COPIED = (".git", "out", "__pycache__", "*.pyc", "must-fail")
 
@@ -127,6 +129,18 @@ def copied(root, to):
     return copy
 
 
+def judged(result):
+    """How many of the tests passed and failed. One whose client the machine doesn't have is neither, and the client is named; any other skipped one has failed."""
+    absent = [(test, why) for test, why in result.skipped if why.startswith(ABSENT)]
+    for test, why in absent:
+        print(f"{why} ({test.id()})")
+    bad = len(result.failures) + len(result.errors) + len(result.unexpectedSuccesses) + len(result.skipped) - len(absent)
+    passed = result.testsRun - len(absent)
+    if bad or not result.wasSuccessful() or passed < 1:
+        return max(0, passed - 1), max(1, bad)
+    return passed, 0
+
+
 def tables():
     """Tests the built program, and returns how many of its tests passed."""
     built = subprocess.run([LAUNCHER], cwd=ROOT, stdin=subprocess.DEVNULL)
@@ -134,11 +148,12 @@ def tables():
         print("minired's tests: the program cannot be built")
         end(0, 1)
     found = unittest.defaultTestLoader.discover(os.path.dirname(os.path.abspath(__file__)))
-    result = unittest.TextTestRunner(stream=sys.stdout, verbosity=2, failfast=True).run(found)
-    bad = len(result.failures) + len(result.errors) + len(result.unexpectedSuccesses) + len(result.skipped)
-    if bad or not result.wasSuccessful() or not result.testsRun:
-        end(max(0, result.testsRun - 1), max(1, bad))
-    return result.testsRun
+    # what runs the gate says otherwise where no client may be absent
+    os.environ.setdefault("ABSENT_CLIENTS", "named")
+    passed, failed = judged(unittest.TextTestRunner(stream=sys.stdout, verbosity=2, failfast=True).run(found))
+    if failed:
+        end(passed, failed)
+    return passed
 
 
 def tables_in(folder, passed):

@@ -143,6 +143,38 @@ class ByTheProver(unittest.TestCase):
             self.assertEqual(len(re.findall(rf"^refused {name}\.edit: ", said.getvalue(), re.M)), 1, said.getvalue())
 
 
+class Skipped(unittest.TestCase):
+    """Tests of the program that are skipped."""
+
+    def judges(self, *reasons):
+        class Some(unittest.TestCase):
+            def test_that_passes(self):
+                pass
+
+        def skipping(why):
+            return lambda self: self.skipTest(why)
+
+        for at, why in enumerate(reasons):
+            setattr(Some, f"test_{at}", skipping(why))
+        result = unittest.TestResult()
+        unittest.defaultTestLoader.loadTestsFromTestCase(Some).run(result)
+        said = io.StringIO()
+        with contextlib.redirect_stdout(said):
+            return run.judged(result), said.getvalue()
+
+    def test_a_client_that_is_absent_is_named_and_not_counted(self):
+        count, said = self.judges("absent: php-redis", "absent: python3-redis")
+        self.assertEqual(count, (1, 0))
+        self.assertEqual([line.split(" (")[0] for line in said.splitlines()], ["absent: php-redis", "absent: python3-redis"])
+
+    def test_any_other_reason_is_a_failure(self):
+        self.assertEqual(self.judges("absent: php-redis", "not today")[0][1], 1)
+
+    def test_where_all_are_absent_nothing_passed(self):
+        result = unittest.TestResult()
+        self.assertEqual(run.judged(result)[1], 1)
+
+
 class Comparing(unittest.TestCase):
     """What rt and the script of batches say of the same edits."""
 
