@@ -2,7 +2,7 @@
 ghost use Rattle.std.specs.Prelude.{◌≡◌, IfErr};
 ghost use Rattle.mr_links.specs.Links.{Links as LinksState};
 ghost use Rattle.mr_wire.specs.Wire.{LinkState, Accepts};
-ghost use Rattle.mr_loop.specs.Going.{Goes};
+ghost use Rattle.mr_loop.specs.Going.{GoesAs};
 ghost use Rattle.mr_loop.specs.Quiet.{AllWait};
 
 use crate::fault::LoopFault;
@@ -20,7 +20,7 @@ pub(crate) fn accept_all<W: Wire>(
     links: &mut Links,
     wire: &mut W,
 ) -> Result<bool, LoopFault>
-    ensures went { Goes W.tells node.old links.old (W.links wire.old) node.new links.new (W.links wire.new) }
+    ensures went { GoesAs W.tells result node.old links.old (W.links wire.old) node.new links.new (W.links wire.new) }
     ensures quiet { AllWait node.old → AllWait node.new }
 {
     for _ in 0..MOST_ACCEPTED {
@@ -33,7 +33,7 @@ pub(crate) fn accept_all<W: Wire>(
 
 /// Accepts the next link, if there is one. It answers whether there may be more.
 fn accept_next<W: Wire>(node: &mut Node, links: &mut Links, wire: &mut W) -> Result<bool, LoopFault>
-    ensures went { Goes W.tells node.old links.old (W.links wire.old) node.new links.new (W.links wire.new) }
+    ensures went { GoesAs W.tells result node.old links.old (W.links wire.old) node.new links.new (W.links wire.new) }
     ensures quiet { AllWait node.old → AllWait node.new }
 {
     match wire.accept() {
@@ -50,7 +50,7 @@ fn join<W: Wire>(
     wire: &mut W,
     name: LinkId,
 ) -> Result<bool, LoopFault>
-    ensures went { (before : LinksState LinkState) → Accepts before name (W.links wire.old) → Goes W.tells node.old links.old before node.new links.new (W.links wire.new) }
+    ensures went { (before : LinksState LinkState) → Accepts before name (W.links wire.old) → GoesAs W.tells result node.old links.old before node.new links.new (W.links wire.new) }
     ensures quiet { AllWait node.old → AllWait node.new }
 {
     match node.open() {

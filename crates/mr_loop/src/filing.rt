@@ -1,7 +1,7 @@
 // What waits for the file.
 ghost use Rattle.std.specs.Prelude.{◌≡◌, [], OnOk};
 ghost use Rattle.std.specs.Option.{option_map};
-ghost use Rattle.mr_loop.specs.Going.{Files, IsReplacing};
+ghost use Rattle.mr_loop.specs.Going.{FilesAs, IsReplacing};
 
 use crate::fault::LoopFault;
 use crate::links::Links;
@@ -10,7 +10,7 @@ use mr_file::LogFile;
 
 /// Appends what waits for the file, and syncs it with `Always`. Where nothing waits, no call is made.
 pub(crate) fn commit<F: LogFile>(links: &mut Links, log: &mut Log<F>) -> Result<(), LoopFault>
-    ensures went { Files log.old.mode links.old (F.told log.old.file) (F.synced log.old.file) links.new (F.told log.new.file) (F.synced log.new.file) }
+    ensures went { FilesAs log.old.mode result links.old (F.told log.old.file) (F.synced log.old.file) links.new (F.told log.new.file) (F.synced log.new.file) }
     ensures all { OnOk result (links.new ≡ record links.old { batch = [] }) }
     ensures mode { log.new.mode ≡ log.old.mode }
 {
