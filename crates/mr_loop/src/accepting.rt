@@ -22,6 +22,7 @@ pub(crate) fn accept_all<W: Wire>(
 ) -> Result<bool, LoopFault>
     ensures went { GoesAs W.tells result node.old links.old (W.links wire.old) node.new links.new (W.links wire.new) }
     ensures quiet { AllWait node.old → AllWait node.new }
+    ensures fault { IfErr result (λ e. e ≡ LoopFault.Stopped) }
 {
     for _ in 0..MOST_ACCEPTED {
         if !accept_next(node, links, wire)? {
@@ -35,6 +36,7 @@ pub(crate) fn accept_all<W: Wire>(
 fn accept_next<W: Wire>(node: &mut Node, links: &mut Links, wire: &mut W) -> Result<bool, LoopFault>
     ensures went { GoesAs W.tells result node.old links.old (W.links wire.old) node.new links.new (W.links wire.new) }
     ensures quiet { AllWait node.old → AllWait node.new }
+    ensures fault { IfErr result (λ e. e ≡ LoopFault.Stopped) }
 {
     match wire.accept() {
         Ok(Some(name)) => join(node, links, wire, name),
@@ -52,6 +54,7 @@ fn join<W: Wire>(
 ) -> Result<bool, LoopFault>
     ensures went { (before : LinksState LinkState) → Accepts before name (W.links wire.old) → GoesAs W.tells result node.old links.old before node.new links.new (W.links wire.new) }
     ensures quiet { AllWait node.old → AllWait node.new }
+    ensures fault { IfErr result (λ e. e ≡ LoopFault.Stopped) }
 {
     match node.open() {
         Ok(link) => match links.join(name, link) {

@@ -1,5 +1,5 @@
 // Turns one after another.
-ghost use Rattle.std.specs.Prelude.{◌≡◌, [], OnOk};
+ghost use Rattle.std.specs.Prelude.{◌≡◌, [], OnOk, true, IsErrOf};
 ghost use Rattle.mr_loop.specs.Stage.{stage_of};
 ghost use Rattle.mr_loop.specs.Outcomes.{Serves};
 ghost use Rattle.mr_loop.specs.Quiet.{AllWait};
@@ -24,6 +24,7 @@ pub fn serve<W: Wire, F: LogFile, S: Source>(
 ) -> Result<(), LoopFault>
     requires { links.old.batch ≡ [] }
     ensures went { Serves W.tells log.old.mode result (stage_of W.links F.told F.synced node.old links.old wire.old log.old) (stage_of W.links F.told F.synced node.new links.new wire.new log.new) }
+    ensures device { IsErrOf result LoopFault.File → log.new.broken ≡ true }
     ensures written { OnOk result (links.new.batch ≡ []) }
     ensures quiet { AllWait node.old → OnOk result (AllWait node.new) }
 {

@@ -1,5 +1,5 @@
 // What the node makes of what clients sent.
-ghost use Rattle.std.specs.Prelude.{◌≡◌, ◌<◌, ◌≤◌, true, IfOk};
+ghost use Rattle.std.specs.Prelude.{◌≡◌, ◌<◌, ◌≤◌, true, IfOk, IfErr, IsErrOf};
 ghost use Rattle.mr_loop.specs.Stage.{client_of};
 ghost use Rattle.mr_loop.specs.Left.{left_of};
 ghost use Rattle.mr_loop.specs.Going.{GoesAlone, GoesAloneAs, GoesWithFileAs, IsCarriedOut};
@@ -27,6 +27,7 @@ pub(crate) fn step<F: LogFile>(
 ) -> Result<bool, LoopFault>
     ensures went { GoesWithFileAs log.old.mode result node.old links.old (F.told log.old.file) (F.synced log.old.file) node.new links.new (F.told log.new.file) (F.synced log.new.file) }
     ensures mode { log.new.mode ≡ log.old.mode }
+    ensures device { IsErrOf result LoopFault.File → log.new.broken ≡ true }
     ensures quiet { WaitsBut (client_of links.old k) node.old → IfOk result (λ used. WaitsUnless used (client_of links.new k) node.new) }
     ensures uses { IfOk result (λ used. used ≡ true → left_of (client_of links.new k) node.new < left_of (client_of links.old k) node.old) }
 {
@@ -82,6 +83,7 @@ fn carry_out<F: LogFile>(
 ) -> Result<(), LoopFault>
     ensures went { IsCarriedOut outs.now k links.old (F.told log.old.file) (F.synced log.old.file) links.new (F.told log.new.file) (F.synced log.new.file) result }
     ensures mode { log.new.mode ≡ log.old.mode }
+    ensures device { IsErrOf result LoopFault.File → log.new.broken ≡ true }
 {
     match links.queue(k, outs) {
         Ok(()) => replace(links, log, outs.replaced()),
@@ -93,6 +95,7 @@ fn carry_out<F: LogFile>(
 pub(crate) fn tick(node: &mut Node, links: &mut Links, given: Given) -> Result<(), LoopFault>
     ensures went { GoesAloneAs result node.old links.old node.new links.new }
     ensures quiet { AllWait node.old → AllWait node.new }
+    ensures fault { IfErr result (λ e. e ≡ LoopFault.Stopped) }
 {
     match node.tick(given) {
         Ok(outs) => {

@@ -43,6 +43,7 @@ pub fn turn<W: Wire, F: LogFile, S: Source>(
     ensures went { Turns W.tells log.old.mode result (stage_of W.links F.told F.synced node.old links.old wire.old log.old) (stage_of W.links F.told F.synced node.new links.new wire.new log.new) }
     ensures written { OnOk result (links.new.batch ≡ []) }
     ensures mode { log.new.mode ≡ log.old.mode }
+    ensures device { IsErrOf result LoopFault.File → log.new.broken ≡ true }
     ensures quiet { AllWait node.old → OnOk result (AllWait node.new) }
     ensures file { IsErrOf result LoopFault.File → node.new.core.up ≡ false }
     ensures stopped { IsErrOf result LoopFault.Stopped → node.new.core.up ≡ false }
@@ -71,6 +72,7 @@ fn go_on<W: Wire, F: LogFile, S: Source>(
     ensures went { Does W.tells log.old.mode result (stage_of W.links F.told F.synced node.old links.old wire.old log.old) (stage_of W.links F.told F.synced node.new links.new wire.new log.new) }
     ensures written { OnOk result (links.new.batch ≡ []) }
     ensures mode { log.new.mode ≡ log.old.mode }
+    ensures device { IsErrOf result LoopFault.File → log.new.broken ≡ true }
     ensures quiet { AllWait node.old → OnOk result (AllWait node.new) }
 {
     let mut moment = Moment::new(source);
@@ -103,6 +105,7 @@ fn read_all<W: Wire, F: LogFile, S: Source>(
 ) -> Result<bool, LoopFault>
     ensures went { Does W.tells log.old.mode result (stage_of W.links F.told F.synced node.old links.old wire.old log.old) (stage_of W.links F.told F.synced node.new links.new wire.new log.new) }
     ensures mode { log.new.mode ≡ log.old.mode }
+    ensures device { IsErrOf result LoopFault.File → log.new.broken ≡ true }
     ensures quiet { AllWait node.old → OnOk result (AllWait node.new) }
 {
     let mut piece = links.take_piece();
@@ -121,6 +124,7 @@ fn read_each<W: Wire, F: LogFile, S: Source>(
 ) -> Result<bool, LoopFault>
     ensures went { Does W.tells log.old.mode result (stage_of W.links F.told F.synced node.old links.old wire.old log.old) (stage_of W.links F.told F.synced node.new links.new wire.new log.new) }
     ensures mode { log.new.mode ≡ log.old.mode }
+    ensures device { IsErrOf result LoopFault.File → log.new.broken ≡ true }
     ensures quiet { AllWait node.old → OnOk result (AllWait node.new) }
 {
     let mut more = false;
@@ -142,6 +146,7 @@ fn read_at<W: Wire, F: LogFile, S: Source>(
 ) -> Result<bool, LoopFault>
     ensures went { Does W.tells log.old.mode result (stage_of W.links F.told F.synced node.old links.old wire.old log.old) (stage_of W.links F.told F.synced node.new links.new wire.new log.new) }
     ensures mode { log.new.mode ≡ log.old.mode }
+    ensures device { IsErrOf result LoopFault.File → log.new.broken ≡ true }
     ensures quiet { AllWait node.old → OnOk result (AllWait node.new) }
 {
     match links.at(index) {
@@ -162,6 +167,7 @@ fn read_client<W: Wire, F: LogFile, S: Source>(
 ) -> Result<bool, LoopFault>
     ensures went { Does W.tells log.old.mode result (stage_of W.links F.told F.synced node.old links.old wire.old log.old) (stage_of W.links F.told F.synced node.new links.new wire.new log.new) }
     ensures mode { log.new.mode ≡ log.old.mode }
+    ensures device { IsErrOf result LoopFault.File → log.new.broken ≡ true }
     ensures quiet { AllWait node.old → OnOk result (AllWait node.new) }
 {
     for _ in 0..MOST_PIECES {
@@ -184,13 +190,11 @@ fn step_all<W: Wire, F: LogFile, S: Source>(
 ) -> Result<(), LoopFault>
     ensures went { Does W.tells log.old.mode result (stage_of W.links F.told F.synced node.old links.old wire.old log.old) (stage_of W.links F.told F.synced node.new links.new wire.new log.new) }
     ensures mode { log.new.mode ≡ log.old.mode }
+    ensures device { IsErrOf result LoopFault.File → log.new.broken ≡ true }
     ensures quiet { WaitsBut (client_of links.old k) node.old → OnOk result (AllWait node.new) }
 {
-    loop {
-        if !step_next(node, links, wire, log, moment, k)? {
-            return Ok(());
-        }
-    }
+    while step_next(node, links, wire, log, moment, k)? {}
+    Ok(())
 }
 
 /// The next step on a client's link, unless the client left too much unread. It answers whether something was used.
@@ -204,6 +208,7 @@ fn step_next<W: Wire, F: LogFile, S: Source>(
 ) -> Result<bool, LoopFault>
     ensures went { Does W.tells log.old.mode result (stage_of W.links F.told F.synced node.old links.old wire.old log.old) (stage_of W.links F.told F.synced node.new links.new wire.new log.new) }
     ensures mode { log.new.mode ≡ log.old.mode }
+    ensures device { IsErrOf result LoopFault.File → log.new.broken ≡ true }
     ensures quiet { WaitsBut (client_of links.old k) node.old → IfOk result (λ used. WaitsUnless used (client_of links.new k) node.new) }
     ensures uses { IfOk result (λ used. used ≡ true → left_of (client_of links.new k) node.new < left_of (client_of links.old k) node.old) }
 {

@@ -1,5 +1,5 @@
 // What is sent to clients.
-ghost use Rattle.std.specs.Prelude.{◌≡◌, ◌≤◌, [], OnOk};
+ghost use Rattle.std.specs.Prelude.{◌≡◌, ◌≤◌, [], OnOk, true, IsErrOf};
 ghost use Rattle.mr_node.specs.State.{NodeState};
 ghost use Rattle.mr_loop.specs.Stage.{client_of, stage_of};
 ghost use Rattle.mr_loop.specs.Left.{left_of};
@@ -90,6 +90,7 @@ pub(crate) fn unburden<W: Wire, F: LogFile>(
 ) -> Result<(), LoopFault>
     ensures went { Does W.tells log.old.mode result (stage_of W.links F.told F.synced node.old links.old wire.old log.old) (stage_of W.links F.told F.synced node.new links.new wire.new log.new) }
     ensures mode { log.new.mode ≡ log.old.mode }
+    ensures device { IsErrOf result LoopFault.File → log.new.broken ≡ true }
     ensures quiet { WaitsBut (client_of links.old k) node.old → OnOk result (WaitsBut (client_of links.new k) node.new) }
     ensures left { OnOk result (left_of (client_of links.new k) node.new ≤ left_of (client_of links.old k) node.old) }
 {
