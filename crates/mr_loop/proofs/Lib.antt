@@ -5,3 +5,4 @@ pub mod Runs
 pub mod Sending
 pub mod Using
 pub mod Waiting
+pub mod Wired

@@ -1,5 +1,5 @@
 -- Events one after another, and what a fault leaves.
-use Rattle.std.proofs.Common.{◌≡◌, Bool, List, [], ◌∷◌, ◌++◌, ℕ, Option, None, Some, Result, Ok, Err, refl, sym, subst, ◌∙◌}
+use Rattle.std.proofs.Common.{◌≡◌, Bool, List, [], ◌∷◌, ◌++◌, ℕ, Option, None, Some, Result, Ok, Err, refl, sym, ap, subst, ◌∙◌}
 use Rattle.mr_aof.specs.declared.log.SyncMode.{SyncMode}
 use Rattle.mr_links.specs.Links.{Links}
 use Rattle.mr_node.specs.State.{NodeState}
@@ -60,6 +60,12 @@ no_listener (spills_tick given outs) e = cc
 no_listener fails e = cc
 no_listener stops e = cc
 no_listener _ e = cc
+
+err_is : (why other : LoopFault) → ◌≡◌ {A = Result (Unit {0}) LoopFault} (Err why) (Err other) → why ≡ other
+err_is why other e = cc
+
+pub never_listener : {tells : Bool} {mode : SyncMode} {s t : Stage} (why : LoopFault) → Broke tells mode why s t → ◌≡◌ {A = Result (Unit {0}) LoopFault} (Err why) (Err fault.Listener) → ⊥
+never_listener why broke e = no_listener broke.last (broke.told ∙ ap Some (err_is why fault.Listener e))
 
 pub breaks_down : {tells : Bool} {mode : SyncMode} {s b t : Stage} (why : LoopFault) → Broke tells mode why s b → IsStopped b t → Turns tells mode (Err why) s t
 breaks_down fault.Listener broke stopped = absurd (no_listener broke.last broke.told)

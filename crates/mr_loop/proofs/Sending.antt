@@ -17,14 +17,14 @@ use Rattle.mr_loop.specs.declared.fault.LoopFault.{LoopFault}
 use Rattle.mr_loop.specs.Stage.{Stage, LoopState, ClientState, begun, client_of, put_client}
 use Rattle.mr_loop.specs.Rows.{Event, fault_of, Happens, IsReplaced, Run, behind_replacing, behind_step, phase_after, phase_behind, queued, joins, turns_away, takes, finds_none, hears_end, loses, is_refused, is_deaf, hangs_up, steps, idles, spills, tears, spills_tick, writes, appends, fails, ticks, closes, stops}
 use Rattle.mr_loop.specs.Outcomes.{BreaksDown}
-use Rattle.mr_loop.specs.Sent.{moved_by, replied_by, parts_with, file_with, filed_by, moved_in, replied_in, filed_in, StaysIn, GoesOutInOrder, IsFiledFirst, IsSentOnceFiled, IsSilentBehindFaults}
+use Rattle.mr_loop.specs.Sent.{moved_by, replied_by, parts_with, file_with, filed_by, moved_in, replied_in, filed_in, StaysIn, IsInOrder, GoesOutInOrder, IsFiledFirst, IsSentOnceFiled, IsSilentBehindFaults}
 use Rattle.mr_loop.proofs.Places.{some_at}
 use Rattle.mr_loop.proofs.Waiting.{replaced_there, some_is}
 
-no_client : {c : ClientState} → ◌≡◌ {A = Option ClientState} None (Some c) → ⊥
+pub no_client : {c : ClientState} → ◌≡◌ {A = Option ClientState} None (Some c) → ⊥
 no_client e = cc
 
-no_fault : {why : LoopFault} → ◌≡◌ {A = Option LoopFault} (Some why) None → ⊥
+pub no_fault : {why : LoopFault} → ◌≡◌ {A = Option LoopFault} (Some why) None → ⊥
 no_fault e = cc
 
 not_told : {why : LoopFault} → ◌≡◌ {A = Option LoopFault} None (Some why) → ⊥
@@ -33,21 +33,23 @@ not_told e = cc
 -- ---- one client
 
 -- what one event leaves of a client that is there
-record Kept (k : LinkId) (c : ClientState) (e : Event) (o : LoopState) : Type 0 where
-  client : ClientState
-  there : client_of o k ≡ Some client
-  order : moved_by k e ++ client.waiting ≡ c.waiting ++ replied_by k e
+pub record Kept (k : LinkId) (c : ClientState) (e : Event) (o : LoopState) : Type 0 where
+  pub client : ClientState
+  pub there : client_of o k ≡ Some client
+  pub name : client.name ≡ c.name
+  pub order : moved_by k e ++ client.waiting ≡ c.waiting ++ replied_by k e
 
 -- where nothing is moved and nothing waits anew
-same_waits : (k : LinkId) (c d : ClientState) (e : Event) (o : LoopState) → client_of o k ≡ Some d → d.waiting ≡ c.waiting → moved_by k e ≡ [] → replied_by k e ≡ [] → Kept k c e o
-same_waits k c d e o there same none nothing = record {
+same_waits : (k : LinkId) (c d : ClientState) (e : Event) (o : LoopState) → client_of o k ≡ Some d → d.name ≡ c.name → d.waiting ≡ c.waiting → moved_by k e ≡ [] → replied_by k e ≡ [] → Kept k c e o
+same_waits k c d e o there name same none nothing = record {
   client = d;
   there = there;
+  name = name;
   order = ap (λ xs. xs ++ d.waiting) none ∙ (same ∙ (sym (append-nil c.waiting) ∙ ap (λ ys. c.waiting ++ ys) (sym nothing)));
 }
 
 -- a client that was put under a name: it is this one, or another
-put_at : (o : LoopState) (j k : LinkId) (d c : ClientState) → client_of o k ≡ Some c
+pub put_at : (o : LoopState) (j k : LinkId) (d c : ClientState) → client_of o k ≡ Some c
     → ((j ≡ k) × (eq_by_cmp id_cmp k j ≡ true) × (client_of (put_client o j d) k ≡ Some d)) ⊎ ((eq_by_cmp id_cmp k j ≡ false) × (client_of (put_client o j d) k ≡ Some c))
 put_at o j k d c there =
     let behind = get-insert ids_total o.clients.open_links j d k in
@@ -57,7 +59,7 @@ put_at o j k d c there =
     ] refl
 
 -- the client under a name is one
-one_client : (o : LoopState) (j k : LinkId) (b c : ClientState) → client_of o j ≡ Some b → client_of o k ≡ Some c → j ≡ k → b ≡ c
+pub one_client : (o : LoopState) (j k : LinkId) (b c : ClientState) → client_of o j ≡ Some b → client_of o k ≡ Some c → j ≡ k → b ≡ c
 one_client o j k b c there here e = some_is b c (sym there ∙ (ap (client_of o) e ∙ here))
 
 -- another phase
@@ -66,12 +68,12 @@ phased : (e : Event) (o p : LoopState) (j k : LinkId) (b c : ClientState) (next 
 phased e o p j k b c next there here own none nothing =
     let now = ap (λ (z : LoopState). client_of z k) own in
     elim (put_at o j k (record b { phase = next }) c here) [
-      | inl is ↦ same_waits k c (record b { phase = next }) e p (now ∙ is.2) (ap (λ (z : ClientState). z.waiting) (one_client o j k b c there here is.0)) none nothing
-      | inr not ↦ same_waits k c c e p (now ∙ not.1) refl none nothing
+      | inl is ↦ same_waits k c (record b { phase = next }) e p (now ∙ is.2) (ap (λ (z : ClientState). z.name) (one_client o j k b c there here is.0)) (ap (λ (z : ClientState). z.waiting) (one_client o j k b c there here is.0)) none nothing
+      | inr not ↦ same_waits k c c e p (now ∙ not.1) refl refl none nothing
     ]
 
 same_own : (e : Event) (o p : LoopState) (k : LinkId) (c : ClientState) → client_of o k ≡ Some c → p ≡ o → moved_by k e ≡ [] → replied_by k e ≡ [] → Kept k c e p
-same_own e o p k c here own none nothing = same_waits k c c e p (ap (λ (z : LoopState). client_of z k) own ∙ here) refl none nothing
+same_own e o p k c here own none nothing = same_waits k c c e p (ap (λ (z : LoopState). client_of z k) own ∙ here) refl refl none nothing
 
 -- a step
 replied : (given : Given) (outs : OutsState) (o p : LoopState) (j k : LinkId) (b c : ClientState) → client_of o j ≡ Some b → client_of o k ≡ Some c → p ≡ behind_step outs j b o → Kept k c (steps j given outs) p
@@ -82,9 +84,10 @@ replied given outs o p j k b c there here own =
       | inl is ↦ record {
         client = d;
         there = now ∙ is.2;
+        name = ap (λ (z : ClientState). z.name) (one_client o j k b c there here is.0);
         order = ap (λ (z : ClientState). z.waiting ++ outs.reply) (one_client o j k b c there here is.0) ∙ ap (λ v. c.waiting ++ (if v then outs.reply else [])) (sym is.1);
       }
-      | inr not ↦ same_waits k c c (steps j given outs) p (now ∙ not.1) refl refl (ap (λ v. if v then outs.reply else []) not.0)
+      | inr not ↦ same_waits k c c (steps j given outs) p (now ∙ not.1) refl refl refl (ap (λ v. if v then outs.reply else []) not.0)
     ]
 
 -- a write
@@ -97,25 +100,26 @@ moved bytes n next o p j k b c there here front own =
       | inl is ↦ record {
         client = d;
         there = now ∙ is.2;
+        name = ap (λ (z : ClientState). z.name) (one_client o j k b c there here is.0);
         order = ap (λ v. (if v then bytes else []) ++ drop n b.waiting) is.1 ∙ (ap (λ z. z ++ drop n b.waiting) front ∙ (take-append-drop n b.waiting ∙ (ap (λ (z : ClientState). z.waiting) (one_client o j k b c there here is.0) ∙ sym (append-nil c.waiting))));
       }
-      | inr not ↦ same_waits k c c (writes j bytes) p (now ∙ not.1) refl (ap (λ v. if v then bytes else []) not.0) refl
+      | inr not ↦ same_waits k c c (writes j bytes) p (now ∙ not.1) refl refl (ap (λ v. if v then bytes else []) not.0) refl
     ]
 
 -- a client that joins
 joined : (o p : LoopState) (j k : LinkId) (d c : ClientState) → client_of o j ≡ None → client_of o k ≡ Some c → p.clients.open_links ≡ insert o.clients.open_links j d → Kept k c (joins j) p
 joined o p j k d c fresh here own = elim (put_at o j k d c here) [
   | inl is ↦ absurd (no_client (sym fresh ∙ (ap (client_of o) is.0 ∙ here)))
-  | inr not ↦ same_waits k c c (joins j) p (ap (λ m. get m k) own ∙ not.1) refl refl refl
+  | inr not ↦ same_waits k c c (joins j) p (ap (λ m. get m k) own ∙ not.1) refl refl refl refl
 ]
 
 -- another client's link is closed
 left_open : (o p : LoopState) (j k : LinkId) (c : ClientState) → client_of o k ≡ Some c → eq_by_cmp id_cmp k j ≡ false → p.clients.open_links ≡ remove o.clients.open_links j → Kept k c (closes j) p
 left_open o p j k c here other own =
-    same_waits k c c (closes j) p (ap (λ m. get m k) own ∙ (get-remove ids_total o.clients.open_links j k ∙ (ap (λ v. cond v None (client_of o k)) other ∙ here))) refl refl refl
+    same_waits k c c (closes j) p (ap (λ m. get m k) own ∙ (get-remove ids_total o.clients.open_links j k ∙ (ap (λ v. cond v None (client_of o k)) other ∙ here))) refl refl refl refl
 
 module _ (tells : Bool) (mode : SyncMode) where
-  kept : (e : Event) (s t : Stage) (k : LinkId) (c : ClientState) → client_of s.own k ≡ Some c → fault_of e ≡ None → parts_with k e ≡ false → Happens tells mode s e t → Kept k c e t.own
+  pub kept : (e : Event) (s t : Stage) (k : LinkId) (c : ClientState) → client_of s.own k ≡ Some c → fault_of e ≡ None → parts_with k e ≡ false → Happens tells mode s e t → Kept k c e t.own
   kept (joins j) s t k c here goes_on stays h = joined s.own t.own j k (begun h.name h.link) c h.fresh here h.clients
   kept turns_away s t k c here goes_on stays h = same_own turns_away s.own t.own k c here h.own refl refl
   kept (takes j bytes) s t k c here goes_on stays h = same_own (takes j bytes) s.own t.own k c here h.own refl refl
@@ -131,23 +135,27 @@ module _ (tells : Bool) (mode : SyncMode) where
   kept (tears j given outs) s t k c here goes_on stays h = absurd (no_fault goes_on)
   kept (spills_tick given outs) s t k c here goes_on stays h = absurd (no_fault goes_on)
   kept (writes j bytes) s t k c here goes_on stays h = moved bytes (count_of h.answer) (phase_behind h.answer h.client.phase) s.own t.own j k h.client c h.has.is here h.bytes_are h.own
-  kept (appends texts) s t k c here goes_on stays h = same_waits k c c (appends texts) t.own (ap (λ (z : LoopState). client_of z k) h.own ∙ here) refl refl refl
+  kept (appends texts) s t k c here goes_on stays h = same_waits k c c (appends texts) t.own (ap (λ (z : LoopState). client_of z k) h.own ∙ here) refl refl refl refl
   kept fails s t k c here goes_on stays h = absurd (no_fault goes_on)
-  kept (ticks given outs) s t k c here goes_on stays h = same_waits k c c (ticks given outs) t.own (ap (λ (z : LoopState). client_of z k) h.own ∙ here) refl refl refl
+  kept (ticks given outs) s t k c here goes_on stays h = same_waits k c c (ticks given outs) t.own (ap (λ (z : LoopState). client_of z k) h.own ∙ here) refl refl refl refl
   kept (closes j) s t k c here goes_on stays h = left_open s.own t.own j k c here stays h.clients
   kept stops s t k c here goes_on stays h = absurd (no_fault goes_on)
 
-  in_order : (es : List Event) (s t : Stage) (k : LinkId) (c : ClientState) → client_of s.own k ≡ Some c → Run tells mode s es t → StaysIn k es
-      → (d : ClientState) × ((client_of t.own k ≡ Some d) × (moved_in k es ++ d.waiting ≡ c.waiting ++ replied_in k es))
-  in_order [] s t k c here run stays = (c, (ap (λ (z : Stage). client_of z.own k) run ∙ here, sym (append-nil c.waiting)))
+  pub in_order : (es : List Event) (s t : Stage) (k : LinkId) (c : ClientState) → client_of s.own k ≡ Some c → Run tells mode s es t → StaysIn k es → IsInOrder k c es t
+  in_order [] s t k c here run stays = record { client = c; there = ap (λ (z : Stage). client_of z.own k) run ∙ here; same_name = refl; in_order = sym (append-nil c.waiting) }
   in_order (e ∷ es) s t k c here run stays =
       let one = kept e s run.0 k c here run.1 stays.0 run.2 in
       let next = in_order es run.0 t k one.client one.there run.3 stays.1 in
-      (next.0, (next.1.0, append_assoc (moved_by k e) (moved_in k es) next.0.waiting
-        ∙ (ap (λ ys. moved_by k e ++ ys) next.1.1
-        ∙ (sym (append_assoc (moved_by k e) one.client.waiting (replied_in k es))
-        ∙ (ap (λ ys. ys ++ replied_in k es) one.order
-        ∙ append_assoc c.waiting (replied_by k e) (replied_in k es))))))
+      record {
+        client = next.client;
+        there = next.there;
+        same_name = next.same_name ∙ one.name;
+        in_order = append_assoc (moved_by k e) (moved_in k es) next.client.waiting
+          ∙ (ap (λ ys. moved_by k e ++ ys) next.in_order
+          ∙ (sym (append_assoc (moved_by k e) one.client.waiting (replied_in k es))
+          ∙ (ap (λ ys. ys ++ replied_in k es) one.order
+          ∙ append_assoc c.waiting (replied_by k e) (replied_in k es))));
+      }
 
 -- ---- the file
 
@@ -221,15 +229,15 @@ module _ (tells : Bool) (mode : SyncMode) where
       let write = cut.1.1.2 in
       let order = in_order tells mode before s now k c here cut.1.0 stays in
       let file = all_filed before s now xs is cut.1.0 in
-      let same : write.client ≡ order.0 = some_is write.client order.0 (sym write.has.is ∙ order.1.0) in
+      let same : write.client ≡ order.client = some_is write.client order.client (sym write.has.is ∙ order.there) in
       let count = count_of write.answer in
-      let whole : bytes ++ drop count write.client.waiting ≡ order.0.waiting =
+      let whole : bytes ++ drop count write.client.waiting ≡ order.client.waiting =
           ap (λ z. z ++ drop count write.client.waiting) write.bytes_are ∙ (take-append-drop count write.client.waiting ∙ ap (λ (z : ClientState). z.waiting) same) in
       record {
         now = now;
         run = cut.1.0;
         rest = drop count write.client.waiting;
-        in_order = append_assoc (moved_in k before) bytes (drop count write.client.waiting) ∙ (ap (λ z. moved_in k before ++ z) whole ∙ order.1.1);
+        in_order = append_assoc (moved_in k before) bytes (drop count write.client.waiting) ∙ (ap (λ z. moved_in k before ++ z) whole ∙ order.in_order);
         filed = file.1.0 ∙ ap Some (sym (append-nil file.0) ∙ (ap (λ z. file.0 ++ z) (sym write.covered) ∙ file.1.1));
       }
 

@@ -1,9 +1,12 @@
 -- What the events of a turn come to: for one client, and for the file.
-use Rattle.std.specs.Prelude.{◌≡◌, ℕ, List, [], ◌∷◌, ◌++◌, Bool, false, Option, Some, None, if◌then◌else◌}
+use Rattle.std.specs.Prelude.{◌≡◌, ℕ, List, [], ◌∷◌, ◌++◌, Bool, true, false, Option, Some, None, if◌then◌else◌}
 use Rattle.std.specs.Ordering.{eq_by_cmp}
+use Rattle.std.specs.FinMap as map
 use Rattle.mr_links.specs.LinkId.{id_cmp}
 use Rattle.mr_links.specs.declared.link_id.LinkId.{LinkId}
+use Rattle.mr_links.specs.Links.{Links}
 use Rattle.mr_node.specs.Outs.{OutsState}
+use Rattle.mr_wire.specs.Wire.{LinkState}
 use Rattle.mr_aof.specs.declared.log.SyncMode.{SyncMode}
 use Rattle.mr_loop.specs.declared.fault.LoopFault.{LoopFault}
 use Rattle.mr_loop.specs.Stage.{Stage, ClientState, client_of}
@@ -54,11 +57,47 @@ abbrev pub StaysIn : LinkId → List Event → Type 0
 StaysIn k [] = Unit {0}
 StaysIn k (e ∷ es) = (parts_with k e ≡ false) × StaysIn k es
 
--- **Replies go out in order.** Of a client whose link isn't closed: what was moved there, with what waits there then, is what waited
--- before with the replies of its steps.
+-- A client is still there. What was moved on its link, with what waits there now, is what waited before with the replies of its steps.
+pub record IsInOrder (k : LinkId) (c : ClientState) (es : List Event) (t : Stage) : Type 0 where
+  pub client : ClientState
+  pub there : client_of t.own k ≡ Some client
+  pub same_name : client.name ≡ c.name
+  pub in_order : moved_in k es ++ client.waiting ≡ c.waiting ++ replied_in k es
+
+-- **Replies go out in order**, of a client whose link isn't closed.
 abbrev pub GoesOutInOrder : Type 0
-GoesOutInOrder = (tells : Bool) (mode : SyncMode) (s t : Stage) (es : List Event) (k : LinkId) (c : ClientState) → client_of s.own k ≡ Some c → Run tells mode s es t → StaysIn k es
-    → (d : ClientState) × ((client_of t.own k ≡ Some d) × (moved_in k es ++ d.waiting ≡ c.waiting ++ replied_in k es))
+GoesOutInOrder = (tells : Bool) (mode : SyncMode) (s t : Stage) (es : List Event) (k : LinkId) (c : ClientState) → client_of s.own k ≡ Some c → Run tells mode s es t → StaysIn k es → IsInOrder k c es t
+
+-- each client has an open link of the wire, and no two have one
+pub record HaveLinks (s : Stage) : Type 0 where
+  pub each : (k : LinkId) (c : ClientState) → client_of s.own k ≡ Some c → (e : LinkState) × (map.get s.wire.open_links c.name ≡ Some e)
+  pub apart : (j k : LinkId) (b c : ClientState) → client_of s.own j ≡ Some b → client_of s.own k ≡ Some c → b.name ≡ c.name → j ≡ k
+
+abbrev pub moved_of : Option LinkState → List ℕ
+moved_of None = []
+moved_of (Some e) = e.moved
+
+-- the bytes that writes moved on a link of the wire
+abbrev pub moved_on : Links LinkState → LinkId → List ℕ
+moved_on w l = moved_of (map.get w.open_links l)
+
+-- Clients have links of their own where there is none, and go on having them.
+abbrev pub HaveLinksFirst : Type 0
+HaveLinksFirst = (s : Stage) → s.own.clients.open_links ≡ map.empty → HaveLinks s
+
+abbrev pub HaveLinksAlways : Type 0
+HaveLinksAlways = (tells : Bool) (mode : SyncMode) (s t : Stage) (es : List Event) → HaveLinks s → Run tells mode s es t → HaveLinks t
+
+-- what a wire that tells its bytes tells of a client's link, and what still waits
+pub record IsTold (s : Stage) (k : LinkId) (c : ClientState) (es : List Event) (t : Stage) : Type 0 where
+  pub client : ClientState
+  pub there : client_of t.own k ≡ Some client
+  pub told : moved_on t.wire client.name ++ client.waiting ≡ moved_on s.wire c.name ++ (c.waiting ++ replied_in k es)
+
+-- **The wire has the replies in order.** What it moved on a client's link, with what waits there, is what it had moved, what waited, and the
+-- replies of the client's steps.
+abbrev pub WireHasReplies : Type 0
+WireHasReplies = (mode : SyncMode) (s t : Stage) (es : List Event) (k : LinkId) (c : ClientState) → HaveLinks s → client_of s.own k ≡ Some c → Run true mode s es t → StaysIn k es → IsTold s k c es t
 
 -- what holds as a write to a client is made, behind these events
 pub record IsFiledFirst (tells : Bool) (mode : SyncMode) (s : Stage) (before : List Event) (k : LinkId) (c : ClientState) (bytes xs : List ℕ) : Type 0 where

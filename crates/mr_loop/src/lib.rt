@@ -16,7 +16,8 @@ mod writing;
 
 pub use fault::LoopFault;
 pub use laws::{
-    nothing_is_sent_behind_a_fault, replies_go_out_in_order, what_is_sent_is_filed,
+    clients_have_links, nothing_is_sent_behind_a_fault, replies_go_out_in_order,
+    the_wire_has_the_replies, what_is_sent_is_filed,
 };
 pub use links::Links;
 pub use serving::serve;

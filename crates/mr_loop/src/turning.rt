@@ -1,5 +1,6 @@
 // A turn.
-ghost use Rattle.std.specs.Prelude.{◌≡◌, ◌<◌, [], false, true, IfOk, OnOk, IsErrOf};
+ghost use Rattle.std.specs.Prelude.{◌≡◌, ◌<◌, [], false, true, IfOk, OnErr, OnOk, IsErrOf};
+ghost use Rattle.mr_file.specs.LogFile.{Rose};
 ghost use Rattle.mr_loop.specs.Stage.{client_of, stage_of};
 ghost use Rattle.mr_loop.specs.Left.{left_of};
 ghost use Rattle.mr_loop.specs.Outcomes.{Does, Turns};
@@ -44,6 +45,7 @@ pub fn turn<W: Wire, F: LogFile, S: Source>(
     ensures written { OnOk result (links.new.batch ≡ []) }
     ensures mode { log.new.mode ≡ log.old.mode }
     ensures device { IsErrOf result LoopFault.File → log.new.broken ≡ true }
+    ensures listener { IsErrOf result LoopFault.Listener → Rose (W.failures wire.old) (W.failures wire.new) }
     ensures quiet { AllWait node.old → OnOk result (AllWait node.new) }
     ensures file { IsErrOf result LoopFault.File → node.new.core.up ≡ false }
     ensures stopped { IsErrOf result LoopFault.Stopped → node.new.core.up ≡ false }
@@ -89,7 +91,8 @@ fn go_on<W: Wire, F: LogFile, S: Source>(
 
 /// Waits until something is ready. Behind a turn that met a limit nothing is waited for.
 fn wait<W: Wire>(links: &Links, wire: &mut W) -> Result<(), Failed>
-    ensures { W.links wire.new ≡ W.links wire.old }
+    ensures same { W.links wire.new ≡ W.links wire.old }
+    ensures cause { OnErr result (Rose (W.failures wire.old) (W.failures wire.new)) }
 {
     let millis = if links.hurries() { 0 } else { LONGEST_WAIT };
     wire.wait(millis)
