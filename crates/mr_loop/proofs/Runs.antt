@@ -8,7 +8,7 @@ use Rattle.mr_loop.specs.declared.fault.LoopFault.{LoopFault}
 use Rattle.mr_loop.specs.declared.fault.LoopFault.TheVariants as fault
 use Rattle.mr_loop.specs.Stage.{Stage, LoopState, stage}
 use Rattle.mr_loop.specs.Rows.{Event, fault_of, Happens, IsStopped, Run, Went, spills, tears, spills_tick, fails, stops}
-use Rattle.mr_loop.specs.Outcomes.{Broke, BreaksDown, Does, Turns, Serves}
+use Rattle.mr_loop.specs.Outcomes.{Broke, Does, Turns, Serves}
 
 pub run_append : (tells : Bool) (mode : SyncMode) (xs ys : List Event) (a b c : Stage) → Run tells mode a xs b → Run tells mode b ys c → Run tells mode a (xs ++ ys) c
 run_append tells mode [] ys a b c r q = subst (λ x. Run tells mode x ys c) r q

@@ -1,5 +1,5 @@
 -- What goes out on a client's link, and what the file has by then: event by event.
-use Rattle.std.proofs.Common.{◌≡◌, ◌⊎◌, inl, inr, ◌++◌, ℕ, List, [], ◌∷◌, Bool, true, false, cond, Option, None, Some, IfSome, take, drop, length, append-nil, append_assoc, take_all, refl, sym, ap, subst, ◌∙◌, if◌then◌else◌, arith}
+use Rattle.std.proofs.Common.{◌≡◌, ◌⊎◌, inl, inr, ◌++◌, ℕ, List, [], ◌∷◌, Bool, true, false, cond, Option, None, Some, take, drop, length, append-nil, append_assoc, take_all, refl, sym, ap, ◌∙◌, if◌then◌else◌, arith}
 use Rattle.std.specs.Ordering.{eq_by_cmp}
 use Rattle.std.specs.FinMap.{get, insert, remove, get-insert, get-remove}
 use Rattle.std.proofs.lemmas.List.{take-append-drop}
@@ -16,7 +16,6 @@ use Rattle.mr_loop.specs.declared.client.Phase.{Phase}
 use Rattle.mr_loop.specs.declared.fault.LoopFault.{LoopFault}
 use Rattle.mr_loop.specs.Stage.{Stage, LoopState, ClientState, begun, client_of, put_client}
 use Rattle.mr_loop.specs.Rows.{Event, fault_of, Happens, IsReplaced, Run, behind_replacing, behind_step, phase_after, phase_behind, queued, joins, turns_away, takes, finds_none, hears_end, loses, is_refused, is_deaf, hangs_up, steps, idles, spills, tears, spills_tick, writes, appends, fails, ticks, closes, stops}
-use Rattle.mr_loop.specs.Outcomes.{BreaksDown}
 use Rattle.mr_loop.specs.Sent.{moved_by, replied_by, parts_with, file_with, filed_by, moved_in, replied_in, filed_in, StaysIn, IsInOrder, GoesOutInOrder, IsFiledFirst, IsSentOnceFiled, IsSilentBehindFaults}
 use Rattle.mr_loop.proofs.Places.{some_at}
 use Rattle.mr_loop.proofs.Waiting.{replaced_there, some_is}
@@ -151,10 +150,10 @@ module _ (tells : Bool) (mode : SyncMode) where
         there = next.there;
         same_name = next.same_name ∙ one.name;
         in_order = append_assoc (moved_by k e) (moved_in k es) next.client.waiting
-          ∙ (ap (λ ys. moved_by k e ++ ys) next.in_order
-          ∙ (sym (append_assoc (moved_by k e) one.client.waiting (replied_in k es))
-          ∙ (ap (λ ys. ys ++ replied_in k es) one.order
-          ∙ append_assoc c.waiting (replied_by k e) (replied_in k es))));
+            ∙ (ap (λ ys. moved_by k e ++ ys) next.in_order
+            ∙ (sym (append_assoc (moved_by k e) one.client.waiting (replied_in k es))
+            ∙ (ap (λ ys. ys ++ replied_in k es) one.order
+            ∙ append_assoc c.waiting (replied_by k e) (replied_in k es))));
       }
 
 -- ---- the file
@@ -232,7 +231,7 @@ module _ (tells : Bool) (mode : SyncMode) where
       let same : write.client ≡ order.client = some_is write.client order.client (sym write.has.is ∙ order.there) in
       let count = count_of write.answer in
       let whole : bytes ++ drop count write.client.waiting ≡ order.client.waiting =
-          ap (λ z. z ++ drop count write.client.waiting) write.bytes_are ∙ (take-append-drop count write.client.waiting ∙ ap (λ (z : ClientState). z.waiting) same) in
+      ap (λ z. z ++ drop count write.client.waiting) write.bytes_are ∙ (take-append-drop count write.client.waiting ∙ ap (λ (z : ClientState). z.waiting) same) in
       record {
         now = now;
         run = cut.1.0;

@@ -1,5 +1,5 @@
 -- That a step which uses something leaves less.
-use Rattle.std.proofs.Common.{◌≡◌, ◌⊎◌, ◌<◌, ◌≤◌, ◌+◌, ◌++◌, inl, inr, ℕ, List, [], ◌∷◌, length, length-append, arith, cond, Option, None, Some, Result, Ok, Err, refl, sym, ap, subst, ◌∙◌}
+use Rattle.std.proofs.Common.{◌≡◌, ◌⊎◌, ◌<◌, ◌≤◌, ◌+◌, ◌++◌, inl, inr, ℕ, List, [], ◌∷◌, length, length-append, arith, cond, Option, None, Some, Result, Ok, sym, ap, ◌∙◌}
 use Rattle.std.specs.FinMap.{get, remove, get-remove}
 use Rattle.mr_links.proofs.LinkRows.{ids_total}
 use Rattle.mr_links.specs.declared.link_id.LinkId.{LinkId}
@@ -7,8 +7,7 @@ use Rattle.mr_data.specs.declared.given.Given.{Given}
 use Rattle.mr_resp.specs.Request.{IsText, IsInArray, line_limit}
 use Rattle.mr_resp.specs.Usual.{usual}
 use Rattle.mr_resp.proofs.Forms.{array_star, form_of, line_some}
-use Rattle.mr_node.specs.State.{NodeState, Core, EndState, Agrees, IsShut, end_of}
-use Rattle.mr_node.specs.State.EndState.{client, shut}
+use Rattle.mr_node.specs.State.{NodeState, Core, Agrees, IsShut, end_of}
 use Rattle.mr_node.specs.Outs.{OutsState, Output}
 use Rattle.mr_node.specs.Served.{Served, request, nothing}
 use Rattle.mr_node.specs.Rows.{ClientRow, serves, closes}

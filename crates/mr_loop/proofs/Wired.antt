@@ -1,5 +1,5 @@
 -- What a wire that tells its bytes tells of the clients' links.
-use Rattle.std.proofs.Common.{◌≡◌, ◌++◌, ℕ, List, [], ◌∷◌, Bool, true, false, cond, Option, None, Some, IfSome, take, drop, inl, inr, ◌⊎◌, append-nil, append_assoc, refl, sym, ap, subst, ◌∙◌, if◌then◌else◌}
+use Rattle.std.proofs.Common.{◌≡◌, ◌++◌, ℕ, List, [], ◌∷◌, Bool, true, false, cond, Option, None, Some, take, drop, inl, inr, ◌⊎◌, append-nil, append_assoc, refl, sym, ap, subst, ◌∙◌, if◌then◌else◌}
 use Rattle.std.specs.Ordering.{eq_by_cmp}
 use Rattle.std.specs.FinMap.{empty, get, insert, remove, get-insert, get-remove, get-empty}
 use Rattle.std.proofs.lemmas.Map.Views.{tells_apart}
@@ -8,14 +8,13 @@ use Rattle.mr_links.specs.Links.{Links}
 use Rattle.mr_links.specs.declared.link_id.LinkId.{LinkId}
 use Rattle.mr_links.proofs.LinkRows.{ids_total, exact_ids}
 use Rattle.mr_aof.specs.declared.log.SyncMode.{SyncMode}
-use Rattle.mr_node.specs.Outs.{OutsState}
-use Rattle.mr_wire.specs.Wire.{LinkState, Accepts, ChangesLink, new_link, behind_read, behind_write, count_of}
+use Rattle.mr_wire.specs.Wire.{LinkState, Accepts, new_link, behind_read, behind_write, count_of}
 use Rattle.mr_wire.specs.declared.wire.Moved.{Moved}
 use Rattle.mr_wire.specs.declared.wire.Moved.TheVariants as answered
 use Rattle.mr_loop.specs.declared.client.Phase.TheVariants as phase
 use Rattle.mr_loop.specs.Stage.{Stage, LoopState, ClientState, begun, client_of, put_client}
-use Rattle.mr_loop.specs.Rows.{Event, Touches, fault_of, Happens, Run, behind_step, queued, phase_after, phase_behind, joins, turns_away, takes, finds_none, hears_end, loses, is_refused, is_deaf, hangs_up, steps, idles, spills, tears, spills_tick, writes, appends, fails, ticks, closes, stops}
-use Rattle.mr_loop.specs.Sent.{moved_by, moved_in, moved_of, moved_on, parts_with, replied_in, StaysIn, HaveLinks, HaveLinksFirst, HaveLinksAlways, IsTold, WireHasReplies}
+use Rattle.mr_loop.specs.Rows.{Event, Touches, fault_of, Happens, Run, queued, phase_after, phase_behind, joins, turns_away, takes, finds_none, hears_end, loses, is_refused, is_deaf, hangs_up, steps, idles, spills, tears, spills_tick, writes, appends, fails, ticks, closes, stops}
+use Rattle.mr_loop.specs.Sent.{moved_by, moved_in, moved_of, moved_on, parts_with, StaysIn, HaveLinks, HaveLinksFirst, HaveLinksAlways, WireHasReplies}
 use Rattle.mr_loop.proofs.Places.{some_at}
 use Rattle.mr_loop.proofs.Sending.{in_order, kept, no_client, no_fault, one_client}
 use Rattle.mr_loop.proofs.Waiting.{itself, replaced_there, some_is}
@@ -92,8 +91,10 @@ joined_links s t j name link h wire fresh own = record { each = each; apart = ap
   where
     put : t.wire.open_links ≡ insert s.wire.open_links name new_link
     put = ap (λ (z : Links LinkState). z.open_links) wire.links
+
     there : get t.wire.open_links name ≡ Some new_link
     there = ap (λ m. get m name) put ∙ (get-insert ids_total s.wire.open_links name new_link name ∙ ap (λ b. cond b (Some new_link) (get s.wire.open_links name)) (itself name))
+
     -- the one that joined, or one that was there
     found : (k : LinkId) (d : ClientState) → client_of t.own k ≡ Some d → ((k ≡ j) × (d.name ≡ name)) ⊎ (client_of s.own k ≡ Some d)
     found k d here =
@@ -102,13 +103,16 @@ joined_links s t j name link h wire fresh own = record { each = each; apart = ap
           | true ↦ λ e f. inl (tells_apart exact_ids k j e, ap (λ (z : ClientState). z.name) (sym (some_is (begun name link) d f)))
           | false ↦ λ e f. inr f
         ] refl behind
+
     each : (k : LinkId) (d : ClientState) → client_of t.own k ≡ Some d → (e : LinkState) × (get t.wire.open_links d.name ≡ Some e)
     each k d here = elim (found k d here) [
       | inl is ↦ (new_link, ap (get t.wire.open_links) is.1 ∙ there)
       | inr old ↦ let link = h.each k d old in (put_open s.wire t.wire name new_link put).each d.name link.0 link.1
     ]
+
     not_fresh : (k : LinkId) (d : ClientState) → client_of s.own k ≡ Some d → d.name ≡ name → ⊥
     not_fresh k d old e = let link = h.each k d old in no_link (sym wire.fresh ∙ (ap (get s.wire.open_links) (sym e) ∙ link.1))
+
     apart : (i k : LinkId) (b c : ClientState) → client_of t.own i ≡ Some b → client_of t.own k ≡ Some c → b.name ≡ c.name → i ≡ k
     apart i k b c one two e = elim (found i b one) [
       | inl x ↦ elim (found k c two) [
@@ -281,7 +285,7 @@ wire_has_replies mode s t es k c held here run stays =
       client = order.client;
       there = order.there;
       told = ap (λ (z : LinkId). moved_on t.wire z ++ order.client.waiting) order.same_name
-        ∙ (ap (λ ys. ys ++ order.client.waiting) moved
-        ∙ (append_assoc (moved_on s.wire c.name) (moved_in k es) order.client.waiting
-        ∙ ap (λ ys. moved_on s.wire c.name ++ ys) order.in_order));
+          ∙ (ap (λ ys. ys ++ order.client.waiting) moved
+          ∙ (append_assoc (moved_on s.wire c.name) (moved_in k es) order.client.waiting
+          ∙ ap (λ ys. moved_on s.wire c.name ++ ys) order.in_order));
     }

@@ -1,5 +1,5 @@
 -- What a turn and its parts did, by what they answer.
-use Rattle.std.specs.Prelude.{◌≡◌, Bool, Option, Some, Result, Ok, Err}
+use Rattle.std.specs.Prelude.{◌≡◌, Bool, Some, Result, Ok, Err}
 use Rattle.mr_aof.specs.declared.log.SyncMode.{SyncMode}
 use Rattle.mr_loop.specs.declared.fault.LoopFault.{LoopFault}
 use Rattle.mr_loop.specs.declared.fault.LoopFault.TheVariants as fault

@@ -5,7 +5,6 @@ use Rattle.std.specs.FinMap as map
 use Rattle.mr_links.specs.LinkId.{id_cmp}
 use Rattle.mr_links.specs.declared.link_id.LinkId.{LinkId}
 use Rattle.mr_links.specs.Links.{Links}
-use Rattle.mr_node.specs.Outs.{OutsState}
 use Rattle.mr_wire.specs.Wire.{LinkState}
 use Rattle.mr_aof.specs.declared.log.SyncMode.{SyncMode}
 use Rattle.mr_loop.specs.declared.fault.LoopFault.{LoopFault}

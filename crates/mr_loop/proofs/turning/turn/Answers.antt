@@ -1,4 +1,4 @@
-use Rattle.std.proofs.Common.{◌≡◌, Err, Result, ap, refl}
+use Rattle.std.proofs.Common.{ap, refl}
 use Rattle.mr_loop.specs.Stage.{Stage, stage}
 use Rattle.mr_loop.specs.Rows.{Went, is_told}
 use Rattle.mr_loop.specs.Outcomes.{Broke}

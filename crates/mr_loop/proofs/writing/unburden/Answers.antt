@@ -1,4 +1,4 @@
-use Rattle.std.proofs.Common.{rules, ◌≡◌, ◌∙◌, Err, ap, arith}
+use Rattle.std.proofs.Common.{rules, ◌≡◌, Err, ap, arith}
 use Rattle.mr_loop.specs.Stage.{LoopState, client_of}
 use Rattle.mr_loop.proofs.Runs.{breaks, went_trans}
 use Rattle.mr_loop.proofs.Using.{stays_left}
