@@ -1,5 +1,5 @@
 -- What goes out on a client's link, and what the file has by then: event by event.
-use Rattle.std.proofs.Common.{◌≡◌, ◌⊎◌, inl, inr, ◌++◌, ℕ, List, [], ◌∷◌, Bool, true, false, cond, Option, None, Some, take, drop, length, append-nil, append_assoc, take_all, refl, sym, ap, ◌∙◌, if◌then◌else◌, arith}
+use Rattle.std.proofs.Common.{◌≡◌, ◌⊎◌, inl, inr, ◌++◌, ℕ, List, [], ◌∷◌, Bool, true, false, cond, Option, None, Some, take, drop, length, append-nil, append_assoc, take_all, refl, sym, ap, subst, ◌∙◌, if◌then◌else◌, arith}
 use Rattle.std.specs.Ordering.{eq_by_cmp}
 use Rattle.std.specs.FinMap.{get, insert, remove, get-insert, get-remove}
 use Rattle.std.proofs.lemmas.List.{take-append-drop}
@@ -9,14 +9,15 @@ use Rattle.mr_links.specs.declared.link_id.LinkId.{LinkId}
 use Rattle.mr_links.proofs.LinkRows.{ids_total, exact_ids}
 use Rattle.mr_aof.specs.declared.log.SyncMode.{SyncMode}
 use Rattle.mr_data.specs.declared.given.Given.{Given}
-use Rattle.mr_file.specs.LogFile.{Appends}
+use Rattle.mr_aof.specs.declared.log.SyncMode.TheVariants as sync
+use Rattle.mr_file.specs.LogFile.{Appends, IsSynced}
 use Rattle.mr_node.specs.Outs.{OutsState}
 use Rattle.mr_wire.specs.Wire.{count_of}
 use Rattle.mr_loop.specs.declared.client.Phase.{Phase}
 use Rattle.mr_loop.specs.declared.fault.LoopFault.{LoopFault}
 use Rattle.mr_loop.specs.Stage.{Stage, LoopState, ClientState, begun, client_of, put_client}
-use Rattle.mr_loop.specs.Rows.{Event, fault_of, Happens, IsReplaced, Run, behind_replacing, behind_step, phase_after, phase_behind, queued, joins, turns_away, takes, finds_none, hears_end, loses, is_refused, is_deaf, hangs_up, steps, idles, spills, tears, spills_tick, writes, appends, fails, ticks, closes, stops}
-use Rattle.mr_loop.specs.Sent.{moved_by, replied_by, parts_with, file_with, filed_by, moved_in, replied_in, filed_in, StaysIn, IsInOrder, GoesOutInOrder, IsFiledFirst, IsSentOnceFiled, IsSilentBehindFaults}
+use Rattle.mr_loop.specs.Rows.{Event, fault_of, Happens, IsReplaced, SameFile, Run, behind_replacing, behind_step, phase_after, phase_behind, queued, joins, turns_away, takes, finds_none, hears_end, loses, is_refused, is_deaf, hangs_up, steps, idles, spills, tears, spills_tick, writes, appends, fails, ticks, closes, stops}
+use Rattle.mr_loop.specs.Sent.{moved_by, replied_by, parts_with, file_with, filed_by, moved_in, replied_in, filed_in, StaysIn, IsInOrder, GoesOutInOrder, IsSyncedWhole, IsFiledFirst, IsSentOnceFiled, IsSilentBehindFaults}
 use Rattle.mr_loop.proofs.Places.{some_at}
 use Rattle.mr_loop.proofs.Waiting.{replaced_there, some_is}
 
@@ -182,6 +183,22 @@ appended_file texts xs o p told told2 are is written own =
     let now = some_at (λ z. told2 ≡ Some (z ++ take (length texts) texts)) told xs is written in
     (xs ++ texts, (now ∙ ap (λ z. Some (xs ++ z)) all, ap (λ (z : LoopState). (xs ++ texts) ++ z.batch) own ∙ (append-nil (xs ++ texts) ∙ ap (λ z. xs ++ z) are)))
 
+-- ---- what of the file is synced
+
+synced_same : (s t : Stage) → IsSyncedWhole s → SameFile s t → t.own.batch ≡ s.own.batch → IsSyncedWhole t
+synced_same s t whole file batch none = subst (λ z. IsSynced z t.synced) (sym file.0) (subst (λ z. IsSynced s.told z) (sym file.1) (whole (sym batch ∙ none)))
+
+front_none : (xs ys : List ℕ) → xs ++ ys ≡ [] → xs ≡ []
+front_none [] ys e = refl
+front_none (x ∷ xs) ys e = absurd (let wrong : x ∷ (xs ++ ys) ≡ [] = e in cc)
+
+synced_more : (s t : Stage) (texts : List ℕ) → IsSyncedWhole s → SameFile s t → t.own.batch ≡ s.own.batch ++ texts → IsSyncedWhole t
+synced_more s t texts whole file batch none = subst (λ z. IsSynced z t.synced) (sym file.0) (subst (λ z. IsSynced s.told z) (sym file.1) (whole (front_none s.own.batch texts (sym batch ∙ none))))
+
+synced_step : (whole : Option (List ℕ)) (k : LinkId) (outs : OutsState) (b : ClientState) (s t : Stage) → IsSyncedWhole s → IsReplaced whole s.told s.synced t.told t.synced → t.own ≡ behind_replacing whole (queued outs k b s.own) → IsSyncedWhole t
+synced_step None k outs b s t held file own = synced_more s t outs.appended held file (ap (λ (z : LoopState). z.batch) own)
+synced_step (Some bytes) k outs b s t held file own = λ none. file.1
+
 module _ (tells : Bool) (mode : SyncMode) where
   filed : (e : Event) (s t : Stage) (xs : List ℕ) → s.told ≡ Some xs → fault_of e ≡ None → Happens tells mode s e t → Filed e xs s.own t.told t.own
   filed (joins j) s t xs is goes_on h = same_file (joins j) xs s.own t.own s.told t.told is h.file.0 h.batch refl
@@ -212,6 +229,34 @@ module _ (tells : Bool) (mode : SyncMode) where
       let next = all_filed es run.0 t one.0 one.1.0 run.3 in
       (next.0, (next.1.0, next.1.1 ∙ ap (λ z. filed_in es z) one.1.1))
 
+  -- ---- with `Always`
+
+  synced_kept : (e : Event) (s t : Stage) → IsSyncedWhole s → fault_of e ≡ None → Happens tells sync.Always s e t → IsSyncedWhole t
+  synced_kept (joins j) s t whole goes_on h = synced_same s t whole h.file h.batch
+  synced_kept turns_away s t whole goes_on h = synced_same s t whole h.file (ap (λ (z : LoopState). z.batch) h.own)
+  synced_kept (takes j bytes) s t whole goes_on h = synced_same s t whole h.file (ap (λ (z : LoopState). z.batch) h.own)
+  synced_kept (finds_none j) s t whole goes_on h = synced_same s t whole h.file (ap (λ (z : LoopState). z.batch) h.own)
+  synced_kept (hears_end j) s t whole goes_on h = synced_same s t whole h.file (ap (λ (z : LoopState). z.batch) h.own)
+  synced_kept (loses j) s t whole goes_on h = synced_same s t whole h.file (ap (λ (z : LoopState). z.batch) h.own)
+  synced_kept (is_refused j) s t whole goes_on h = synced_same s t whole h.given_up.file (ap (λ (z : LoopState). z.batch) h.given_up.own)
+  synced_kept (is_deaf j) s t whole goes_on h = synced_same s t whole h.given_up.file (ap (λ (z : LoopState). z.batch) h.given_up.own)
+  synced_kept (hangs_up j) s t whole goes_on h = synced_same s t whole h.file (ap (λ (z : LoopState). z.batch) h.own)
+  synced_kept (steps j given outs) s t whole goes_on h = synced_step outs.replaced j outs h.client s t whole h.file h.own
+  synced_kept (idles j given) s t whole goes_on h = synced_same s t whole h.file (ap (λ (z : LoopState). z.batch) h.own)
+  synced_kept (spills j given outs) s t whole goes_on h = absurd (no_fault goes_on)
+  synced_kept (tears j given outs) s t whole goes_on h = absurd (no_fault goes_on)
+  synced_kept (spills_tick given outs) s t whole goes_on h = absurd (no_fault goes_on)
+  synced_kept (writes j bytes) s t whole goes_on h = synced_same s t whole h.file (ap (λ (z : LoopState). z.batch) h.own)
+  synced_kept (appends texts) s t whole goes_on h = λ none. h.synced refl
+  synced_kept fails s t whole goes_on h = absurd (no_fault goes_on)
+  synced_kept (ticks given outs) s t whole goes_on h = synced_more s t outs.appended whole h.file (ap (λ (z : LoopState). z.batch) h.own)
+  synced_kept (closes j) s t whole goes_on h = synced_same s t whole h.file h.batch
+  synced_kept stops s t whole goes_on h = absurd (no_fault goes_on)
+
+  all_synced : (es : List Event) (s t : Stage) → IsSyncedWhole s → Run tells sync.Always s es t → IsSyncedWhole t
+  all_synced [] s t whole run = subst IsSyncedWhole (sym run) whole
+  all_synced (e ∷ es) s t whole run = all_synced es run.0 t (synced_kept e s run.0 whole run.1 run.2) run.3
+
   -- ---- a run in two
 
   run_split : (xs ys : List Event) (s t : Stage) → Run tells mode s (xs ++ ys) t → (mid : Stage) × (Run tells mode s xs mid × Run tells mode mid ys t)
@@ -238,6 +283,7 @@ module _ (tells : Bool) (mode : SyncMode) where
         rest = drop count write.client.waiting;
         in_order = append_assoc (moved_in k before) bytes (drop count write.client.waiting) ∙ (ap (λ z. moved_in k before ++ z) whole ∙ order.in_order);
         filed = file.1.0 ∙ ap Some (sym (append-nil file.0) ∙ (ap (λ z. file.0 ++ z) (sym write.covered) ∙ file.1.1));
+        synced = λ always whole. all_synced before s now whole (subst (λ m. Run tells m s before now) always cut.1.0) write.covered;
       }
 
   -- ---- a fault

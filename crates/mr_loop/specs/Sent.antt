@@ -6,7 +6,9 @@ use Rattle.mr_links.specs.LinkId.{id_cmp}
 use Rattle.mr_links.specs.declared.link_id.LinkId.{LinkId}
 use Rattle.mr_links.specs.Links.{Links}
 use Rattle.mr_wire.specs.Wire.{LinkState}
+use Rattle.mr_file.specs.LogFile.{IsSynced}
 use Rattle.mr_aof.specs.declared.log.SyncMode.{SyncMode}
+use Rattle.mr_aof.specs.declared.log.SyncMode.TheVariants as sync
 use Rattle.mr_loop.specs.declared.fault.LoopFault.{LoopFault}
 use Rattle.mr_loop.specs.Stage.{Stage, ClientState, client_of}
 use Rattle.mr_loop.specs.Rows.{Event, steps, ticks, writes, closes, Run}
@@ -98,6 +100,10 @@ pub record IsTold (s : Stage) (k : LinkId) (c : ClientState) (es : List Event) (
 abbrev pub WireHasReplies : Type 0
 WireHasReplies = (mode : SyncMode) (s t : Stage) (es : List Event) (k : LinkId) (c : ClientState) → HaveLinks s → client_of s.own k ≡ Some c → Run true mode s es t → StaysIn k es → IsTold s k c es t
 
+-- where nothing waits for the file, all its bytes are synced
+abbrev pub IsSyncedWhole : Stage → Type 0
+IsSyncedWhole s = s.own.batch ≡ [] → IsSynced s.told s.synced
+
 -- what holds as a write to a client is made, behind these events
 pub record IsFiledFirst (tells : Bool) (mode : SyncMode) (s : Stage) (before : List Event) (k : LinkId) (c : ClientState) (bytes xs : List ℕ) : Type 0 where
   pub now : Stage
@@ -107,6 +113,8 @@ pub record IsFiledFirst (tells : Bool) (mode : SyncMode) (s : Stage) (before : L
   pub in_order : (moved_in k before ++ bytes) ++ rest ≡ c.waiting ++ replied_in k before
   -- the file has what it had, what waited for it, and the texts of all steps and ticks before, or what replaced it and the texts since
   pub filed : now.told ≡ Some (filed_in before (xs ++ s.own.batch))
+  -- with `Always` all of that is synced, if at first all was where nothing waited
+  pub synced : mode ≡ sync.Always → IsSyncedWhole s → IsSynced now.told now.synced
 
 -- **What is sent is in the file.** As bytes are moved to a client, they belong to steps before, and of each of them the file has the texts.
 abbrev pub IsSentOnceFiled : Type 0
