@@ -28,7 +28,7 @@ use Rattle.mr_loop.specs.Rows.{Stepped, behind_replacing, behind_step, phase_aft
 use Rattle.mr_loop.specs.Quiet.{AllWait, OthersWait, WaitsBut, WaitsButLost, WaitsUnless, KeepsOn, StaysThere}
 use Rattle.mr_loop.proofs.Nothing.{waits_nothing}
 
-some_is : {A : Type 0} (x y : A) → ◌≡◌ {A = Option A} (Some x) (Some y) → x ≡ y
+pub some_is : {A : Type 0} (x y : A) → ◌≡◌ {A = Option A} (Some x) (Some y) → x ≡ y
 some_is x y e = cc
 
 client_is : (u v : List ℕ) → client u ≡ client v → u ≡ v
@@ -40,7 +40,7 @@ no_end e = cc
 not_shut : {u : List ℕ} → ◌≡◌ {A = Option EndState} (Some shut) (Some (client u)) → ⊥
 not_shut e = cc
 
-itself : (l : LinkId) → eq_by_cmp id_cmp l l ≡ true
+pub itself : (l : LinkId) → eq_by_cmp id_cmp l l ≡ true
 itself l = (eq_by_cmp_equiv ids_total).refl l
 
 apart : (x l : LinkId) → eq_by_cmp id_cmp x l ≡ false → x ≢ l
@@ -108,7 +108,7 @@ others_wait a o c l e name q = let P : Option ClientState → Type 0 = λ z. Wai
 pub put_there : (o : LoopState) (k : LinkId) (c : ClientState) → client_of (put_client o k c) k ≡ Some c
 put_there o k c = get-insert ids_total o.clients.open_links k c k ∙ ap (λ b. cond b (Some c) (client_of o k)) (itself k)
 
-replaced_there : (whole : Option (List ℕ)) (o : LoopState) (k : LinkId) → client_of (behind_replacing whole o) k ≡ client_of o k
+pub replaced_there : (whole : Option (List ℕ)) (o : LoopState) (k : LinkId) → client_of (behind_replacing whole o) k ≡ client_of o k
 replaced_there None o k = refl
 replaced_there (Some bytes) o k = refl
 
@@ -120,20 +120,20 @@ stepped_there outs o k c = replaced_there outs.replaced (queued outs k c o) k �
 ok_err : {A E : Type 0} (x : A) (y : E) → ◌≡◌ {A = Result A E} (Ok x) (Err y) → ⊥
 ok_err x y e = cc
 
-ok_is : {A E : Type 0} (x y : A) → ◌≡◌ {A = Result A E} (Ok x) (Ok y) → x ≡ y
+pub ok_is : {A E : Type 0} (x y : A) → ◌≡◌ {A = Result A E} (Ok x) (Ok y) → x ≡ y
 ok_is x y e = cc
 
-abbrev WhenDown : NodeState → Result Step NodeFault → NodeState → Type 0
+abbrev pub WhenDown : NodeState → Result Step NodeFault → NodeState → Type 0
 WhenDown a r b = a.core.up ≡ false → (r ≡ Err refused.Stopped) × (b ≡ a)
 
-abbrev WhenShut : NodeState → LinkId → Result Step NodeFault → NodeState → Type 0
+abbrev pub WhenShut : NodeState → LinkId → Result Step NodeFault → NodeState → Type 0
 WhenShut a l r b = a.core.up ≡ true → IsShut a l → (r ≡ Ok step.Closed) × (b ≡ a)
 
-abbrev WhenNone : NodeState → LinkId → Result Step NodeFault → Type 0
+abbrev pub WhenNone : NodeState → LinkId → Result Step NodeFault → Type 0
 WhenNone a l r = (r ≡ Err refused.NoLink) ↔ ((a.core.up ≡ true) × (end_of a l ≡ None))
 
 -- a link at which a step is made agrees with some bytes, or was closed
-met : (a b : NodeState) (l : LinkId) (r : Result Step NodeFault) (s : Step) → r ≡ Ok s → WhenDown a r b → WhenShut a l r b → WhenNone a l r
+pub met : (a b : NodeState) (l : LinkId) (r : Result Step NodeFault) (s : Step) → r ≡ Ok s → WhenDown a r b → WhenShut a l r b → WhenNone a l r
     → ((u : List ℕ) × Agrees a l u) ⊎ ((r ≡ Ok step.Closed) × (b ≡ a))
 met a b l r s is down shuts none =
     let P : Type 0 = ((u : List ℕ) × Agrees a l u) ⊎ ((r ≡ Ok step.Closed) × (b ≡ a)) in
@@ -159,7 +159,7 @@ closing : (b : Bool) (p : Phase) → p ≡ phase.Serving → cond b phase.Leavin
 closing true p e ne = refl
 closing false p e ne = absurd (ne e)
 
-not_closed : (outs : OutsState) → step.Done outs ≡ step.Closed → ⊥
+pub not_closed : (outs : OutsState) → step.Done outs ≡ step.Closed → ⊥
 not_closed outs e = cc
 
 pub done_waits : (a b : NodeState) (l : LinkId) (given : Given) (outs : OutsState) (r : Result Step NodeFault) (c : ClientState) → r ≡ Ok (step.Done outs) → WhenDown a r b → WhenShut a l r b → WhenNone a l r

@@ -11,22 +11,31 @@ use Rattle.mr_loop.specs.declared.fault.LoopFault.{LoopFault}
 use Rattle.mr_loop.specs.declared.fault.LoopFault.TheVariants as fault
 use Rattle.mr_loop.specs.Stage.{LoopState, client_of, stage}
 use Rattle.mr_loop.specs.Rows.{Went, IsReplaced, behind_replacing, behind_step}
+use Rattle.mr_loop.specs.Outcomes.{Does}
 
 -- whatever file there is
 abbrev pub Goes : Bool → NodeState → LoopState → Links LinkState → NodeState → LoopState → Links LinkState → Type 0
 Goes tells n o w n2 o2 w2 = (mode : SyncMode) (told : Option (List ℕ)) (synced : Option ℕ) → Went tells mode (stage n o w told synced) (stage n2 o2 w2 told synced)
 
+-- .. and what comes of it by what is answered
+abbrev pub GoesAs : {A : Type 0} → Bool → Result A LoopFault → NodeState → LoopState → Links LinkState → NodeState → LoopState → Links LinkState → Type 0
+GoesAs tells result n o w n2 o2 w2 = (mode : SyncMode) (told : Option (List ℕ)) (synced : Option ℕ) → Does tells mode result (stage n o w told synced) (stage n2 o2 w2 told synced)
+
 -- whatever wire and file there are
 abbrev pub GoesAlone : NodeState → LoopState → NodeState → LoopState → Type 0
 GoesAlone n o n2 o2 = (tells : Bool) (w : Links LinkState) → Goes tells n o w n2 o2 w
 
+-- .. by what is answered
+abbrev pub GoesAloneAs : {A : Type 0} → Result A LoopFault → NodeState → LoopState → NodeState → LoopState → Type 0
+GoesAloneAs result n o n2 o2 = (tells : Bool) (w : Links LinkState) → GoesAs tells result n o w n2 o2 w
+
 -- whatever wire and node there are
-abbrev pub Files : SyncMode → LoopState → Option (List ℕ) → Option ℕ → LoopState → Option (List ℕ) → Option ℕ → Type 0
-Files mode o told synced o2 told2 synced2 = (tells : Bool) (n : NodeState) (w : Links LinkState) → Went tells mode (stage n o w told synced) (stage n o2 w told2 synced2)
+abbrev pub FilesAs : {A : Type 0} → SyncMode → Result A LoopFault → LoopState → Option (List ℕ) → Option ℕ → LoopState → Option (List ℕ) → Option ℕ → Type 0
+FilesAs mode result o told synced o2 told2 synced2 = (tells : Bool) (n : NodeState) (w : Links LinkState) → Does tells mode result (stage n o w told synced) (stage n o2 w told2 synced2)
 
 -- whatever wire there is
-abbrev pub GoesWithFile : SyncMode → NodeState → LoopState → Option (List ℕ) → Option ℕ → NodeState → LoopState → Option (List ℕ) → Option ℕ → Type 0
-GoesWithFile mode n o told synced n2 o2 told2 synced2 = (tells : Bool) (w : Links LinkState) → Went tells mode (stage n o w told synced) (stage n2 o2 w told2 synced2)
+abbrev pub GoesWithFileAs : {A : Type 0} → SyncMode → Result A LoopFault → NodeState → LoopState → Option (List ℕ) → Option ℕ → NodeState → LoopState → Option (List ℕ) → Option ℕ → Type 0
+GoesWithFileAs mode result n o told synced n2 o2 told2 synced2 = (tells : Bool) (w : Links LinkState) → Does tells mode result (stage n o w told synced) (stage n2 o2 w told2 synced2)
 
 -- the file was to be replaced, and failed: the old bytes are there, or the new ones
 pub record FailsReplacing (whole told told2 : Option (List ℕ)) : Type 0 where

@@ -18,6 +18,8 @@ use Rattle.mr_wire.specs.declared.wire.Moved.{Moved}
 use Rattle.mr_wire.specs.declared.wire.Moved.TheVariants as moved
 use Rattle.mr_loop.specs.declared.client.Phase.{Phase}
 use Rattle.mr_loop.specs.declared.client.Phase.TheVariants as phase
+use Rattle.mr_loop.specs.declared.fault.LoopFault.{LoopFault}
+use Rattle.mr_loop.specs.declared.fault.LoopFault.TheVariants as fault
 use Rattle.mr_loop.specs.Stage.{Stage, LoopState, ClientState, begun, client_of, put_client}
 
 -- a client that the loop has, in this phase
@@ -96,6 +98,15 @@ pub data Event : Type 0 where
   closes : (k : LinkId) → Event
   -- the node stopped, or was stopped
   stops : Event
+
+-- The fault that an event is told as. Behind one that is told as none the turn goes on, and behind any other it does nothing more.
+abbrev pub fault_of : Event → Option LoopFault
+fault_of (spills k given outs) = Some fault.Stopped
+fault_of (tears k given outs) = Some fault.File
+fault_of (spills_tick given outs) = Some fault.Stopped
+fault_of fails = Some fault.File
+fault_of stops = Some fault.Stopped
+fault_of _ = None
 
 -- a link may be closed in this phase with this left
 pub data MayClose (c : ClientState) : Type 0 where
@@ -355,12 +366,12 @@ module _ (tells : Bool) (mode : SyncMode) where
   Happens s (closes k) t = IsClosed k s t
   Happens s stops t = IsStopped s t
 
-  -- these events one after another
+  -- these events one after another, behind each of which the turn goes on
   abbrev pub Run : Stage → List Event → Stage → Type 0
   Run s [] t = t ≡ s
-  Run s (e ∷ es) t = (mid : Stage) × Happens s e mid × Run mid es t
+  Run s (e ∷ es) t = (mid : Stage) × (fault_of e ≡ None) × Happens s e mid × Run mid es t
 
-  -- Some events lead from the one to the other, one after another.
+  -- Some events lead from the one to the other, one after another, and behind each of them the turn goes on.
   pub record Went (s t : Stage) : Type 0 where
     pub events : List Event
     pub run : Run s events t

@@ -2,6 +2,7 @@
 use Rattle.std.specs.Prelude.{ℕ, List, [], Option, refl}
 use Rattle.std.specs.Coded.{Coded, code_by, coded×, coded_ℕ, coded_list}
 use Rattle.std.specs.FinMap as map
+use Rattle.mr_aof.specs.declared.log.Log.{Log}
 use Rattle.mr_links.specs.LinkId.{coded_id}
 use Rattle.mr_links.specs.Links.{Links, links_code}
 use Rattle.mr_links.specs.declared.link_id.LinkId.{LinkId}
@@ -49,3 +50,7 @@ pub record Stage : Type 0 where
 
 abbrev pub stage : NodeState → LoopState → Links LinkState → Option (List ℕ) → Option ℕ → Stage
 stage node own wire told synced = record { node = node; own = own; wire = wire; told = told; synced = synced }
+
+-- .. of a node, what the loop holds, a wire and a log
+abbrev pub stage_of : {W F : Type 0} → (W → Links LinkState) → (F → Option (List ℕ)) → (F → Option ℕ) → NodeState → LoopState → W → Log F → Stage
+stage_of links told synced node own wire log = stage node own (links wire) (told log.file) (synced log.file)

@@ -2,7 +2,7 @@
 ghost use Rattle.std.specs.Prelude.{◌≡◌, IfErr};
 ghost use Rattle.mr_links.specs.Links.{Links as LinksState};
 ghost use Rattle.mr_wire.specs.Wire.{LinkState, Accepts};
-ghost use Rattle.mr_loop.specs.Going.{Goes};
+ghost use Rattle.mr_loop.specs.Going.{GoesAs};
 ghost use Rattle.mr_loop.specs.Quiet.{AllWait};
 
 use crate::fault::LoopFault;
@@ -20,8 +20,9 @@ pub(crate) fn accept_all<W: Wire>(
     links: &mut Links,
     wire: &mut W,
 ) -> Result<bool, LoopFault>
-    ensures went { Goes W.tells node.old links.old (W.links wire.old) node.new links.new (W.links wire.new) }
+    ensures went { GoesAs W.tells result node.old links.old (W.links wire.old) node.new links.new (W.links wire.new) }
     ensures quiet { AllWait node.old → AllWait node.new }
+    ensures fault { IfErr result (λ e. e ≡ LoopFault.Stopped) }
 {
     for _ in 0..MOST_ACCEPTED {
         if !accept_next(node, links, wire)? {
@@ -33,8 +34,9 @@ pub(crate) fn accept_all<W: Wire>(
 
 /// Accepts the next link, if there is one. It answers whether there may be more.
 fn accept_next<W: Wire>(node: &mut Node, links: &mut Links, wire: &mut W) -> Result<bool, LoopFault>
-    ensures went { Goes W.tells node.old links.old (W.links wire.old) node.new links.new (W.links wire.new) }
+    ensures went { GoesAs W.tells result node.old links.old (W.links wire.old) node.new links.new (W.links wire.new) }
     ensures quiet { AllWait node.old → AllWait node.new }
+    ensures fault { IfErr result (λ e. e ≡ LoopFault.Stopped) }
 {
     match wire.accept() {
         Ok(Some(name)) => join(node, links, wire, name),
@@ -50,8 +52,9 @@ fn join<W: Wire>(
     wire: &mut W,
     name: LinkId,
 ) -> Result<bool, LoopFault>
-    ensures went { (before : LinksState LinkState) → Accepts before name (W.links wire.old) → Goes W.tells node.old links.old before node.new links.new (W.links wire.new) }
+    ensures went { (before : LinksState LinkState) → Accepts before name (W.links wire.old) → GoesAs W.tells result node.old links.old before node.new links.new (W.links wire.new) }
     ensures quiet { AllWait node.old → AllWait node.new }
+    ensures fault { IfErr result (λ e. e ≡ LoopFault.Stopped) }
 {
     match node.open() {
         Ok(link) => match links.join(name, link) {

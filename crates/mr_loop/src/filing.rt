@@ -1,7 +1,7 @@
 // What waits for the file.
-ghost use Rattle.std.specs.Prelude.{◌≡◌, [], OnOk};
+ghost use Rattle.std.specs.Prelude.{◌≡◌, [], OnOk, true, IsErrOf};
 ghost use Rattle.std.specs.Option.{option_map};
-ghost use Rattle.mr_loop.specs.Going.{Files, IsReplacing};
+ghost use Rattle.mr_loop.specs.Going.{FilesAs, IsReplacing};
 
 use crate::fault::LoopFault;
 use crate::links::Links;
@@ -10,9 +10,10 @@ use mr_file::LogFile;
 
 /// Appends what waits for the file, and syncs it with `Always`. Where nothing waits, no call is made.
 pub(crate) fn commit<F: LogFile>(links: &mut Links, log: &mut Log<F>) -> Result<(), LoopFault>
-    ensures went { Files log.old.mode links.old (F.told log.old.file) (F.synced log.old.file) links.new (F.told log.new.file) (F.synced log.new.file) }
+    ensures went { FilesAs log.old.mode result links.old (F.told log.old.file) (F.synced log.old.file) links.new (F.told log.new.file) (F.synced log.new.file) }
     ensures all { OnOk result (links.new ≡ record links.old { batch = [] }) }
     ensures mode { log.new.mode ≡ log.old.mode }
+    ensures device { IsErrOf result LoopFault.File → log.new.broken ≡ true }
 {
     if links.batch().is_empty() {
         return Ok(());
@@ -34,6 +35,7 @@ pub(crate) fn replace<F: LogFile>(
 ) -> Result<(), LoopFault>
     ensures went { IsReplacing (option_map (λ bytes. bytes.now) whole.entry) links.old (F.told log.old.file) (F.synced log.old.file) links.new (F.told log.new.file) (F.synced log.new.file) result }
     ensures mode { log.new.mode ≡ log.old.mode }
+    ensures device { IsErrOf result LoopFault.File → log.new.broken ≡ true }
 {
     let Some(bytes) = whole else {
         return Ok(());

@@ -5,6 +5,7 @@ mod accepting;
 mod client;
 mod fault;
 mod filing;
+mod laws;
 mod links;
 mod moment;
 mod reading;
@@ -14,6 +15,10 @@ mod turning;
 mod writing;
 
 pub use fault::LoopFault;
+pub use laws::{
+    clients_have_links, nothing_is_sent_behind_a_fault, replies_go_out_in_order,
+    the_wire_has_the_replies, what_is_sent_is_filed,
+};
 pub use links::Links;
 pub use serving::serve;
 pub use turning::turn;

@@ -1,7 +1,7 @@
 // Turns one after another.
-ghost use Rattle.std.specs.Prelude.{◌≡◌, [], OnOk};
-ghost use Rattle.mr_loop.specs.Stage.{stage};
-ghost use Rattle.mr_loop.specs.Rows.{Went};
+ghost use Rattle.std.specs.Prelude.{◌≡◌, [], OnOk, true, IsErrOf};
+ghost use Rattle.mr_loop.specs.Stage.{stage_of};
+ghost use Rattle.mr_loop.specs.Outcomes.{Serves};
 ghost use Rattle.mr_loop.specs.Quiet.{AllWait};
 
 use crate::fault::LoopFault;
@@ -13,7 +13,7 @@ use mr_node::Node;
 use mr_source::Source;
 use mr_wire::Wire;
 
-/// So many turns, or fewer where one meets a fault.
+/// So many turns, or fewer where one meets a fault, which is the last.
 pub fn serve<W: Wire, F: LogFile, S: Source>(
     node: &mut Node,
     links: &mut Links,
@@ -23,7 +23,8 @@ pub fn serve<W: Wire, F: LogFile, S: Source>(
     turns: u64,
 ) -> Result<(), LoopFault>
     requires { links.old.batch ≡ [] }
-    ensures went { Went W.tells log.old.mode (stage node.old links.old (W.links wire.old) (F.told log.old.file) (F.synced log.old.file)) (stage node.new links.new (W.links wire.new) (F.told log.new.file) (F.synced log.new.file)) }
+    ensures went { Serves W.tells log.old.mode result (stage_of W.links F.told F.synced node.old links.old wire.old log.old) (stage_of W.links F.told F.synced node.new links.new wire.new log.new) }
+    ensures device { IsErrOf result LoopFault.File → log.new.broken ≡ true }
     ensures written { OnOk result (links.new.batch ≡ []) }
     ensures quiet { AllWait node.old → OnOk result (AllWait node.new) }
 {

@@ -1,7 +1,8 @@
 // What the node makes of what clients sent.
-ghost use Rattle.std.specs.Prelude.{◌≡◌, IfOk};
+ghost use Rattle.std.specs.Prelude.{◌≡◌, ◌<◌, ◌≤◌, true, IfOk, IfErr, IsErrOf};
 ghost use Rattle.mr_loop.specs.Stage.{client_of};
-ghost use Rattle.mr_loop.specs.Going.{GoesAlone, GoesWithFile, IsCarriedOut};
+ghost use Rattle.mr_loop.specs.Left.{left_of};
+ghost use Rattle.mr_loop.specs.Going.{GoesAlone, GoesAloneAs, GoesWithFileAs, IsCarriedOut};
 ghost use Rattle.mr_loop.specs.Quiet.{AllWait, WaitsBut, WaitsButLost, WaitsUnless};
 
 use crate::client::Phase;
@@ -24,9 +25,11 @@ pub(crate) fn step<F: LogFile>(
     given: Given,
     fresh: ReplId,
 ) -> Result<bool, LoopFault>
-    ensures went { GoesWithFile log.old.mode node.old links.old (F.told log.old.file) (F.synced log.old.file) node.new links.new (F.told log.new.file) (F.synced log.new.file) }
+    ensures went { GoesWithFileAs log.old.mode result node.old links.old (F.told log.old.file) (F.synced log.old.file) node.new links.new (F.told log.new.file) (F.synced log.new.file) }
     ensures mode { log.new.mode ≡ log.old.mode }
+    ensures device { IsErrOf result LoopFault.File → log.new.broken ≡ true }
     ensures quiet { WaitsBut (client_of links.old k) node.old → IfOk result (λ used. WaitsUnless used (client_of links.new k) node.new) }
+    ensures uses { IfOk result (λ used. used ≡ true → left_of (client_of links.new k) node.new < left_of (client_of links.old k) node.old) }
 {
     let Some(client) = links.client(k) else {
         return Ok(false);
@@ -59,6 +62,7 @@ pub(crate) fn step<F: LogFile>(
 pub(crate) fn hang_up(node: &mut Node, links: &Links, k: LinkId)
     ensures went { GoesAlone node.old links.now node.new links.now }
     ensures quiet { WaitsButLost (client_of links.now k) node.old → WaitsBut (client_of links.now k) node.new }
+    ensures left { left_of (client_of links.now k) node.new ≤ left_of (client_of links.now k) node.old }
 {
     let Some(client) = links.client(k) else {
         return;
@@ -79,6 +83,7 @@ fn carry_out<F: LogFile>(
 ) -> Result<(), LoopFault>
     ensures went { IsCarriedOut outs.now k links.old (F.told log.old.file) (F.synced log.old.file) links.new (F.told log.new.file) (F.synced log.new.file) result }
     ensures mode { log.new.mode ≡ log.old.mode }
+    ensures device { IsErrOf result LoopFault.File → log.new.broken ≡ true }
 {
     match links.queue(k, outs) {
         Ok(()) => replace(links, log, outs.replaced()),
@@ -88,8 +93,9 @@ fn carry_out<F: LogFile>(
 
 /// Time passes at the node.
 pub(crate) fn tick(node: &mut Node, links: &mut Links, given: Given) -> Result<(), LoopFault>
-    ensures went { GoesAlone node.old links.old node.new links.new }
+    ensures went { GoesAloneAs result node.old links.old node.new links.new }
     ensures quiet { AllWait node.old → AllWait node.new }
+    ensures fault { IfErr result (λ e. e ≡ LoopFault.Stopped) }
 {
     match node.tick(given) {
         Ok(outs) => {

@@ -1,7 +1,9 @@
 // A turn.
-ghost use Rattle.std.specs.Prelude.{◌≡◌, [], false, IfOk, OnOk, IsErrOf};
-ghost use Rattle.mr_loop.specs.Stage.{client_of, stage};
-ghost use Rattle.mr_loop.specs.Rows.{Went};
+ghost use Rattle.std.specs.Prelude.{◌≡◌, ◌<◌, [], false, true, IfOk, OnErr, OnOk, IsErrOf};
+ghost use Rattle.mr_file.specs.LogFile.{Rose};
+ghost use Rattle.mr_loop.specs.Stage.{client_of, stage_of};
+ghost use Rattle.mr_loop.specs.Left.{left_of};
+ghost use Rattle.mr_loop.specs.Outcomes.{Does, Turns};
 ghost use Rattle.mr_loop.specs.Quiet.{AllWait, WaitsBut, WaitsUnless};
 
 use crate::accepting::accept_all;
@@ -17,7 +19,7 @@ use mr_file::LogFile;
 use mr_links::LinkId;
 use mr_node::Node;
 use mr_source::Source;
-use mr_wire::Wire;
+use mr_wire::{Failed, Wire};
 
 /// A turn waits so many milliseconds at most.
 const LONGEST_WAIT: u64 = 100;
@@ -39,16 +41,20 @@ pub fn turn<W: Wire, F: LogFile, S: Source>(
     source: &mut S,
 ) -> Result<(), LoopFault>
     requires { links.old.batch ≡ [] }
-    ensures went { Went W.tells log.old.mode (stage node.old links.old (W.links wire.old) (F.told log.old.file) (F.synced log.old.file)) (stage node.new links.new (W.links wire.new) (F.told log.new.file) (F.synced log.new.file)) }
+    ensures went { Turns W.tells log.old.mode result (stage_of W.links F.told F.synced node.old links.old wire.old log.old) (stage_of W.links F.told F.synced node.new links.new wire.new log.new) }
     ensures written { OnOk result (links.new.batch ≡ []) }
     ensures mode { log.new.mode ≡ log.old.mode }
+    ensures device { IsErrOf result LoopFault.File → log.new.broken ≡ true }
+    ensures listener { IsErrOf result LoopFault.Listener → Rose (W.failures wire.old) (W.failures wire.new) }
     ensures quiet { AllWait node.old → OnOk result (AllWait node.new) }
     ensures file { IsErrOf result LoopFault.File → node.new.core.up ≡ false }
     ensures stopped { IsErrOf result LoopFault.Stopped → node.new.core.up ≡ false }
 {
+    if wait(links, wire).is_err() {
+        return Err(LoopFault::Listener);
+    }
     match go_on(node, links, wire, log, source) {
         Ok(()) => Ok(()),
-        Err(LoopFault::Listener) => Err(LoopFault::Listener),
         Err(fault) => {
             node.file_failed();
             Err(fault)
@@ -56,7 +62,7 @@ pub fn turn<W: Wire, F: LogFile, S: Source>(
     }
 }
 
-/// A turn, whose node goes on whatever comes of it.
+/// A turn behind its wait, whose node goes on whatever comes of it.
 fn go_on<W: Wire, F: LogFile, S: Source>(
     node: &mut Node,
     links: &mut Links,
@@ -65,12 +71,12 @@ fn go_on<W: Wire, F: LogFile, S: Source>(
     source: &mut S,
 ) -> Result<(), LoopFault>
     requires { links.old.batch ≡ [] }
-    ensures went { Went W.tells log.old.mode (stage node.old links.old (W.links wire.old) (F.told log.old.file) (F.synced log.old.file)) (stage node.new links.new (W.links wire.new) (F.told log.new.file) (F.synced log.new.file)) }
+    ensures went { Does W.tells log.old.mode result (stage_of W.links F.told F.synced node.old links.old wire.old log.old) (stage_of W.links F.told F.synced node.new links.new wire.new log.new) }
     ensures written { OnOk result (links.new.batch ≡ []) }
     ensures mode { log.new.mode ≡ log.old.mode }
+    ensures device { IsErrOf result LoopFault.File → log.new.broken ≡ true }
     ensures quiet { AllWait node.old → OnOk result (AllWait node.new) }
 {
-    wait(links, wire)?;
     let mut moment = Moment::new(source);
     let accepts = accept_all(node, links, wire)?;
     let reads = read_all(node, links, wire, log, &mut moment)?;
@@ -84,14 +90,12 @@ fn go_on<W: Wire, F: LogFile, S: Source>(
 }
 
 /// Waits until something is ready. Behind a turn that met a limit nothing is waited for.
-fn wait<W: Wire>(links: &Links, wire: &mut W) -> Result<(), LoopFault>
-    ensures { W.links wire.new ≡ W.links wire.old }
+fn wait<W: Wire>(links: &Links, wire: &mut W) -> Result<(), Failed>
+    ensures same { W.links wire.new ≡ W.links wire.old }
+    ensures cause { OnErr result (Rose (W.failures wire.old) (W.failures wire.new)) }
 {
     let millis = if links.hurries() { 0 } else { LONGEST_WAIT };
-    match wire.wait(millis) {
-        Ok(()) => Ok(()),
-        Err(_failed) => Err(LoopFault::Listener),
-    }
+    wire.wait(millis)
 }
 
 /// Serves each client. It answers whether one of them may have more to read.
@@ -102,8 +106,9 @@ fn read_all<W: Wire, F: LogFile, S: Source>(
     log: &mut Log<F>,
     moment: &mut Moment<'_, S>,
 ) -> Result<bool, LoopFault>
-    ensures went { Went W.tells log.old.mode (stage node.old links.old (W.links wire.old) (F.told log.old.file) (F.synced log.old.file)) (stage node.new links.new (W.links wire.new) (F.told log.new.file) (F.synced log.new.file)) }
+    ensures went { Does W.tells log.old.mode result (stage_of W.links F.told F.synced node.old links.old wire.old log.old) (stage_of W.links F.told F.synced node.new links.new wire.new log.new) }
     ensures mode { log.new.mode ≡ log.old.mode }
+    ensures device { IsErrOf result LoopFault.File → log.new.broken ≡ true }
     ensures quiet { AllWait node.old → OnOk result (AllWait node.new) }
 {
     let mut piece = links.take_piece();
@@ -120,8 +125,9 @@ fn read_each<W: Wire, F: LogFile, S: Source>(
     moment: &mut Moment<'_, S>,
     piece: &mut [u8],
 ) -> Result<bool, LoopFault>
-    ensures went { Went W.tells log.old.mode (stage node.old links.old (W.links wire.old) (F.told log.old.file) (F.synced log.old.file)) (stage node.new links.new (W.links wire.new) (F.told log.new.file) (F.synced log.new.file)) }
+    ensures went { Does W.tells log.old.mode result (stage_of W.links F.told F.synced node.old links.old wire.old log.old) (stage_of W.links F.told F.synced node.new links.new wire.new log.new) }
     ensures mode { log.new.mode ≡ log.old.mode }
+    ensures device { IsErrOf result LoopFault.File → log.new.broken ≡ true }
     ensures quiet { AllWait node.old → OnOk result (AllWait node.new) }
 {
     let mut more = false;
@@ -141,8 +147,9 @@ fn read_at<W: Wire, F: LogFile, S: Source>(
     piece: &mut [u8],
     index: usize,
 ) -> Result<bool, LoopFault>
-    ensures went { Went W.tells log.old.mode (stage node.old links.old (W.links wire.old) (F.told log.old.file) (F.synced log.old.file)) (stage node.new links.new (W.links wire.new) (F.told log.new.file) (F.synced log.new.file)) }
+    ensures went { Does W.tells log.old.mode result (stage_of W.links F.told F.synced node.old links.old wire.old log.old) (stage_of W.links F.told F.synced node.new links.new wire.new log.new) }
     ensures mode { log.new.mode ≡ log.old.mode }
+    ensures device { IsErrOf result LoopFault.File → log.new.broken ≡ true }
     ensures quiet { AllWait node.old → OnOk result (AllWait node.new) }
 {
     match links.at(index) {
@@ -161,8 +168,9 @@ fn read_client<W: Wire, F: LogFile, S: Source>(
     piece: &mut [u8],
     k: LinkId,
 ) -> Result<bool, LoopFault>
-    ensures went { Went W.tells log.old.mode (stage node.old links.old (W.links wire.old) (F.told log.old.file) (F.synced log.old.file)) (stage node.new links.new (W.links wire.new) (F.told log.new.file) (F.synced log.new.file)) }
+    ensures went { Does W.tells log.old.mode result (stage_of W.links F.told F.synced node.old links.old wire.old log.old) (stage_of W.links F.told F.synced node.new links.new wire.new log.new) }
     ensures mode { log.new.mode ≡ log.old.mode }
+    ensures device { IsErrOf result LoopFault.File → log.new.broken ≡ true }
     ensures quiet { AllWait node.old → OnOk result (AllWait node.new) }
 {
     for _ in 0..MOST_PIECES {
@@ -183,17 +191,13 @@ fn step_all<W: Wire, F: LogFile, S: Source>(
     moment: &mut Moment<'_, S>,
     k: LinkId,
 ) -> Result<(), LoopFault>
-    ensures went { Went W.tells log.old.mode (stage node.old links.old (W.links wire.old) (F.told log.old.file) (F.synced log.old.file)) (stage node.new links.new (W.links wire.new) (F.told log.new.file) (F.synced log.new.file)) }
+    ensures went { Does W.tells log.old.mode result (stage_of W.links F.told F.synced node.old links.old wire.old log.old) (stage_of W.links F.told F.synced node.new links.new wire.new log.new) }
     ensures mode { log.new.mode ≡ log.old.mode }
+    ensures device { IsErrOf result LoopFault.File → log.new.broken ≡ true }
     ensures quiet { WaitsBut (client_of links.old k) node.old → OnOk result (AllWait node.new) }
 {
-    for _ in 0..u64::MAX {
-        if !step_next(node, links, wire, log, moment, k)? {
-            return Ok(());
-        }
-    }
-    // No input is that long.
-    Err(LoopFault::Stopped)
+    while step_next(node, links, wire, log, moment, k)? {}
+    Ok(())
 }
 
 /// The next step on a client's link, unless the client left too much unread. It answers whether something was used.
@@ -205,9 +209,11 @@ fn step_next<W: Wire, F: LogFile, S: Source>(
     moment: &mut Moment<'_, S>,
     k: LinkId,
 ) -> Result<bool, LoopFault>
-    ensures went { Went W.tells log.old.mode (stage node.old links.old (W.links wire.old) (F.told log.old.file) (F.synced log.old.file)) (stage node.new links.new (W.links wire.new) (F.told log.new.file) (F.synced log.new.file)) }
+    ensures went { Does W.tells log.old.mode result (stage_of W.links F.told F.synced node.old links.old wire.old log.old) (stage_of W.links F.told F.synced node.new links.new wire.new log.new) }
     ensures mode { log.new.mode ≡ log.old.mode }
+    ensures device { IsErrOf result LoopFault.File → log.new.broken ≡ true }
     ensures quiet { WaitsBut (client_of links.old k) node.old → IfOk result (λ used. WaitsUnless used (client_of links.new k) node.new) }
+    ensures uses { IfOk result (λ used. used ≡ true → left_of (client_of links.new k) node.new < left_of (client_of links.old k) node.old) }
 {
     unburden(node, links, wire, log, k)?;
     let given = moment.given();

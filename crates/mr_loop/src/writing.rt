@@ -1,8 +1,9 @@
 // What is sent to clients.
-ghost use Rattle.std.specs.Prelude.{◌≡◌, [], OnOk};
+ghost use Rattle.std.specs.Prelude.{◌≡◌, ◌≤◌, [], OnOk, true, IsErrOf};
 ghost use Rattle.mr_node.specs.State.{NodeState};
-ghost use Rattle.mr_loop.specs.Stage.{client_of, stage};
-ghost use Rattle.mr_loop.specs.Rows.{Went};
+ghost use Rattle.mr_loop.specs.Stage.{client_of, stage_of};
+ghost use Rattle.mr_loop.specs.Left.{left_of};
+ghost use Rattle.mr_loop.specs.Outcomes.{Does};
 ghost use Rattle.mr_loop.specs.Going.{Goes, GoesAlone};
 ghost use Rattle.mr_loop.specs.Quiet.{AllWait, StaysThere, WaitsBut};
 
@@ -87,9 +88,11 @@ pub(crate) fn unburden<W: Wire, F: LogFile>(
     log: &mut Log<F>,
     k: LinkId,
 ) -> Result<(), LoopFault>
-    ensures went { Went W.tells log.old.mode (stage node.old links.old (W.links wire.old) (F.told log.old.file) (F.synced log.old.file)) (stage node.new links.new (W.links wire.new) (F.told log.new.file) (F.synced log.new.file)) }
+    ensures went { Does W.tells log.old.mode result (stage_of W.links F.told F.synced node.old links.old wire.old log.old) (stage_of W.links F.told F.synced node.new links.new wire.new log.new) }
     ensures mode { log.new.mode ≡ log.old.mode }
+    ensures device { IsErrOf result LoopFault.File → log.new.broken ≡ true }
     ensures quiet { WaitsBut (client_of links.old k) node.old → OnOk result (WaitsBut (client_of links.new k) node.new) }
+    ensures left { OnOk result (left_of (client_of links.new k) node.new ≤ left_of (client_of links.old k) node.old) }
 {
     if !links.is_burdened(k) {
         return Ok(());

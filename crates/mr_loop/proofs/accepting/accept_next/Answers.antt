@@ -4,4 +4,4 @@ use Rattle.mr_loop.proofs.Runs.{went_one}
 use Rattle.mr_loop.proofs.accepting.accept_next.Goals as goal
 
 pub returns-in-Err-clause-went : goal.returns-in-Err-clause-went
-returns-in-Err-clause-went g c = λ m t s. went_one turns_away (record { wire = c.in-Err.ensures.err; node = stays refl; own = refl; file = (refl, refl) })
+returns-in-Err-clause-went g c = λ m t s. went_one turns_away refl (record { wire = c.in-Err.ensures.err; node = stays refl; own = refl; file = (refl, refl) })

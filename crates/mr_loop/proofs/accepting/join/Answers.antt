@@ -2,12 +2,12 @@ use Rattle.std.proofs.Common.{rules, ◌≡◌, ap, refl}
 use Rattle.mr_node.specs.State.{NodeState, stopped_as}
 use Rattle.mr_loop.specs.Rows.{joins, turns_away, stays, comes_and_goes, stops, at_open}
 use Rattle.mr_loop.proofs.Places.{closed_again}
-use Rattle.mr_loop.proofs.Runs.{went_one, went_trans}
+use Rattle.mr_loop.proofs.Runs.{broke_one, went_broke, went_one}
 use Rattle.mr_loop.proofs.Waiting.{waits_opened, waits_ended, others_of, waits_with}
 use Rattle.mr_loop.proofs.accepting.join.Goals as goal
 
 pub returns-in-Ok-join-clause-went : goal.returns-in-Ok-join-clause-went
-returns-in-Ok-join-clause-went g c = λ before came m t s. went_one (joins c.in-Ok-join._client) (record {
+returns-in-Ok-join-clause-went g c = λ before came m t s. went_one (joins c.in-Ok-join._client) refl (record {
   name = c.args.name;
   link = c.in-Ok.link;
   wire = came;
@@ -19,7 +19,7 @@ returns-in-Ok-join-clause-went g c = λ before came m t s. went_one (joins c.in-
 })
 
 pub returns-in-Err-join-clause-went : goal.returns-in-Err-join-clause-went
-returns-in-Err-join-clause-went g c = λ before came m t s. went_one turns_away (record {
+returns-in-Err-join-clause-went g c = λ before came m t s. went_one turns_away refl (record {
   wire = closed_again before (g.W.Wire.links c.args.wire.now) (g.W.Wire.links c.close-in-Err-join.new.self) c.args.name came c.close-in-Err-join.ensures.closed c.close-in-Err-join.ensures.opened;
   node = comes_and_goes c.open.new.self c.in-Ok.link c.in-Ok.ensures.ok (record { ends = c.close.ensures.ends; opened = c.close.ensures.opened; core = c.close.ensures.core });
   own = c.in-Err-join.ensures.err;
@@ -29,17 +29,17 @@ returns-in-Err-join-clause-went g c = λ before came m t s. went_one turns_away 
 pub returns-in-Err-Stopped-clause-went : goal.returns-in-Err-Stopped-clause-went
 returns-in-Err-Stopped-clause-went g c = λ before came m t s.
     let down : c.open.new.self ≡ stopped_as c.args.node.now = search rules in
-    went_trans (went_one turns_away (record {
+    went_broke (went_one turns_away refl (record {
       wire = closed_again before (g.W.Wire.links c.args.wire.now) (g.W.Wire.links c.close-in-Err-Stopped.new.self) c.args.name came c.close-in-Err-Stopped.ensures.closed c.close-in-Err-Stopped.ensures.opened;
       node = stays refl;
       own = refl;
       file = (refl, refl);
-    })) (went_one stops (record { why = at_open down; own = refl; wire = refl; file = (refl, refl) }))
+    })) (broke_one stops refl (record { why = at_open down; own = refl; wire = refl; file = (refl, refl) }))
 
 pub returns-in-Err-clause-went : goal.returns-in-Err-clause-went
 returns-in-Err-clause-went g c = λ before came m t s.
     let same : c.open.new.self ≡ c.args.node.now = search rules in
-    went_one turns_away (record {
+    went_one turns_away refl (record {
       wire = closed_again before (g.W.Wire.links c.args.wire.now) (g.W.Wire.links c.close-in-Err.new.self) c.args.name came c.close-in-Err.ensures.closed c.close-in-Err.ensures.opened;
       node = stays same;
       own = refl;

@@ -13,7 +13,7 @@ use Rattle.mr_loop.proofs.reading.read_piece.Goals as goal
 pub returns-in-Ok-clause-went : goal.returns-in-Ok-clause-went
 returns-in-Ok-clause-went g c = λ m t s.
     let serving : c.in-Some.client.now.phase ≡ phase.Serving = search rules in
-    went_one (takes c.args.k (take c.in-Bytes.count c.read.new.into)) (record {
+    went_one (takes c.args.k (take c.in-Bytes.count c.read.new.into)) refl (record {
       client = c.in-Some.client.now;
       has = record { is = sym c.in-Some.ensures };
       serving = serving;
@@ -29,7 +29,7 @@ returns-in-Ok-clause-went g c = λ m t s.
 pub returns-in-Err-clause-went : goal.returns-in-Err-clause-went
 returns-in-Err-clause-went g c = λ m t s.
     let serving : c.in-Some.client.now.phase ≡ phase.Serving = search rules in
-    went_one (loses c.args.k) (record {
+    went_one (loses c.args.k) refl (record {
       client = c.in-Some.client.now;
       has = record { is = sym c.in-Some.ensures };
       serving = serving;
@@ -44,7 +44,7 @@ returns-in-Err-clause-went g c = λ m t s.
 pub returns-in-NotReady-clause-went : goal.returns-in-NotReady-clause-went
 returns-in-NotReady-clause-went g c = λ m t s.
     let serving : c.in-Some.client.now.phase ≡ phase.Serving = search rules in
-    went_one (finds_none c.args.k) (record {
+    went_one (finds_none c.args.k) refl (record {
       client = c.in-Some.client.now;
       has = record { is = sym c.in-Some.ensures };
       serving = serving;
@@ -61,7 +61,7 @@ returns-in-NotReady-clause-went g c = λ m t s.
 pub returns-in-End-clause-went : goal.returns-in-End-clause-went
 returns-in-End-clause-went g c = λ m t s.
     let serving : c.in-Some.client.now.phase ≡ phase.Serving = search rules in
-    went_one (hears_end c.args.k) (record {
+    went_one (hears_end c.args.k) refl (record {
       client = c.in-Some.client.now;
       has = record { is = sym c.in-Some.ensures };
       serving = serving;
@@ -75,7 +75,7 @@ returns-in-End-clause-went g c = λ m t s.
 pub returns-in-Failed-clause-went : goal.returns-in-Failed-clause-went
 returns-in-Failed-clause-went g c = λ m t s.
     let serving : c.in-Some.client.now.phase ≡ phase.Serving = search rules in
-    went_one (loses c.args.k) (record {
+    went_one (loses c.args.k) refl (record {
       client = c.in-Some.client.now;
       has = record { is = sym c.in-Some.ensures };
       serving = serving;
@@ -91,7 +91,7 @@ pub returns-then-count-eq0-clause-went : goal.returns-then-count-eq0-clause-went
 returns-then-count-eq0-clause-went g c = λ m t s.
     let serving : c.in-Some.client.now.phase ≡ phase.Serving = search rules in
     let nothing : c.in-Bytes.count ≡ 0 = search rules in
-    went_one (finds_none c.args.k) (record {
+    went_one (finds_none c.args.k) refl (record {
       client = c.in-Some.client.now;
       has = record { is = sym c.in-Some.ensures };
       serving = serving;

@@ -5,12 +5,13 @@ use Rattle.mr_loop.specs.Rows.{hangs_up}
 use Rattle.mr_loop.proofs.Places.{ends_as}
 use Rattle.mr_loop.proofs.Runs.{went_one}
 use Rattle.mr_loop.proofs.Waiting.{hung_up_waits}
+use Rattle.mr_loop.proofs.Using.{ended_left}
 use Rattle.mr_loop.proofs.stepping.hang_up.Goals as goal
 
 pub returns-clause-went : goal.returns-clause-went
 returns-clause-went c = λ tells w m t s.
     let lost : c.in-Some.client.now.phase ≡ phase.Lost = search rules in
-    went_one (hangs_up c.args.k) (record {
+    went_one (hangs_up c.args.k) refl (record {
       client = c.in-Some.client.now;
       has = record { is = sym c.in-Some.ensures };
       lost = lost;
@@ -22,3 +23,6 @@ returns-clause-went c = λ tells w m t s.
 
 pub returns-clause-quiet : goal.returns-clause-quiet
 returns-clause-quiet c = λ q. hung_up_waits c.args.node.now c.close.new.self (client_of c.args.links.now c.args.k) c.in-Some.client.now c.link-link.result (sym c.in-Some.ensures) c.link-link.ensures c.close.ensures.ends q
+
+pub returns-clause-left : goal.returns-clause-left
+returns-clause-left c = ended_left c.args.node.now c.close.new.self (client_of c.args.links.now c.args.k) c.in-Some.client.now c.link-link.result (sym c.in-Some.ensures) c.link-link.ensures c.close.ensures.ends

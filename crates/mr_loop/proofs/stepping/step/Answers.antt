@@ -7,7 +7,8 @@ use Rattle.mr_loop.specs.Quiet.{OthersWait, WaitsBut}
 use Rattle.mr_loop.specs.Rows.{steps, idles, is_refused, stops, at_step, Stepped, behind_step, phase_after}
 use Rattle.mr_loop.proofs.Carrying.{not_told}
 use Rattle.mr_loop.proofs.Places.{stepped_as, some_at}
-use Rattle.mr_loop.proofs.Runs.{went_one, went_trans}
+use Rattle.mr_loop.proofs.Runs.{broke_one, went_one, went_trans}
+use Rattle.mr_loop.proofs.Using.{done_left, left_as}
 use Rattle.mr_loop.proofs.Waiting.{unserved_waits, others_wait, put_there, stepped_there, done_waits, idle_waits, closed_waits, lost_waits, lost_serving}
 use Rattle.mr_loop.proofs.stepping.step.Goals as goal
 
@@ -15,7 +16,7 @@ pub returns-in-Ok-clause-went : goal.returns-in-Ok-clause-went
 returns-in-Ok-clause-went g c = λ tells w.
     let serving : c.in-Some.client.now.phase ≡ phase.Serving = search rules in
     let outs = c.in-Ok-Done.outs in
-    went_one (steps c.args.k c.args.given outs) (record {
+    went_one (steps c.args.k c.args.given outs) refl (record {
       client = c.in-Some.client.now;
       has = record { is = sym c.in-Some.ensures };
       serving = serving;
@@ -34,7 +35,7 @@ returns-in-Err-carried-clause-went g c = λ tells w.
     c.in-Err-carried.ensures.went
 
 pub returns-in-Ok-Idle-clause-went : goal.returns-in-Ok-Idle-clause-went
-returns-in-Ok-Idle-clause-went g c = λ tells w. went_one (idles c.args.k c.args.given) (record {
+returns-in-Ok-Idle-clause-went g c = λ tells w. went_one (idles c.args.k c.args.given) refl (record {
   client = c.in-Some.client.now;
   has = record { is = sym c.in-Some.ensures };
   answer = inl (stepped_as c.args.node.now c.step.new.self c.step.new.self c.link-link.result c.in-Some.client.now.link c.args.given c.in-Ok-Idle.field-0 step.Idle c.link-link.ensures refl c.in-Ok-Idle.field-0-is c.in-Ok-Idle.ensures.row);
@@ -44,7 +45,7 @@ returns-in-Ok-Idle-clause-went g c = λ tells w. went_one (idles c.args.k c.args
 })
 
 pub returns-in-Ok-Closed-clause-went : goal.returns-in-Ok-Closed-clause-went
-returns-in-Ok-Closed-clause-went g c = λ tells w. went_one (idles c.args.k c.args.given) (record {
+returns-in-Ok-Closed-clause-went g c = λ tells w. went_one (idles c.args.k c.args.given) refl (record {
   client = c.in-Some.client.now;
   has = record { is = sym c.in-Some.ensures };
   answer = inr (stepped_as c.args.node.now c.step.new.self c.step.new.self c.link-link.result c.in-Some.client.now.link c.args.given c.in-Ok-Closed.field-0 step.Closed c.link-link.ensures refl c.in-Ok-Closed.field-0-is c.in-Ok-Closed.ensures.row);
@@ -56,13 +57,13 @@ returns-in-Ok-Closed-clause-went g c = λ tells w. went_one (idles c.args.k c.ar
 pub returns-in-Err-Stopped-clause-went : goal.returns-in-Err-Stopped-clause-went
 returns-in-Err-Stopped-clause-went g c = λ tells w.
     let why : WhyStopped c.args.node.now c.link-link.result c.args.given c.step.new.self = c.step.ensures.stopped (c.in-Err-Stopped.is ∙ ap Err c.in-Err-Stopped.field-0-is) in
-    went_one stops (record { why = at_step c.link-link.result c.args.given why; own = refl; wire = refl; file = (refl, refl) })
+    broke_one stops refl (record { why = at_step c.link-link.result c.args.given why; own = refl; wire = refl; file = (refl, refl) })
 
 pub returns-in-Err-clause-went : goal.returns-in-Err-clause-went
 returns-in-Err-clause-went g c = λ tells w.
     let serving : c.in-Some.client.now.phase ≡ phase.Serving = search rules in
     let same : c.step.new.self ≡ c.args.node.now = search rules in
-    went_trans (went_one (is_refused c.args.k) (record {
+    went_trans (went_one (is_refused c.args.k) refl (record {
       client = c.in-Some.client.now;
       given_up = record {
         has = record { is = sym c.in-Some.ensures };
@@ -104,3 +105,14 @@ returns-in-Err-clause-quiet g c = λ q.
     let there = ap (λ (x : LoopState). client_of x c.args.k) own ∙ put_there c.args.links.now c.args.k (record client { phase = phase.Lost }) in
     let others = subst (λ z. OthersWait z client.link) (sym same) (others_wait c.args.node.now o client client.link (sym c.in-Some.ensures) refl q) in
     unserved_waits c.hang_up.new.node (client_of c.set_phase.new.self c.args.k) (record client { phase = phase.Lost }) there (λ e. lost_serving e) (c.hang_up.ensures.quiet (lost_waits c.step.new.self (client_of c.set_phase.new.self c.args.k) client there others))
+
+pub returns-in-Ok-clause-uses : goal.returns-in-Ok-clause-uses
+returns-in-Ok-clause-uses g c = λ used.
+    let serving : c.in-Some.client.now.phase ≡ phase.Serving = search rules in
+    let client = c.in-Some.client.now in
+    let outs = c.in-Ok-Done.outs in
+    let o = client_of c.args.links.now c.args.k in
+    let own = some_at (λ q. c.carry_out-carried.new.links ≡ behind_step outs c.args.k q c.args.links.now) o client (sym c.in-Some.ensures) c.in-Ok.ensures.went.0 in
+    let there = ap (λ (x : LoopState). client_of x c.args.k) own ∙ stepped_there outs c.args.links.now c.args.k client in
+    let less = done_left c.args.node.now c.step.new.self c.link-link.result c.args.given outs c.step.result (c.in-Ok-Done.is ∙ ap Ok c.in-Ok-Done.field-0-is) c.step.ensures.down c.step.ensures.shut c.step.ensures.no_link (subst (λ z. Stepped c.args.node.now c.link-link.result c.args.given c.step.new.self z) c.in-Ok-Done.field-0-is c.in-Ok-Done.ensures.row) in
+    left_as c.args.node.now c.step.new.self c.reuse.new.self o (client_of c.carry_out-carried.new.links c.args.k) client (record client { waiting = client.waiting ++ outs.reply; phase = phase_after outs client.phase }) c.link-link.result (sym c.in-Some.ensures) there c.link-link.ensures c.link-link.ensures c.reuse.ensures less

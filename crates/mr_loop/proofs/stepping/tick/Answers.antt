@@ -1,14 +1,20 @@
-use Rattle.std.proofs.Common.{refl, sym, ap, subst, ◌∙◌}
+use Rattle.std.proofs.Common.{rules, ◌≡◌, false, Err, refl, sym, ap, subst, ◌∙◌}
 use Rattle.mr_node.specs.Ticks.{TickRow}
-use Rattle.mr_loop.specs.Rows.{ticks, spills_tick}
+use Rattle.mr_loop.specs.Rows.{ticks, spills_tick, stops, was_down}
 use Rattle.mr_loop.proofs.Places.{filed}
 use Rattle.mr_loop.specs.Quiet.{AllWait}
-use Rattle.mr_loop.proofs.Runs.{went_one}
+use Rattle.mr_loop.proofs.Runs.{broke_one, went_one}
 use Rattle.mr_loop.proofs.Waiting.{waits_ticked}
 use Rattle.mr_loop.proofs.stepping.tick.Goals as goal
 
+pub returns-in-Err-Stopped-clause-went : goal.returns-in-Err-Stopped-clause-went
+returns-in-Err-Stopped-clause-went c = λ tells w m t s.
+    let down : c.args.node.now.core.up ≡ false = c.tick.ensures.stopped.0 (c.in-Err-Stopped.is ∙ ap Err c.in-Err-Stopped.field-0-is) in
+    let same : c.tick.new.self ≡ c.args.node.now = search rules in
+    broke_one stops refl (record { why = was_down down same; own = refl; wire = refl; file = (refl, refl) })
+
 pub returns-in-Ok-filed-clause-went : goal.returns-in-Ok-filed-clause-went
-returns-in-Ok-filed-clause-went c = λ tells w m t s. went_one (ticks c.args.given c.in-Ok.outs) (record {
+returns-in-Ok-filed-clause-went c = λ tells w m t s. went_one (ticks c.args.given c.in-Ok.outs) refl (record {
   node = subst (λ z. TickRow c.args.node.now c.args.given.now z c.in-Ok.outs) (sym c.reuse.ensures) c.in-Ok.ensures.row;
   own = c.in-Ok-filed.ensures.ok ∙ ap (filed c.args.links.now) c.appended.ensures;
   wire = refl;
@@ -16,7 +22,7 @@ returns-in-Ok-filed-clause-went c = λ tells w m t s. went_one (ticks c.args.giv
 })
 
 pub returns-in-Err-filed-clause-went : goal.returns-in-Err-filed-clause-went
-returns-in-Err-filed-clause-went c = λ tells w m t s. went_one (spills_tick c.args.given c.in-Ok.outs) (record {
+returns-in-Err-filed-clause-went c = λ tells w m t s. broke_one (spills_tick c.args.given c.in-Ok.outs) refl (record {
   node = subst (λ z. TickRow c.args.node.now c.args.given.now z c.in-Ok.outs) (sym c.reuse.ensures) c.in-Ok.ensures.row;
   own = c.in-Err-filed.ensures.err;
   wire = refl;

@@ -1,8 +1,15 @@
 use Rattle.std.proofs.Common.{◌≡◌}
-use Rattle.mr_loop.specs.Stage.{client_of, stage}
+use Rattle.mr_loop.specs.Stage.{client_of, stage_of}
+use Rattle.mr_loop.specs.Left.{left_of}
 use Rattle.mr_loop.specs.Quiet.{WaitsBut}
 use Rattle.mr_loop.specs.Rows.{Went}
 use Rattle.mr_loop.proofs.turning.step_all.Given as goal
 
 abbrev pub invariant-loop : goal.invariant-loop
-invariant-loop g l = Went g.W.Wire.tells l.fn.log.mode (stage l.fn.node l.fn.links (g.W.Wire.links l.fn.wire) (g.F.LogFile.told l.fn.log.file) (g.F.LogFile.synced l.fn.log.file)) (stage l.node l.links (g.W.Wire.links l.wire) (g.F.LogFile.told l.log.file) (g.F.LogFile.synced l.log.file)) × (l.log.mode ≡ l.fn.log.mode) × (WaitsBut (client_of l.fn.links l.fn.k) l.fn.node → WaitsBut (client_of l.links l.fn.k) l.node)
+invariant-loop g l =
+    let on = stage_of g.W.Wire.links g.F.LogFile.told g.F.LogFile.synced in
+    Went g.W.Wire.tells l.fn.log.mode (on l.fn.node l.fn.links l.fn.wire l.fn.log) (on l.node l.links l.wire l.log) × (l.log.mode ≡ l.fn.log.mode) × (WaitsBut (client_of l.fn.links l.fn.k) l.fn.node → WaitsBut (client_of l.links l.fn.k) l.node)
+
+-- each step that goes on uses something
+abbrev pub decreases-loop : goal.decreases-loop
+decreases-loop g l = left_of (client_of l.links l.fn.k) l.node

@@ -1,22 +1,37 @@
-use Rattle.std.proofs.Common.{◌∙◌, ap}
-use Rattle.mr_loop.proofs.Runs.{went_trans, moded}
+use Rattle.std.proofs.Common.{rules, ◌≡◌, ◌∙◌, Err, ap, arith}
+use Rattle.mr_loop.proofs.Runs.{breaks, broke_moded, moded, went_broke, went_trans}
 use Rattle.mr_loop.specs.Stage.{LoopState, client_of}
+use Rattle.mr_loop.specs.Left.{left_of}
 use Rattle.mr_loop.proofs.Waiting.{waits_as}
 use Rattle.mr_loop.proofs.turning.step_next.Goals as goal
 
+pub returns-in_err-unburden-clause-went : goal.returns-in_err-unburden-clause-went
+returns-in_err-unburden-clause-went g c =
+    let why = c.in_err-unburden.field-0.0 in
+    let told : c.from_residual.result ≡ Err why = search rules in
+    breaks c.from_residual.result why told c.in_err-unburden.ensures.went
+
 pub returns-in_err-used-clause-went : goal.returns-in_err-used-clause-went
-returns-in_err-used-clause-went g c = went_trans c.unburden.ensures.went (moded c.unburden.new.log.mode c.args.log.now.mode c.unburden.ensures.mode (c.step.ensures.went g.W.Wire.tells (g.W.Wire.links c.unburden.new.wire)))
+returns-in_err-used-clause-went g c =
+    let why = c.in_err-used.field-0.0 in
+    let told : c.from_residual-in_err-used.result ≡ Err why = search rules in
+    breaks c.from_residual-in_err-used.result why told
+    (went_broke c.in_ok-unburden.ensures.went (broke_moded c.unburden.new.log.mode c.args.log.now.mode c.unburden.ensures.mode (c.in_err-used.ensures.went g.W.Wire.tells (g.W.Wire.links c.unburden.new.wire))))
 
 pub returns-in_err-commit-clause-went : goal.returns-in_err-commit-clause-went
-returns-in_err-commit-clause-went g c = went_trans c.unburden.ensures.went (went_trans (moded c.unburden.new.log.mode c.args.log.now.mode c.unburden.ensures.mode (c.step.ensures.went g.W.Wire.tells (g.W.Wire.links c.unburden.new.wire)))
-    (moded c.step.new.log.mode c.args.log.now.mode (c.step.ensures.mode ∙ c.unburden.ensures.mode) (c.commit.ensures.went g.W.Wire.tells c.step.new.node (g.W.Wire.links c.unburden.new.wire))))
+returns-in_err-commit-clause-went g c =
+    let why = c.in_err-commit.field-0.0 in
+    let told : c.from_residual-in_err-commit.result ≡ Err why = search rules in
+    breaks c.from_residual-in_err-commit.result why told
+    (went_broke c.in_ok-unburden.ensures.went (went_broke (moded c.unburden.new.log.mode c.args.log.now.mode c.unburden.ensures.mode (c.in_ok-used.ensures.went g.W.Wire.tells (g.W.Wire.links c.unburden.new.wire)))
+    (broke_moded c.step.new.log.mode c.args.log.now.mode (c.step.ensures.mode ∙ c.unburden.ensures.mode) (c.in_err-commit.ensures.went g.W.Wire.tells c.step.new.node (g.W.Wire.links c.unburden.new.wire)))))
 
 pub returns-in_ok-commit-clause-went : goal.returns-in_ok-commit-clause-went
-returns-in_ok-commit-clause-went g c = went_trans c.unburden.ensures.went (went_trans (moded c.unburden.new.log.mode c.args.log.now.mode c.unburden.ensures.mode (c.step.ensures.went g.W.Wire.tells (g.W.Wire.links c.unburden.new.wire)))
-    (moded c.step.new.log.mode c.args.log.now.mode (c.step.ensures.mode ∙ c.unburden.ensures.mode) (c.commit.ensures.went g.W.Wire.tells c.step.new.node (g.W.Wire.links c.unburden.new.wire))))
+returns-in_ok-commit-clause-went g c = went_trans c.in_ok-unburden.ensures.went (went_trans (moded c.unburden.new.log.mode c.args.log.now.mode c.unburden.ensures.mode (c.in_ok-used.ensures.went g.W.Wire.tells (g.W.Wire.links c.unburden.new.wire)))
+    (moded c.step.new.log.mode c.args.log.now.mode (c.step.ensures.mode ∙ c.unburden.ensures.mode) (c.in_ok-commit.ensures.went g.W.Wire.tells c.step.new.node (g.W.Wire.links c.unburden.new.wire))))
 
 pub returns-else-batch-gt-MOST_BATCH-clause-went : goal.returns-else-batch-gt-MOST_BATCH-clause-went
-returns-else-batch-gt-MOST_BATCH-clause-went g c = went_trans c.unburden.ensures.went (moded c.unburden.new.log.mode c.args.log.now.mode c.unburden.ensures.mode (c.step.ensures.went g.W.Wire.tells (g.W.Wire.links c.unburden.new.wire)))
+returns-else-batch-gt-MOST_BATCH-clause-went g c = went_trans c.in_ok-unburden.ensures.went (moded c.unburden.new.log.mode c.args.log.now.mode c.unburden.ensures.mode (c.in_ok-used.ensures.went g.W.Wire.tells (g.W.Wire.links c.unburden.new.wire)))
 
 pub returns-in_ok-commit-clause-quiet : goal.returns-in_ok-commit-clause-quiet
 returns-in_ok-commit-clause-quiet g c = λ q.
@@ -25,3 +40,11 @@ returns-in_ok-commit-clause-quiet g c = λ q.
 
 pub returns-else-batch-gt-MOST_BATCH-clause-quiet : goal.returns-else-batch-gt-MOST_BATCH-clause-quiet
 returns-else-batch-gt-MOST_BATCH-clause-quiet g c = λ q. c.in_ok-used.ensures.quiet (c.in_ok-unburden.ensures.quiet q)
+
+pub returns-in_ok-commit-clause-uses : goal.returns-in_ok-commit-clause-uses
+returns-in_ok-commit-clause-uses g c = λ used.
+    let same = ap (λ (o : LoopState). left_of (client_of o c.args.k) c.step.new.node) c.in_ok-commit.ensures.all in
+    omega (arith, same, c.in_ok-used.ensures.uses used, c.in_ok-unburden.ensures.left)
+
+pub returns-else-batch-gt-MOST_BATCH-clause-uses : goal.returns-else-batch-gt-MOST_BATCH-clause-uses
+returns-else-batch-gt-MOST_BATCH-clause-uses g c = λ used. omega (arith, c.in_ok-used.ensures.uses used, c.in_ok-unburden.ensures.left)

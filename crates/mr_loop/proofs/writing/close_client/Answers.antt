@@ -7,7 +7,7 @@ use Rattle.mr_loop.proofs.Waiting.{waits_ended, others_of}
 use Rattle.mr_loop.proofs.writing.close_client.Goals as goal
 
 pub returns-clause-went : goal.returns-clause-went
-returns-clause-went g c = λ m t s. went_one (closes c.args.k) (record {
+returns-clause-went g c = λ m t s. went_one (closes c.args.k) refl (record {
   client = c.in-Some.client.now;
   has = record { is = sym c.in-Some.ensures };
   cause = c.may_close.ensures c.if-not-may_close.false;

@@ -10,7 +10,7 @@ use Rattle.mr_loop.proofs.writing.give_up_deaf.Goals as goal
 pub returns-then-is_burdened-clause-went : goal.returns-then-is_burdened-clause-went
 returns-then-is_burdened-clause-went c = λ node tells w m t s.
     let b = c.is_burdened.ensures c.if-is_burdened.true in
-    went_one (is_deaf c.args.k) (record {
+    went_one (is_deaf c.args.k) refl (record {
       client = b.client;
       too_much = b.too_much;
       given_up = record {

@@ -11,7 +11,7 @@ pub returns-clause-went : goal.returns-clause-went
 returns-clause-went g c = λ node m t s.
     let client = c.in-Some.client.now in let answer = c.write-answer.result in
     let written = subst (λ z. ChangesLink (g.W.Wire.links c.args.wire.now) c.name.result (behind_write g.W.Wire.tells answer z) (g.W.Wire.links c.write-answer.new.self)) c.waiting-2.ensures c.write-answer.ensures.written in
-    went_one (writes c.args.k (take (count_of answer) client.waiting)) (record {
+    went_one (writes c.args.k (take (count_of answer) client.waiting)) refl (record {
       client = client;
       has = record { is = sym c.in-Some.ensures };
       covered = c.requires;

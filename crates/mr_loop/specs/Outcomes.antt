@@ -1,0 +1,40 @@
+-- What a turn and its parts did, by what they answer.
+use Rattle.std.specs.Prelude.{◌≡◌, Bool, Some, Result, Ok, Err}
+use Rattle.mr_aof.specs.declared.log.SyncMode.{SyncMode}
+use Rattle.mr_loop.specs.declared.fault.LoopFault.{LoopFault}
+use Rattle.mr_loop.specs.declared.fault.LoopFault.TheVariants as fault
+use Rattle.mr_loop.specs.Stage.{Stage}
+use Rattle.mr_loop.specs.Rows.{Event, fault_of, Happens, IsStopped, Went}
+
+module _ (tells : Bool) (mode : SyncMode) where
+  -- Some events, behind each of which the turn goes on, and then one that is told as this fault. It is the last.
+  pub record Broke (why : LoopFault) (s t : Stage) : Type 0 where
+    pub before : Stage
+    pub went : Went tells mode s before
+    pub last : Event
+    pub told : fault_of last ≡ Some why
+    pub happens : Happens tells mode before last t
+
+  -- What a part of a turn did that answers this: behind a value each event went on, behind a fault the last one is told as it.
+  abbrev pub Does : {A : Type 0} → Result A LoopFault → Stage → Stage → Type 0
+  Does (Ok value) s t = Went tells mode s t
+  Does (Err why) s t = Broke why s t
+
+  -- .. and then the node is stopped, and nothing else changes
+  pub record BreaksDown (why : LoopFault) (s t : Stage) : Type 0 where
+    pub behind : Stage
+    pub broke : Broke why s behind
+    pub stopped : IsStopped behind t
+
+  -- What a turn did that answers this. Where the wire can't be waited on, nothing has changed.
+  abbrev pub Turns : Result (Unit {0}) LoopFault → Stage → Stage → Type 0
+  Turns (Ok value) s t = Went tells mode s t
+  Turns (Err fault.Listener) s t = t ≡ s
+  Turns (Err fault.File) s t = BreaksDown fault.File s t
+  Turns (Err fault.Stopped) s t = BreaksDown fault.Stopped s t
+
+  -- Turns one after another: they went on, and the last one answers this.
+  pub record Serves (result : Result (Unit {0}) LoopFault) (s t : Stage) : Type 0 where
+    pub before : Stage
+    pub went : Went tells mode s before
+    pub last : Turns result before t
