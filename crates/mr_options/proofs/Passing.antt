@@ -77,7 +77,7 @@ pipe_shape = built_leaf (inherited (built line).top pipe_line.top)
 
 are_pipe : AreOptions pipe_rules
 are_pipe = record {
-  all = (option_known pipe_rules (codes "id") vp.String false refl, (option_known pipe_rules (codes "now") (vp.Unsigned 0 (2 ^ 61)) false refl, (option_known pipe_rules (codes "word") (vp.Unsigned 0 (2 ^ 64 - 1)) false refl, (option_known pipe_rules (codes "aof") vp.String false refl, tt))));
+  all = (option_known refl, (option_known refl, (option_known refl, (option_known refl, tt))));
   no_short = λ x. refl;
   no_index = λ i. refl;
 }
@@ -91,7 +91,7 @@ serve_shape = built_leaf (inherited (built line).top serve_line.top)
 
 are_serve : AreOptions serve_rules
 are_serve = record {
-  all = (option_known serve_rules (codes "port") (vp.Unsigned 1 65535) true refl, (option_known serve_rules (codes "aof") vp.String false refl, (option_known serve_rules (codes "sync") vp.String false refl, (option_known serve_rules (codes "turns") (vp.Unsigned 0 (2 ^ 64 - 1)) false refl, tt))));
+  all = (option_known refl, (option_known refl, (option_known refl, (option_known refl, tt))));
   no_short = λ x. refl;
   no_index = λ i. refl;
 }
@@ -135,7 +135,7 @@ port_given rows e =
     elim (is_given (codes "port") rows) as (λ b. is_given (codes "port") rows ≡ b → b ≡ true) [
       | true ↦ λ is. refl
       | false ↦ λ is.
-          let missing = list_any-from_Any is_missing serve_rules (0, one_valued (codes "port") (vp.Unsigned 1 65535) true, omega arith, refl, ap not is) in
+          let missing = list_any-from_Any is_missing serve_rules (0, _, omega arith, refl, ap not is) in
           absurd (let wrong : ◌≡◌ {A = Kinds} (MissingRequiredArgument ∷ []) [] = sym (ap (λ (b : Bool). check_kinds false false b) missing) ∙ e in cc)
     ] refl
 

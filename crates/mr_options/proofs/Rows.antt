@@ -46,8 +46,8 @@ pub record IsKnown (c : List Rule) (a : Rule) : Type 0 where
   pub there : arg_by_id c name ≡ Some (one_valued name parser is_needed)
 
 -- such an option, among these
-pub option_known : (c : List Rule) (name : Text) (p : ValueParser) (is_needed : Bool) → arg_by_id c name ≡ Some (one_valued name p is_needed) → IsKnown c (one_valued name p is_needed)
-option_known c name p is_needed there = record { name = name; parser = p; is_needed = is_needed; is = refl; there = there }
+pub option_known : {c : List Rule} {name : Text} {p : ValueParser} {is_needed : Bool} → arg_by_id c name ≡ Some (one_valued name p is_needed) → IsKnown c (one_valued name p is_needed)
+option_known {c} {name} {p} {is_needed} there = record { name = name; parser = p; is_needed = is_needed; is = refl; there = there }
 
 -- P holds of each rule
 abbrev pub Each : (Rule → Type 0) → List Rule → Type 0
@@ -146,7 +146,7 @@ module _ (c : List Rule) (o : AreOptions c) where
   long_fine (Some a) all v h e fine =
       let k = all a refl in
       let P : Rule → Type 0 = λ x. long_fault c false (Some x) v h ≡ [] → RowsFine c (long_met c (Some x) v h).0.rows in
-      let here = option_known c k.name k.parser k.is_needed k.there in
+      let here = option_known k.there in
       subst P (sym k.is) (λ e. option_fine (one_valued k.name k.parser k.is_needed) here v h e fine) e
 
   step_same : (first : Option ℕ) (flags : Text) (skip : ℕ) (so_far : Outcome) (h : Held) (on : Text → ℕ → Outcome → Held → Held × Outcome)
