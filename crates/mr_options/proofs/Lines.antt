@@ -19,9 +19,9 @@ names : (m : ArgMatches) → option_map (λ (p : Text × List Row). p.0) (subcom
 names m = elim (out-ArgMatches m).subcommand as (λ o. option_map (λ (p : Text × List Row). p.0) (subcommand_rows o) ≡ option_map (λ b. (out-SubCommand (box_value b)).name.now) o) [ None ↦ refl | Some b ↦ refl ]
 
 -- a line without a fault, by what the parser's matches say of it
-pub line_of : (command : App) (words : List Text) (m : ArgMatches) (name : Text) (rows : List Row) → command ≡ line → (is_simple_and_free command ≡ true → fault_of command words ≡ []) → HasMatchesOf command words m
+pub line_of : {command : App} {name : Text} {rows : List Row} (words : List Text) (m : ArgMatches) → command ≡ line → (is_simple_and_free command ≡ true → fault_of command words ≡ []) → HasMatchesOf command words m
     → Some name ≡ subcommand_name_of m → Some rows ≡ option_map (λ (p : Text × List Row). p.1) (subcommand_rows_of m) → IsLineOf name words rows
-line_of command words m name rows is fine matches a b =
+line_of {command} {name} {rows} words m is fine matches a b =
     let said = (matches (ap is_simple is)).1 ∙ ap (λ (a : App). subcommand_of a words) is in
     (sym (ap (λ (a : App). fault_of a words) is) ∙ fine (ap is_simple_and_free is), sym said ∙ pair_is (subcommand_rows_of m) name rows (names m ∙ sym a) (sym b))
 

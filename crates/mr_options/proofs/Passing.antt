@@ -5,13 +5,12 @@ use Rattle.std.specs.List.{find}
 use Rattle.std.specs.Option.{option_map, option_map_or}
 use Rattle.std.specs.Str.{bytes_eq}
 use Rattle.std.proofs.lemmas.List.Folds.{list_any-from_Any}
-use Rattle.clap.specs.Words.{Kinds, Row, Rule, Shape, Text, fault_of, subcommand_of}
+use Rattle.clap.specs.Words.{Kinds, Row, Rule, Shape, Text}
 use Rattle.clap.specs.Faults.{check_fault, defaults_fault, entered_fault, level_fault, settle_fault, walk_fault}
 use Rattle.clap.specs.Kinds.{check_kinds}
 use Rattle.clap.specs.Simple.{argument_words, built, built_leaf, entered, inherited, label_of, names_of, rows_at}
 use Rattle.clap.specs.Takes.{is_given}
-use Rattle.clap.specs.Walk.{answers_to, has_row, nothing_held, rows_after, settled, stop_after, walk, walk_from, with_default}
-use Rattle.clap.specs.declared.builder.value_parser.ValueParser.{ValueParser}
+use Rattle.clap.specs.Walk.{answers_to, has_row, nothing_held, settled, stop_after, walk, walk_from, with_default}
 use Rattle.clap.specs.declared.builder.value_parser.ValueParser.TheVariants as vp
 use Rattle.clap.specs.declared.error.kind.ErrorKind.TheVariants.{MissingRequiredArgument}
 use Rattle.mr_options.specs.Lines.{line, pipe_line, serve_line}
@@ -77,7 +76,7 @@ pipe_shape = built_leaf (inherited (built line).top pipe_line.top)
 
 are_pipe : AreOptions pipe_rules
 are_pipe = record {
-  all = (option_known pipe_rules (codes "id") vp.String false refl, (option_known pipe_rules (codes "now") (vp.Unsigned 0 (2 ^ 61)) false refl, (option_known pipe_rules (codes "word") (vp.Unsigned 0 (2 ^ 64 - 1)) false refl, (option_known pipe_rules (codes "aof") vp.String false refl, tt))));
+  all = (option_known refl, (option_known refl, (option_known refl, (option_known refl, tt))));
   no_short = λ x. refl;
   no_index = λ i. refl;
 }
@@ -91,7 +90,7 @@ serve_shape = built_leaf (inherited (built line).top serve_line.top)
 
 are_serve : AreOptions serve_rules
 are_serve = record {
-  all = (option_known serve_rules (codes "port") (vp.Unsigned 1 65535) true refl, (option_known serve_rules (codes "aof") vp.String false refl, (option_known serve_rules (codes "sync") vp.String false refl, (option_known serve_rules (codes "turns") (vp.Unsigned 0 (2 ^ 64 - 1)) false refl, tt))));
+  all = (option_known refl, (option_known refl, (option_known refl, (option_known refl, tt))));
   no_short = λ x. refl;
   no_index = λ i. refl;
 }
@@ -135,7 +134,7 @@ port_given rows e =
     elim (is_given (codes "port") rows) as (λ b. is_given (codes "port") rows ≡ b → b ≡ true) [
       | true ↦ λ is. refl
       | false ↦ λ is.
-          let missing = list_any-from_Any is_missing serve_rules (0, one_valued (codes "port") (vp.Unsigned 1 65535) true, omega arith, refl, ap not is) in
+          let missing = list_any-from_Any is_missing serve_rules (0, _, omega arith, refl, ap not is) in
           absurd (let wrong : ◌≡◌ {A = Kinds} (MissingRequiredArgument ∷ []) [] = sym (ap (λ (b : Bool). check_kinds false false b) missing) ∙ e in cc)
     ] refl
 

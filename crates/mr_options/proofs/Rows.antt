@@ -2,17 +2,16 @@
 use Rattle.std.proofs.Common.{◌≡◌, ◌∙◌, ◌<◌, ◌&&◌, ◌||◌, ◌++◌, ℕ, zero, suc, List, [], ◌∷◌, Option, Some, None, Bool, true, false, not, sym, ap, refl, subst, cond, length, arith, append-nil}
 use Rattle.std.specs.Prelude.{IfSome, drop, encode_utf8, fold, slice_get}
 use Rattle.std.specs.List.{find}
-use Rattle.std.specs.Option.{is_some, option_and_then, option_map, option_map_or}
+use Rattle.std.specs.Option.{is_some, option_map_or}
 use Rattle.std.specs.Str.{bytes_eq, chars}
 use Rattle.clap.specs.Words.{Kinds, Row, Rule, Shape, Text, new_rule}
-use Rattle.clap.specs.Kinds.{or_else, range_kinds, value_kinds, values_kinds}
+use Rattle.clap.specs.Kinds.{or_else, range_kinds}
 use Rattle.clap.specs.Faults.{flag_word_fault, level_fault, long_fault, option_fault, other_fault, repeat_fault, settle_fault, step_fault, turn_fault, use_fault, values_fault, walk_fault, word_fault}
 use Rattle.clap.specs.Lexer.{long_of, short_of}
-use Rattle.clap.specs.Walk.{Held, Outcome, Step, Waiting, Walk, after_flag, after_step, arg_by_id, arg_by_index, arg_by_long, arg_by_short, at_row, bundle, bundle_met, bundle_step, done, has_long, has_row, idle, long_met, long_or_other, more_values, next, nothing_held, option_met, option_word, plain, plain_word, positional, reading_by, refused, row_text, settled, settled_rows, short_met, short_or_plain, subcommand, subcommand_met, subcommand_or_other, to_positional, trailing, used, used_by_id, value, waits, walk, walk_from, walked, walked_from, with_values, without, word_met}
+use Rattle.clap.specs.Walk.{Held, Outcome, Step, Waiting, Walk, after_flag, after_step, arg_by_id, arg_by_index, arg_by_long, arg_by_short, at_row, bundle, bundle_met, bundle_step, done, has_long, has_row, idle, long_met, long_or_other, more_values, next, nothing_held, option_met, option_word, plain, plain_word, positional, reading_by, refused, settled, settled_rows, short_met, short_or_plain, subcommand, subcommand_met, subcommand_or_other, to_positional, trailing, used, used_by_id, value, waits, walk, walk_from, walked, walked_from, with_values, without, word_met}
 use Rattle.clap.specs.Walk.{option as option_waits}
 use Rattle.clap.specs.declared.builder.action.ArgAction.TheVariants.{Set}
 use Rattle.clap.specs.declared.builder.value_parser.ValueParser.{ValueParser}
-use Rattle.clap.specs.declared.error.kind.ErrorKind.{ErrorKind}
 use Rattle.clap.specs.declared.error.kind.ErrorKind.TheVariants.{ArgumentConflict, InvalidValue}
 use Rattle.clap.specs.declared.parser.matches.ValueSource.TheVariants.{CommandLine}
 
@@ -46,8 +45,8 @@ pub record IsKnown (c : List Rule) (a : Rule) : Type 0 where
   pub there : arg_by_id c name ≡ Some (one_valued name parser is_needed)
 
 -- such an option, among these
-pub option_known : (c : List Rule) (name : Text) (p : ValueParser) (is_needed : Bool) → arg_by_id c name ≡ Some (one_valued name p is_needed) → IsKnown c (one_valued name p is_needed)
-option_known c name p is_needed there = record { name = name; parser = p; is_needed = is_needed; is = refl; there = there }
+pub option_known : {c : List Rule} {name : Text} {p : ValueParser} {is_needed : Bool} → arg_by_id c name ≡ Some (one_valued name p is_needed) → IsKnown c (one_valued name p is_needed)
+option_known {c} {name} {p} {is_needed} there = record { name = name; parser = p; is_needed = is_needed; is = refl; there = there }
 
 -- P holds of each rule
 abbrev pub Each : (Rule → Type 0) → List Rule → Type 0
@@ -146,7 +145,7 @@ module _ (c : List Rule) (o : AreOptions c) where
   long_fine (Some a) all v h e fine =
       let k = all a refl in
       let P : Rule → Type 0 = λ x. long_fault c false (Some x) v h ≡ [] → RowsFine c (long_met c (Some x) v h).0.rows in
-      let here = option_known c k.name k.parser k.is_needed k.there in
+      let here = option_known k.there in
       subst P (sym k.is) (λ e. option_fine (one_valued k.name k.parser k.is_needed) here v h e fine) e
 
   step_same : (first : Option ℕ) (flags : Text) (skip : ℕ) (so_far : Outcome) (h : Held) (on : Text → ℕ → Outcome → Held → Held × Outcome)

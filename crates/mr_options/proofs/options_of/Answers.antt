@@ -1,4 +1,4 @@
-use Rattle.std.proofs.Common.{List, inl, inr, subst}
+use Rattle.std.proofs.Common.{inl, inr, subst}
 use Rattle.clap.specs.Words.{Text, found_of, rows_of}
 use Rattle.mr_options.specs.Outcomes.{IsLineOf}
 use Rattle.mr_options.proofs.Passing.{pipe_numbers, serve_numbers}

@@ -1,4 +1,4 @@
-use Rattle.std.proofs.Common.{◌≡◌, ◌∙◌, ℕ, Option, Some, None, sym, subst}
+use Rattle.std.proofs.Common.{◌∙◌, ℕ, sym, subst}
 use Rattle.clap.specs.Words.{found_of, rows_of}
 use Rattle.mr_options.specs.Values.{NamesNumber}
 use Rattle.mr_options.proofs.Numbers.{named_read}
