@@ -1,4 +1,4 @@
-.PHONY: build test test-all test-batched bench instructions
+.PHONY: build test test-all test-batched bench bench-serve instructions
 
 # The gate that `make test` runs: test-all, or test-batched.
 GATE = test-batched
@@ -22,6 +22,10 @@ test-batched:
 bench:
 	python3 bench/bench.py $(RUNS)
 
-# The same runs by the instructions that they take, under callgrind, which must be installed.
+# What a request costs `serve`, beside redis-server over TCP, as a table and a plot.
+bench-serve:
+	python3 bench/serving.py --plot docs/serving.svg $(RUNS)
+
+# The runs of `make bench` by the instructions that they take, under callgrind, which must be installed.
 instructions:
 	python3 bench/instructions.py $(RUNS)

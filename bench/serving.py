@@ -2,11 +2,13 @@
 
 Each run is made of both programs in turn, with 50 clients that send 1, 16 or 64 requests before they read; told are the medians of ROUNDS
 runs: the server's own processor time a request, the system's part included, and requests a second. The former hardly depends on what else
-the machine does; the latter is bound by the client too. WORDs choose runs by words of their names. --plot draws what a
+the machine does; the latter is bound by the client too. One run is made beside links on which nothing comes. WORDs choose runs by words of their names. --plot draws what a
 request costs Redis against minired, as an SVG."""
 
+import contextlib
 import csv
 import os
+import resource
 import socket
 import subprocess
 import sys
@@ -19,6 +21,8 @@ TESTS = ("ping_mbulk", "set", "get", "incr", "lpush", "lpop", "sadd", "spop", "h
 # how many requests a client sends before it reads, and how many are sent in a run
 PIPELINES = {1: 60_000, 16: 500_000, 64: 1_000_000}
 CLIENTS = 50
+# links on which nothing comes, and how many requests are sent beside them
+IDLE, BESIDE_IDLE = 10_000, 20_000
 ALWAYS = ("--appendonly", "yes", "--appendfsync", "always", "--auto-aof-rewrite-percentage", "0")
 WIDTH, ROW, LEFT = 720, 22, 250
 
@@ -66,15 +70,35 @@ class Server:
 def servers(room, is_kept):
     """Both servers, with an empty dataset, and where it is kept with a file that is synced before each reply."""
     minired = [LAUNCHER, "serve", "--port", "{port}"]
-    redis = ["redis-server", "--port", "{port}", "--save", "", "--dir", room]
+    redis = ["redis-server", "--port", "{port}", "--save", "", "--dir", room, "--maxclients", str(2 * IDLE)]
     if is_kept:
         minired += ["--aof", os.path.join(room, "minired.aof")]
         redis += ALWAYS
     return Server(minired), Server(redis)
 
 
+@contextlib.contextmanager
+def idle_links(server, count):
+    """So many links to a server on which nothing comes, all of them accepted."""
+    with contextlib.ExitStack() as links:
+        for at in range(count):
+            it = links.enter_context(socket.create_connection(("127.0.0.1", server.port)))
+            if at % 64 == 63 or at == count - 1:
+                it.sendall(b"PING\r\n")
+                it.recv(16)
+        yield
+
+
+def run_beside(server, idle, *what):
+    """What a run on a server takes, beside so many idle links."""
+    with idle_links(server, idle):
+        return server.run(*what)
+
+
 def runs(chosen):
-    """The name of each run, and what is run."""
+    """The name of each run, and what is run: also beside how many idle links."""
+    if is_chosen(name := f"SET, P 1, one key, beside {IDLE:,} idle links", chosen):
+        yield name, False, "set", 1, BESIDE_IDLE, 1, IDLE
     for is_kept, keys in ((False, 1), (False, KEYS), (True, 1)):
         for pipeline, count in PIPELINES.items():
             for test in ("set", "incr") if is_kept else TESTS:
@@ -82,15 +106,15 @@ def runs(chosen):
                 where = "synced file" if is_kept else "one key" if keys == 1 else "random keys"
                 name = f"{test.split('_')[0].upper()}, P {pipeline}, {where}"
                 if is_chosen(name, chosen):
-                    yield name, is_kept, test, pipeline, count // 10 if is_kept else count, keys
+                    yield name, is_kept, test, pipeline, count // 10 if is_kept else count, keys, 0
 
 
 def measure(chosen):
     """Yields the name of each run, and the medians of minired and of Redis."""
-    for name, is_kept, test, pipeline, count, keys in runs(chosen):
+    for name, is_kept, test, pipeline, count, keys, idle in runs(chosen):
         with tempfile.TemporaryDirectory() as room:
             both = servers(room, is_kept)
-            found = [[it.run(test, pipeline, count, keys) for it in both] for _ in range(ROUNDS)]
+            found = [[run_beside(it, idle, test, pipeline, count, keys) for it in both] for _ in range(ROUNDS)]
             for it in both:
                 it.stop()
         ours, theirs = (medians([it[at] for it in found]) for at in (0, 1))
@@ -116,6 +140,7 @@ def drawn(rows):
 def main(words):
     if not has_redis():
         raise SystemExit("bench: redis-server and redis-benchmark are not installed, so there is nothing to measure beside")
+    resource.setrlimit(resource.RLIMIT_NOFILE, [resource.getrlimit(resource.RLIMIT_NOFILE)[1]] * 2)
     plot = words[1] if words[:1] == ["--plot"] else None
     rows = []
     print("| Run | minired, ns a request | Redis | times | minired, requests/s | Redis |\n|---|---|---|---|---|---|")

@@ -18,7 +18,7 @@ READY = re.compile(rb"minired: ready on 127\.0\.0\.1:(\d+), (\d+) keys(?: from (
 # how long a poll sleeps between two looks, in seconds
 A_LOOK = 0.002
 # descriptors that a test with many links needs, of its own and of the server
-DESCRIPTORS = 8192
+DESCRIPTORS = 12_288
 # what a client may leave unread, in bytes
 UNREAD = 64 << 20
 

@@ -30,9 +30,9 @@ COUNT = b"-ERR Protocol error: invalid multibulk length\r\n"
 QUOTES = b"-ERR Protocol error: unbalanced quotes in request\r\n"
 # how often the server is killed in the middle of its links' writes
 KILLS = 50
-# links at once, and links that are closed in the middle of a request
-MANY, CLOSED = 1000, 10_000
-# how much memory a server may have taken more behind so many closed links, and at most over what a deaf client may leave unread
+# links at once, links that are closed in the middle of a request, and links on which nothing ever comes
+MANY, CLOSED, IDLE = 1000, 10_000, 10_000
+# how much memory a server may have taken more behind so many closed links or for so many idle ones, and at most over what a deaf client may leave unread
 LEAK, BESIDE = 16 * MIB, 192 * MIB
 # in the year 2100
 FAR = 4_102_444_800_000
@@ -414,6 +414,25 @@ class Links(Serving):
             link.send(request("GET", "key%d" % at)[9:] + request("EXISTS", "key%d" % (MANY - 1 - at)))
         for at, link in enumerate(links):
             self.assertEqual(link.reply() + link.reply(), bulk("v%d" % at) + number(1))
+        for link in links:
+            link.close()
+        self.comes(lambda: it.descriptors() == before)
+        self.goes_on(it)
+
+    def test_thousands_of_idle_links_hold_up_no_other(self):
+        it = self.serve()
+        other = self.client(it)
+        self.assertEqual(other.asks("PING"), PONG)
+        before, memory = it.descriptors(), it.memory()
+        # as many as the system lets a process have
+        links = [self.client(it) for _ in range(min(IDLE, resource.getrlimit(resource.RLIMIT_NOFILE)[0] - 100))]
+        self.comes(lambda: it.descriptors() == before + len(links))
+        for at in range(100):
+            self.assertEqual(other.asks("INCR", "n"), number(at + 1))
+        self.assertLess(it.memory(), memory + LEAK)
+        # none of them was forgotten
+        for link in links[::100]:
+            self.assertEqual(link.asks("GET", "n"), bulk("100"))
         for link in links:
             link.close()
         self.comes(lambda: it.descriptors() == before)
