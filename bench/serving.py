@@ -18,6 +18,8 @@ import time
 from servers import KEYS, LAUNCHER, ROUNDS, has_redis, is_chosen, medians, used_by
 
 TESTS = ("ping_mbulk", "set", "get", "incr", "lpush", "lpop", "sadd", "spop", "hset", "zadd", "zpopmin")
+# what is run first, so that there is something to be found; SPOP and ZPOPMIN find nothing
+BEFORE = {"get": "set", "lpop": "lpush"}
 # how many requests a client sends before it reads, and how many are sent in a run
 PIPELINES = {1: 60_000, 16: 500_000, 64: 1_000_000}
 CLIENTS = 50
@@ -89,10 +91,12 @@ def idle_links(server, count):
         yield
 
 
-def run_beside(server, idle, *what):
+def run_beside(server, idle, test, pipeline, count, keys):
     """What a run on a server takes, beside so many idle links."""
     with idle_links(server, idle):
-        return server.run(*what)
+        if test in BEFORE:
+            server.run(BEFORE[test], 64, count, keys)
+        return server.run(test, pipeline, count, keys)
 
 
 def runs(chosen):
@@ -101,7 +105,9 @@ def runs(chosen):
         yield name, False, "set", 1, BESIDE_IDLE, 1, IDLE
     for is_kept, keys in ((False, 1), (False, KEYS), (True, 1)):
         for pipeline, count in PIPELINES.items():
-            for test in ("set", "incr") if is_kept else TESTS:
+            # its random scores have leading zeros, which minired refuses
+            tests = [it for it in TESTS if it != "zadd"] if keys > 1 else TESTS
+            for test in ("set", "incr") if is_kept else tests:
                 # without random keys a member is the same each time, and a list or set of many is told by one key
                 where = "synced file" if is_kept else "one key" if keys == 1 else "random keys"
                 name = f"{test.split('_')[0].upper()}, P {pipeline}, {where}"
