@@ -419,7 +419,7 @@ class Links(Serving):
         self.comes(lambda: it.descriptors() == before)
         self.goes_on(it)
 
-    def test_thousands_of_idle_links_hold_up_no_other(self):
+    def test_thousands_of_idle_links_leave_the_others_their_replies(self):
         it = self.serve()
         other = self.client(it)
         self.assertEqual(other.asks("PING"), PONG)
