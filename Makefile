@@ -1,7 +1,7 @@
-.PHONY: build test test-all test-batched bench bench-serve instructions
+.PHONY: build test test-all test-batched test-by-turns bench bench-serve instructions
 
-# The gate that `make test` runs: test-all, or test-batched.
-GATE = test-batched
+# The gate that `make test` runs: test-all, test-batched, or test-by-turns.
+GATE = test-by-turns
 
 # Proves and builds the program, where its sources are newer.
 build:
@@ -16,6 +16,10 @@ test-all:
 # The same, with the edits of different functions of a crate tried in one check.
 test-batched:
 	python3 tests/run.py --batched
+
+# The same, without the edits of crates that are the same as they landed, but for a tenth of these crates by turns.
+test-by-turns:
+	python3 tests/run.py --by-turns
 
 # Processor time a request and peak memory, beside redis-server where it is installed. RUNS="SETEX tick" chooses runs by words of their
 # names; with ROUNDS=5 each is made five times, and the median told.

@@ -1,4 +1,4 @@
-"""Tries the must-fail edits of the crates in batches: `edits.py [--proved FOLDER [--follow N]] [--at-once N] [--alone] [--plan] [CRATE..]`.
+"""Tries the must-fail edits of the crates in batches: `edits.py [--proved FOLDER [--follow N]] [--by-turns] [--at-once N] [--alone] [--plan] [CRATE..]`.
 
 An edit is a file crates/NAME/must-fail/*.edit, as `rt must-fail` reads it. Edits of different functions of a crate are put into one
 copy and checked by one `rattle check --only F1 --only F2 ..`: the theorem of another function cites a function's contract and never
@@ -10,7 +10,8 @@ edit is tried alone. An edit whose reach isn't known (of a clause, a type, a def
 
 Nothing is proved here but what is edited. The crates themselves are proved elsewhere: --proved names a copy of this repository in which
 `rt ci` has just run, or with --follow still runs: standard input then names each crate that it has proved, and a crate's edits are tried once its own name
-and those of the crates below it have come. Without --proved, what isn't proved in this repository is proved first. The last line is `N passed, M failed`."""
+and those of the crates below it have come. Without --proved, what isn't proved in this repository is proved first. With --by-turns, crates that are the same
+as they landed are tried in one run of ten (tests/landed.py). The last line is `N passed, M failed`."""
 
 import argparse
 import difflib
@@ -33,6 +34,7 @@ from kit import Kit, NoKit
 from lanes import Task, in_lanes
 from answers import Answer, Strength
 from following import Following, give_way
+from landed import Landed
 from sources import Sources
 
 
@@ -306,6 +308,20 @@ def trials(kit, crates, options):
     return found, bad
 
 
+def those_of_this_run(found, crates, landed):
+    """Those of the trials whose turn it is, or whose crates aren't as they landed. It says which are left out."""
+    landed, why = landed
+    if not landed:
+        print(f"all edits are tried: {why}", flush=True)
+        return found
+    places = {it.name: place for place, it in enumerate(crates)}
+    left = [it for it in found if landed.waits(it.crate, places[it.crate.name])]
+    for it in left:
+        print(f"{it.crate.name}: as it landed with {landed.commit[:7]}, so its {len(it.edits)} edits have their turn {landed.runs_until(places[it.crate.name])} runs from now")
+    print(f"{sum(len(it.edits) for it in left)} edits of {len(left)} crates are not tried in this run", flush=True)
+    return [it for it in found if it not in left]
+
+
 def stands(trial, after_ci):
     """Whether the crates below are proved: by the `rt ci` that has just run here, or else by what is kept, and now where it isn't."""
     for below in trial.crate.below:
@@ -336,6 +352,7 @@ def options_of(words):
     parser.add_argument("--proved", help="a copy of the repository in which `rt ci` has just run")
     parser.add_argument("--follow", type=int, metavar="N", help="`rt ci` still runs there, with N crates at a time; standard input names those proved, one a line")
     parser.add_argument("--edits", help="the repository whose edits are tried, if it isn't this one")
+    parser.add_argument("--by-turns", action="store_true", help="leave out, in nine runs of ten, crates that are the same as they landed")
     parser.add_argument("--at-once", type=int, help="how many crates are tried at a time")
     parser.add_argument("--alone", action="store_true", help="try each edit by itself")
     parser.add_argument("--plan", action="store_true", help="only print the batches, and which edits can't be made")
@@ -356,6 +373,8 @@ def main(words):
         return 1
     free, memory, crates = kit.free(), kit.memory(), kit.crates(options.proved or ROOT)
     found, bad = trials(kit, crates, options)
+    if options.by_turns:
+        found = those_of_this_run(found, crates, Landed.of(options.edits or ROOT, kit.identity()))
     if options.plan:
         return plan(found, bad, options.alone)
     if options.follow:

@@ -1,4 +1,5 @@
-"""The gate: `run.py` proves, tries and tests everything by `rt ci` and plays the tables; `run.py --batched` tries the edits in batches; `run.py --tables` only plays the tables.
+"""The gate: `run.py` proves, tries and tests everything by `rt ci` and plays the tables; `run.py --batched` tries the edits in batches; `run.py --by-turns` does so too, and
+leaves out, in nine runs of ten, those of crates that are the same as they landed; `run.py --tables` only plays the tables.
 
 Each stops at the first part that fails. The last line is `N passed, M failed`, and stands alone. docs/GATE.md says what each shows."""
 
@@ -166,20 +167,20 @@ def everything():
     return tables_in(ROOT, part("rt ci", ["rt", "ci"], ROOT, 0))
 
 
-def batched(root=ROOT):
+def batched(root=ROOT, by_turns=False):
     """The same, with the edits in batches: in a copy of this repository without them, rt ci proves each crate from nothing; over these crates the edits
-    are tried, each as soon as its crate and those below it are proved."""
+    are tried, each as soon as its crate and those below it are proved. By turns, not those whose turn hasn't come (tests/landed.py)."""
     with tempfile.TemporaryDirectory(prefix="minired-gate-", ignore_cleanup_errors=True) as room:
         copy, kept, at_once = copied(root, room), os.path.join(room, "edits"), str(crates_at_once())
         os.mkdir(kept)
-        words = [sys.executable, "-u", os.path.join(ROOT, "tests", "edits.py"), "--proved", copy, "--edits", root, "--follow", at_once]
+        words = [sys.executable, "-u", os.path.join(ROOT, "tests", "edits.py"), "--proved", copy, "--edits", root, "--follow", at_once, *(["--by-turns"] if by_turns else [])]
         # first the edits: they measure the memory that is free before rt ci takes any
         edits = Part("edits", words, ROOT, stdin=subprocess.PIPE, TMPDIR=kept)
         return tables_in(copy, side_by_side(Part("rt ci", ["rt", "ci"], copy), edits))
 
 
 def main(words):
-    gates = {"": everything, "--batched": batched, "--tables": tables}
+    gates = {"": everything, "--batched": batched, "--by-turns": lambda: batched(by_turns=True), "--tables": tables}
     if " ".join(words) not in gates:
         print(__doc__)
         sys.exit(2)

@@ -162,6 +162,22 @@ class Sources:
         return False
 
 
+def without_bodies(text):
+    """The text without the bodies of its functions, but for those that are known when the crate is read, as in `const fn`. Where a macro is made, the whole text."""
+    lines, kept, row = text.split("\n"), [], 0
+    if "macro_rules!" in text:
+        return text
+    while row < len(lines):
+        begins = FUNCTION.match(lines[row])
+        ends = end_of(lines, row, begins[1]) if begins and "const fn" not in lines[row] else None
+        if ends and ends[0] < ends[1]:
+            kept += lines[row : ends[0] + 1]
+            row = ends[1]
+        kept.append(lines[row])
+        row += 1
+    return "\n".join(kept)
+
+
 def without_comments_and_imports(text):
     """The text with as many rows, and nothing in the place of `//` comments and `use` items."""
     plain = re.sub(r"//[^\n]*", "", text)

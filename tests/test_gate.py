@@ -58,9 +58,9 @@ class Sums(unittest.TestCase):
         value, said = self.part("print('4 passed, 0 failed', flush=True); raise SystemExit(1)")
         self.assertEqual((value.code, said[-1]), (1, "7 passed, 1 failed"))
 
-    def test_the_makefile_names_one_of_the_two_gates(self):
+    def test_the_makefile_names_one_of_the_gates(self):
         with open(os.path.join(ROOT, "Makefile"), encoding="utf-8") as it:
-            self.assertEqual(len(re.findall(r"^GATE = test-(?:all|batched)$", it.read(), re.M)), 1)
+            self.assertEqual(len(re.findall(r"^GATE = test-(?:all|batched|by-turns)$", it.read(), re.M)), 1)
 
 
 class SideBySide(unittest.TestCase):

@@ -53,6 +53,11 @@ class Kit:
             known[inner.name] = Crate(self, inner, [known[it.name] for it in inner.below()])
         return list(known.values())
 
+    def identity(self):
+        """The kit's line, as `rt version` prints it."""
+        with open(os.path.join(self.rt.KIT, "KIT-ID"), encoding="utf-8") as it:
+            return it.read().strip()
+
     def processors(self):
         """How many processors there are to use, under the quota of a container too."""
         return self.rt.processors()
