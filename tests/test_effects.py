@@ -253,6 +253,29 @@ class Keys(Rehearsing):
         ]
         self.plays(rows)
 
+    def test_keys_of_any_length_are_listed_in_byte_order(self):
+        # keys of 16 bytes and fewer stand apart from longer ones, with zeros behind them
+        lengths = (1, 15, 16, 17, 40)
+        keys = ["", "ab", "a" * 15 + "b", "a" * 16 + "b", *[letter * length for letter in "abc" for length in lengths]]
+        keys += [key + "\0" for key in keys] + ["\0\0", "a\0\0", "a" * 14 + "\0\0", "a" * 16 + "\0\0"]
+        in_order = sorted(keys)
+        others = in_order[::2]
+        rows = [("SET %s %d" % (key, place),) for place, key in enumerate(keys)]
+        rows += [
+            ("KEYS *", array(*in_order)),
+            ("DBSIZE", number(len(keys))),
+            *[("GET %s" % key, bulk(str(place))) for place, key in enumerate(keys)],
+            *[("DEL %s" % key, number(1), "DEL %s" % key) for key in others],
+            ("KEYS *", array(*in_order[1::2])),
+            *[("EXISTS %s" % key, number(0)) for key in others],
+            ("RENAME %s new" % in_order[-1], OK, "RENAME %s new" % in_order[-1]),
+            ("KEYS *", array(*sorted([*in_order[1:-1:2], "new"]))),
+            ("FLUSHALL", OK, "FLUSHALL"),
+            ("KEYS *", NONE),
+        ]
+        self.plays(rows)
+        self.plays([*[("HSET h %s v" % key,) for key in keys], ("HKEYS h", array(*in_order))])
+
     def test_keys_are_scanned_at_once(self):
         rows = [
             ("LPUSH l v",),

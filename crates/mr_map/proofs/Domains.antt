@@ -1,16 +1,16 @@
 -- Two maps that have the same keys, before and after one change, and their keys as lists.
-use Rattle.std.proofs.Common.{map, ◌≡◌, ℕ, suc, length, List, [], ◌∷◌, Option, Some, None, Bool, true, false, ◌&&◌, cond, refl, sym, ◌∙◌, ap, subst}
+use Rattle.std.proofs.Common.{map, ◌≡◌, ℕ, List, [], ◌∷◌, Option, Some, None, Bool, true, false, ◌&&◌, cond, refl, sym, ◌∙◌, ap, subst}
 use Rattle.std.specs.Prelude.{is_some, T}
 use Rattle.std.specs.Ordering.{eq_by_cmp, is_eq, is_lt}
 use Rattle.std.specs.declared.cmp.Ordering.{Ordering}
 use Rattle.std.specs.declared.cmp.Ordering.TheVariants.{Less, Equal, Greater}
-use Rattle.std.specs.FinMap.{get, insert, remove, find, keys, len, entries, entries_sorted, is_sorted, contains_key, from_sorted, entries-from_sorted, get-from_sorted, get-entries, get-insert, get-remove, len-entries, same_map}
+use Rattle.std.specs.FinMap.{get, insert, remove, find, keys, entries, entries_sorted, is_sorted, contains_key, from_sorted, entries-from_sorted, get-from_sorted, get-entries, get-insert, get-remove, same_map}
 use Rattle.std.specs.FinMap.Entries.{below_all}
 use Rattle.std.proofs.lemmas.Cmp.{nat_list_cmp_total}
 use Rattle.std.proofs.lemmas.Map.Lookups.{exact_bytes}
 use Rattle.mr_map.specs.Bytes.{bytes_cmp, ByteMap, HaveSameKeys}
 
-equal : (r : Ordering) → is_eq r ≡ true → r ≡ Equal
+pub equal : (r : Ordering) → is_eq r ≡ true → r ≡ Equal
 equal Less p = cc
 equal Equal p = refl
 equal Greater p = cc
@@ -69,7 +69,7 @@ unfolding bare
 names_bare [] = refl
 names_bare (e ∷ es) = ap (λ ks. e.0 ∷ ks) (names_bare es)
 
-one_unit : (a b : Option (Unit {0})) → is_some a ≡ is_some b → a ≡ b
+pub one_unit : (a b : Option (Unit {0})) → is_some a ≡ is_some b → a ≡ b
 one_unit None None e = refl
 one_unit None (Some y) e = cc
 one_unit (Some x) None e = cc
@@ -81,10 +81,3 @@ same_keys o h same =
     let sorted = subst T (sym (sorted_bare (entries h))) (entries_sorted h) in
     let is_bare = same_map nat_list_cmp_total exact_bytes o (from_sorted (bare (entries h))) (λ q. one_unit _ _ (same q ∙ ap is_some (get-entries h q) ∙ sym (ap is_some (get-from_sorted bytes_cmp (bare (entries h)) q sorted) ∙ some_bare q (entries h)))) in
     ap keys is_bare ∙ ap (map (λ e. e.0)) (entries-from_sorted bytes_cmp (bare (entries h)) sorted) ∙ names_bare (entries h)
-
-length_names : {X : Type 0} (es : List (List ℕ × X)) → length (map (λ e. e.0) es) ≡ length es
-length_names [] = refl
-length_names (e ∷ es) = ap suc (length_names es)
-
-pub same_len : {X : Type 0} (o : ByteMap (Unit {0})) (h : ByteMap X) → HaveSameKeys o h → len o ≡ len h
-same_len o h same = len-entries o ∙ sym (length_names (entries o)) ∙ ap length (same_keys o h same) ∙ length_names (entries h) ∙ sym (len-entries h)

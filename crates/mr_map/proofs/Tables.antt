@@ -1,5 +1,5 @@
 -- The map that the entries of a hash table make, at a query of bytes, before and after one change.
-use Rattle.std.proofs.Common.{◌⊎◌, inl, inr, ◌≡◌, ℕ, List, [], ◌∷◌, Option, Some, None, Bool, true, false, cond, refl, sym, ◌∙◌, ap, subst}
+use Rattle.std.proofs.Common.{◌⊎◌, inl, inr, ◌≡◌, ℕ, suc, ◌+◌, length, arith, List, [], ◌∷◌, Option, Some, None, Bool, true, false, cond, refl, sym, ◌∙◌, ap, subst}
 use Rattle.std.specs.Prelude.{nat_eq, is_some, IfOk, OnOk, OnErr}
 use Rattle.std.specs.declared.result.Result.{Result}
 use Rattle.std.specs.declared.result.Result.TheVariants.{Ok, Err}
@@ -7,8 +7,9 @@ use Rattle.std.specs.Cmp.Lexicographic.{pointwise, texts_ties}
 use Rattle.std.specs.Ordering.{eq_by_cmp}
 use Rattle.std.specs.Global.{Vec}
 use Rattle.std.specs.HashMap.{HashMap, UpdatesBy}
-use Rattle.std.specs.Map.{lookup, KeepsOthers}
-use Rattle.std.specs.FinMap.{get, insert, remove, find, get-from_entries, get-insert, get-remove, same_map}
+use Rattle.std.specs.List.{AllByRecursion, IsDistinct}
+use Rattle.std.specs.Map.{lookup, keys_of, KeepsOthers}
+use Rattle.std.specs.FinMap.{get, insert, remove, find, len, contains_key, get-from_entries, get-insert, get-remove, len-empty, len-insert, same_map}
 use Rattle.std.proofs.lemmas.Cmp.{nat_list_cmp_total}
 use Rattle.std.proofs.lemmas.Map.Lookups.{exact_bytes}
 use Rattle.std.specs.Cmp.Lexicographic.{same_text, nat_list_eq_equiv}
@@ -93,3 +94,19 @@ module _ {X S : Type 0} (m n : HashMap (Vec ℕ) X S) (same : (k : Vec ℕ) → 
 pub on_err : {A E : Type 0} {P : Type 0} (r : Result A E) → P → OnErr r P
 on_err (Ok a) p = tt
 on_err (Err e) p = p
+
+-- ---- how many keys a table has
+none_there : {X : Type 0} (k : Vec ℕ) (es : List (Vec ℕ × X)) → AllByRecursion (λ y. key_eq k y ≡ false) (keys_of es) → lookup (has k.items) es ≡ None
+none_there k [] h = refl
+none_there k (e ∷ es) h = ap (λ b. cond b (Some e.1) (lookup (has k.items) es)) h.0 ∙ none_there k es h.1
+
+pub len-hashed : {X : Type 0} (es : List (Vec ℕ × X)) → IsDistinct key_eq (keys_of es) → length es ≡ len (map_of es)
+unfolding IsDistinct
+len-hashed {X} [] h = sym (len-empty bytes_cmp X)
+len-hashed (e ∷ es) h =
+    let absent : contains_key (map_of es) e.0.items ≡ false = ap is_some (get-hashed es e.0.items ∙ none_there e.0 es h.0) in
+    ap suc (len-hashed es h.1) ∙ one_more (len (map_of es))
+    ∙ sym (len-insert nat_list_cmp_total (map_of es) e.0.items e.1 ∙ ap (λ b. cond b (len (map_of es)) (len (map_of es) + 1)) absent)
+  where
+    one_more : (n : ℕ) → suc n ≡ n + 1
+    one_more n = omega arith

@@ -56,7 +56,7 @@ impl<V> ByteMap<V> {
     pub fn keys(&self) -> Keys<'_, V>
         ensures { result ≡ map.keys self.now }
     {
-        Keys::new(self.tree.keys())
+        Keys::new(None, self.tree.keys())
     }
 
     /// The keys with their values, in byte order. It takes no memory.

@@ -3,8 +3,8 @@ ghost use Rattle.std.specs.Prelude.{◌≡◌, ◌==◌, ◌<◌, ◌^◌, OnOk,
 ghost use Rattle.std.specs.FinMap as map;
 ghost use Rattle.std.specs.Option.{option_copied_mut};
 
-use crate::byte_map::ByteMap;
 use crate::hashing::KeySeed;
+use crate::key_order::KeyOrder;
 use crate::keys::Keys;
 use std::alloc::{AllocError, Global};
 use std::collections::HashMap;
@@ -16,7 +16,7 @@ use std::marker::Model;
 pub struct KeyedMap<V> {
     alloc: Global,
     table: HashMap<Vec<u8>, V, KeySeed>,
-    order: ByteMap<()>,
+    order: KeyOrder,
 }
 
 impl<V> Model for KeyedMap<V> {
@@ -42,7 +42,7 @@ impl<V> KeyedMap<V> {
         KeyedMap {
             alloc,
             table: HashMap::with_hasher(alloc, KeySeed::of(seed)),
-            order: ByteMap::new(alloc),
+            order: KeyOrder::new(alloc),
         }
     }
 
@@ -51,7 +51,7 @@ impl<V> KeyedMap<V> {
         ensures len { result ≡ map.len self.now }
         ensures small { result < 2 ^ 63 }
     {
-        self.order.len()
+        self.table.len()
     }
 
     /// Whether there is no key.
@@ -101,16 +101,15 @@ impl<V> KeyedMap<V> {
 
 impl<V: Drop> KeyedMap<V> {
     /// Sets the value of a key, and answers the one before. All memory is taken before the first change: where it runs
-    /// out, the map is as it was. It is made for new keys, whose bytes it copies without looking them up first: the value
-    /// of a key that is there is changed through `get_mut`.
+    /// out, the map is as it was. It is made for new keys, which it puts into the order without looking them up first: the
+    /// value of a key that is there is changed through `get_mut`.
     pub fn insert(&mut self, key: Vec<u8>, value: V) -> Result<Option<V>, AllocError>
         ensures before { IfOk result (λ before. before ≡ map.get self.old key.items) }
         ensures ok { OnOk result (self.new ≡ map.insert self.old key.items value) }
         ensures err { OnErr result (self.new ≡ self.old) }
     {
-        let name = Vec::from_slice(self.alloc, key.as_slice())?;
         self.table.reserve(1)?;
-        self.order.insert(name, ())?;
+        self.order.insert(key.as_slice())?;
         match self.table.insert(key, value) {
             Ok(before) => Ok(before),
             // Room is reserved.
@@ -143,6 +142,6 @@ impl<V: Drop> KeyedMap<V> {
         ensures { self.new ≡ map.empty }
     {
         self.table.clear();
-        self.order = ByteMap::new(self.alloc);
+        self.order = KeyOrder::new(self.alloc);
     }
 }

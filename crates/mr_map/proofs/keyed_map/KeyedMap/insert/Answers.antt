@@ -26,7 +26,7 @@ invariant_of-self-2 g c q =
     let k = c.args.key.items in
     let same = same_map_of t r c.reserve.ensures.entries.2 in
     let written = set_hashed r c.insert-2.new.self k c.args.value c.in-Ok.ensures.updates in
-    ap (λ m. is_some (get m q)) (c.in_ok-insert.ensures.ok ∙ ap (λ x. insert o x tt) (c.in_ok-name.ensures.items ∙ c.as_slice.ensures.value))
+    ap (λ m. is_some (get m q)) (c.in_ok-insert.ensures.ok ∙ ap (λ x. insert o x tt) c.as_slice.ensures.value)
     ∙ put_both o (map_of r.entries) k (λ x. c.self.invariant x ∙ sym (ap (λ m. is_some (get m x)) same)) tt c.args.value q
     ∙ sym (ap (λ m. is_some (get m q)) written)
 
