@@ -134,6 +134,11 @@ class Server:
         with open(f"/proc/{self.pid}/status", encoding="ascii") as it:
             return next(int(line.split()[1]) << 10 for line in it if line.startswith(name + ":"))
 
+    def used(self):
+        """The processor time that it has taken so far, the system's part included, in seconds."""
+        with open(f"/proc/{self.pid}/schedstat", encoding="ascii") as it:
+            return int(it.read().split()[0]) / 1e9
+
     def memory(self):
         """What it has in memory now."""
         return self.status("VmRSS")

@@ -32,6 +32,8 @@ QUOTES = b"-ERR Protocol error: unbalanced quotes in request\r\n"
 KILLS = 50
 # links at once, links that are closed in the middle of a request, and links on which nothing ever comes
 MANY, CLOSED, IDLE = 1000, 10_000, 10_000
+# requests whose processor time is told
+SOME = 2000
 # how much memory a server may have taken more behind so many closed links or for so many idle ones, and at most over what a deaf client may leave unread
 LEAK, BESIDE = 16 * MIB, 192 * MIB
 # in the year 2100
@@ -436,6 +438,69 @@ class Links(Serving):
         for link in links:
             link.close()
         self.comes(lambda: it.descriptors() == before)
+        self.goes_on(it)
+
+    def test_a_request_costs_the_same_beside_thousands_of_idle_links(self):
+        it = self.serve()
+        other = self.client(it)
+
+        def used():
+            before = it.used()
+            for _ in range(SOME):
+                other.asks("INCR", "n")
+            return it.used() - before
+
+        alone = used()
+        links = [self.client(it) for _ in range(min(IDLE, resource.getrlimit(resource.RLIMIT_NOFILE)[0] - 100))]
+        self.assertEqual(links[-1].asks("GET", "n"), bulk("%d" % SOME))
+        # a turn that went over all links took thirty times as long
+        self.assertLess(used(), 4 * alone)
+
+    def test_each_of_a_thousand_idle_links_is_served_once_it_sends(self):
+        it = self.serve()
+        idle, other = [self.client(it) for _ in range(MANY)], self.client(it)
+        for at in range(100):
+            self.assertEqual(other.asks("INCR", "n"), number(at + 1))
+        for at, link in enumerate(reversed(idle)):
+            self.assertEqual(link.asks("INCR", "n"), number(at + 101))
+
+    def test_half_a_request_waits_for_its_rest(self):
+        it, asked = self.serve(), SET_V + GET
+        halves, other = [(self.client(it), cut) for cut in (1, 9, 20, len(SET_V), len(asked) - 1)], self.client(it)
+        for link, cut in halves:
+            link.send(asked[:cut])
+        for at in range(50):
+            self.assertEqual(other.asks("INCR", "n"), number(at + 1))
+        # some turns in which nothing comes
+        time.sleep(0.3)
+        for link, cut in halves:
+            link.send(asked[cut:])
+            self.assertEqual(link.receive(12), OK + bulk("v"))
+
+    def test_a_reply_that_does_not_fit_goes_on_once_its_client_reads(self):
+        it, value = self.serve(), random.Random(4).randbytes(MIB)
+        late, other = self.client(it, room=4096), self.client(it)
+        self.assertEqual(late.asks("SET", "k", value), OK)
+        for sent in (10, 20):
+            late.send(sent * GET)
+            for at in range(50):
+                self.assertEqual(other.asks("PING"), PONG)
+            # nothing comes on any other link from here on
+            time.sleep(0.3)
+            self.assertTrue(late.receive(sent * len(bulk(value))) == sent * bulk(value))
+        self.assertEqual(late.asks("INCR", "n"), number(1))
+
+    def test_idle_links_that_their_peers_end_are_closed(self):
+        it = self.serve()
+        before = it.descriptors()
+        for ends in ("close", "reset", "send_no_more"):
+            with self.subTest(ends=ends):
+                links = [self.client(it) for _ in range(MANY)]
+                self.assertEqual(links[-1].asks("PING"), PONG)
+                self.assertEqual(it.descriptors(), before + MANY)
+                for link in links:
+                    getattr(link, ends)()
+                self.comes(lambda: it.descriptors() == before)
         self.goes_on(it)
 
     def test_links_closed_in_the_middle_of_a_request_leave_nothing(self):

@@ -1,5 +1,5 @@
 -- What a turn acts on.
-use Rattle.std.specs.Prelude.{ℕ, List, [], Option, refl}
+use Rattle.std.specs.Prelude.{◌≡◌, ℕ, List, [], Option, Some, refl}
 use Rattle.std.specs.Coded.{Coded, code_by, coded×, coded_ℕ, coded_list}
 use Rattle.std.specs.FinMap as map
 use Rattle.mr_aof.specs.declared.log.Log.{Log}
@@ -39,6 +39,12 @@ client_of s k = map.get s.clients.open_links k
 
 abbrev pub put_client : LoopState → LinkId → ClientState → LoopState
 put_client s k c = record s { clients = record s.clients { open_links = map.insert s.clients.open_links k c } }
+
+-- a client that the loop has, whose link has this name on the wire
+pub record IsNamed (s : LoopState) (k : LinkId) (name : LinkId) : Type 0 where
+  pub client : ClientState
+  pub is : client_of s k ≡ Some client
+  pub named : client.name ≡ name
 
 -- all that a turn acts on
 pub record Stage : Type 0 where

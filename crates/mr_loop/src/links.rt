@@ -2,7 +2,7 @@
 ghost use Rattle.std.specs.Prelude.{◌≡◌, ◌++◌, ◌≤◌, ◌+◌, [], length, drop, Some, None, IfOk, IfSome, OnOk, OnErr, IsTrue, option_copied};
 ghost use Rattle.std.specs.FinMap as map;
 ghost use Rattle.mr_wire.specs.Wire.{count_of};
-ghost use Rattle.mr_loop.specs.Stage.{LoopState, begun, client_of, put_client};
+ghost use Rattle.mr_loop.specs.Stage.{IsNamed, LoopState, begun, client_of, put_client};
 ghost use Rattle.mr_loop.specs.Rows.{IsBurdened, phase_behind, queued};
 
 use crate::client::{Client, Phase};
@@ -24,8 +24,10 @@ const PIECE: usize = 65_536;
 pub struct Links {
     alloc: Global,
     clients: mr_links::Links<Client>,
-    /// In which order they are served.
-    order: Vec<LinkId>,
+    /// The client that joined last at each place of the wire. It may be gone.
+    places: Vec<Option<LinkId>>,
+    /// Who is served in this turn, in this order.
+    served: Vec<LinkId>,
     batch: Vec<u8>,
     /// Room for what one read gives.
     piece: Vec<u8>,
@@ -53,7 +55,8 @@ impl Links {
         Ok(Links {
             alloc,
             clients: mr_links::Links::new(alloc),
-            order: Vec::new(alloc),
+            places: Vec::new(alloc),
+            served: Vec::new(alloc),
             batch: Vec::new(alloc),
             piece,
             hurries: false,
@@ -84,22 +87,53 @@ impl Links {
         self.hurries = hurries;
     }
 
-    /// How many clients are served, one after another.
+    /// How many clients there are.
+    pub(crate) fn len(&self) -> usize {
+        self.clients.len()
+    }
+
+    /// How many clients are served in this turn, one after another.
     pub(crate) fn count(&self) -> usize {
-        self.order.len()
+        self.served.len()
     }
 
     /// The client that is served there.
     pub(crate) fn at(&self, index: usize) -> Option<LinkId> {
-        self.order.get(index).copied()
+        self.served.get(index).copied()
     }
 
-    /// Nobody is served there any more.
-    pub(crate) fn forget(&mut self, index: usize)
+    /// A turn begins, in which nobody is served yet.
+    pub(crate) fn serve_nobody(&mut self)
         ensures { self.new ≡ self.old }
     {
-        if index < self.order.len() {
-            let _ = self.order.swap_remove(index);
+        self.served.clear();
+    }
+
+    /// Serves the client behind the others whose link has this name on the wire. Its room was taken as it joined.
+    pub(crate) fn serve(&mut self, name: LinkId)
+        ensures { self.new ≡ self.old }
+    {
+        if let Some(k) = self.named(name) {
+            let _served = self.served.push(k);
+        }
+    }
+
+    /// The client whose link has this name on the wire.
+    fn named(&self, name: LinkId) -> Option<LinkId>
+        ensures { IfSome result (λ k. IsNamed self.now k name) }
+    {
+        let k = self.last_at(name.index)?;
+        match self.clients.get(k) {
+            Some(client) if client.name() == name => Some(k),
+            Some(_) | None => None,
+        }
+    }
+
+    /// The client that joined last at a place of the wire.
+    fn last_at(&self, place: usize) -> Option<LinkId> {
+        match self.places.get(place) {
+            Some(last) => *last,
+            None => None,
         }
     }
 
@@ -129,22 +163,32 @@ impl Links {
         if self.clients.opened() >= MOST_CLIENTS {
             return Err(AllocError);
         }
-        self.order.reserve(1)?;
+        self.make_room(name.index)?;
         let client = Client::new(self.alloc, name, link);
         match self.clients.insert(client) {
             Ok(k) => {
-                self.serve(k);
+                self.keep_place(name.index, k);
                 Ok(k)
             }
             Err(_refused) => Err(AllocError),
         }
     }
 
-    /// Serves a client behind the others. There is room for it.
-    fn serve(&mut self, k: LinkId)
+    /// Takes the room to find and to serve one client more, at a place of the wire.
+    fn make_room(&mut self, place: usize) -> Result<(), AllocError>
         ensures { self.new ≡ self.old }
     {
-        let _served = self.order.push(k);
+        fill_to(&mut self.places, place)?;
+        self.served.reserve(self.clients.len().saturating_add(1))
+    }
+
+    /// A client joined at a place of the wire.
+    fn keep_place(&mut self, place: usize, k: LinkId)
+        ensures { self.new ≡ self.old }
+    {
+        if let Some(last) = self.places.get_mut(place) {
+            *last = Some(k);
+        }
     }
 
     /// Takes a client out.
@@ -208,4 +252,12 @@ impl Links {
             None => Ok(()),
         }
     }
+}
+
+/// Makes as many places as it takes for this one.
+fn fill_to(places: &mut Vec<Option<LinkId>>, place: usize) -> Result<(), AllocError> {
+    for _ in places.len()..=place {
+        places.push(None)?;
+    }
+    Ok(())
 }

@@ -10,6 +10,20 @@ use mr_links::LinkId;
 use mr_node::Node;
 use mr_wire::{Moved, Wire};
 
+/// Serves those in this turn whose links the wire names, in its order.
+pub(crate) fn gather<W: Wire>(links: &mut Links, wire: &mut W)
+    ensures links { links.new ≡ links.old }
+    ensures wire { W.links wire.new ≡ W.links wire.old }
+{
+    links.serve_nobody();
+    for _ in 0..links.len() {
+        match wire.ready() {
+            Some(name) => links.serve(name),
+            None => return,
+        }
+    }
+}
+
 /// Reads a client's next bytes, as many as the node takes and the buffer has room for, and feeds them. It answers whether there
 /// may be more.
 pub(crate) fn read_piece<W: Wire>(

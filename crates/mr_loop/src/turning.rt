@@ -11,7 +11,7 @@ use crate::fault::LoopFault;
 use crate::filing::commit;
 use crate::links::Links;
 use crate::moment::Moment;
-use crate::reading::read_piece;
+use crate::reading::{gather, read_piece};
 use crate::stepping::{step, tick};
 use crate::writing::{close_all, unburden, write_all};
 use mr_aof::Log;
@@ -30,9 +30,9 @@ const MOST_PIECES: u32 = 64;
 /// Where more bytes wait for the file, they don't wait for the end of the turn.
 const MOST_BATCH: usize = 1_048_576;
 
-/// One turn: waits until something is ready, accepts links, reads of each client and steps as far as its requests go, appends what
-/// they changed to the file, sends the replies, and lets time pass at the node. Where the file fails, or memory runs out for what
-/// the node gave out, the node is stopped.
+/// One turn: waits until something is ready, accepts links, reads of each client whose link is ready and steps as far as its
+/// requests go, appends what they changed to the file, sends the replies, and lets time pass at the node. On a client whose link
+/// isn't ready it spends nothing. Where the file fails, or memory runs out for what the node gave out, the node is stopped.
 pub fn turn<W: Wire, F: LogFile, S: Source>(
     node: &mut Node,
     links: &mut Links,
@@ -98,7 +98,7 @@ fn wait<W: Wire>(links: &Links, wire: &mut W) -> Result<(), Failed>
     wire.wait(millis)
 }
 
-/// Serves each client. It answers whether one of them may have more to read.
+/// Serves each client whose link is ready. It answers whether one of them may have more to read.
 fn read_all<W: Wire, F: LogFile, S: Source>(
     node: &mut Node,
     links: &mut Links,
@@ -111,6 +111,7 @@ fn read_all<W: Wire, F: LogFile, S: Source>(
     ensures device { IsErrOf result LoopFault.File → log.new.broken ≡ true }
     ensures quiet { AllWait node.old → OnOk result (AllWait node.new) }
 {
+    gather(links, wire);
     let mut piece = links.take_piece();
     let read = read_each(node, links, wire, log, moment, &mut piece);
     links.put_piece(piece);

@@ -57,7 +57,7 @@ fn write_ready<W: Wire>(links: &mut Links, wire: &mut W, k: LinkId)
     }
 }
 
-/// Writes what waits for each client, once.
+/// Writes what waits for each client that is served, once. One that is written less of is served again once its link is ready.
 pub(crate) fn write_all<W: Wire>(links: &mut Links, wire: &mut W)
     requires { links.old.batch ≡ [] }
     ensures went { (node : NodeState) → Goes W.tells node links.old (W.links wire.old) node links.new (W.links wire.new) }
@@ -115,38 +115,32 @@ fn give_up_deaf(links: &mut Links, k: LinkId)
     }
 }
 
-/// Closes a client's link, if it is done or lost. It answers whether.
-pub(crate) fn close_client<W: Wire>(
-    node: &mut Node,
-    links: &mut Links,
-    wire: &mut W,
-    k: LinkId,
-) -> bool
+/// Closes a client's link, if it is done or lost.
+pub(crate) fn close_client<W: Wire>(node: &mut Node, links: &mut Links, wire: &mut W, k: LinkId)
     ensures went { Goes W.tells node.old links.old (W.links wire.old) node.new links.new (W.links wire.new) }
     ensures batch { links.new.batch ≡ links.old.batch }
     ensures quiet { AllWait node.old → AllWait node.new }
 {
     let Some(client) = links.client(k) else {
-        return true;
+        return;
     };
     if !client.may_close() {
-        return false;
+        return;
     }
     let name = client.name();
     let link = client.link();
     node.close(link);
     wire.close(name);
     links.remove(k);
-    true
 }
 
-/// Closes the links of the clients that are done or lost.
+/// Closes the links of the clients that are done or lost: those are among the ones that are served.
 pub(crate) fn close_all<W: Wire>(node: &mut Node, links: &mut Links, wire: &mut W)
     ensures went { Goes W.tells node.old links.old (W.links wire.old) node.new links.new (W.links wire.new) }
     ensures batch { links.new.batch ≡ links.old.batch }
     ensures quiet { AllWait node.old → AllWait node.new }
 {
-    for index in (0..links.count()).rev() {
+    for index in 0..links.count() {
         close_at(node, links, wire, index);
     }
 }
@@ -156,9 +150,7 @@ fn close_at<W: Wire>(node: &mut Node, links: &mut Links, wire: &mut W, index: us
     ensures batch { links.new.batch ≡ links.old.batch }
     ensures quiet { AllWait node.old → AllWait node.new }
 {
-    if let Some(k) = links.at(index)
-        && close_client(node, links, wire, k)
-    {
-        links.forget(index);
+    if let Some(k) = links.at(index) {
+        close_client(node, links, wire, k);
     }
 }

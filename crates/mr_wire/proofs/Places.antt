@@ -1,8 +1,10 @@
 -- The links of a wire, as a map.
-use Rattle.std.proofs.Common.{◌≡◌, ℕ, ◌+◌, ◌≤◌, arith, true, false, cond, Option, Some, None, refl, sym, ap, ◌∙◌}
+use Rattle.std.proofs.Common.{◌≡◌, ℕ, ◌+◌, ◌≤◌, arith, Bool, true, false, ◌||◌, cond, List, [], ◌∷◌, Some, None, IsSome, refl, sym, ap, ◌∙◌}
 use Rattle.std.specs.Ordering.{eq_by_cmp}
-use Rattle.std.specs.FinMap.{FinMap, get, insert, remove, get-insert, get-remove, same_map}
+use Rattle.std.specs.FinMap.{FinMap, get, insert, remove, keys, contains_key-keys, get-insert, get-remove, same_map}
+use Rattle.std.specs.List.{find, list_any}
 use Rattle.std.proofs.lemmas.Map.Views.{tells_apart}
+use Rattle.std.proofs.lemmas.Cmp.{eq_by_cmp_equiv}
 use Rattle.mr_links.specs.LinkId.{id_cmp}
 use Rattle.mr_links.specs.Links.{Links}
 use Rattle.mr_links.specs.declared.link_id.LinkId.{LinkId}
@@ -40,3 +42,19 @@ came_and_went a n s b l e absent came more same went kept = record {
   links = went ∙ (ap (λ (z : Links LinkState). remove z.open_links l) same ∙ (ap (λ z. remove z l) came ∙ put_and_removed a.open_links l e absent));
   opened = one_more a.opened b.opened (kept ∙ (ap (λ (z : Links LinkState). z.opened) same ∙ more));
 }
+
+or_true : (b : Bool) → (b || true) ≡ true
+or_true true = refl
+or_true false = refl
+
+-- what is found is there
+any_found : (p : LinkId → Bool) (l : LinkId) → eq_by_cmp id_cmp l l ≡ true → (xs : List LinkId) → find p xs ≡ Some l → list_any (eq_by_cmp id_cmp l) xs ≡ true
+any_found p l same [] h = cc
+any_found p l same (x ∷ xs) h = (elim (p x) as (λ b. cond b (Some x) (find p xs) ≡ Some l → (eq_by_cmp id_cmp l x || list_any (eq_by_cmp id_cmp l) xs) ≡ true) [
+  | true ↦ λ e. ap (λ b. b || list_any (eq_by_cmp id_cmp l) xs) (ap (eq_by_cmp id_cmp l) ((let q : x ≡ l = cc in q)) ∙ same)
+  | false ↦ λ e. ap (λ b. eq_by_cmp id_cmp l x || b) (any_found p l same xs e) ∙ or_true (eq_by_cmp id_cmp l x)
+]) h
+
+-- a name that is found among those of the open links is one's
+pub found_is_there : (p : LinkId → Bool) (m : FinMap id_cmp LinkState) (l : LinkId) → find p (keys m) ≡ Some l → IsSome (get m l)
+found_is_there p m l h = contains_key-keys m l ∙ any_found p l ((eq_by_cmp_equiv ids_total).refl l) (keys m) h

@@ -1,6 +1,7 @@
 -- What a wire tells of its links, and what each call makes of them.
-use Rattle.std.specs.Prelude.{◌≡◌, ℕ, ◌+◌, ◌≤◌, List, [], ◌++◌, Bool, true, false, ◌||◌, Option, Some, None, take, if◌then◌else◌, IfSome}
+use Rattle.std.specs.Prelude.{◌≡◌, ℕ, ◌+◌, ◌≤◌, List, [], ◌++◌, Bool, true, false, ◌||◌, Option, None, take, if◌then◌else◌, nat_le, IfSome}
 use Rattle.std.specs.FinMap as map
+use Rattle.std.specs.List.{find}
 use Rattle.mr_links.specs.declared.link_id.LinkId.{LinkId}
 use Rattle.mr_links.specs.Links.{Links}
 use Rattle.mr_wire.specs.declared.wire.Moved.{Moved}
@@ -55,3 +56,7 @@ pub record Accepts (a : Links LinkState) (l : LinkId) (b : Links LinkState) : Ty
 pub record AcceptsNone (a b : Links LinkState) : Type 0 where
   pub links : b.open_links ≡ a.open_links
   pub opened : a.opened ≤ b.opened
+
+-- the first open link at this place or behind it
+abbrev pub first_from : ℕ → Links LinkState → Option LinkId
+first_from place a = find (λ (l : LinkId). nat_le place l.index) (map.keys a.open_links)

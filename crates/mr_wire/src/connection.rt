@@ -18,6 +18,8 @@ pub(crate) struct Connection {
     writable: bool,
     /// The peer has sent its last byte, so that a read which finds less than it asked for isn't the last one.
     closing: bool,
+    /// The last call was cut short, by its buffer's end or by the system, so that another may move bytes though no event comes.
+    unfinished: bool,
     ended: bool,
 }
 
@@ -39,6 +41,7 @@ impl Connection {
             readable: false,
             writable: true,
             closing: false,
+            unfinished: false,
             ended: false,
         }
     }
@@ -63,6 +66,15 @@ impl Connection {
         self.writable = self.writable || event.is_writable() || ends;
     }
 
+    /// Whether the last call was cut short. It is asked once.
+    pub(crate) fn take_unfinished(&mut self) -> bool
+        ensures { self.new ≡ self.old }
+    {
+        let unfinished = self.unfinished;
+        self.unfinished = false;
+        unfinished
+    }
+
     /// Remembers an answer.
     fn tell(&mut self, moved: Moved) -> Moved
         ensures result { result ≡ moved }
@@ -77,14 +89,19 @@ impl Connection {
         ensures within { count_of result ≤ length into.new }
         ensures same { self.new ≡ self.old }
     {
+        self.unfinished = false;
         match self.stream.read(into) {
             Ok(0) => Moved::End,
             Ok(count) => {
                 self.readable = self.closing || count == into.len();
+                self.unfinished = self.readable;
                 Moved::Bytes(count)
             }
             Err(error) => match error.kind() {
-                ErrorKind::Interrupted => Moved::NotReady,
+                ErrorKind::Interrupted => {
+                    self.unfinished = true;
+                    Moved::NotReady
+                }
                 ErrorKind::WouldBlock => {
                     self.readable = false;
                     Moved::NotReady
@@ -105,7 +122,10 @@ impl Connection {
                 Moved::Bytes(count)
             }
             Err(error) => match error.kind() {
-                ErrorKind::Interrupted => Moved::NotReady,
+                ErrorKind::Interrupted => {
+                    self.unfinished = true;
+                    Moved::NotReady
+                }
                 ErrorKind::WouldBlock => {
                     self.writable = false;
                     Moved::NotReady

@@ -5,6 +5,7 @@ mod connection;
 mod failures;
 mod mem_link;
 mod mem_wire;
+mod ready_links;
 mod socket_wire;
 mod wire;
 

@@ -1,7 +1,7 @@
 ghost use Rattle.std.specs.Prelude.{◌≡◌, ◌≤◌, ◌↔◌, true, length, None, IfOk, IfSome, IsSome, IsNone, OnErr};
 ghost use Rattle.std.specs.FinMap as map;
 ghost use Rattle.mr_file.specs.LogFile.{Rose};
-ghost use Rattle.mr_wire.specs.Wire.{Accepts, ChangesLink, behind_read, behind_write, count_of, new_link};
+ghost use Rattle.mr_wire.specs.Wire.{Accepts, ChangesLink, behind_read, behind_write, count_of, first_from, new_link};
 
 use crate::failures::Failures;
 use crate::mem_link::{MemLink, Reading, Writing};
@@ -32,13 +32,15 @@ pub enum Waiting {
 const MOST_LINKS: u64 = 1 << 62;
 
 /// A wire in memory. Each wait and each accept takes the next of its list: at its end a wait succeeds, and nothing is accepted.
-/// Where memory runs out it fails.
+/// Behind each wait all open links are named, in the order of their places. Where memory runs out it fails.
 #[derive(Drop)]
 pub struct MemWire {
     alloc: Global,
     waits: VecDeque<Waiting>,
     accepts: VecDeque<Accepting>,
     links: Links<MemLink>,
+    /// The first place whose link wasn't named since the last wait.
+    unnamed: usize,
     failed: Failures,
 }
 
@@ -54,6 +56,7 @@ impl MemWire {
             waits,
             accepts,
             links: Links::new(alloc),
+            unnamed: 0,
             failed: Failures::new(),
         }
     }
@@ -85,6 +88,18 @@ impl MemWire {
             Ok(link) => Ok(Some(link)),
             Err(_refused) => Err(self.failed.failure()),
         }
+    }
+
+    /// The first open link at this place or behind it.
+    fn first_from(&self, place: usize) -> Option<LinkId>
+        ensures { result ≡ first_from place self.now.links }
+    {
+        for link in self.links.ids() {
+            if place <= link.index {
+                return Some(link);
+            }
+        }
+        None
     }
 
     fn read_link(&mut self, link: LinkId, into: &mut [u8]) -> Moved
@@ -121,6 +136,7 @@ impl Wire for MemWire {
 
     fn wait(&mut self, millis: u64) -> Result<(), Failed> {
         let _ = millis;
+        self.unnamed = 0;
         match self.waits.pop_front() {
             Some(Waiting::Failed) => Err(self.failed.failure()),
             Some(Waiting::Done) | None => Ok(()),
@@ -135,6 +151,18 @@ impl Wire for MemWire {
             Some(Accepting::NotReady) | None => Ok(None),
             Some(Accepting::Failed) => Err(self.failed.failure()),
         }
+    }
+
+    /// The next open link, in the order of places.
+    fn ready(&mut self) -> Option<LinkId>
+        ensures next { result ≡ first_from self.old.unnamed self.old.links }
+        ensures there { IfSome result (λ link. IsSome (map.get self.new.links.open_links link)) }
+        ensures same { self.new.links ≡ self.old.links }
+        ensures failures { self.new.failed.count ≡ self.old.failed.count }
+    {
+        let link = self.first_from(self.unnamed)?;
+        self.unnamed = link.index.saturating_add(1);
+        Some(link)
     }
 
     fn read(&mut self, link: LinkId, into: &mut [u8]) -> Moved {

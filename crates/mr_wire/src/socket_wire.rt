@@ -1,16 +1,17 @@
-ghost use Rattle.std.specs.Prelude.{◌≡◌, ◌≤◌, false, length, None, IfOk, IfSome, IfNone, OnErr};
+ghost use Rattle.std.specs.Prelude.{◌≡◌, ◌≤◌, false, length, None, IfOk, IfSome, IfNone, IsSome, OnErr};
 ghost use Rattle.std.specs.FinMap as map;
 ghost use Rattle.mr_file.specs.LogFile.{Rose};
 ghost use Rattle.mr_wire.specs.Wire.{Accepts, AcceptsNone, ChangesLink, behind_read, behind_write, count_of};
 
 use crate::connection::Connection;
 use crate::failures::Failures;
+use crate::ready_links::ReadyLinks;
 use crate::wire::{Failed, Moved, Wire};
 use mio::event::Event;
 use mio::net::{TcpListener, TcpStream};
 use mio::{Events, Interest, Poll, Token};
 use mr_links::{LinkId, Links};
-use std::alloc::{AllocError, Global};
+use std::alloc::Global;
 use std::io;
 use std::io::ErrorKind;
 use std::net::{Net, SocketAddr};
@@ -25,7 +26,7 @@ const MOST_EVENTS: usize = 1024;
 const MOST_LINKS: u64 = 1 << 62;
 
 /// A wire over the system's sockets, none of which blocks. Which of them may be ready is remembered from the events, so that no
-/// call is made that can't move a byte. It tells no bytes.
+/// call is made that can't move a byte, and none of those on which nothing comes is named. It tells no bytes.
 #[derive(Drop)]
 pub struct SocketWire {
     poll: Poll,
@@ -33,8 +34,7 @@ pub struct SocketWire {
     listener: TcpListener,
     acceptable: bool,
     links: Links<Connection>,
-    /// The name of the last link that was opened at each place.
-    names: Vec<LinkId>,
+    ready: ReadyLinks,
     failed: Failures,
 }
 
@@ -56,7 +56,7 @@ impl SocketWire {
             listener,
             acceptable: false,
             links: Links::new(alloc),
-            names: Vec::new(alloc),
+            ready: ReadyLinks::new(alloc),
             failed: Failures::new(),
         })
     }
@@ -92,7 +92,7 @@ impl SocketWire {
         ensures links { self.new.links ≡ self.old.links }
         ensures failed { self.new.failed ≡ self.old.failed }
     {
-        if name_place(&mut self.names, link).is_err() {
+        if self.ready.make_room(link).is_err() {
             return false;
         }
         self.register(link)
@@ -134,20 +134,9 @@ impl SocketWire {
     }
 }
 
-/// Keeps the name of a link at its place.
-fn name_place(names: &mut Vec<LinkId>, link: LinkId) -> Result<(), AllocError> {
-    for _ in names.len()..=link.index {
-        names.push(link)?;
-    }
-    if let Some(name) = names.get_mut(link.index) {
-        *name = link;
-    }
-    Ok(())
-}
-
 /// Remembers what the last wait's events say, and whether a peer may have opened a link. What comes late for a link that was
 /// closed tells the one at its place too much, and that one's next call finds it out.
-fn remember(events: &Events, names: &[LinkId], links: &mut Links<Connection>) -> bool
+fn remember(events: &Events, ready: &mut ReadyLinks, links: &mut Links<Connection>) -> bool
     ensures { links.new ≡ links.old }
 {
     let mut acceptable = false;
@@ -156,8 +145,10 @@ fn remember(events: &Events, names: &[LinkId], links: &mut Links<Connection>) ->
             acceptable = true;
             continue;
         }
-        if let Some(name) = names.get(event.token().0) {
-            note(links, *name, event);
+        let place = event.token().0;
+        ready.push(place);
+        if let Some(link) = ready.at(place) {
+            note(links, link, event);
         }
     }
     acceptable
@@ -173,6 +164,43 @@ fn note(links: &mut Links<Connection>, link: LinkId, event: &Event)
     }
 }
 
+/// Of the links that were named, those whose last call was cut short are to be named again, behind the others.
+fn put_back(ready: &mut ReadyLinks, links: &mut Links<Connection>)
+    ensures { links.new ≡ links.old }
+{
+    for _ in 0..ready.named() {
+        if let Some(link) = ready.pop_named()
+            && take_unfinished(links, link)
+        {
+            ready.push(link.index);
+        }
+    }
+}
+
+/// Whether a link's last call was cut short.
+fn take_unfinished(links: &mut Links<Connection>, link: LinkId) -> bool
+    ensures { links.new ≡ links.old }
+{
+    match links.get_mut(link) {
+        Some(connection) => connection.take_unfinished(),
+        None => false,
+    }
+}
+
+/// The next of the links that may be ready and weren't named. One that was closed is passed over.
+fn next_open(ready: &mut ReadyLinks, links: &Links<Connection>) -> Option<LinkId>
+    ensures { IfSome result (λ link. IsSome (map.get links.now.open_links link)) }
+{
+    for _ in 0..ready.len() {
+        if let Some(link) = ready.name_next()
+            && links.contains(link)
+        {
+            return Some(link);
+        }
+    }
+    None
+}
+
 impl Wire for SocketWire {
     ghost tells = { false };
 
@@ -181,11 +209,13 @@ impl Wire for SocketWire {
     ghost failures = { λ w. w.failed.count };
 
     fn wait(&mut self, millis: u64) -> Result<(), Failed> {
-        let timeout = Duration::from_millis(millis);
+        put_back(&mut self.ready, &mut self.links);
+        let longest = if self.ready.is_empty() { millis } else { 0 };
+        let timeout = Duration::from_millis(longest);
         if self.poll.poll(&mut self.events, Some(timeout)).is_err() {
             return Err(self.failed.failure());
         }
-        let acceptable = remember(&self.events, self.names.as_slice(), &mut self.links);
+        let acceptable = remember(&self.events, &mut self.ready, &mut self.links);
         self.acceptable = self.acceptable || acceptable;
         Ok(())
     }
@@ -205,6 +235,10 @@ impl Wire for SocketWire {
                 _ => Err(self.failed.failure()),
             },
         }
+    }
+
+    fn ready(&mut self) -> Option<LinkId> {
+        next_open(&mut self.ready, &self.links)
     }
 
     fn read(&mut self, link: LinkId, into: &mut [u8]) -> Moved {

@@ -1,4 +1,4 @@
-ghost use Rattle.std.specs.Prelude.{◌≡◌, ◌≤◌, Bool, ℕ, None, length, IfOk, IfSome, IfNone, OnErr};
+ghost use Rattle.std.specs.Prelude.{◌≡◌, ◌≤◌, Bool, ℕ, None, length, IfOk, IfSome, IfNone, IsSome, OnErr};
 ghost use Rattle.std.specs.FinMap as map;
 ghost use Rattle.mr_links.specs.Links.{Links};
 ghost use Rattle.mr_file.specs.LogFile.{Rose};
@@ -50,6 +50,14 @@ pub trait Wire {
         ensures err { OnErr result (AcceptsNone (links self.old) (links self.new)) }
         ensures later { failures self.old ≤ failures self.new }
         ensures cause { OnErr result (Rose (failures self.old) (failures self.new)) };
+
+    /// The next open link on which a read or a write may move bytes, or find its end. Between two waits each is named once, in the
+    /// order in which they became ready. One whose last call was cut short, as a read by its buffer's end, is named again behind the
+    /// next wait, and any other once something new comes of it.
+    fn ready(&mut self) -> Option<LinkId>
+        ensures there { IfSome result (λ link. IsSome (map.get (links self.new).open_links link)) }
+        ensures same { links self.new ≡ links self.old }
+        ensures failures { failures self.new ≡ failures self.old };
 
     /// Reads the next bytes of a link into the front of a buffer.
     fn read(&mut self, link: LinkId, into: &mut [u8]) -> Moved
