@@ -1,3 +1,4 @@
+pub mod Changing
 pub mod Coming
 pub mod Flat
 pub mod Kept

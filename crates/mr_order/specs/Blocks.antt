@@ -11,7 +11,7 @@ module _ {A : Type 0} where
   chunk_items chunk = chunk.items
 
   abbrev pub IsChunk : Vec A → Type 0
-  IsChunk chunk = length chunk.items ≤ 256
+  IsChunk chunk = length chunk.items ≤ 64
 
 -- the same of a level of parts
 abbrev pub level_items : {P A : Type 0} → (P → List A) → Level P → List A

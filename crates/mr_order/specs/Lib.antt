@@ -1,4 +1,5 @@
 pub mod Blocks
+pub mod Changes
 pub mod Parts
 pub mod Runs
 pub mod Standing

@@ -7,18 +7,21 @@ use crate::seek::seek;
 use std::alloc::{AllocError, Global};
 
 // A chunk has no more items.
-const CHUNK: usize = 256;
+const CHUNK: usize = 64;
+
+// Two chunks join where they have no more together: one that was cut in two doesn't join again at the next removal.
+const JOINED: usize = 32;
 
 impl<T: Ord + Drop> Part for Vec<T> {
     type Item = T;
 
     ghost items = { λ c. c.items };
 
-    ghost is_kept = { λ c. length c.items ≤ 256 };
+    ghost is_kept = { λ c. length c.items ≤ 64 };
 
-    ghost is_full = { λ c. nat_le 256 (length c.items) };
+    ghost is_full = { λ c. nat_le 64 (length c.items) };
 
-    ghost fits = { λ c next. nat_le (length c.items + length next.items) 256 };
+    ghost fits = { λ c next. nat_le (length c.items + length next.items) 32 };
 
     fn one(alloc: Global, item: T) -> Result<Self, AllocError> {
         let mut chunk = Vec::new(alloc);
@@ -35,7 +38,7 @@ impl<T: Ord + Drop> Part for Vec<T> {
     }
 
     fn fits(&self, next: &Self) -> bool {
-        Vec::len(self) + Vec::len(next) <= CHUNK
+        Vec::len(self) + Vec::len(next) <= JOINED
     }
 
     fn item(&self, at: usize) -> &T {
@@ -51,8 +54,25 @@ impl<T: Ord + Drop> Part for Vec<T> {
         Ok(())
     }
 
+    fn put(&mut self, item: T) -> Result<bool, AllocError> {
+        match self.locate(&item) {
+            Ok(_) => Ok(false),
+            Err(at) => {
+                Vec::insert(self, at, item)?;
+                Ok(true)
+            }
+        }
+    }
+
     fn remove(&mut self, at: usize) -> T {
         Vec::remove(self, at)
+    }
+
+    fn take<Q: Query<T>>(&mut self, query: Q) -> Option<T> {
+        match self.locate(query) {
+            Ok(at) => Some(Vec::remove(self, at)),
+            Err(_) => None,
+        }
     }
 
     fn split(&mut self) -> Result<Self, AllocError> {

@@ -3,6 +3,7 @@ ghost use Rattle.std.specs.Prelude.{◌&&◌, ◌+◌, ◌^◌, length, nat_le};
 ghost use Rattle.std.specs.List.{flat_map};
 ghost use Rattle.mr_order.specs.Parts.{IsLevel};
 
+use crate::descent::{put_into, take_out};
 use crate::grow::insert_into;
 use crate::locate::{contains, first, locate};
 use crate::part::Part;
@@ -13,6 +14,9 @@ use std::alloc::{AllocError, Global};
 
 // A level has no more parts.
 const WIDTH: usize = 32;
+
+// Two levels join where they have no more parts together.
+const JOINED: usize = 16;
 
 /// No list has more items.
 pub(crate) const MOST: usize = 1 << 62;
@@ -33,7 +37,7 @@ impl<P: Part> Part for Level<P> {
 
     ghost is_full = { λ l. nat_le 32 (length l.parts.items) };
 
-    ghost fits = { λ l next. nat_le (length l.parts.items + length next.parts.items) 32 && nat_le (l.len + next.len) (2 ^ 62) };
+    ghost fits = { λ l next. nat_le (length l.parts.items + length next.parts.items) 16 && nat_le (l.len + next.len) (2 ^ 62) };
 
     fn one(alloc: Global, item: P::Item) -> Result<Self, AllocError> {
         let mut parts = Vec::with_capacity(alloc, 1)?;
@@ -51,7 +55,7 @@ impl<P: Part> Part for Level<P> {
     }
 
     fn fits(&self, next: &Self) -> bool {
-        self.parts.len() + next.parts.len() <= WIDTH && self.len + next.len <= MOST
+        self.parts.len() + next.parts.len() <= JOINED && self.len + next.len <= MOST
     }
 
     fn item(&self, at: usize) -> &P::Item {
@@ -71,10 +75,28 @@ impl<P: Part> Part for Level<P> {
         Ok(())
     }
 
+    fn put(&mut self, item: P::Item) -> Result<bool, AllocError> {
+        if self.len == MOST {
+            return Err(AllocError);
+        }
+        if put_into(&mut self.parts, self.len, item)? {
+            self.len += 1;
+            Ok(true)
+        } else {
+            Ok(false)
+        }
+    }
+
     fn remove(&mut self, at: usize) -> P::Item {
         let item = remove_from(&mut self.parts, at);
         self.len -= 1;
         item
+    }
+
+    fn take<Q: Query<P::Item>>(&mut self, query: Q) -> Option<P::Item> {
+        let item = take_out(&mut self.parts, query)?;
+        self.len -= 1;
+        Some(item)
     }
 
     fn split(&mut self) -> Result<Self, AllocError> {

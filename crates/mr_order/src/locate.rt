@@ -45,8 +45,8 @@ pub(crate) fn contains<P: Part, Q: Query<P::Item>>(parts: &[P], query: Q) -> boo
     parts[part].contains(query)
 }
 
-// The part in which a query stands, or would stand: the last one whose first item isn't greater than it, or else the first one.
-fn part_of<P: Part, Q: Query<P::Item>>(parts: &[P], query: Q) -> usize
+/// The part in which a query stands, or would stand: the last one whose first item isn't greater than it, or else the first one.
+pub(crate) fn part_of<P: Part, Q: Query<P::Item>>(parts: &[P], query: Q) -> usize
     requires sound { All (IsSound P.items P.is_kept) parts.now }
     requires some { 0 < length parts.now }
     requires divided { IsDivided (Q.compare query) (flat_map P.items parts.now) }

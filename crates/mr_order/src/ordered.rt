@@ -5,6 +5,7 @@ ghost use Rattle.std.specs.BTreeSet.{insert_key};
 ghost use Rattle.std.specs.List.{insert, remove};
 ghost use Rattle.std.specs.List.Sorted.{IsPartitionPoint, IsStrictlySortedBy};
 ghost use Rattle.std.specs.Ordering.{is_le};
+ghost use Rattle.mr_order.specs.Changes.{IsTaken};
 ghost use Rattle.mr_order.specs.Standing.{IsPlaceOf, StandsBefore, Tells};
 
 use crate::iter::Iter;
@@ -132,13 +133,7 @@ impl<T: Ord + Drop> Ordered<T> {
         ensures added { IfOk result (λ added. length self.new ≡ length self.old + (if added then 1 else 0)) }
         ensures err { OnErr result (self.new ≡ self.old) }
     {
-        match self.places.locate(&item) {
-            Ok(_) => Ok(false),
-            Err(place) => {
-                self.places.insert(place, item)?;
-                Ok(true)
-            }
-        }
+        self.places.put(item)
     }
 
     /// Puts an item where it stands at a place, which a search for it has answered. Where memory runs out, all is as it was.
@@ -158,6 +153,13 @@ impl<T: Ord + Drop> Ordered<T> {
         ensures value { result ≡ slice_index_or self.old at result }
     {
         self.places.remove(at)
+    }
+
+    /// Takes the item to which a query is equal, if there is one. It is found as `contains` finds it.
+    pub fn take<Q: Query<T>>(&mut self, query: Q) -> Option<T>
+        ensures { IsTaken (Q.compare query) self.old result self.new }
+    {
+        self.places.take(query)
     }
 
     /// Takes the least item.

@@ -1,6 +1,7 @@
 // What a list of items is made of.
 ghost use Rattle.std.specs.Prelude.{◌≡◌, ◌+◌, ◌-◌, ◌++◌, ◌∷◌, ◌<◌, ◌≤◌, ◌^◌, [], Bool, List, ℕ, IfErr, IfOk, OnErr, OnOk, false, length, slice_index_or, true};
 ghost use Rattle.std.specs.List.{insert, remove};
+ghost use Rattle.mr_order.specs.Changes.{IsPut, IsTaken};
 ghost use Rattle.mr_order.specs.Parts.{IsSound};
 ghost use Rattle.mr_order.specs.Runs.{IsIn};
 ghost use Rattle.mr_order.specs.Standing.{IsBetween, IsDivided, IsPlaceOf, Tells};
@@ -21,7 +22,7 @@ pub(crate) trait Part: Drop {
     // Whether it is to be cut in two before it takes a further item.
     ghost is_full: { Self → Bool };
 
-    // Whether one part has room for the items of two.
+    // Whether two parts are so small that they are to be one.
     ghost fits: { Self → Self → Bool };
 
     /// A part with one item.
@@ -39,7 +40,7 @@ pub(crate) trait Part: Drop {
     fn is_full(&self) -> bool
         ensures { result ≡ is_full self.now };
 
-    /// Whether one part has room for the items of both.
+    /// Whether the two are so small that they are to be one part.
     fn fits(&self, next: &Self) -> bool
         requires kept { is_kept self.now }
         requires next { is_kept next.now }
@@ -66,6 +67,16 @@ pub(crate) trait Part: Drop {
         ensures ok { OnOk result (items self.new ≡ insert (items self.old) at item) }
         ensures err { OnErr result (items self.new ≡ items self.old) };
 
+    /// Puts an item where it stands in order, unless an equal one is there, and answers whether it is new. Where memory runs
+    /// out, the items stay.
+    fn put(&mut self, item: Self::Item) -> Result<bool, AllocError>
+        requires kept { is_kept self.old }
+        requires room { is_full self.old ≡ false }
+        requires divided { IsDivided (Self.Item.cmp item) (items self.old) }
+        ensures kept { is_kept self.new }
+        ensures ok { IfOk result (λ added. IsPut (Self.Item.cmp item) (items self.old) item (items self.new) added) }
+        ensures err { OnErr result (items self.new ≡ items self.old) };
+
     /// Takes the item from a place.
     fn remove(&mut self, at: usize) -> Self::Item
         requires kept { is_kept self.old }
@@ -73,6 +84,13 @@ pub(crate) trait Part: Drop {
         ensures kept { is_kept self.new }
         ensures removed { items self.new ≡ remove (items self.old) at }
         ensures value { result ≡ slice_index_or (items self.old) at result };
+
+    /// Takes the item to which a query is equal, if there is one.
+    fn take<Q: Query<Self::Item>>(&mut self, query: Q) -> Option<Self::Item>
+        requires kept { is_kept self.old }
+        requires divided { IsDivided (Q.compare query) (items self.old) }
+        ensures kept { is_kept self.new }
+        ensures taken { IsTaken (Q.compare query) (items self.old) result (items self.new) };
 
     /// Cuts off what lies behind the middle. Where memory runs out, the items stay.
     fn split(&mut self) -> Result<Self, AllocError>

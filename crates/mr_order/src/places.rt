@@ -1,9 +1,11 @@
 // A list of items with places.
-ghost use Rattle.std.specs.Prelude.{◌≡◌, ◌==◌, ◌+◌, ◌-◌, ◌<◌, ◌≤◌, ◌^◌, ℕ, [], OnErr, OnOk, length, slice_index_or, slice_range};
+ghost use Rattle.std.specs.Prelude.{◌≡◌, ◌==◌, ◌+◌, ◌-◌, ◌<◌, ◌≤◌, ◌^◌, ℕ, [], IfOk, OnErr, OnOk, length, slice_index_or, slice_range};
 ghost use Rattle.std.specs.List.{insert, remove};
+ghost use Rattle.mr_order.specs.Changes.{IsPut, IsTaken};
 ghost use Rattle.mr_order.specs.Runs.{IsIn};
 ghost use Rattle.mr_order.specs.Standing.{IsDivided, IsPlaceOf, Tells};
 
+use crate::descent::{put_into, take_out};
 use crate::grow::insert_into;
 use crate::iter::Iter;
 use crate::level::{Level, MOST};
@@ -86,6 +88,24 @@ impl<T: Ord + Drop> Places<T> {
         Ok(())
     }
 
+    /// Puts an item where it stands, in a list that it divides, unless an equal one is there, and answers whether it is new.
+    /// Where memory runs out, the list is as it was.
+    pub fn put(&mut self, item: T) -> Result<bool, AllocError>
+        requires { IsDivided (T.cmp item) self.old }
+        ensures ok { IfOk result (λ added. IsPut (T.cmp item) self.old item self.new added) }
+        ensures err { OnErr result (self.new ≡ self.old) }
+    {
+        if self.len == MOST {
+            return Err(AllocError);
+        }
+        if put_into(&mut self.parts, self.len, item)? {
+            self.len += 1;
+            Ok(true)
+        } else {
+            Ok(false)
+        }
+    }
+
     /// Takes the item from a place.
     pub fn remove(&mut self, at: usize) -> T
         requires { at < length self.old }
@@ -95,6 +115,16 @@ impl<T: Ord + Drop> Places<T> {
         let item = remove_from(&mut self.parts, at);
         self.len -= 1;
         item
+    }
+
+    /// Takes the item to which a query is equal, if there is one, from a list that the query divides.
+    pub fn take<Q: Query<T>>(&mut self, query: Q) -> Option<T>
+        requires { IsDivided (Q.compare query) self.old }
+        ensures { IsTaken (Q.compare query) self.old result self.new }
+    {
+        let item = take_out(&mut self.parts, query)?;
+        self.len -= 1;
+        Some(item)
     }
 
     /// Takes all items.

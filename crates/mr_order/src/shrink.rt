@@ -52,14 +52,17 @@ fn take_from<P: Part>(parts: &mut Vec<P>, part: usize, place: usize) -> P::Item
     parts[part].remove(place)
 }
 
-// Joins a part with its neighbours, where they fit into one.
-fn join_around<P: Part>(parts: &mut Vec<P>, part: usize)
+/// Joins a part with its neighbours, where they fit into one. Of a part that doesn't fit with its like they aren't asked.
+pub(crate) fn join_around<P: Part>(parts: &mut Vec<P>, part: usize)
     requires sound { All (IsSound P.items P.is_kept) parts.old.items }
     requires part { part < length parts.old.items }
     ensures sound { All (IsSound P.items P.is_kept) parts.new.items }
     ensures same { flat_map P.items parts.new.items ≡ flat_map P.items parts.old.items }
     ensures parts { length parts.new.items ≤ length parts.old.items }
 {
+    if !parts[part].fits(&parts[part]) {
+        return;
+    }
     if part + 1 < parts.len() {
         join_next(parts, part);
     }

@@ -1,6 +1,6 @@
 -- Members in a list, and the set of them.
 use Rattle.std.proofs.Common.{◌≡◌, ℕ, zero, suc, ◌+◌, ◌<◌, ◌≤◌, List, [], ◌∷◌, length, map, min, drop, get_or, Bool, true, false, ◌||◌, ◌&&◌, not, Option, Some, None, refl, sym, ap, ap₂, subst, ◌∙◌, inl, inr, arith}
-use Rattle.std.specs.Prelude.{Result, Ok, Err, cond, is_some, slice_get, option_copied}
+use Rattle.std.specs.Prelude.{Result, Ok, Err, cond, is_some, nat_lt, slice_get, option_copied}
 use Rattle.std.specs.Borrow.{Bor}
 use Rattle.std.specs.Iterator.{YieldsFirstRef}
 use Rattle.std.specs.Global.{Vec}
@@ -8,16 +8,19 @@ use Rattle.std.specs.FinMap as finite
 use Rattle.std.specs.FinMap.Entries.{put}
 use Rattle.std.specs.List.{AllWithin, insert, remove, list_any}
 use Rattle.std.specs.List.Sorted.{IsStrictlySortedBy}
-use Rattle.std.specs.Ordering.{eq_by_cmp, is_eq}
+use Rattle.std.specs.Ordering.{eq_by_cmp, is_eq, match_ordering}
 use Rattle.std.specs.Result.{is_ok}
 use Rattle.std.specs.declared.cmp.Ordering.{Ordering}
 use Rattle.std.specs.declared.cmp.Ordering.TheVariants.{Less, Equal, Greater}
 use Rattle.std.proofs.lemmas.Bool.{cases_lt}
+use Rattle.std.proofs.lemmas.Bool.Decides.{nat_tests}
 use Rattle.std.proofs.lemmas.Cmp.{nat_list_cmp_total}
 use Rattle.std.proofs.lemmas.List.{length-map}
 use Rattle.std.proofs.lemmas.Map.Lookups.{exact_bytes}
 use Rattle.std.proofs.Math.ListN.{drop_of_length-le}
 use Rattle.mr_map.specs.Bytes.{bytes_cmp, texts, ByteMap}
+use Rattle.std.specs.BTreeSet.{insert_key}
+use Rattle.mr_order.specs.Changes.{IsItemAt, IsTaken, left_at}
 use Rattle.mr_order.specs.Standing.{IsPlaceOf, StandsAt, StandsBefore}
 use Rattle.mr_value.specs.Members.{set_of}
 
@@ -56,6 +59,10 @@ or_swap : (a b c : Bool) → (a || (b || c)) ≡ (b || (a || c))
 or_swap true true c = refl
 or_swap true false c = refl
 or_swap false b c = refl
+
+or_same : (a b : Bool) → (a || (a || b)) ≡ (a || b)
+or_same true b = refl
+or_same false b = refl
 
 some_or : (b : Bool) (o : Option (Unit {0})) → is_some (cond b (Some tt) o) ≡ (b || is_some o)
 some_or true o = refl
@@ -141,6 +148,19 @@ set_inserted xs at v within = same _ _ (λ q.
     contains_is (insert xs at v) q ∙ one_more xs at v q within
     ∙ sym (after_insert (set_of xs) v.items q ∙ ap (λ b. is_same q v.items || b) (contains_is xs q)))
 
+has_put : (xs : List (Vec ℕ)) (v : Vec ℕ) (q : List ℕ) → has (insert_key member_cmp xs v) q ≡ (is_same q v.items || has xs q)
+has_put [] v q = refl
+has_put (x ∷ xs) v q = elim (member_cmp v x) as (λ r. member_cmp v x ≡ r → has (match_ordering r (v ∷ x ∷ xs) (x ∷ xs) (x ∷ insert_key member_cmp xs v)) q ≡ (is_same q v.items || has (x ∷ xs) q)) [
+  | Less ↦ λ e. refl
+  | Equal ↦ λ e. sym (ap (λ (n : List ℕ). is_same q n || has (x ∷ xs) q) (exact_bytes v.items x.items e) ∙ or_same (is_same q x.items) (has xs q))
+  | Greater ↦ λ e. ap (λ b. is_same q x.items || b) (has_put xs v q) ∙ or_swap (is_same q x.items) (is_same q v.items) (has xs q)
+] refl
+
+pub set_put : (xs : List (Vec ℕ)) (v : Vec ℕ) → set_of (insert_key member_cmp xs v) ≡ finite.insert (set_of xs) v.items tt
+set_put xs v = same _ _ (λ q.
+    contains_is (insert_key member_cmp xs v) q ∙ has_put xs v q
+    ∙ sym (after_insert (set_of xs) v.items q ∙ ap (λ b. is_same q v.items || b) (contains_is xs q)))
+
 -- a member goes
 
 gone : (k : List ℕ) (xs : List (Vec ℕ)) (at : ℕ) → at < length xs → AllWithin (λ y. standing k y ≡ Greater) xs 0 at → AllWithin (λ y. standing k y ≡ Less) xs (at + 1) (length xs) → has (remove xs at) k ≡ false
@@ -163,6 +183,21 @@ set_removed k xs at stands = same _ _ (λ q.
       | false ↦ λ e. others k xs at q stands.within stands.here e
     ] refl
     ∙ sym (after_remove (set_of xs) k q ∙ ap (λ b. not (is_same q k) && b) (contains_is xs q)))
+
+module _ (k : List ℕ) (xs ys : List (Vec ℕ)) (t : Option (Vec ℕ)) (taken : IsTaken (standing k) xs t ys) where
+  pub taken_told : is_some t ≡ finite.contains_key (set_of xs) k
+  taken_told = by taken.place t taken.is taken.item where
+    by : (r : Result ℕ ℕ) (u : Option (Vec ℕ)) → IsPlaceOf (standing k) xs r → IsItemAt r xs u → is_some u ≡ finite.contains_key (set_of xs) k
+    by (Ok at) None stands h = absurd h
+    by (Ok at) (Some x) stands h = sym (contains_found k k xs (set_of xs) refl refl at stands)
+    by (Err at) None stands h = sym (contains_missed k k xs (set_of xs) refl refl at stands)
+    by (Err at) (Some x) stands h = absurd h
+
+  pub taken_left : set_of ys ≡ finite.remove (set_of xs) k
+  taken_left = by taken.place taken.is taken.left where
+    by : (r : Result ℕ ℕ) → IsPlaceOf (standing k) xs r → ys ≡ left_at r xs → set_of ys ≡ finite.remove (set_of xs) k
+    by (Ok at) stands e = ap set_of e ∙ set_removed k xs at stands
+    by (Err at) stands e = ap set_of e ∙ sym (remove_absent (set_of xs) k (contains_missed k k xs (set_of xs) refl refl at stands))
 
 -- the members of a list in order
 
@@ -198,6 +233,18 @@ pub len_listed : (xs : List (Vec ℕ)) → IsStrictlySortedBy member_cmp xs → 
 len_listed xs h =
     finite.len-entries (set_of xs) ∙ sym (length-map (finite.entries (set_of xs)) (λ e. e.0))
     ∙ ap length (keys_listed xs h) ∙ length-map xs (λ k. k.items)
+
+-- there are more members exactly where one is new
+pub more_members : (xs ys : List (Vec ℕ)) (v : Vec ℕ) → IsStrictlySortedBy member_cmp xs → IsStrictlySortedBy member_cmp ys → ys ≡ insert_key member_cmp xs v → nat_lt (length xs) (length ys) ≡ not (finite.contains_key (set_of xs) v.items)
+more_members xs ys v before after is =
+    let long : length ys ≡ cond (finite.contains_key (set_of xs) v.items) (length xs) (length xs + 1) =
+    sym (len_listed ys after) ∙ ap finite.len (ap set_of is ∙ set_put xs v) ∙ finite.len-insert nat_list_cmp_total (set_of xs) v.items tt
+    ∙ ap (λ n. cond (finite.contains_key (set_of xs) v.items) n (n + 1)) (len_listed xs before) in
+    ap (nat_lt (length xs)) long ∙ by (finite.contains_key (set_of xs) v.items) (length xs)
+  where
+    by : (b : Bool) (n : ℕ) → nat_lt n (cond b n (n + 1)) ≡ not b
+    by true n = grind (arith, nat_tests)
+    by false n = grind (arith, nat_tests)
 
 -- members from a place on, and at a place
 

@@ -2,7 +2,7 @@
 ghost use Rattle.std.specs.Prelude.{◌≡◌, ◌==◌, ◌<◌, ◌^◌, not, drop, slice_get, IfOk, OnOk, OnErr, option_copied};
 ghost use Rattle.std.specs.FinMap as map;
 ghost use Rattle.mr_map.specs.Bytes.{bytes_cmp};
-ghost use Rattle.mr_order.specs.Standing.{IsPlaceOf};
+ghost use Rattle.mr_order.specs.Changes.{IsTaken};
 
 use crate::bytes::Bytes;
 use crate::members::Members;
@@ -93,14 +93,9 @@ impl SetValue {
         ensures ok { OnOk result (self.new ≡ map.insert self.old member tt) }
         ensures err { OnErr result (self.new ≡ self.old) }
     {
-        let member = member.into_vec();
-        match search(&self.members, member.as_slice()) {
-            Ok(_) => Ok(false),
-            Err(place) => {
-                self.members.insert_at(place, member)?;
-                Ok(true)
-            }
-        }
+        let before = self.members.len();
+        self.members.insert(member.into_vec())?;
+        Ok(before < self.members.len())
     }
 
     /// Removes a member, and answers whether it was one.
@@ -108,19 +103,13 @@ impl SetValue {
         ensures removed { result ≡ map.contains_key self.old member.now }
         ensures rest { self.new ≡ map.remove self.old member.now }
     {
-        match search(&self.members, member) {
-            Ok(place) => {
-                let _ = self.members.remove_at(place);
-                true
-            }
-            Err(_) => false,
-        }
+        take_out(&mut self.members, member).is_some()
     }
 }
 
-// The place of a member, or else the place where it would stand.
-fn search(members: &Ordered<Vec<u8>>, member: &[u8]) -> Result<usize, usize>
-    ensures { IsPlaceOf (λ x. bytes_cmp member.now x.items) members.now result }
+// Takes a member out, if it is there.
+fn take_out(members: &mut Ordered<Vec<u8>>, member: &[u8]) -> Option<Vec<u8>>
+    ensures { IsTaken (λ x. bytes_cmp member.now x.items) members.old result members.new }
 {
-    members.locate(member)
+    members.take(member)
 }

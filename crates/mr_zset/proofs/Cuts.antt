@@ -1,6 +1,6 @@
 -- Parts of lists in order: what lies between two places, and a list with one element more or less.
 use Rattle.std.proofs.Common.{◌≡◌, ℕ, zero, suc, ◌+◌, ◌-◌, ◌<◌, ◌≤◌, length, take, drop, map, List, [], ◌∷◌, ◌++◌, Bool, true, false, ◌&&◌, not, cond, refl, sym, ◌∙◌, ap, arith}
-use Rattle.std.specs.Prelude.{filter, slice_range}
+use Rattle.std.specs.Prelude.{Option, Result, Ok, Err, filter, slice_range}
 use Rattle.std.specs.List.{AllWithin, remove}
 use Rattle.std.specs.declared.cmp.Ordering.{Ordering}
 use Rattle.std.specs.declared.cmp.Ordering.TheVariants.{Less, Equal, Greater}
@@ -9,7 +9,8 @@ use Rattle.std.specs.BTreeSet.{insert_key}
 use Rattle.std.specs.Cmp.{IsTotalOrder}
 use Rattle.std.proofs.Math.Seq.{take-nil, drop-nil}
 use Rattle.std.proofs.lemmas.List.{length-drop, length-take-le}
-use Rattle.mr_order.specs.Standing.{StandsAt, StandsBefore}
+use Rattle.mr_order.specs.Changes.{IsTaken, left_at}
+use Rattle.mr_order.specs.Standing.{IsPlaceOf, StandsAt, StandsBefore}
 use Rattle.mr_zset.specs.Order.{placed}
 use Rattle.mr_zset.proofs.Orders.{Above, Ascends, times, times-no, times-yes}
 
@@ -135,3 +136,10 @@ module _ {A X : Type 0} {R : X → X → Ordering} (total : IsTotalOrder R) (f :
         back = λ k e lo hi. s.back (suc k) e (omega arith) (omega arith);
       }))
       ∙ sym (stays x xs (back (f x) Greater (s.front 0 x (omega arith) (omega arith))))
+
+  -- what a take leaves
+  pub taken_out : (xs ys : List A) (t : Option A) → IsTaken (λ y. R p (f y)) xs t ys → map f ys ≡ filter other (map f xs)
+  taken_out xs ys t k = by k.place k.is k.left where
+    by : (r : Result ℕ ℕ) → IsPlaceOf (λ y. R p (f y)) xs r → ys ≡ left_at r xs → map f ys ≡ filter other (map f xs)
+    by (Ok at) stands e = ap (map f) e ∙ removed_at xs at stands
+    by (Err at) stands e = ap (map f) e ∙ nowhere xs at stands

@@ -25,10 +25,7 @@ pub(crate) fn put_in(pairs: &mut Ordered<Entry>, entry: Entry) -> Result<(), All
 pub(crate) fn take_out(pairs: &mut Ordered<Entry>, pair: Pair<'_>)
     ensures { map stored pairs.new ≡ filter (is_other (shown pair.entry)) (map stored pairs.old) }
 {
-    let mut steps = Steps { count: 0 };
-    if let Ok(at) = pairs.search(pair, &mut steps) {
-        pairs.remove_at(at);
-    }
+    pairs.take(pair);
 }
 
 // How many stored pairs are less than one.

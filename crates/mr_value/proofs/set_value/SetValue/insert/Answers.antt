@@ -1,24 +1,18 @@
-use Rattle.std.proofs.Common.{◌∙◌, sym, ap}
-use Rattle.std.specs.Prelude.{not}
-use Rattle.std.specs.FinMap.{insert}
+use Rattle.std.proofs.Common.{◌∙◌, List, ℕ, ap, ap₂}
+use Rattle.std.specs.Prelude.{nat_lt, not}
+use Rattle.std.specs.FinMap.{contains_key, insert}
+use Rattle.mr_map.specs.Bytes.{ByteMap}
 use Rattle.mr_value.specs.Members.{set_of}
-use Rattle.mr_value.proofs.SetLemmas.{contains_found, contains_missed, insert_present, set_inserted}
+use Rattle.mr_value.proofs.SetLemmas.{more_members, set_put}
 use Rattle.mr_value.proofs.set_value.SetValue.insert.Goals as goal
 
--- the member is there
+pub returns-clause-new : goal.returns-clause-new
+returns-clause-new c =
+    ap₂ nat_lt c.len-before.ensures.len c.len.ensures.len
+    ∙ more_members c.self.inside.members c.insert.new.self c.into_vec.result c.len-before.ensures.ordered c.len.ensures.ordered c.in_ok-insert.ensures.ok
+    ∙ ap not (ap₂ (λ (s : ByteMap (Unit {0})) (k : List ℕ). contains_key s k) c.self.view_is c.into_vec.ensures)
 
-pub returns-in-Ok-clause-new : goal.returns-in-Ok-clause-new
-returns-in-Ok-clause-new c = ap not (sym (contains_found c.as_slice.result.now c.args.member c.self.inside.members c.args.self.now (c.as_slice.ensures.value ∙ c.into_vec-member.ensures) c.self.view_is c.in-Ok.field-0 c.in-Ok.ensures))
-
-pub returns-in-Ok-clause-ok : goal.returns-in-Ok-clause-ok
-returns-in-Ok-clause-ok c = sym (insert_present c.args.self.now c.args.member (contains_found c.as_slice.result.now c.args.member c.self.inside.members c.args.self.now (c.as_slice.ensures.value ∙ c.into_vec-member.ensures) c.self.view_is c.in-Ok.field-0 c.in-Ok.ensures))
-
--- it comes
-
-pub returns-in_ok-insert_at-in-Err-clause-new : goal.returns-in_ok-insert_at-in-Err-clause-new
-returns-in_ok-insert_at-in-Err-clause-new c = ap not (sym (contains_missed c.as_slice.result.now c.args.member c.self.inside.members c.args.self.now (c.as_slice.ensures.value ∙ c.into_vec-member.ensures) c.self.view_is c.in-Err.place c.in-Err.ensures))
-
-pub returns-in_ok-insert_at-in-Err-clause-ok : goal.returns-in_ok-insert_at-in-Err-clause-ok
-returns-in_ok-insert_at-in-Err-clause-ok c =
-    ap set_of c.in_ok-insert_at-in-Err.ensures.ok ∙ set_inserted c.self.inside.members c.in-Err.place c.into_vec-member.result c.in-Err.ensures.within
-    ∙ ap (λ s. insert s c.into_vec-member.result.items tt) c.self.view_is ∙ ap (λ name. insert c.args.self.now name tt) c.into_vec-member.ensures
+pub returns-clause-ok : goal.returns-clause-ok
+returns-clause-ok c =
+    ap set_of c.in_ok-insert.ensures.ok ∙ set_put c.self.inside.members c.into_vec.result
+    ∙ ap₂ (λ (s : ByteMap (Unit {0})) (k : List ℕ). insert s k tt) c.self.view_is c.into_vec.ensures

@@ -1,0 +1,165 @@
+-- What is put into a part or taken from it is put into all or taken from all.
+use Rattle.std.proofs.Common.{◌≡◌, ℕ, ◌+◌, ◌-◌, ◌<◌, ◌≤◌, ◌^◌, List, Bool, true, false, Option, Some, None, length, get_or, take, set, refl, sym, subst, ap, ◌∙◌, arith}
+use Rattle.std.specs.Prelude.{IfOk, OnErr, OnOk, Result, Ok, Err, if◌then◌else◌}
+use Rattle.std.specs.Result.{is_err}
+use Rattle.std.specs.declared.cmp.Ordering.{Ordering}
+use Rattle.std.specs.BTreeSet.{insert_key}
+use Rattle.std.specs.Cmp.{IsTotalOrder}
+use Rattle.std.specs.List.{All, flat_map, insert, remove}
+use Rattle.std.specs.List.Sorted.{IsStrictlySortedBy}
+use Rattle.std.proofs.lemmas.List.Concat.{get_or-flat_map}
+use Rattle.std.proofs.lemmas.List.Edits.{length-insert, length-remove}
+use Rattle.mr_order.specs.Changes.{IsItemAt, IsPut, IsTaken, left_at, put_at}
+use Rattle.mr_order.specs.Parts.{AreCounted, IsLevel, IsSound}
+use Rattle.mr_order.specs.Standing.{IsBetween, IsPlaceOf, shifted}
+use Rattle.mr_order.proofs.Flat.{flat_insert, flat_remove, flat_same, flat_take}
+use Rattle.mr_order.proofs.Kept.{insert_absent, insert_present, sorted_insert, sorted_remove}
+use Rattle.mr_order.proofs.Levels.{counted_insert, counted_remove, counted_same}
+use Rattle.mr_order.proofs.Locating.{in_named}
+use Rattle.mr_order.proofs.Narrow.{place_in}
+
+err_shifted : (start : ℕ) (found : Result ℕ ℕ) → is_err (shifted start found) ≡ is_err found
+err_shifted start (Ok at) = refl
+err_shifted start (Err at) = refl
+
+pub if_ok_map : {T E : Type 0} {P Q : T → Type 0} (r : Result T E) → ((x : T) → P x → Q x) → IfOk r P → IfOk r Q
+if_ok_map (Ok x) f p = f x p
+if_ok_map (Err y) f p = tt
+
+module _ {X A : Type 0} (compare : A → Ordering) (f : X → List A) (xs : List X) (i : ℕ) (d v : X) (within : i < length xs) (is : d ≡ get_or xs i d) where
+  put_news : (y : A) (r : Result ℕ ℕ) → IsPlaceOf compare (f d) r → f v ≡ put_at r y (f d) → flat_map f (set xs i v) ≡ put_at (shifted (length (flat_map f (take i xs))) r) y (flat_map f xs)
+  put_news y (Ok at) stands e = flat_same f xs i v d within (e ∙ ap f is)
+  put_news y (Err at) stands e =
+      flat_insert f xs i at _ v d y within refl (subst (λ p. at ≤ length (f p)) is stands.within) (e ∙ ap (λ p. insert (f p) at y) is)
+
+  taken_rest : (r : Result ℕ ℕ) → IsPlaceOf compare (f d) r → f v ≡ left_at r (f d) → flat_map f (set xs i v) ≡ left_at (shifted (length (flat_map f (take i xs))) r) (flat_map f xs)
+  taken_rest (Ok at) stands e =
+      flat_remove f xs i at _ v d within refl (subst (λ p. at < length (f p)) is stands.within) (e ∙ ap (λ p. remove (f p) at) is)
+  taken_rest (Err at) stands e = flat_same f xs i v d within (e ∙ ap f is)
+
+  taken_item : (r : Result ℕ ℕ) (t : Option A) → IsPlaceOf compare (f d) r → IsItemAt r (f d) t → IsItemAt (shifted (length (flat_map f (take i xs))) r) (flat_map f xs) t
+  taken_item (Ok at) None stands h = absurd h
+  taken_item (Ok at) (Some x) stands h =
+      h ∙ ap (λ p. get_or (f p) at x) is ∙ sym (get_or-flat_map f xs i at d x within (subst (λ p. at < length (f p)) is stands.within))
+  taken_item (Err at) t stands h = h
+
+  module _ (between : IsBetween compare (flat_map f xs) (length (flat_map f (take i xs))) (length (flat_map f (take (i + 1) xs)))) where
+    place_of_all : (r : Result ℕ ℕ) → IsPlaceOf compare (f d) r → IsPlaceOf compare (flat_map f xs) (shifted (length (flat_map f (take i xs))) r)
+    place_of_all r stands =
+        let start : ℕ = length (flat_map f (take i xs)) in
+        let ends : length (flat_map f (take (i + 1) xs)) ≤ start + length (f d) = let more = flat_take f xs i d within in let same = ap (λ p. length (f p)) is in omega arith in
+        place_in compare (flat_map f xs) (f d) start (in_named f xs i d within is) start _ between (omega arith) ends r stands
+
+    pub put_in : (y : A) (b : Bool) → IsPut compare (f d) y (f v) b → IsPut compare (flat_map f xs) y (flat_map f (set xs i v)) b
+    put_in y b p = record {
+      place = shifted (length (flat_map f (take i xs))) p.place;
+      is = place_of_all p.place p.is;
+      told = err_shifted (length (flat_map f (take i xs))) p.place ∙ p.told;
+      put = put_news y p.place p.is p.put;
+    }
+
+    pub taken_in : (t : Option A) → IsTaken compare (f d) t (f v) → IsTaken compare (flat_map f xs) t (flat_map f (set xs i v))
+    taken_in t k = record {
+      place = shifted (length (flat_map f (take i xs))) k.place;
+      is = place_of_all k.place k.is;
+      item = taken_item k.place t k.is k.item;
+      left = taken_rest k.place k.is k.left;
+    }
+
+module _ {A : Type 0} (compare : A → Ordering) (items : List A) where
+  -- there are no fewer items once one is put in
+  pub put_some : (y : A) (news : List A) (b : Bool) → IsPut compare items y news b → 0 < length items → 0 < length news
+  put_some y news b p some = by p.place p.is p.put where
+    by : (r : Result ℕ ℕ) → IsPlaceOf compare items r → news ≡ put_at r y items → 0 < length news
+    by (Ok at) stands e = omega (arith, ap length e)
+    by (Err at) stands e = let long = length-insert items at y stands.within in omega (arith, ap length e)
+
+  -- something is left of more than one item
+  pub taken_some : (t : Option A) (rest : List A) → IsTaken compare items t rest → 1 < length items → 0 < length rest
+  taken_some t rest k some = by k.place k.is k.left where
+    by : (r : Result ℕ ℕ) → IsPlaceOf compare items r → rest ≡ left_at r items → 0 < length rest
+    by (Ok at) stands e = let long = length-remove items at stands.within in omega (arith, ap length e)
+    by (Err at) stands e = omega (arith, ap length e)
+
+  -- where nothing is taken, all are left
+  pub taken_none : (rest : List A) → IsTaken compare items None rest → rest ≡ items
+  taken_none rest k = by k.place k.item k.left where
+    by : (r : Result ℕ ℕ) → IsItemAt r items None → rest ≡ left_at r items → rest ≡ items
+    by (Ok at) h e = absurd h
+    by (Err at) h e = e
+
+  -- nothing is taken where there is none
+  pub taken_nothing : length items ≡ 0 → IsTaken compare items None items
+  taken_nothing none = record {
+    place = Err 0;
+    is = record { within = omega arith; front = λ k d lo lt. absurd (omega arith); back = λ k d lo lt. absurd (omega arith) };
+    item = tt;
+    left = refl;
+  }
+
+module _ {P A : Type 0} (compare : A → Ordering) (items : P → List A) (is_kept : P → Type 0) (parts news : List P) (len : ℕ) (c : AreCounted items is_kept parts len) (sound : All (IsSound items is_kept) news) where
+  pub counted_new : (x : A) → len < 2 ^ 62 → IsPut compare (flat_map items parts) x (flat_map items news) true → AreCounted items is_kept news (len + 1)
+  counted_new x room p = by p.place p.is p.told p.put where
+    by : (r : Result ℕ ℕ) → IsPlaceOf compare (flat_map items parts) r → is_err r ≡ true → flat_map items news ≡ put_at r x (flat_map items parts) → AreCounted items is_kept news (len + 1)
+    by (Ok at) stands told e = cc
+    by (Err at) stands told e = counted_insert items is_kept parts news len c sound at x e stands.within room
+
+  pub counted_old : (x : A) → IsPut compare (flat_map items parts) x (flat_map items news) false → AreCounted items is_kept news len
+  counted_old x p = by p.place p.told p.put where
+    by : (r : Result ℕ ℕ) → is_err r ≡ false → flat_map items news ≡ put_at r x (flat_map items parts) → AreCounted items is_kept news len
+    by (Ok at) told e = counted_same items is_kept parts news len c sound e
+    by (Err at) told e = cc
+
+  pub counted_taken : (x : A) → IsTaken compare (flat_map items parts) (Some x) (flat_map items news) → AreCounted items is_kept news (len - 1)
+  counted_taken x k = by k.place k.is k.item k.left where
+    by : (r : Result ℕ ℕ) → IsPlaceOf compare (flat_map items parts) r → IsItemAt r (flat_map items parts) (Some x) → flat_map items news ≡ left_at r (flat_map items parts) → AreCounted items is_kept news (len - 1)
+    by (Ok at) stands h e = counted_remove items is_kept parts news len c sound at e stands.within
+    by (Err at) stands h e = absurd h
+
+  pub counted_left : IsTaken compare (flat_map items parts) None (flat_map items news) → AreCounted items is_kept news len
+  counted_left k = counted_same items is_kept parts news len c sound (taken_none compare (flat_map items parts) (flat_map items news) k)
+
+  -- there is an item where one is taken
+  pub some_taken : (x : A) → IsTaken compare (flat_map items parts) (Some x) (flat_map items news) → 0 < len
+  some_taken x k = by k.place k.is k.item where
+    by : (r : Result ℕ ℕ) → IsPlaceOf compare (flat_map items parts) r → IsItemAt r (flat_map items parts) (Some x) → 0 < len
+    by (Ok at) stands h = let within = stands.within in omega (arith, c.counted)
+    by (Err at) stands h = absurd h
+
+-- what is put in order, and what is left in order
+module _ {K : Type 0} (R : K → K → Ordering) (x : K) (xs ys : List K) (b : Bool) (p : IsPut (R x) xs x ys b) where
+  pub put_key : ys ≡ insert_key R xs x
+  put_key = by p.place p.is p.put where
+    by : (r : Result ℕ ℕ) → IsPlaceOf (R x) xs r → ys ≡ put_at r x xs → ys ≡ insert_key R xs x
+    by (Ok at) stands e = e ∙ sym (insert_present R x xs at stands)
+    by (Err at) stands e = e ∙ sym (insert_absent R x xs at stands)
+
+  pub put_length : length ys ≡ length xs + (if b then 1 else 0)
+  put_length = by p.place b p.is p.told p.put where
+    by : (r : Result ℕ ℕ) (a : Bool) → IsPlaceOf (R x) xs r → is_err r ≡ a → ys ≡ put_at r x xs → length ys ≡ length xs + (if a then 1 else 0)
+    by (Ok at) true stands told e = cc
+    by (Ok at) false stands told e = omega (arith, ap length e)
+    by (Err at) true stands told e = let long = length-insert xs at x stands.within in omega (arith, ap length e)
+    by (Err at) false stands told e = cc
+
+  pub put_sorted : IsTotalOrder R → IsStrictlySortedBy R xs → IsStrictlySortedBy R ys
+  put_sorted total sorted = by p.place p.is p.put where
+    by : (r : Result ℕ ℕ) → IsPlaceOf (R x) xs r → ys ≡ put_at r x xs → IsStrictlySortedBy R ys
+    by (Ok at) stands e = subst (IsStrictlySortedBy R) (sym e) sorted
+    by (Err at) stands e = subst (IsStrictlySortedBy R) (sym e) (sorted_insert R total x xs at sorted stands)
+
+module _ {K E : Type 0} (R : K → K → Ordering) (x : K) (xs ys : List K) where
+  pub put_keys : (r : Result Bool E) → IfOk r (λ b. IsPut (R x) xs x ys b) → OnOk r (ys ≡ insert_key R xs x)
+  put_keys (Ok b) p = put_key R x xs ys b p
+  put_keys (Err e) p = tt
+
+  pub put_keeps : IsTotalOrder R → (r : Result Bool E) → IfOk r (λ b. IsPut (R x) xs x ys b) → OnErr r (ys ≡ xs) → IsStrictlySortedBy R xs → IsStrictlySortedBy R ys
+  put_keeps total (Ok b) p same sorted = put_sorted R x xs ys b p total sorted
+  put_keeps total (Err e) p same sorted = subst (IsStrictlySortedBy R) (sym same) sorted
+
+pub taken_sorted : {K : Type 0} (R : K → K → Ordering) (total : IsTotalOrder R) (compare : K → Ordering) (xs ys : List K) (t : Option K) → IsTaken compare xs t ys → IsStrictlySortedBy R xs → IsStrictlySortedBy R ys
+taken_sorted {K} R total compare xs ys t k sorted = by k.place t k.is k.item k.left where
+  by : (r : Result ℕ ℕ) (u : Option K) → IsPlaceOf compare xs r → IsItemAt r xs u → ys ≡ left_at r xs → IsStrictlySortedBy R ys
+  by (Ok at) None stands h e = absurd h
+  by (Ok at) (Some x) stands h e = subst (IsStrictlySortedBy R) (sym e) (sorted_remove R total x xs at sorted stands.within)
+  by (Err at) u stands h e = subst (IsStrictlySortedBy R) (sym e) sorted
