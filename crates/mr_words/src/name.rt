@@ -111,6 +111,9 @@ pub enum Name {
     Select,
     Quit,
     BgRewriteAof,
+    Info,
+    Role,
+    Shutdown,
     Command,
     Client,
 }
@@ -162,6 +165,8 @@ impl Name {
                 Name::Ping,
                 Name::Echo,
                 Name::Quit,
+                Name::Info,
+                Name::Role,
             ],
             5 => &[
                 Name::SetNx,
@@ -230,6 +235,7 @@ impl Name {
                 Name::ExpireAt,
                 Name::SMembers,
                 Name::ZRevRank,
+                Name::Shutdown,
             ],
             9 => &[
                 Name::PExpireAt,
@@ -359,6 +365,9 @@ impl Name {
             Name::Select => "select",
             Name::Quit => "quit",
             Name::BgRewriteAof => "bgrewriteaof",
+            Name::Info => "info",
+            Name::Role => "role",
+            Name::Shutdown => "shutdown",
             Name::Command => "command",
             Name::Client => "client",
         }
