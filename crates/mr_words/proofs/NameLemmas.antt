@@ -62,3 +62,10 @@ same_lowered word text false low test = elim (bytes_eq text (lowered word)) as (
 
 pub is_same : (name : Name) (word text : List ℕ) (same : Bool) → text ≡ text_of name → (IsTrue same ↔ (lowered word ≡ lowered text)) → same ≡ is_named (lowered word) name
 is_same name word text same e test = same_lowered word text same (ap lowered e ∙ text_lowered name ∙ sym e) test ∙ ap (λ (t : List ℕ). bytes_eq t (lowered word)) e
+
+-- a word that begins otherwise isn't the name
+pub is_other : (name : Name) (word text : List ℕ) (alike : Bool) → text ≡ text_of name → (lowered word ≡ text → IsTrue alike) → alike ≡ false → false ≡ is_named (lowered word) name
+is_other name word text alike e begins otherwise = elim (is_named (lowered word) name) as (λ b. is_named (lowered word) name ≡ b → false ≡ b) [
+  | true ↦ λ s. let yes : alike ≡ true = begins (sym (same_bytes _ _ s) ∙ sym e) in cc
+  | false ↦ λ s. refl
+] refl

@@ -234,6 +234,9 @@ fn wrong_count(name: Name) -> &'static [u8]
         Name::Select => b"ERR wrong number of arguments for 'select' command",
         Name::Quit => b"ERR wrong number of arguments for 'quit' command",
         Name::BgRewriteAof => b"ERR wrong number of arguments for 'bgrewriteaof' command",
+        Name::Info => b"ERR wrong number of arguments for 'info' command",
+        Name::Role => b"ERR wrong number of arguments for 'role' command",
+        Name::Shutdown => b"ERR wrong number of arguments for 'shutdown' command",
         Name::Command => b"ERR wrong number of arguments for 'command' command",
         Name::Client => b"ERR wrong number of arguments for 'client' command",
     }

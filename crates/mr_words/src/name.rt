@@ -1,5 +1,5 @@
 // The names of the commands.
-ghost use Rattle.std.specs.Prelude.{◌≡◌, ◌++◌, codes, filter, find, ◌==◌, length};
+ghost use Rattle.std.specs.Prelude.{◌≡◌, ◌++◌, codes, filter, find, ◌==◌, length, IsTrue};
 ghost use Rattle.mr_words.specs.Names.{lowered, text_of, is_named, named, names};
 
 /// A command, by its name alone.
@@ -111,6 +111,9 @@ pub enum Name {
     Select,
     Quit,
     BgRewriteAof,
+    Info,
+    Role,
+    Shutdown,
     Command,
     Client,
 }
@@ -162,6 +165,8 @@ impl Name {
                 Name::Ping,
                 Name::Echo,
                 Name::Quit,
+                Name::Info,
+                Name::Role,
             ],
             5 => &[
                 Name::SetNx,
@@ -230,6 +235,7 @@ impl Name {
                 Name::ExpireAt,
                 Name::SMembers,
                 Name::ZRevRank,
+                Name::Shutdown,
             ],
             9 => &[
                 Name::PExpireAt,
@@ -251,7 +257,11 @@ impl Name {
     fn is(self, word: &[u8]) -> bool
         ensures { result ≡ is_named (lowered word.now) self }
     {
-        word.eq_ignore_ascii_case(self.text().as_bytes())
+        let text = self.text().as_bytes();
+        if !begins_alike(word, text) {
+            return false;
+        }
+        word.eq_ignore_ascii_case(text)
     }
 
     /// The name, in lower case.
@@ -359,8 +369,25 @@ impl Name {
             Name::Select => "select",
             Name::Quit => "quit",
             Name::BgRewriteAof => "bgrewriteaof",
+            Name::Info => "info",
+            Name::Role => "role",
+            Name::Shutdown => "shutdown",
             Name::Command => "command",
             Name::Client => "client",
         }
+    }
+}
+
+// Whether the first letter of a word is that of a text in lower case, whatever its own case. Most names are told apart by it.
+#[inline]
+fn begins_alike(word: &[u8], text: &[u8]) -> bool
+    ensures { lowered word.now ≡ text.now → IsTrue result }
+{
+    match word {
+        [first, ..] => match text {
+            [letter, ..] => first.to_ascii_lowercase() == *letter,
+            [] => true,
+        },
+        [] => true,
     }
 }
