@@ -11,7 +11,7 @@ use Rattle.mr_cmd_hash.specs.Arguments.{set_fields, hsetnx, hget, hmget, list_ha
 use Rattle.mr_cmd_list.specs.Arguments.{push, pop, llen, lrange, lindex, lset, linsert, lrem, ltrim, lmove, rpoplpush}
 use Rattle.mr_cmd_set.specs.Arguments.{sadd, srem, sismember, smismember, smembers, scard, spop, srandmember, smove, combine}
 use Rattle.mr_cmd_zset.specs.Arguments.{zadd, zincrby, zrem, zcard, zcount, zscore, zmscore, zrank, zrange, zrevrange, range_by_score, zpop, zremrangebyrank, zremrangebyscore}
-use Rattle.mr_cmd_server.specs.Arguments.{ping, echo, select, quit, rewrite, command, client}
+use Rattle.mr_cmd_server.specs.Arguments.{ping, echo, select, quit, rewrite, info, role, shutdown, command, client}
 use Rattle.mr_ask.specs.Asks.{asked, asked_by, reading}
 use Rattle.mr_ask.specs.Carried.{AskFits}
 use Rattle.mr_ask.specs.Spelled.{SpellsNamed, Spells}
@@ -28,7 +28,7 @@ use Rattle.mr_cmd_zset.proofs.AddArgumentLemmas.{zadd_spells}
 use Rattle.mr_cmd_zset.proofs.RangeArgumentLemmas.{zrange_spells, zrevrange_spells, range_by_score_spells}
 use Rattle.mr_cmd_zset.proofs.ArgumentLemmas.{zincrby_spells, zrem_spells, zcard_spells, zcount_spells, zscore_spells, zmscore_spells, zrank_spells, zpop_spells, zremrangebyrank_spells, zremrangebyscore_spells, zset_fits}
 use Rattle.mr_zset_options.specs.declared.choices.Order.TheVariants.{Ascending, Descending}
-use Rattle.mr_cmd_server.proofs.ArgumentLemmas.{ping_carries, echo_carries, select_carries, quit_carries, rewrite_carries, command_carries, client_carries}
+use Rattle.mr_cmd_server.proofs.ArgumentLemmas.{ping_carries, echo_carries, select_carries, quit_carries, rewrite_carries, info_carries, role_carries, shutdown_carries, command_carries, client_carries}
 use Rattle.mr_cmd_string.proofs.FitLemmas.{texts_fit}
 use Rattle.mr_cmd_key.proofs.FitLemmas.{keys_fit}
 use Rattle.mr_cmd_server.proofs.FitLemmas.{carried_server}
@@ -146,6 +146,9 @@ reading_carries name.Echo ws = of_kind_carries (echo ws) ask.Server (SpellsNamed
 reading_carries name.Select ws = of_kind_carries (select ws) ask.Server (SpellsNamed name.Select ws) (select_carries ws)
 reading_carries name.Quit ws = of_kind_carries (quit ws) ask.Server (SpellsNamed name.Quit ws) (quit_carries ws)
 reading_carries name.BgRewriteAof ws = of_kind_carries (rewrite ws) ask.Server (SpellsNamed name.BgRewriteAof ws) (rewrite_carries ws)
+reading_carries name.Info ws = of_kind_carries (info ws) ask.Server (SpellsNamed name.Info ws) (info_carries ws)
+reading_carries name.Role ws = of_kind_carries (role ws) ask.Server (SpellsNamed name.Role ws) (role_carries ws)
+reading_carries name.Shutdown ws = of_kind_carries (shutdown ws) ask.Server (SpellsNamed name.Shutdown ws) (shutdown_carries ws)
 reading_carries name.Command ws = of_kind_carries (command ws) ask.Server (SpellsNamed name.Command ws) (command_carries ws)
 reading_carries name.Client ws = of_kind_carries (client ws) ask.Server (SpellsNamed name.Client ws) (client_carries ws)
 

@@ -9,6 +9,7 @@ use Rattle.mr_value.specs.declared.ends.End.TheVariants.{Left, Right}
 use Rattle.mr_value.specs.declared.ends.Side.{Side}
 use Rattle.mr_value.specs.declared.ends.Side.TheVariants.{Before, After}
 use Rattle.mr_value.proofs.Numbers.{number_of-signed_decimal}
+use Rattle.mr_words.specs.Names.{lowered}
 use Rattle.mr_words.specs.Parts.{with, count}
 use Rattle.mr_words.specs.Spelling.{Word, Number, Keyword, ScoreBound, IsPart, AreParts}
 use Rattle.mr_words.proofs.ReadLemmas.{four_parts, keyword_is, literals, one_part, pairs_itself, three_parts, two_parts, words_are}
@@ -48,7 +49,9 @@ use Rattle.mr_cmd_list.specs.Askable.{ListIsAskable}
 use Rattle.mr_cmd_set.specs.Askable.{SetIsAskable}
 use Rattle.mr_ask.specs.Asks.{of_kind, reading}
 use Rattle.mr_cmd_server.specs.Called.{server_name}
-use Rattle.mr_cmd_server.specs.Arguments.{setinfo, setname}
+use Rattle.mr_cmd_server.specs.Arguments.{saving_text, setinfo, setname}
+use Rattle.mr_cmd_server.specs.declared.server_ask.Saving.{Saving}
+use Rattle.mr_cmd_server.specs.declared.server_ask.Saving.TheVariants.{First, Never}
 use Rattle.mr_cmd_server.specs.Spelled.{server_parts}
 use Rattle.mr_cmd_server.specs.declared.server_ask.ServerAsk.{ServerAsk}
 use Rattle.mr_cmd_server.specs.declared.server_ask.ServerAsk.TheVariants as server
@@ -224,6 +227,17 @@ setinfo_read attribute value a b c ea eb ec =
     ∙ ap (λ (x : List ℕ). Ok (ask.Server (server.SetClientInfo x c))) eb
     ∙ ap (λ (x : List ℕ). Ok (ask.Server (server.SetClientInfo attribute x))) ec
 
+-- SHUTDOWN's option, of a word in lower case
+abbrev saving_said : List ℕ → Result Saving AskFault
+saving_said x = if bytes_eq x (saving_text First) then Ok First else (if bytes_eq x (saving_text Never) then Ok Never else Err Syntax)
+
+saving_itself : (s : Saving) → saving_said (saving_text s) ≡ Ok s
+saving_itself First = refl
+saving_itself Never = refl
+
+saving_read : (s : Saving) (w : List ℕ) → IsPart w (Keyword (saving_text s)) → reading name.Shutdown (w ∷ []) ≡ Ok (ask.Server (server.Shutdown (Some s)))
+saving_read s w is = ap (λ x. of_kind ask.Server (with x (λ found. Ok (server.Shutdown (Some found))))) (ap saving_said is ∙ saving_itself s)
+
 pub server_read : (ws : List (List ℕ)) (a : ServerAsk) → AreParts ws (server_parts a) → reading (server_name a) ws ≡ Ok (ask.Server a)
 server_read ws (server.Ping None) s = ap (reading name.Ping) (words_are ws [] s)
 server_read ws (server.Ping (Some message)) s = ap (reading name.Ping) (words_are ws (message ∷ []) s)
@@ -231,6 +245,12 @@ server_read ws (server.Echo message) s = ap (reading name.Echo) (words_are ws (m
 server_read ws server.Select s = one_part (λ xs. reading name.Select xs ≡ Ok (ask.Server server.Select)) (Number (pos 0)) zero_is ws s
 server_read ws server.Quit s = ap (reading name.Quit) (words_are ws [] s)
 server_read ws server.Rewrite s = ap (reading name.BgRewriteAof) (words_are ws [] s)
+server_read ws (server.Info None) s = ap (reading name.Info) (words_are ws [] s)
+server_read ws (server.Info (Some section)) s = ap (reading name.Info) (words_are ws (section ∷ []) s)
+server_read ws server.Role s = ap (reading name.Role) (words_are ws [] s)
+server_read ws (server.Shutdown None) s = ap (reading name.Shutdown) (words_are ws [] s)
+server_read ws (server.Shutdown (Some saving)) s =
+    one_part (λ xs. reading name.Shutdown xs ≡ Ok (ask.Server (server.Shutdown (Some saving)))) (Keyword (saving_text saving)) (saving_read saving) ws s
 server_read ws (server.Command arguments) s = ap (reading name.Command) (words_are ws arguments s)
 server_read ws (server.SetClientName label) s =
     two_parts (λ xs. reading name.Client xs ≡ Ok (ask.Server (server.SetClientName label))) (Keyword setname) (Word label) (setname_read label) ws s

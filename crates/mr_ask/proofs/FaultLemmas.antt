@@ -29,7 +29,7 @@ use Rattle.mr_cmd_zset.specs.declared.zset_ask.ZSetAsk.TheVariants as zset
 use Rattle.mr_ask.specs.Asks.{asked, asked_by, of_kind, reading}
 use Rattle.mr_cmd_string.specs.Parts.{milliseconds, opposite, seconds}
 use Rattle.mr_cmd_key.specs.Parts.{timing_of}
-use Rattle.mr_cmd_server.specs.Arguments.{database, setinfo, setname}
+use Rattle.mr_cmd_server.specs.Arguments.{database, saving_of, setinfo, setname}
 use Rattle.mr_ask.specs.WordFaults.{argument_faults, faults_behind, word_faults}
 use Rattle.mr_expiry.specs.declared.expiry.ExpiryUnit.TheVariants as unit
 use Rattle.mr_cmd_key.specs.declared.key_ask.Databases.TheVariants as databases
@@ -307,6 +307,14 @@ argument_first name.Quit [] = refl
 argument_first name.Quit _ = refl
 argument_first name.BgRewriteAof [] = refl
 argument_first name.BgRewriteAof _ = refl
+argument_first name.Info [] = refl
+argument_first name.Info (s ∷ []) = refl
+argument_first name.Info _ = refl
+argument_first name.Role [] = refl
+argument_first name.Role _ = refl
+argument_first name.Shutdown [] = refl
+argument_first name.Shutdown (s ∷ []) = last ask.Server (λ x. server.Shutdown (Some x)) (saving_of s)
+argument_first name.Shutdown _ = refl
 argument_first name.Command ws = refl
 argument_first name.Client (o ∷ l ∷ []) = if_named (server.SetClientName l) (bytes_eq (lowered o) setname)
 argument_first name.Client (o ∷ a ∷ v ∷ []) = if_named (server.SetClientInfo a v) (bytes_eq (lowered o) setinfo)

@@ -9,7 +9,7 @@ use Rattle.mr_cmd_hash.specs.Arguments.{set_fields, hsetnx, hget, hmget, list_ha
 use Rattle.mr_cmd_list.specs.Arguments.{push, pop, llen, lrange, lindex, lset, linsert, lrem, ltrim, lmove, rpoplpush}
 use Rattle.mr_cmd_set.specs.Arguments.{sadd, srem, sismember, smismember, smembers, scard, spop, srandmember, smove, combine}
 use Rattle.mr_cmd_zset.specs.Arguments.{zadd, zincrby, zrem, zcard, zcount, zscore, zmscore, zrank, zrange, zrevrange, range_by_score, zpop, zremrangebyrank, zremrangebyscore}
-use Rattle.mr_cmd_server.specs.Arguments.{ping, echo, select, quit, rewrite, command, client}
+use Rattle.mr_cmd_server.specs.Arguments.{ping, echo, select, quit, rewrite, info, role, shutdown, command, client}
 use Rattle.mr_words.specs.declared.name.Name.{Name}
 use Rattle.mr_words.specs.declared.name.Name.TheVariants as name
 use Rattle.mr_words.specs.declared.fault.AskFault.{AskFault}
@@ -133,6 +133,9 @@ reading name.Echo arguments = of_kind ask.Server (echo arguments)
 reading name.Select arguments = of_kind ask.Server (select arguments)
 reading name.Quit arguments = of_kind ask.Server (quit arguments)
 reading name.BgRewriteAof arguments = of_kind ask.Server (rewrite arguments)
+reading name.Info arguments = of_kind ask.Server (info arguments)
+reading name.Role arguments = of_kind ask.Server (role arguments)
+reading name.Shutdown arguments = of_kind ask.Server (shutdown arguments)
 reading name.Command arguments = of_kind ask.Server (command arguments)
 reading name.Client arguments = of_kind ask.Server (client arguments)
 

@@ -16,7 +16,7 @@ use Rattle.mr_words.specs.declared.fault.AskFault.TheVariants.{Unknown}
 use Rattle.mr_expiry.specs.declared.expiry.ExpiryUnit.TheVariants as unit
 use Rattle.mr_cmd_string.specs.ArgumentFaults.{key_value_options}
 use Rattle.mr_cmd_key.specs.ArgumentFaults.{cursor_and_options, time_and_condition, timing_alone}
-use Rattle.mr_cmd_server.specs.ArgumentFaults.{of_client}
+use Rattle.mr_cmd_server.specs.ArgumentFaults.{of_client, saving_alone}
 
 -- ---- the faults of a word
 abbrev pub Check : Type 0
@@ -191,6 +191,9 @@ argument_faults name.Echo words = counted name.Echo (each (any_word ∷ []) word
 argument_faults name.Select words = counted name.Select (each (database_check ∷ []) words)
 argument_faults name.Quit words = counted name.Quit (each [] words)
 argument_faults name.BgRewriteAof words = counted name.BgRewriteAof (each [] words)
+argument_faults name.Info words = counted name.Info (one_at_most words)
+argument_faults name.Role words = counted name.Role (each [] words)
+argument_faults name.Shutdown words = saving_alone words
 argument_faults name.Command words = []
 argument_faults name.Client words = of_client words
 

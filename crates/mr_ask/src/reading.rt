@@ -159,6 +159,9 @@ fn read_arguments<'a, 't>(name: Name, arguments: Arguments<'a, 't>) -> Reading<'
         Name::Select => of_server(server::select(arguments)),
         Name::Quit => of_server(server::quit(arguments)),
         Name::BgRewriteAof => of_server(server::rewrite(arguments)),
+        Name::Info => of_server(server::info(arguments)),
+        Name::Role => of_server(server::role(arguments)),
+        Name::Shutdown => of_server(server::shutdown(arguments)),
         Name::Command => of_server(server::command(arguments)),
         Name::Client => of_server(server::client(arguments)),
     }

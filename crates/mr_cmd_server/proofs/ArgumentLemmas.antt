@@ -1,17 +1,23 @@
 -- What is read of a command to the server itself is spelled by the words.
-use Rattle.std.proofs.Common.{rules, ℕ, ℤ, pos, ◌≡◌, List, [], ◌∷◌, true, false, refl, ◌∙◌, ap}
-use Rattle.std.specs.Prelude.{IfOk, if◌then◌else◌, Ok, Err}
+use Rattle.std.proofs.Common.{rules, ℕ, ℤ, pos, ◌≡◌, List, [], ◌∷◌, Bool, true, false, refl, ◌∙◌, ap}
+use Rattle.std.specs.Prelude.{IfOk, if◌then◌else◌, Result, Ok, Err}
+use Rattle.std.specs.Str.{bytes_eq}
+use Rattle.mr_value.proofs.Numbers.{same_bytes}
+use Rattle.mr_words.specs.Names.{lowered}
+use Rattle.mr_words.specs.Parts.{with}
 use Rattle.std.specs.Ordering.{int_eq}
 use Rattle.std.specs.Fmt.{signed_decimal}
 use Rattle.std.proofs.lemmas.Bool.Decides.{Decides-int_eq}
-use Rattle.mr_cmd_server.specs.Arguments.{ping, echo, select, quit, rewrite, command, client, database, setname, setinfo}
+use Rattle.mr_cmd_server.specs.Arguments.{ping, echo, select, quit, rewrite, info, role, shutdown, saving_of, saving_text, command, client, database, setname, setinfo}
 use Rattle.mr_words.proofs.FitLemmas.{all_words}
 use Rattle.mr_cmd_server.specs.Spelled.{ServerSpells}
 use Rattle.mr_words.proofs.PartLemmas.{with_integer, with_keyword}
 use Rattle.mr_words.specs.declared.name.Name.TheVariants as name
 use Rattle.mr_cmd_server.specs.declared.server_ask.ServerAsk.TheVariants as server
 use Rattle.mr_words.specs.declared.fault.AskFault.{AskFault}
-use Rattle.mr_words.specs.declared.fault.AskFault.TheVariants.{Other}
+use Rattle.mr_words.specs.declared.fault.AskFault.TheVariants.{Other, Syntax}
+use Rattle.mr_cmd_server.specs.declared.server_ask.Saving.{Saving}
+use Rattle.mr_cmd_server.specs.declared.server_ask.Saving.TheVariants.{First, Never}
 use Rattle.mr_words.specs.declared.fault.BadValue.TheVariants.{Database}
 
 same_number : (m n : ℤ) → int_eq m n ≡ true → m ≡ n
@@ -43,6 +49,30 @@ quit_carries _ = tt
 pub rewrite_carries : (ws : List (List ℕ)) → IfOk (rewrite ws) (ServerSpells name.BgRewriteAof ws)
 rewrite_carries [] = record { name_is = refl; parts = tt }
 rewrite_carries _ = tt
+
+pub info_carries : (ws : List (List ℕ)) → IfOk (info ws) (ServerSpells name.Info ws)
+info_carries [] = record { name_is = refl; parts = tt }
+info_carries (section ∷ []) = record { name_is = refl; parts = (refl, tt) }
+info_carries _ = tt
+
+pub role_carries : (ws : List (List ℕ)) → IfOk (role ws) (ServerSpells name.Role ws)
+role_carries [] = record { name_is = refl; parts = tt }
+role_carries _ = tt
+
+with_saving : {A : Type 0} (w : List ℕ) (next : Saving → Result A AskFault) (P : A → Type 0)
+    → ((s : Saving) → lowered w ≡ saving_text s → IfOk (next s) P) → IfOk (with (saving_of w) next) P
+with_saving w next P h = by_test (bytes_eq (lowered w) (saving_text First)) (bytes_eq (lowered w) (saving_text Never)) refl refl
+  where
+    by_test : (a b : Bool) → bytes_eq (lowered w) (saving_text First) ≡ a → bytes_eq (lowered w) (saving_text Never) ≡ b
+        → IfOk (with (if a then Ok First else (if b then Ok Never else Err Syntax)) next) P
+    by_test true b s t = h First (same_bytes _ _ s)
+    by_test false true s t = h Never (same_bytes _ _ t)
+    by_test false false s t = tt
+
+pub shutdown_carries : (ws : List (List ℕ)) → IfOk (shutdown ws) (ServerSpells name.Shutdown ws)
+shutdown_carries [] = record { name_is = refl; parts = tt }
+shutdown_carries (w ∷ []) = with_saving w _ _ (λ s e. record { name_is = refl; parts = (e, tt) })
+shutdown_carries _ = tt
 
 pub command_carries : (ws : List (List ℕ)) → IfOk (command ws) (ServerSpells name.Command ws)
 command_carries ws = record { name_is = refl; parts = all_words ws }

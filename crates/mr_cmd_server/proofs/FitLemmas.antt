@@ -1,5 +1,5 @@
 -- The words that a command to the server itself carries are those among its arguments.
-use Rattle.std.proofs.Common.{◌≡◌, refl}
+use Rattle.std.proofs.Common.{◌≡◌, refl, Some, None}
 use Rattle.mr_cmd_server.specs.Carried.{server_words}
 use Rattle.mr_cmd_server.specs.Spelled.{server_parts}
 use Rattle.mr_words.proofs.FitLemmas.{carried, carried-words}
@@ -11,4 +11,6 @@ unfolding carried
 carried_server server.Select = refl
 carried_server (server.SetClientName name) = refl
 carried_server (server.SetClientInfo attribute value) = refl
+carried_server (server.Shutdown None) = refl
+carried_server (server.Shutdown (Some saving)) = refl
 carried_server a = carried-words (server_words a)

@@ -10,6 +10,8 @@ use Rattle.mr_words.specs.declared.fault.AskFault.TheVariants.{Arity, Syntax, Ot
 use Rattle.mr_words.specs.declared.fault.BadValue.TheVariants.{Database}
 use Rattle.mr_cmd_server.specs.declared.server_ask.ServerAsk.{ServerAsk}
 use Rattle.mr_cmd_server.specs.declared.server_ask.ServerAsk.TheVariants as ask
+use Rattle.mr_cmd_server.specs.declared.server_ask.Saving.{Saving}
+use Rattle.mr_cmd_server.specs.declared.server_ask.Saving.TheVariants.{First, Never}
 
 -- PING [message]
 abbrev pub ping : List (List ℕ) → Result ServerAsk AskFault
@@ -40,6 +42,32 @@ quit _ = Err (Arity name.Quit)
 abbrev pub rewrite : List (List ℕ) → Result ServerAsk AskFault
 rewrite [] = Ok ask.Rewrite
 rewrite _ = Err (Arity name.BgRewriteAof)
+
+-- INFO [section]
+abbrev pub info : List (List ℕ) → Result ServerAsk AskFault
+info [] = Ok (ask.Info None)
+info (section ∷ []) = Ok (ask.Info (Some section))
+info _ = Err (Arity name.Info)
+
+-- ROLE
+abbrev pub role : List (List ℕ) → Result ServerAsk AskFault
+role [] = Ok ask.Role
+role _ = Err (Arity name.Role)
+
+-- the option words of SHUTDOWN, in lower case
+abbrev pub saving_text : Saving → List ℕ
+saving_text First = codes "save"
+saving_text Never = codes "nosave"
+
+-- .. in any case
+abbrev pub saving_of : List ℕ → Result Saving AskFault
+saving_of word = if bytes_eq (lowered word) (saving_text First) then Ok First else (if bytes_eq (lowered word) (saving_text Never) then Ok Never else Err Syntax)
+
+-- SHUTDOWN [SAVE|NOSAVE]
+abbrev pub shutdown : List (List ℕ) → Result ServerAsk AskFault
+shutdown [] = Ok (ask.Shutdown None)
+shutdown (saving ∷ []) = with (saving_of saving) (λ s. Ok (ask.Shutdown (Some s)))
+shutdown _ = Err Syntax
 
 -- COMMAND [argument ..]
 abbrev pub command : List (List ℕ) → Result ServerAsk AskFault

@@ -17,12 +17,16 @@ pong (Some message) = reply.bytes message
 abbrev pub rewriting : Tree
 rewriting = reply.simple (codes "Background append only file rewriting started")
 
+-- INFO, ROLE and SHUTDOWN are answered by the node, and not from here
 abbrev pub server_reply : ServerAsk → Tree
 server_reply (ask.Ping message) = pong message
 server_reply (ask.Echo message) = reply.bytes message
 server_reply ask.Select = done
 server_reply ask.Quit = done
 server_reply ask.Rewrite = rewriting
+server_reply (ask.Info section) = done
+server_reply ask.Role = done
+server_reply (ask.Shutdown saving) = done
 server_reply (ask.Command arguments) = reply.array reply.none
 server_reply (ask.SetClientName label) = done
 server_reply (ask.SetClientInfo attribute value) = done

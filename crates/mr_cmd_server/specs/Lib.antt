@@ -4,3 +4,4 @@ pub mod Called
 pub mod Spelled
 pub mod ArgumentFaults
 pub mod Commands
+pub mod Questions

@@ -3,9 +3,9 @@ ghost use Rattle.std.specs.Prelude.{◌≡◌, map};
 ghost use Rattle.std.specs.Cow.{cow_slice_items};
 ghost use Rattle.std.specs.Str.{bytes_eq};
 ghost use Rattle.mr_words.specs.Names.{lowered};
-ghost use Rattle.mr_cmd_server.specs.Arguments.{ping, echo, select, quit, rewrite, command, client, setname, setinfo};
+ghost use Rattle.mr_cmd_server.specs.Arguments.{ping, echo, select, quit, rewrite, info, role, shutdown, saving_of, saving_text, command, client, setname, setinfo};
 
-use crate::server_ask::ServerAsk;
+use crate::server_ask::{Saving, ServerAsk};
 use mr_words::{Argument, Arguments, AskFault, BadValue, Name, Words, integer};
 use std::borrow::CowSlice;
 
@@ -71,6 +71,42 @@ pub fn rewrite<'a, 't>(arguments: Arguments<'a, 't>) -> Reading<'a, 't>
     }
 }
 
+/// `INFO [section]`
+pub fn info<'a, 't>(arguments: Arguments<'a, 't>) -> Reading<'a, 't>
+    ensures { result ≡ info (map cow_slice_items arguments.now) }
+{
+    match arguments {
+        [] => Ok(ServerAsk::Info { section: None }),
+        [section] => Ok(ServerAsk::Info {
+            section: Some(Argument::of(section)),
+        }),
+        _ => Err(AskFault::Arity(Name::Info)),
+    }
+}
+
+/// `ROLE`
+pub fn role<'a, 't>(arguments: Arguments<'a, 't>) -> Reading<'a, 't>
+    ensures { result ≡ role (map cow_slice_items arguments.now) }
+{
+    match arguments {
+        [] => Ok(ServerAsk::Role),
+        _ => Err(AskFault::Arity(Name::Role)),
+    }
+}
+
+/// `SHUTDOWN [SAVE|NOSAVE]`
+pub fn shutdown<'a, 't>(arguments: Arguments<'a, 't>) -> Reading<'a, 't>
+    ensures { result ≡ shutdown (map cow_slice_items arguments.now) }
+{
+    match arguments {
+        [] => Ok(ServerAsk::Shutdown { saving: None }),
+        [saving] => Ok(ServerAsk::Shutdown {
+            saving: Some(saving_of(saving)?),
+        }),
+        _ => Err(AskFault::Syntax),
+    }
+}
+
 /// `COMMAND [argument ..]`
 pub fn command<'a, 't>(arguments: Arguments<'a, 't>) -> Reading<'a, 't>
     ensures { result ≡ command (map cow_slice_items arguments.now) }
@@ -93,6 +129,28 @@ pub fn client<'a, 't>(arguments: Arguments<'a, 't>) -> Reading<'a, 't>
             value: Argument::of(value),
         }),
         _ => Err(AskFault::Syntax),
+    }
+}
+
+/// `SAVE` or `NOSAVE`, in any case.
+fn saving_of(word: &CowSlice<'_, u8>) -> Result<Saving, AskFault>
+    ensures { result ≡ saving_of (cow_slice_items word.now) }
+{
+    if is_saving(word, Saving::First) {
+        Ok(Saving::First)
+    } else if is_saving(word, Saving::Never) {
+        Ok(Saving::Never)
+    } else {
+        Err(AskFault::Syntax)
+    }
+}
+
+fn is_saving(word: &CowSlice<'_, u8>, saving: Saving) -> bool
+    ensures { result ≡ bytes_eq (lowered (cow_slice_items word.now)) (saving_text saving) }
+{
+    match saving {
+        Saving::First => word.as_slice().eq_ignore_ascii_case(b"save"),
+        Saving::Never => word.as_slice().eq_ignore_ascii_case(b"nosave"),
     }
 }
 

@@ -3,7 +3,9 @@
 
 pub mod arguments;
 mod planning;
+mod question;
 mod server_ask;
 
 pub use planning::plan;
-pub use server_ask::ServerAsk;
+pub use question::Question;
+pub use server_ask::{Saving, ServerAsk};

@@ -11,7 +11,8 @@ use mr_resp::Reply;
 use std::alloc::{AllocError, Global};
 use std::borrow::CowSlice;
 
-/// What a command to the server itself is answered. It names no key and has no effect.
+/// What a command to the server itself is answered. It names no key and has no effect. (INFO, ROLE and SHUTDOWN aren't answered
+/// from here, but by the node, which knows the answer.)
 pub fn plan(
     alloc: Global,
     _held: &Dataset,
@@ -43,6 +44,9 @@ fn reply_to(alloc: Global, ask: &ServerAsk<'_, '_>) -> Result<Reply, AllocError>
         ServerAsk::Command { .. } => Ok(Reply::Array(Vec::new(alloc))),
         ServerAsk::Select
         | ServerAsk::Quit
+        | ServerAsk::Info { .. }
+        | ServerAsk::Role
+        | ServerAsk::Shutdown { .. }
         | ServerAsk::SetClientName { .. }
         | ServerAsk::SetClientInfo { .. } => Ok(done()),
     }

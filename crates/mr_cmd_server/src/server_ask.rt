@@ -18,6 +18,16 @@ pub enum ServerAsk<'a, 't> {
     Quit,
     /// `BGREWRITEAOF`
     Rewrite,
+    /// `INFO [section]`
+    Info {
+        section: Option<Argument<'a>>,
+    },
+    /// `ROLE`
+    Role,
+    /// `SHUTDOWN [SAVE|NOSAVE]`
+    Shutdown {
+        saving: Option<Saving>,
+    },
     /// `COMMAND [argument ..]`
     Command {
         arguments: Words<'a, 't>,
@@ -31,4 +41,14 @@ pub enum ServerAsk<'a, 't> {
         attribute: Argument<'a>,
         value: Argument<'a>,
     },
+}
+
+/// Whether a dataset is to be saved before the program ends. It is read and says nothing: what is to be kept is in the append-only
+/// file already.
+#[derive(Clone, Copy, Debug, PartialEq, Eq)]
+pub enum Saving {
+    /// `SAVE`
+    First,
+    /// `NOSAVE`
+    Never,
 }

@@ -10,7 +10,7 @@ use Rattle.mr_resp.proofs.Forms.{array_star, form_of, line_some}
 use Rattle.mr_node.specs.State.{NodeState, Core, Agrees, IsShut, end_of}
 use Rattle.mr_node.specs.Outs.{OutsState, Output}
 use Rattle.mr_node.specs.Served.{Served, request, nothing}
-use Rattle.mr_node.specs.Rows.{ClientRow, serves, closes}
+use Rattle.mr_node.specs.Rows.{ClientRow, serves, closes, halts}
 use Rattle.mr_node.specs.declared.fault.NodeFault.{NodeFault}
 use Rattle.mr_node.specs.declared.step.Step.{Step}
 use Rattle.mr_node.specs.declared.step.Step.TheVariants as step
@@ -47,6 +47,10 @@ left_shut s = ap left_at s.is
 row_left : (a b : NodeState) (l : LinkId) (u : List ℕ) (given : Given) (outs : OutsState) → Agrees a l u → ClientRow a l u given b outs → left_at (end_of b l) < left_at (end_of a l)
 row_left a b l u given outs ag (serves s) =
     let less = served_less a.core b.core u s.rest given s.out s.served in
+    omega (arith, less, left_open ag, left_open s.leaves.agrees)
+row_left a b l u given outs ag (halts s) =
+    let asks = s.asks.asks in
+    let less = shorter u asks.text s.rest asks.begins (some_text asks.text (inl (s.asks.words, asks.request))) in
     omega (arith, less, left_open ag, left_open s.leaves.agrees)
 row_left a b l u given outs ag (closes s) = omega (arith, left_open ag, left_shut s.shut)
 

@@ -13,7 +13,7 @@ use Rattle.mr_node.specs.State.{NodeState, EndState, Agrees, IsShut, OthersStay,
 use Rattle.mr_node.specs.State.EndState.{client, shut}
 use Rattle.mr_node.specs.Outs.{OutsState}
 use Rattle.mr_node.specs.Requests.{Waits}
-use Rattle.mr_node.specs.Rows.{ClientRow, serves, closes}
+use Rattle.mr_node.specs.Rows.{ClientRow, serves, closes, halts}
 use Rattle.mr_node.specs.Ticks.{TickRow, waits, deletes}
 use Rattle.mr_node.specs.declared.fault.NodeFault.{NodeFault}
 use Rattle.mr_node.specs.declared.fault.NodeFault.TheVariants as refused
@@ -154,6 +154,7 @@ shut_agrees s ag = not_shut (sym s.is ∙ ag.is)
 row_waits : {a b : NodeState} {l : LinkId} {u : List ℕ} {given : Given} {outs : OutsState} → ClientRow a l u given b outs → OthersWait a l → OthersWait b l × (outs.closes ≡ true → AllWait b)
 row_waits (serves s) q = (others_stay s.leaves.others q, λ closing. absurd (let wrong : true ≡ false = sym closing ∙ ap (λ (o : OutsState). o.closes) s.outs_are in cc))
 row_waits {a} {b} {l} (closes s) q = (others_stay s.others q, λ _. all_of l (others_stay s.others q) (λ u ag. absurd (shut_agrees s.shut ag)))
+row_waits (halts s) q = (others_stay s.leaves.others q, λ closing. absurd (let wrong : true ≡ false = sym closing ∙ ap (λ (o : OutsState). o.closes) s.outs_are in cc))
 
 closing : (b : Bool) (p : Phase) → p ≡ phase.Serving → cond b phase.Leaving p ≢ phase.Serving → b ≡ true
 closing true p e ne = refl

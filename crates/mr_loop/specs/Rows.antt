@@ -1,5 +1,5 @@
 -- What a turn does: one event after another, each by its row. A row says what becomes of everything that a turn acts on.
-use Rattle.std.specs.Prelude.{◌≡◌, ◌⊎◌, ◌<◌, ℕ, List, [], ◌∷◌, ◌++◌, Bool, false, Option, Some, None, length, take, drop, if◌then◌else◌}
+use Rattle.std.specs.Prelude.{◌≡◌, ◌⊎◌, ◌<◌, ℕ, List, [], ◌∷◌, ◌++◌, Bool, ◌||◌, false, Option, Some, None, length, take, drop, if◌then◌else◌}
 use Rattle.std.specs.FinMap as map
 use Rattle.mr_links.specs.Links.{Links}
 use Rattle.mr_links.specs.declared.link_id.LinkId.{LinkId}
@@ -128,9 +128,9 @@ abbrev pub behind_replacing : Option (List ℕ) → LoopState → LoopState
 behind_replacing None o = o
 behind_replacing (Some bytes) o = record o { batch = [] }
 
--- what a client's step lets wait: its reply, and the texts of its effects
+-- what a client's step lets wait: its reply, and the texts of its effects; and whether the program is to end
 abbrev pub queued : OutsState → LinkId → ClientState → LoopState → LoopState
-queued outs k c o = record (put_client o k (record c { waiting = c.waiting ++ outs.reply; phase = phase_after outs c.phase })) { batch = o.batch ++ outs.appended }
+queued outs k c o = record (put_client o k (record c { waiting = c.waiting ++ outs.reply; phase = phase_after outs c.phase })) { batch = o.batch ++ outs.appended; halted = outs.halts || o.halted }
 
 -- what the loop holds behind a client's step
 abbrev pub behind_step : OutsState → LinkId → ClientState → LoopState → LoopState
@@ -152,6 +152,7 @@ pub record Joins (k : LinkId) (s t : Stage) : Type 0 where
   pub fresh : client_of s.own k ≡ None
   pub clients : t.own.clients.open_links ≡ map.insert s.own.clients.open_links k (begun name link)
   pub batch : t.own.batch ≡ s.own.batch
+  pub halted : t.own.halted ≡ s.own.halted
   pub file : SameFile s t
 
 pub record TurnsAway (s t : Stage) : Type 0 where
@@ -325,6 +326,7 @@ pub record IsClosed (k : LinkId) (s t : Stage) : Type 0 where
   pub opened : t.wire.opened ≡ s.wire.opened
   pub clients : t.own.clients.open_links ≡ map.remove s.own.clients.open_links k
   pub batch : t.own.batch ≡ s.own.batch
+  pub halted : t.own.halted ≡ s.own.halted
   pub file : SameFile s t
 
 -- why a node answers that it is stopped

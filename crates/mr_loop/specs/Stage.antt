@@ -1,6 +1,6 @@
 -- What a turn acts on.
-use Rattle.std.specs.Prelude.{◌≡◌, ℕ, List, [], Option, Some, refl}
-use Rattle.std.specs.Coded.{Coded, code_by, coded×, coded_ℕ, coded_list}
+use Rattle.std.specs.Prelude.{◌≡◌, ℕ, List, [], Bool, Option, Some, refl}
+use Rattle.std.specs.Coded.{Coded, code_by, coded×, coded_ℕ, coded_bool, coded_list}
 use Rattle.std.specs.FinMap as map
 use Rattle.mr_aof.specs.declared.log.Log.{Log}
 use Rattle.mr_links.specs.LinkId.{coded_id}
@@ -26,13 +26,15 @@ begun name link = record { name = name; link = link; waiting = []; phase = phase
 pub record LoopState : Type 0 where
   pub clients : Links ClientState
   pub batch : List ℕ  -- the texts of effects that no append has taken
+  pub halted : Bool  -- a client asked that the program end
 
 abbrev pub client_code : Coded ClientState
 client_code = code_by (LinkId × (LinkId × (List ℕ × Phase))) (coded× coded_id (coded× coded_id (coded× (coded_list coded_ℕ) item.the_row.coded)))
     (λ c. (c.name, (c.link, (c.waiting, c.phase)))) (λ p. record { name = p.0; link = p.1.0; waiting = p.1.1.0; phase = p.1.1.1 }) (λ _. refl)
 
 abbrev pub loop_code : Coded LoopState
-loop_code = code_by (Links ClientState × List ℕ) (coded× (links_code client_code) (coded_list coded_ℕ)) (λ s. (s.clients, s.batch)) (λ p. record { clients = p.0; batch = p.1 }) (λ _. refl)
+loop_code = code_by (Links ClientState × (List ℕ × Bool)) (coded× (links_code client_code) (coded× (coded_list coded_ℕ) coded_bool)) (λ s. (s.clients, (s.batch, s.halted)))
+    (λ p. record { clients = p.0; batch = p.1.0; halted = p.1.1 }) (λ _. refl)
 
 abbrev pub client_of : LoopState → LinkId → Option ClientState
 client_of s k = map.get s.clients.open_links k

@@ -1,5 +1,5 @@
 // What the loop holds: its clients, and what waits for the file.
-ghost use Rattle.std.specs.Prelude.{◌≡◌, ◌++◌, ◌≤◌, ◌+◌, [], length, drop, Some, None, IfOk, IfSome, OnOk, OnErr, IsTrue, option_copied};
+ghost use Rattle.std.specs.Prelude.{◌≡◌, ◌++◌, ◌≤◌, ◌+◌, ◌||◌, [], length, drop, false, Some, None, IfOk, IfSome, OnOk, OnErr, IsTrue, option_copied};
 ghost use Rattle.std.specs.FinMap as map;
 ghost use Rattle.mr_wire.specs.Wire.{count_of};
 ghost use Rattle.mr_loop.specs.Stage.{IsNamed, LoopState, begun, client_of, put_client};
@@ -29,6 +29,8 @@ pub struct Links {
     /// Who is served in this turn, in this order.
     served: Vec<LinkId>,
     batch: Vec<u8>,
+    /// A client asked that the program end.
+    halted: bool,
     /// Room for what one read gives.
     piece: Vec<u8>,
     /// The last turn met a limit, so that the next doesn't wait.
@@ -42,7 +44,7 @@ impl Model for Links {
 
     ghost coded = { loop_code };
 
-    ghost view = { λ l. record { clients = l.clients; batch = l.batch.items } };
+    ghost view = { λ l. record { clients = l.clients; batch = l.batch.items; halted = l.halted } };
 }
 
 impl Links {
@@ -50,6 +52,7 @@ impl Links {
     pub fn new(alloc: Global) -> Result<Links, AllocError>
         ensures clients { IfOk result (λ links. links.clients.open_links ≡ map.empty) }
         ensures batch { IfOk result (λ links. links.batch ≡ []) }
+        ensures halted { IfOk result (λ links. links.halted ≡ false) }
     {
         let piece = Vec::from_elem(alloc, 0u8, PIECE)?;
         Ok(Links {
@@ -58,6 +61,7 @@ impl Links {
             places: Vec::new(alloc),
             served: Vec::new(alloc),
             batch: Vec::new(alloc),
+            halted: false,
             piece,
             hurries: false,
         })
@@ -158,6 +162,7 @@ impl Links {
         ensures fresh { IfOk result (λ k. client_of self.old k ≡ None) }
         ensures joined { IfOk result (λ k. self.new.clients.open_links ≡ map.insert self.old.clients.open_links k (begun name link)) }
         ensures batch { self.new.batch ≡ self.old.batch }
+        ensures halted { self.new.halted ≡ self.old.halted }
         ensures err { OnErr result (self.new ≡ self.old) }
     {
         if self.clients.opened() >= MOST_CLIENTS {
@@ -195,6 +200,7 @@ impl Links {
     pub(crate) fn remove(&mut self, k: LinkId)
         ensures clients { self.new.clients.open_links ≡ map.remove self.old.clients.open_links k }
         ensures batch { self.new.batch ≡ self.old.batch }
+        ensures halted { self.new.halted ≡ self.old.halted }
     {
         let _removed = self.clients.remove(k);
     }
@@ -242,11 +248,28 @@ impl Links {
         self.batch.extend_from_slice(texts)
     }
 
+    /// Whether a client asked that the program end.
+    pub(crate) fn halted(&self) -> bool
+        ensures { result ≡ self.now.halted }
+    {
+        self.halted
+    }
+
+    /// Notes it where a client asked that the program end.
+    fn note_halt(&mut self, outs: &Outs)
+        ensures { self.new ≡ record self.old { halted = outs.now.halts || self.old.halted } }
+    {
+        if outs.halts() {
+            self.halted = true;
+        }
+    }
+
     /// Puts what a step gave out behind what waits: for the file, and for its client. Where the node closed the link, its client leaves.
     pub(crate) fn queue(&mut self, k: LinkId, outs: &Outs) -> Result<(), AllocError>
         ensures { OnOk result (IfSome (client_of self.old k) (λ c. self.new ≡ queued outs.now k c self.old)) }
     {
         self.file(outs.appended())?;
+        self.note_halt(outs);
         match self.clients.get_mut(k) {
             Some(client) => client.take(outs),
             None => Ok(()),

@@ -1,5 +1,5 @@
 // Turns one after another.
-ghost use Rattle.std.specs.Prelude.{◌≡◌, [], OnOk, true, IsErrOf};
+ghost use Rattle.std.specs.Prelude.{◌≡◌, [], OnOk, false, true, IsErrOf};
 ghost use Rattle.mr_loop.specs.Stage.{stage_of};
 ghost use Rattle.mr_loop.specs.Outcomes.{Serves};
 ghost use Rattle.mr_loop.specs.Quiet.{AllWait};
@@ -13,7 +13,7 @@ use mr_node::Node;
 use mr_source::Source;
 use mr_wire::Wire;
 
-/// So many turns, or fewer where one meets a fault, which is the last.
+/// So many turns, or fewer where one meets a fault, or in one a client asks that the program end. That is the last.
 pub fn serve<W: Wire, F: LogFile, S: Source>(
     node: &mut Node,
     links: &mut Links,
@@ -22,7 +22,8 @@ pub fn serve<W: Wire, F: LogFile, S: Source>(
     source: &mut S,
     turns: u64,
 ) -> Result<(), LoopFault>
-    requires { links.old.batch ≡ [] }
+    requires filed { links.old.batch ≡ [] }
+    requires runs { links.old.halted ≡ false }
     ensures went { Serves W.tells log.old.mode result (stage_of W.links F.told F.synced node.old links.old wire.old log.old) (stage_of W.links F.told F.synced node.new links.new wire.new log.new) }
     ensures device { IsErrOf result LoopFault.File → log.new.broken ≡ true }
     ensures written { OnOk result (links.new.batch ≡ []) }
@@ -30,6 +31,9 @@ pub fn serve<W: Wire, F: LogFile, S: Source>(
 {
     for _ in 0..turns {
         turn(node, links, wire, log, source)?;
+        if links.halted() {
+            return Ok(());
+        }
     }
     Ok(())
 }

@@ -32,7 +32,8 @@ const MOST_BATCH: usize = 1_048_576;
 
 /// One turn: waits until something is ready, accepts links, reads of each client whose link is ready and steps as far as its
 /// requests go, appends what they changed to the file, sends the replies, and lets time pass at the node. On a client whose link
-/// isn't ready it spends nothing. Where the file fails, or memory runs out for what the node gave out, the node is stopped.
+/// isn't ready it spends nothing. No turn begins once a client asked that the program end: the one in which it did goes to its
+/// end. Where the file fails, or memory runs out for what the node gave out, the node is stopped.
 pub fn turn<W: Wire, F: LogFile, S: Source>(
     node: &mut Node,
     links: &mut Links,
@@ -40,7 +41,8 @@ pub fn turn<W: Wire, F: LogFile, S: Source>(
     log: &mut Log<F>,
     source: &mut S,
 ) -> Result<(), LoopFault>
-    requires { links.old.batch ≡ [] }
+    requires filed { links.old.batch ≡ [] }
+    requires runs { links.old.halted ≡ false }
     ensures went { Turns W.tells log.old.mode result (stage_of W.links F.told F.synced node.old links.old wire.old log.old) (stage_of W.links F.told F.synced node.new links.new wire.new log.new) }
     ensures written { OnOk result (links.new.batch ≡ []) }
     ensures mode { log.new.mode ≡ log.old.mode }

@@ -11,7 +11,7 @@ use Rattle.mr_data.specs.declared.plan.Plan.{Plan}
 use Rattle.mr_effect.specs.declared.effect.Effect.{Effect}
 use Rattle.mr_node.specs.State.{NodeState, Core}
 use Rattle.mr_node.specs.Served.{grown_by}
-use Rattle.mr_node.specs.Parts.{HasAhead, Runs, Commits, Halts, Uses}
+use Rattle.mr_node.specs.Parts.{HasAhead, Runs, Commits, Spends, Uses}
 use Rattle.mr_node.specs.declared.fault.NodeFault.{NodeFault}
 use Rattle.mr_node.specs.declared.fault.NodeFault.TheVariants.{Stopped}
 use Rattle.mr_node.specs.declared.step.Step.{Step}
@@ -37,7 +37,7 @@ pub used_core : (a b : NodeState) (l : LinkId) (used : ℕ) → HasAhead a l use
 used_core a b l used ahead uses = ap (λ (s : NodeState). s.core) (uses ahead.kept ahead.found)
 
 pub quiet_commit : (a b : NodeState) (l : LinkId) (used : ℕ) (reply : Tree) (es : List Effect) (r : Result Step NodeFault) → HasAhead a l used → IsWindow a.core.stream → es ≡ []
-    → IfOk r (λ s. Commits a l used reply es b s) → IfErr r (λ e. (e ≡ Stopped) × Halts a es b) → b.core ≡ a.core
+    → IfOk r (λ s. Commits a l used reply es b s) → IfErr r (λ e. (e ≡ Stopped) × Spends a es b) → b.core ≡ a.core
 quiet_commit a b l used reply es (Ok s) ahead w none c h =
     ap (λ (s : NodeState). s.core) (c.state ahead.kept ahead.found) ∙ nothing_grown a.core es c.held w none c.applied
 quiet_commit a b l used reply es (Err f) ahead w none c h = absurd (h.1.some none)

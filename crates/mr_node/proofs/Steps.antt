@@ -21,9 +21,11 @@ use Rattle.mr_data.specs.Rebuilding.{rebuilding}
 use Rattle.mr_planning.proofs.Laws.{command_texts}
 use Rattle.mr_node.specs.Served.{Served, Answered, Remakes, left_of, grown_by, limit_text, rewritten_as}
 use Rattle.mr_node.specs.Rows.{ClientRow, StepRow, Leaves, Ends, Stops}
-use Rattle.mr_node.specs.Parts.{Uses, Ran, Quits, Halts, last_outs}
+use Rattle.mr_node.specs.Parts.{Uses, Ran, Quits, Spends, last_outs}
 use Rattle.mr_node.specs.Parts.Ran.{commits, too_far}
-use Rattle.mr_node.specs.Parts.{Passes, Rewrites, Runs}
+use Rattle.mr_node.specs.Parts.{HaltsAt, Passes, Questions, Rewrites, Runs, halting_outs}
+use Rattle.mr_node.specs.Telling.{told_as}
+use Rattle.mr_cmd_server.specs.declared.question.Question.{Question}
 use Rattle.mr_node.specs.declared.step.Step.{Step}
 use Rattle.mr_node.proofs.Ends.{some_is, client_is, put_agrees, put_shut, put_others}
 
@@ -76,6 +78,31 @@ rewriting_row a b l given u used up r remakes uses ag =
       outs_are = refl;
     })
 
+pub telling_row : (a b : NodeState) (l : LinkId) (given : Given) (u : List ℕ) (used : ℕ) (question : Question) → a.core.up ≡ true → Questions u used question → Uses a l used b → Agrees a l u
+    → ClientRow a l u given b (outs_with (Some l) (told_as question a.core))
+telling_row a b l given u used question up q uses ag =
+    let e = used_end a b l u used ag uses in
+    ClientRow.serves (record {
+      up = up;
+      rest = drop used u;
+      out = told_as question a.core;
+      served = Served.request q.words q.asks (Answered.tells question q.asked (ap (λ (s : NodeState). s.core) e) refl);
+      leaves = leaves_of a b l (drop used u) e;
+      outs_are = refl;
+    })
+
+pub halting_row : (a b : NodeState) (l : LinkId) (given : Given) (u : List ℕ) (used : ℕ) → a.core.up ≡ true → HaltsAt u used → Uses a l used b → Agrees a l u → ClientRow a l u given b (halting_outs l)
+halting_row a b l given u used up h uses ag =
+    let e = used_end a b l u used ag uses in
+    ClientRow.halts (record {
+      up = up;
+      rest = drop used u;
+      asks = record { words = h.words; asks = h.asks; halting = h.halting };
+      core = ap (λ (s : NodeState). s.core) e;
+      leaves = leaves_of a b l (drop used u) e;
+      outs_are = refl;
+    })
+
 pub fault_ends : (u : List ℕ) (fault : Fault) → IsDoomedBy u fault → Ends u (reply_text (error (fault_text fault)))
 fault_ends u fault d = Ends.doomed fault d refl
 
@@ -114,5 +141,5 @@ run_row a b l given u used p s up r (too_far t) ag =
     }))
 
 -- a node may stop at a request with effects
-pub stops_of : (a b : NodeState) (u : List ℕ) (given : Given) (used : ℕ) (p : Plan) → Runs a.core.replica u given a.core.held used p → Halts a p.effects.items b → Stops a u given
+pub stops_of : (a b : NodeState) (u : List ℕ) (given : Given) (used : ℕ) (p : Plan) → Runs a.core.replica u given a.core.held used p → Spends a p.effects.items b → Stops a u given
 stops_of a b u given used p r h = record { words = r.words; rest = drop used u; asks = r.asks; reply = view p.reply; effects = p.effects.items; plan = r.plan; within = h.within; some = h.some }

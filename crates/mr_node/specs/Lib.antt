@@ -4,6 +4,7 @@ pub mod Ending
 pub mod Outs
 pub mod Listing
 pub mod Requests
+pub mod Telling
 pub mod Served
 pub mod Rows
 pub mod Parts

@@ -26,19 +26,20 @@ pub record OutsState : Type 0 where
   pub replaced : Option (List ℕ)  -- what the file is replaced by
   pub reply : List ℕ  -- what is sent on the link
   pub closes : Bool  -- the link is closed behind it
+  pub halts : Bool  -- a client asked that the program end
 
 abbrev pub outs_code : Coded OutsState
-outs_code = code_by (Option LinkId × (List ℕ × (List ℕ × (Option (List ℕ) × (List ℕ × Bool)))))
-    (coded× (coded_option coded_id) (coded× (coded_list coded_ℕ) (coded× (coded_list coded_ℕ) (coded× (coded_option (coded_list coded_ℕ)) (coded× (coded_list coded_ℕ) coded_bool)))))
-    (λ o. (o.link, (o.grown, (o.appended, (o.replaced, (o.reply, o.closes))))))
-    (λ p. record { link = p.0; grown = p.1.0; appended = p.1.1.0; replaced = p.1.1.1.0; reply = p.1.1.1.1.0; closes = p.1.1.1.1.1 }) (λ _. refl)
+outs_code = code_by (Option LinkId × (List ℕ × (List ℕ × (Option (List ℕ) × (List ℕ × (Bool × Bool))))))
+    (coded× (coded_option coded_id) (coded× (coded_list coded_ℕ) (coded× (coded_list coded_ℕ) (coded× (coded_option (coded_list coded_ℕ)) (coded× (coded_list coded_ℕ) (coded× coded_bool coded_bool))))))
+    (λ o. (o.link, (o.grown, (o.appended, (o.replaced, (o.reply, (o.closes, o.halts)))))))
+    (λ p. record { link = p.0; grown = p.1.0; appended = p.1.1.0; replaced = p.1.1.1.0; reply = p.1.1.1.1.0; closes = p.1.1.1.1.1.0; halts = p.1.1.1.1.1.1 }) (λ _. refl)
 
 abbrev pub no_outs : OutsState
-no_outs = record { link = None; grown = []; appended = []; replaced = None; reply = []; closes = false }
+no_outs = record { link = None; grown = []; appended = []; replaced = None; reply = []; closes = false; halts = false }
 
--- the outs of a step that gave this out, and closes no link
+-- the outs of a step that gave this out, closes no link and ends nothing
 abbrev pub outs_with : Option LinkId → Output → OutsState
-outs_with link out = record { link = link; grown = out.grown; appended = out.appended; replaced = out.replaced; reply = out.said; closes = false }
+outs_with link out = record { link = link; grown = out.grown; appended = out.appended; replaced = out.replaced; reply = out.said; closes = false; halts = false }
 
 -- one thing that a step gives out
 pub data OutState : Type 0 where
@@ -47,6 +48,7 @@ pub data OutState : Type 0 where
   replace : List ℕ → OutState
   send : LinkId → List ℕ → OutState
   close : LinkId → OutState
+  halt : OutState
 
 abbrev pub grown_outs : List ℕ → List OutState
 grown_outs [] = []
@@ -72,9 +74,13 @@ closed_outs None closes = []
 closed_outs (Some link) true = close link ∷ []
 closed_outs (Some link) false = []
 
--- what is sent, and whether the link is closed behind that
+abbrev pub halted_outs : Bool → List OutState
+halted_outs true = halt ∷ []
+halted_outs false = []
+
+-- what is sent, whether the link is closed behind that, and whether the program is to end
 abbrev pub told_outs : OutsState → List OutState
-told_outs o = sent_outs o.link o.reply ++ closed_outs o.link o.closes
+told_outs o = sent_outs o.link o.reply ++ (closed_outs o.link o.closes ++ halted_outs o.halts)
 
 -- in their order: what the stream grows by, what is done to the file, and only then what is told
 abbrev pub outs_of : OutsState → List OutState

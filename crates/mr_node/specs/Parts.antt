@@ -10,13 +10,14 @@ use Rattle.mr_effect.specs.Spelling.{texts}
 use Rattle.mr_effect.specs.declared.effect.Effect.{Effect}
 use Rattle.mr_data.specs.declared.given.Given.{Given}
 use Rattle.mr_data.specs.declared.plan.Plan.{Plan}
-use Rattle.mr_plan.specs.Requests.{quits, rewrites}
+use Rattle.mr_cmd_server.specs.declared.question.Question.{Question}
+use Rattle.mr_plan.specs.Requests.{halts, question_in, quits, rewrites}
 use Rattle.mr_node.specs.State.{NodeState, end_of, put_end, full, spent_as}
 use Rattle.mr_node.specs.State.EndState.{client}
 use Rattle.mr_node.specs.Outs.{OutsState, no_outs, growth, outs_with}
 use Rattle.mr_node.specs.Requests.{Asks, AsksNothing, Waits, IsDoomedBy}
 use Rattle.mr_node.specs.Progresses.{AgreesAlong}
-use Rattle.mr_node.specs.Served.{HasPlan, grown_by, offset_behind, offset_limit, limit_text}
+use Rattle.mr_node.specs.Served.{HasPlan, IsPlain, grown_by, offset_behind, offset_limit, limit_text}
 use Rattle.mr_node.specs.declared.step.Step.{Step}
 use Rattle.mr_node.specs.declared.step.Step.TheVariants.{Done}
 use Rattle.mr_plan.specs.declared.requests.Answer.{Answer}
@@ -45,7 +46,7 @@ pub record Runs (replica : Bool) (u : List ℕ) (given : Given) (m : Dataset) (u
   pub enough : used ≤ length u
   pub words : List (List ℕ)
   pub asks : Asks u words (drop used u)
-  pub plain : rewrites words ≡ false
+  pub plain : IsPlain words
   pub plan : HasPlan replica m words given (view p.reply) p.effects.items
 
 -- So many bytes are an empty request.
@@ -67,18 +68,36 @@ pub record Rewrites (u : List ℕ) (used : ℕ) : Type 0 where
   pub asks : Asks u words (drop used u)
   pub rewriting : rewrites words ≡ true
 
+-- So many bytes ask about the node.
+pub record Questions (u : List ℕ) (used : ℕ) (question : Question) : Type 0 where
+  pub enough : used ≤ length u
+  pub words : List (List ℕ)
+  pub asks : Asks u words (drop used u)
+  pub asked : question_in words ≡ Some question
+
+-- So many bytes are a client's wish that the program end.
+pub record HaltsAt (u : List ℕ) (used : ℕ) : Type 0 where
+  pub enough : used ≤ length u
+  pub words : List (List ℕ)
+  pub asks : Asks u words (drop used u)
+  pub halting : halts words ≡ true
+
 abbrev pub IsTodo : Bool → List ℕ → Given → Dataset → Todo → Type 0
 IsTodo replica u given m (todo.Wait progress) = Waits u × (length u < full)
 IsTodo replica u given m (todo.Skip used) = Passes u used
 IsTodo replica u given m (todo.Refuse fault) = IsDoomedBy u fault
 IsTodo replica u given m todo.Quit = Quits u
 IsTodo replica u given m (todo.Rewrite used) = Rewrites u used
+IsTodo replica u given m (todo.Tell used question) = Questions u used question
+IsTodo replica u given m (todo.Halt used) = HaltsAt u used
 IsTodo replica u given m (todo.Run used plan) = Runs replica u given m used plan
 
 abbrev pub carry_out : Answer → ℕ → Todo
 carry_out (answer.Run plan) used = todo.Run used plan
 carry_out answer.Quit used = todo.Quit
 carry_out answer.Rewrite used = todo.Rewrite used
+carry_out (answer.Tell question) used = todo.Tell used question
+carry_out answer.Halt used = todo.Halt used
 
 -- where more is waited for, the progress is over the unread bytes
 abbrev pub KeepsAlong : Todo → List ℕ → Type 0
@@ -87,6 +106,8 @@ KeepsAlong (todo.Skip used) unread = Unit {0}
 KeepsAlong (todo.Refuse fault) unread = Unit {0}
 KeepsAlong todo.Quit unread = Unit {0}
 KeepsAlong (todo.Rewrite used) unread = Unit {0}
+KeepsAlong (todo.Tell used question) unread = Unit {0}
+KeepsAlong (todo.Halt used) unread = Unit {0}
 KeepsAlong (todo.Run used plan) unread = Unit {0}
 
 -- so many bytes of the link are used, and nothing else has changed
@@ -100,6 +121,10 @@ Hears a l bytes b = (kept : List ℕ) → end_of a l ≡ Some (client kept) → 
 -- this is told last
 abbrev pub last_outs : LinkId → List ℕ → OutsState
 last_outs l last = record no_outs { link = Some l; reply = last; closes = true }
+
+-- nothing is told, and the program is to end
+abbrev pub halting_outs : LinkId → OutsState
+halting_outs l = record no_outs { link = Some l; halts = true }
 
 -- The effects are done, and all is told.
 pub record Commits (a : NodeState) (l : LinkId) (used : ℕ) (reply : Tree) (effects : List Effect) (b : NodeState) (s : Step) : Type 0 where
@@ -119,7 +144,7 @@ pub data Ran (a : NodeState) (l : LinkId) (used : ℕ) (reply : Tree) (effects :
   too_far : IsTooFar a l used effects b s → Ran a l used reply effects b s
 
 -- Memory ran out while effects were applied.
-pub record Halts (a : NodeState) (effects : List Effect) (b : NodeState) : Type 0 where
+pub record Spends (a : NodeState) (effects : List Effect) (b : NodeState) : Type 0 where
   pub some : effects ≢ []
   pub within : offset_behind effects a.core ≤ offset_limit
   pub state : b ≡ spent_as b.core.held a

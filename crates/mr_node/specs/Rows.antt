@@ -8,7 +8,7 @@ use Rattle.mr_entries.specs.Dataset.{Dataset}
 use Rattle.mr_effect.specs.declared.effect.Effect.{Effect}
 use Rattle.mr_data.specs.declared.given.Given.{Given}
 use Rattle.mr_planning.specs.Turns.{done}
-use Rattle.mr_plan.specs.Requests.{quits}
+use Rattle.mr_plan.specs.Requests.{halts as is_halting, quits}
 use Rattle.mr_node.specs.State.{NodeState, Agrees, IsShut, OthersStay, full, spent_as}
 use Rattle.mr_node.specs.Outs.{OutsState, Output, no_outs, outs_with}
 use Rattle.mr_node.specs.Requests.{Asks, Waits, IsDoomedBy}
@@ -45,9 +45,25 @@ pub record Closes (a : NodeState) (l : LinkId) (u : List ℕ) (b : NodeState) (o
   pub others : OthersStay a b l
   pub outs_are : outs ≡ record no_outs { link = Some l; reply = last; closes = true }
 
+-- These bytes begin with a client's wish that the program end, and the rest is left.
+pub record AsksToHalt (u rest : List ℕ) : Type 0 where
+  pub words : List (List ℕ)
+  pub asks : Asks u words rest
+  pub halting : is_halting words ≡ true
+
+-- A client asks that the program end: that is used, nothing is told, and nothing else changes.
+pub record Halts (a : NodeState) (l : LinkId) (u : List ℕ) (b : NodeState) (outs : OutsState) : Type 0 where
+  pub up : a.core.up ≡ true
+  pub rest : List ℕ
+  pub asks : AsksToHalt u rest
+  pub core : b.core ≡ a.core
+  pub leaves : Leaves a l b rest
+  pub outs_are : outs ≡ record no_outs { link = Some l; halts = true }
+
 pub data ClientRow (a : NodeState) (l : LinkId) (u : List ℕ) (given : Given) (b : NodeState) (outs : OutsState) : Type 0 where
   serves : Serves a l u given b outs → ClientRow a l u given b outs
   closes : Closes a l u b outs → ClientRow a l u given b outs
+  halts : Halts a l u b outs → ClientRow a l u given b outs
 
 -- Nothing whole is there, and nothing changes. A full input is never left so.
 pub record Idles (a : NodeState) (u : List ℕ) (b : NodeState) : Type 0 where

@@ -10,12 +10,13 @@ ghost use Rattle.mr_data.specs.Meaning.{apply_all};
 ghost use Rattle.mr_node.specs.State.{NodeState, Core, EndState, end_of, put_end, Agrees, IsShut, OthersStay, Opens, started, stopped_as, shown, room_of, IsTooMuch};
 ghost use Rattle.mr_node.specs.Outs.{no_outs, growth, outs_with};
 ghost use Rattle.mr_node.specs.Progresses.{AgreesAlong};
-ghost use Rattle.mr_node.specs.Parts.{Leads, HasAhead, HasRoom, Uses, Hears, last_outs, Ran, Commits, Halts, Tells, KeepsOn};
+ghost use Rattle.mr_node.specs.Parts.{Leads, HasAhead, HasRoom, Uses, Hears, last_outs, Ran, Commits, Spends, Tells, KeepsOn};
 ghost use Rattle.mr_data.specs.Rebuilding.{rebuilding};
 ghost use Rattle.mr_node.specs.Served.{offset_limit, rewritten_as, Remakes};
 ghost use Rattle.mr_node.specs.Rows.{StepRow, WhyStopped};
 
 mod file;
+mod telling;
 mod ticking;
 
 use crate::config::Config;
@@ -235,7 +236,7 @@ impl Node {
         requires leads { Leads plan.effects.items self.old.core.held }
         ensures step { IfOk result (λ s. Ran self.old link used (view plan.reply) plan.effects.items self.new s) }
         ensures memory { IsErrOf result NodeFault.Memory → self.new ≡ self.old }
-        ensures stopped { IsErrOf result NodeFault.Stopped → Halts self.old plan.effects.items self.new }
+        ensures stopped { IsErrOf result NodeFault.Stopped → Spends self.old plan.effects.items self.new }
         ensures no_other { IfErr result (λ e. (e ≡ NodeFault.Memory) ⊎ (e ≡ NodeFault.Stopped)) }
         ensures quiet { plan.effects.items ≡ [] → self.new.core ≡ self.old.core }
     {
@@ -263,7 +264,7 @@ impl Node {
         requires outs { outs ≡ outs_with (Some link) (record (growth (texts plan.effects.items)) { said = reply_text (view plan.reply) }) }
         requires within { self.old.core.stream.offset + length (texts plan.effects.items) ≤ offset_limit }
         ensures step { IfOk result (λ s. Commits self.old link used (view plan.reply) plan.effects.items self.new s) }
-        ensures stopped { IfErr result (λ e. (e ≡ NodeFault.Stopped) × Halts self.old plan.effects.items self.new) }
+        ensures stopped { IfErr result (λ e. (e ≡ NodeFault.Stopped) × Spends self.old plan.effects.items self.new) }
     {
         let Plan { reply: _, effects } = plan;
         if let Err(_) = self.held.apply_all(effects) {
@@ -421,6 +422,8 @@ impl Node {
             Ok(Todo::Refuse(fault)) => self.refuse(link, fault),
             Ok(Todo::Quit) => self.quit(link),
             Ok(Todo::Rewrite { used }) => self.rewrite(link, used),
+            Ok(Todo::Tell { used, question }) => self.tell(link, used, question),
+            Ok(Todo::Halt { used }) => Ok(self.halt(link, used)),
             Ok(Todo::Run { used, plan }) => self.run(link, used, plan),
         }
     }

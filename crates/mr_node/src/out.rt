@@ -21,6 +21,8 @@ pub enum Out<'a> {
     Send(LinkId, &'a [u8]),
     /// The node closed the link.
     Close(LinkId),
+    /// A client asked that the program end.
+    Halt,
 }
 
 /// Which out may come next.
@@ -31,6 +33,7 @@ enum Place {
     Replace,
     Send,
     Close,
+    Halt,
     End,
 }
 
@@ -99,11 +102,17 @@ impl<'a> Iterator for OutsIter<'a> {
             }
         }
         if let Place::Close = self.place {
-            self.place = Place::End;
+            self.place = Place::Halt;
             if let Some(link) = outs.link()
                 && outs.closes()
             {
                 return Some(Out::Close(link));
+            }
+        }
+        if let Place::Halt = self.place {
+            self.place = Place::End;
+            if outs.halts() {
+                return Some(Out::Halt);
             }
         }
         None

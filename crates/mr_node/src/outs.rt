@@ -14,8 +14,8 @@ use std::alloc::{AllocError, Global};
 use std::marker::Model;
 
 /// What a step gives out: the texts of its effects, which go to the stream and to the append-only file; what the file is replaced by;
-/// what the step sends on its link, and whether the link is closed behind that. A tick is made on no link, and only lets the stream
-/// grow, and the file.
+/// what the step sends on its link, and whether the link is closed behind that; whether a client asked that the program end. A tick
+/// is made on no link, and only lets the stream grow, and the file.
 /// A node uses its room again (`Node::reuse`).
 #[derive(Drop)]
 pub struct Outs {
@@ -24,6 +24,7 @@ pub struct Outs {
     replaced: Option<Vec<u8>>,
     reply: Vec<u8>,
     closes: bool,
+    halts: bool,
 }
 
 impl Model for Outs {
@@ -34,7 +35,7 @@ impl Model for Outs {
 
     ghost coded = { outs_code };
 
-    ghost view = { λ o. record { link = o.link; grown = o.grown.items; appended = o.grown.items; replaced = option_map (λ bytes. bytes.items) o.replaced; reply = o.reply.items; closes = o.closes } };
+    ghost view = { λ o. record { link = o.link; grown = o.grown.items; appended = o.grown.items; replaced = option_map (λ bytes. bytes.items) o.replaced; reply = o.reply.items; closes = o.closes; halts = o.halts } };
 }
 
 impl Outs {
@@ -47,6 +48,7 @@ impl Outs {
             replaced: None,
             reply: Vec::new(alloc),
             closes: false,
+            halts: false,
         }
     }
 
@@ -59,6 +61,7 @@ impl Outs {
         self.replaced = None;
         self.reply.clear();
         self.closes = false;
+        self.halts = false;
     }
 
     /// What the step gives out, in its order.
@@ -114,6 +117,13 @@ impl Outs {
         self.closes
     }
 
+    /// Whether a client asked that the program end.
+    pub fn halts(&self) -> bool
+        ensures { result ≡ self.now.halts }
+    {
+        self.halts
+    }
+
     /// Puts the texts of effects behind those that are there.
     pub(crate) fn grow(&mut self, effects: &[Effect<'_>]) -> Result<(), AllocError>
         ensures { OnOk result (self.new ≡ record self.old { grown = self.old.grown ++ texts effects.now; appended = self.old.appended ++ texts effects.now }) }
@@ -159,5 +169,11 @@ impl Outs {
         ensures { self.new ≡ record self.old { closes = true } }
     {
         self.closes = true;
+    }
+
+    pub(crate) fn halt(&mut self)
+        ensures { self.new ≡ record self.old { halts = true } }
+    {
+        self.halts = true;
     }
 }

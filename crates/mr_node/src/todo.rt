@@ -3,6 +3,7 @@ ghost use Rattle.std.specs.Prelude.{◌≡◌, IfOk};
 ghost use Rattle.mr_node.specs.Parts.{IsTodo, KeepsAlong, carry_out};
 ghost use Rattle.mr_node.specs.Progresses.{AgreesAlong};
 
+use mr_cmd_server::Question;
 use mr_data::{Dataset, Given, Plan};
 use mr_plan::{Answer, plan_words};
 use mr_resp::{Fault, Limits, Progress, Scan, more_is_wanted, next_request_from, words_fit};
@@ -21,6 +22,10 @@ pub(crate) enum Todo {
     Quit,
     /// A request is used, and the append-only file written anew.
     Rewrite { used: usize },
+    /// A request is used, and the node tells of itself.
+    Tell { used: usize, question: Question },
+    /// A request is used, and the program is to end.
+    Halt { used: usize },
     /// A request is used, and its plan carried out.
     Run { used: usize, plan: Plan },
 }
@@ -63,5 +68,7 @@ fn carry_out(answer: Answer, used: usize) -> Todo
         Answer::Run(plan) => Todo::Run { used, plan },
         Answer::Quit => Todo::Quit,
         Answer::Rewrite => Todo::Rewrite { used },
+        Answer::Tell(question) => Todo::Tell { used, question },
+        Answer::Halt => Todo::Halt { used },
     }
 }

@@ -61,7 +61,6 @@ drained_join g a l u x bytes n y n1 b z s same (Ok false) d = record {
   ends = d.ends;
   told = d.told;
   kept = d.kept;
-  shut = d.shut;
 }
 drained_join g a l u x bytes n y n1 b z s same (Err why) d = record {
   core = d.core;
@@ -102,7 +101,6 @@ flushed g a l u x b y z false d k same = record {
   ends = d.ends;
   told = Appends-kept d.before.output y.output z.output d.last d.told k;
   kept = same ∙ d.kept;
-  shut = d.shut;
 }
 
 pub not_flushed : (g : Given) (a : NodeState) (l : LinkId) (u : List ℕ) (x : Outside) (b : NodeState) (y z : Outside) (goes : Bool) → IsDrained g a l u x b y (Ok goes) → Keeps y.output z.output → z.kept ≡ y.kept

@@ -67,6 +67,7 @@ served_folds c u g d rest out (Served.request words asks (Answered.beyond plain 
 served_folds c u g d rest out (Served.request words asks (Answered.rewritten is remakes d_is out_is)) xs f =
     subst (λ (o : Output). Folds (followed (changes_of o) xs) empty d.held) (sym out_is)
     (record { effects = rebuilding c.held; are_texts = refl; readable = remakes.texts; applied = remakes.again ∙ ap (λ (k : Core). Some k.held) (sym d_is) })
+served_folds c u g d rest out (Served.request words asks (Answered.tells question asked d_is out_is)) xs f = folds_on (changes_of out) c d xs (ap changes_of out_is) d_is f
 served_folds c u g d rest out (Served.nothing asks d_is out_is) xs f = folds_on (changes_of out) c d xs (ap changes_of out_is) d_is f
 
 all_fold : (g : Given) (c : Core) (u : List ℕ) (ts : List Moment) (d : Core) (rest said : List ℕ) → AreServed g c u ts d rest said → (xs : List ℕ) → Folds xs empty c.held → Folds (followed (all_changes ts) xs) empty d.held
@@ -153,6 +154,7 @@ served_torn c u g d rest out a b xs (Served.request words asks (Answered.beyond 
 served_torn c u g d rest out a b xs (Served.request words asks (Answered.rewritten is remakes d_is out_is)) h f t =
     torn_whole (texts (rebuilding c.held)) a b c.held c.held xs h f (record { effects = rebuilding c.held; are_texts = refl; readable = remakes.texts; applied = remakes.again })
     (subst (λ (o : Output). IsTorn a b (changes_of o)) out_is t)
+served_torn c u g d rest out a b xs (Served.request words asks (Answered.tells question asked d_is out_is)) h f t = torn_nothing (changes_of out) a b (ap changes_of out_is) t
 served_torn c u g d rest out a b xs (Served.nothing asks d_is out_is) h f t = torn_nothing (changes_of out) a b (ap changes_of out_is) t
 
 gives_torn : (g : Given) (c : Core) (u : List ℕ) (out : Output) (a b : Kept) (xs : List ℕ) → Gives g c u out → a.told ≡ Some xs → Folds xs empty c.held → IsTorn a b (changes_of out) → HasTorn b

@@ -8,9 +8,8 @@ use Rattle.mr_entries.specs.Dataset.{Dataset}
 use Rattle.mr_data.specs.declared.given.Given.{Given}
 use Rattle.mr_node.specs.State.{NodeState, Core, started}
 use Rattle.mr_node.specs.Requests.{Waits}
-use Rattle.mr_node.specs.Rows.{Ends}
 use Rattle.mr_pipe.specs.Outside.{Outside, Kept, IsSettled}
-use Rattle.mr_pipe.specs.Sessions.{Moment, AreServed, all_changes}
+use Rattle.mr_pipe.specs.Sessions.{Moment, AreServed, IsLast, all_changes}
 use Rattle.mr_pipe.specs.Serving.{Drained, Ended, Breaks}
 use Rattle.mr_pipe.specs.declared.fault.PipeFault.{PipeFault}
 use Rattle.mr_pipe.specs.declared.relay.Round.{Round}
@@ -32,8 +31,9 @@ no_file = record { told = None; synced = None; failures = 0; mode = No; broken =
 pub data Answers (g : Given) (c : Core) (read : List ℕ) (moments : List Moment) (d : Core) (said : List ℕ) (after : Option (List ℕ)) : Type 0 where
   -- .. and all was read: what is left over is less than a request and is dropped
   at_end : (rest : List ℕ) → AreServed g c read moments d rest said → Waits rest → IsAtEnd after → Answers g c read moments d said after
-  -- .. and then the link was closed, at doomed bytes or since the client asked for it: nothing behind is answered
-  at_close : (rest replies last : List ℕ) → AreServed g c read moments d rest replies → Ends rest last
+  -- .. and then the link was closed, at doomed bytes or since the client asked for it, or the client asked that the program end: nothing
+  -- behind is answered
+  at_close : (rest replies last : List ℕ) → AreServed g c read moments d rest replies → IsLast rest last
       → said ≡ replies ++ last → Answers g c read moments d said after
 
 -- What was read of the input and written to the output and the file is a session of a node that was c and becomes d, with a fresh link.
@@ -66,7 +66,7 @@ pub record Relays (g : Given) (a : NodeState) (l : LinkId) (u : List ℕ) (x : O
   pub consumed : Consumes before after read
   pub drained : Drained g a l (u ++ read) x b y
 
--- Bytes were read until the link was closed.
+-- Bytes were read to the last request.
 pub record RelaysClose (g : Given) (a : NodeState) (l : LinkId) (u : List ℕ) (x : Outside) (before after : Option (List ℕ)) (b : NodeState) (y : Outside) : Type 0 where
   pub read : List ℕ
   pub consumed : Consumes before after read

@@ -3,12 +3,12 @@ use Rattle.std.specs.Prelude.{◌≡◌, ℕ, List, Bool, true, false, Result, O
 use Rattle.std.specs.Io.KnownBytes.{Appends, Keeps}
 use Rattle.mr_links.specs.declared.link_id.LinkId.{LinkId}
 use Rattle.mr_data.specs.declared.given.Given.{Given}
-use Rattle.mr_node.specs.State.{NodeState, Core, Agrees, IsShut}
+use Rattle.mr_node.specs.State.{NodeState, Core, Agrees}
 use Rattle.mr_node.specs.Outs.{OutsState, Output}
 use Rattle.mr_node.specs.Requests.{Waits}
-use Rattle.mr_node.specs.Rows.{ClientRow, Ends, Idles}
+use Rattle.mr_node.specs.Rows.{ClientRow, Idles}
 use Rattle.mr_pipe.specs.Outside.{Outside, Filed, IsTorn, IsBegun, IsSettled}
-use Rattle.mr_pipe.specs.Sessions.{Moment, AreServed, Gives, all_changes, changes_of, output_of}
+use Rattle.mr_pipe.specs.Sessions.{Moment, AreServed, Gives, IsLast, all_changes, changes_of, is_last, output_of}
 use Rattle.mr_pipe.specs.declared.fault.PipeFault.{PipeFault}
 use Rattle.mr_pipe.specs.declared.fault.PipeFault.TheVariants as fault
 use Rattle.mr_pipe.specs.declared.serve.Stepped.{Stepped}
@@ -33,15 +33,14 @@ pub record Drained (g : Given) (a : NodeState) (l : LinkId) (u : List ℕ) (x : 
   pub going : Going g a l u x b y
   pub waits : Waits going.done.rest
 
--- All requests were served before one that ends the link or before doomed bytes, the last was told, and the link is closed.
+-- All requests were served before one that is the last or before doomed bytes, and the last was told.
 pub record Ended (g : Given) (a : NodeState) (l : LinkId) (u : List ℕ) (x : Outside) (b : NodeState) (y : Outside) : Type 0 where
   pub before : Outside
   pub done : Settles g a.core u x b.core before
   pub last : List ℕ
-  pub ends : Ends done.rest last
+  pub ends : IsLast done.rest last
   pub told : Appends before.output y.output last
   pub kept : y.kept ≡ before.kept
-  pub shut : IsShut b l
 
 -- A write to the output failed: of a reply a beginning is written, and the file is what its step made of it. Or all was
 -- written, and the flush failed.
@@ -77,10 +76,10 @@ IsDrained g a l u x b y (Ok false) = Ended g a l u x b y
 IsDrained g a l u x b y (Err why) = Breaks g a.core u x why y
 
 -- A step used something, and what it gives is settled.
-pub record StepUsed (g : Given) (a : NodeState) (l : LinkId) (u : List ℕ) (x : Outside) (b : NodeState) (y : Outside) (closes : Bool) : Type 0 where
+pub record StepUsed (g : Given) (a : NodeState) (l : LinkId) (u : List ℕ) (x : Outside) (b : NodeState) (y : Outside) (last : Bool) : Type 0 where
   pub outs : OutsState
   pub row : ClientRow a l u g b outs
-  pub closes_is : outs.closes ≡ closes
+  pub last_is : is_last outs ≡ last
   pub settled : IsSettled x y (changes_of (output_of outs)) outs.reply
 
 -- A step found no whole request.

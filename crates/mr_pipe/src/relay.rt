@@ -33,7 +33,7 @@ pub(crate) enum Round {
     On,
     /// The input is at its end.
     End,
-    /// The node closed the link.
+    /// The node closed the link, or the client asked that the program end.
     Shut,
 }
 
@@ -88,7 +88,7 @@ fn serve_piece<F: LogFile, R: Read, W: Write>(
     Ok(Round::Shut)
 }
 
-/// Reads to the end, or until the node closes the link, and serves all.
+/// Reads to the end, or to the request that is the last, and serves all.
 fn relay<F: LogFile, R: Read, W: Write>(
     node: &mut Node,
     link: LinkId,
@@ -132,7 +132,7 @@ fn begin(alloc: Global, id: ReplId, dataset: Dataset) -> Result<(Node, LinkId), 
 /// a request's effects are in the log's file before its reply is written, synced in the mode `Always`; a request that has the file
 /// written anew is answered once the new file stands in the place of the old, synced in either mode. Each reply is written
 /// before the next step, and out before the next read. Where it answers `Ok`, the input was read to its end, or to the request that
-/// broke the protocol, and what was written is exactly the replies to it. After a fault it is a beginning of them: nothing of
+/// broke the protocol, to QUIT or to SHUTDOWN, and what was written is exactly the replies to it. After a fault it is a beginning of them: nothing of
 /// the reply to a request whose changes of the file weren't made.
 pub fn pipe_with<F: LogFile, R: Read, W: Write>(
     alloc: Global,

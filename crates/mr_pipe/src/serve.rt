@@ -2,7 +2,7 @@
 ghost use Rattle.std.specs.Prelude.{◌≡◌, ◌++◌, ℕ, List, OnOk, OnErr, IfErr};
 ghost use Rattle.mr_node.specs.State.{NodeState, Agrees};
 ghost use Rattle.mr_pipe.specs.Outside.{Outside, outside};
-ghost use Rattle.mr_pipe.specs.Sessions.{output_of};
+ghost use Rattle.mr_pipe.specs.Sessions.{is_last, output_of};
 ghost use Rattle.mr_pipe.specs.Serving.{Going, IsCarriedOut, IsDrained, IsStepped};
 
 use crate::fault::PipeFault;
@@ -22,7 +22,7 @@ pub(crate) enum Stepped {
     Waits,
     /// Something was used.
     On,
-    /// The node closed the link.
+    /// The node closed the link, or the client asked that the program end.
     Shut,
 }
 
@@ -36,6 +36,13 @@ fn carry_out<F: LogFile, W: Write>(
 {
     change_file(log, outs)?;
     write_out(output, outs.reply())
+}
+
+/// Whether nothing is served behind a step that gave this out: the link is closed, or the program is to end.
+fn is_last(outs: &Outs) -> bool
+    ensures { result ≡ is_last outs.now }
+{
+    outs.closes() || outs.halts()
 }
 
 /// One step, whose changes of the file are made before its reply is written.
@@ -53,9 +60,9 @@ fn step_once<F: LogFile, W: Write>(
         Step::Closed => Ok(Stepped::Shut),
         Step::Done(outs) => {
             carry_out(&outs, log, output)?;
-            let closes = outs.closes();
+            let last = is_last(&outs);
             node.reuse(outs);
-            if closes {
+            if last {
                 return Ok(Stepped::Shut);
             }
             Ok(Stepped::On)
@@ -63,7 +70,7 @@ fn step_once<F: LogFile, W: Write>(
     }
 }
 
-/// Serves requests until none is whole, or the link is closed (false).
+/// Serves requests until none is whole, or one is the last (false).
 fn drain<F: LogFile, W: Write>(
     node: &mut Node,
     link: LinkId,
@@ -83,7 +90,7 @@ fn drain<F: LogFile, W: Write>(
     Err(PipeFault::Read)
 }
 
-/// Bytes come, and are served; false once the link is closed. However they were cut before, the answer is that of all of them
+/// Bytes come, and are served; false once a request was the last. However they were cut before, the answer is that of all of them
 /// together.
 fn serve_bytes<F: LogFile, W: Write>(
     node: &mut Node,
@@ -100,7 +107,7 @@ fn serve_bytes<F: LogFile, W: Write>(
     drain(node, link, given, log, output)
 }
 
-/// Bytes come, and are served; false once the link is closed. What was written goes out.
+/// Bytes come, and are served; false once a request was the last. What was written goes out.
 pub(crate) fn deliver<F: LogFile, W: Write>(
     node: &mut Node,
     link: LinkId,

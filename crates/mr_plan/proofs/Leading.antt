@@ -1,5 +1,5 @@
 -- The effects of a plan lead somewhere, and their texts are command texts.
-use Rattle.std.proofs.Common.{◌≡◌, List, [], Bool, true, false, Some, ◌∙◌, ap, refl, sym, subst}
+use Rattle.std.proofs.Common.{◌≡◌, List, [], Bool, true, false, Some, None, ◌∙◌, ap, refl, sym, subst}
 use Rattle.std.specs.Prelude.{All, Result, Ok, Err, IfOk}
 use Rattle.std.proofs.lemmas.List.Elements.{All-same, All-nil}
 use Rattle.std.specs.Prelude.{ℤ}
@@ -14,9 +14,10 @@ use Rattle.mr_data.specs.declared.given.Given.{Given}
 use Rattle.mr_ask.specs.Carried.{AskFits}
 use Rattle.mr_ask.specs.declared.ask.Ask.{Ask}
 use Rattle.mr_plan.specs.PlannedCommands.{command_of}
-use Rattle.mr_plan.specs.Requests.{IsPlannedAs, Leads, is_rewriting, left_by, told}
+use Rattle.mr_plan.specs.Requests.{IsPlannedAs, Leads, is_rewriting, is_shutdown, left_by, question_asked, told}
 use Rattle.mr_ask.specs.declared.ask.Ask.TheVariants as ask
 use Rattle.mr_cmd_server.specs.declared.server_ask.ServerAsk.TheVariants as server
+use Rattle.mr_cmd_server.specs.declared.question.Question.{Question}
 use Rattle.mr_plan.specs.declared.requests.Answer.{Answer}
 use Rattle.mr_planning.specs.Commands.{Command, effects, after, IsPlan, IsFaithful, HasCommandTexts}
 
@@ -54,3 +55,14 @@ pub left_by_rewriting : (replica : Bool) (a : Ask) (given : Given) (m : Dataset)
 left_by_rewriting false (ask.Server server.Rewrite) given m is = refl
 left_by_rewriting true a given m is = refl
 left_by_rewriting false _ given m is = absurd (cc)
+
+-- .. and so does what the node tells of itself, and the end of the program
+pub left_by_question : (replica : Bool) (a : Ask) (given : Given) (m : Dataset) (q : Question) → question_asked a ≡ Some q → m ≡ left_by (Ok a) replica given m
+left_by_question false (ask.Server command) given m q is = refl
+left_by_question true a given m q is = refl
+left_by_question false _ given m q is = absurd (cc)
+
+pub left_by_shutdown : (replica : Bool) (a : Ask) (given : Given) (m : Dataset) → is_shutdown a ≡ true → m ≡ left_by (Ok a) replica given m
+left_by_shutdown false (ask.Server command) given m is = refl
+left_by_shutdown true a given m is = refl
+left_by_shutdown false _ given m is = absurd (cc)

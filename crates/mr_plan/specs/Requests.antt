@@ -1,5 +1,5 @@
 -- What the words of a request are answered, and their effects.
-use Rattle.std.specs.Prelude.{◌≡◌, ℕ, All, List, [], Bool, true, false, Result, Ok, Err, Some, codes, if◌then◌else◌}
+use Rattle.std.specs.Prelude.{◌≡◌, ℕ, All, List, [], Bool, true, false, Result, Ok, Err, Option, Some, None, codes, if◌then◌else◌}
 use Rattle.mr_resp.specs.Replies.{Tree, error}
 use Rattle.mr_resp.specs.ReplyView.{view}
 use Rattle.mr_resp.specs.Command.{IsCommandText}
@@ -14,6 +14,8 @@ use Rattle.mr_words.specs.Faults.{fault_text}
 use Rattle.mr_ask.specs.declared.ask.Ask.{Ask}
 use Rattle.mr_ask.specs.declared.ask.Ask.TheVariants as ask
 use Rattle.mr_cmd_server.specs.declared.server_ask.ServerAsk.TheVariants as server
+use Rattle.mr_cmd_server.specs.declared.question.Question.{Question}
+use Rattle.mr_cmd_server.specs.Questions.{question_of}
 use Rattle.mr_words.specs.declared.fault.AskFault.{AskFault}
 use Rattle.mr_planning.specs.Commands.{IsPlan, answer, after}
 use Rattle.mr_plan.specs.PlannedCommands.{command_of}
@@ -74,25 +76,59 @@ rewriting_by (Err fault) = false
 abbrev pub rewrites : List (List ℕ) → Bool
 rewrites words = rewriting_by (asked words)
 
+-- SHUTDOWN
+abbrev pub is_shutdown : Ask → Bool
+is_shutdown (ask.Server (server.Shutdown saving)) = true
+is_shutdown _ = false
+
+abbrev pub halting_by : Result Ask AskFault → Bool
+halting_by (Ok command) = is_shutdown command
+halting_by (Err fault) = false
+
+-- the client asks that the program end
+abbrev pub halts : List (List ℕ) → Bool
+halts words = halting_by (asked words)
+
+-- INFO and ROLE
+abbrev pub question_asked : Ask → Option Question
+question_asked (ask.Server command) = question_of command
+question_asked _ = None
+
+abbrev pub question_by : Result Ask AskFault → Option Question
+question_by (Ok command) = question_asked command
+question_by (Err fault) = None
+
+-- what the client asks about the node, if it does
+abbrev pub question_in : List (List ℕ) → Option Question
+question_in words = question_by (asked words)
+
 -- what is done about a command
 abbrev pub IsAnswerTo : Bool → Ask → Given → Dataset → Answer → Type 0
-IsAnswerTo replica command given m (answer.Run plan) = (is_quit command ≡ false) × (is_rewriting command ≡ false) × IsPlannedAs (Ok command) replica given m (view plan.reply) plan.effects.items
+IsAnswerTo replica command given m (answer.Run plan) = (is_quit command ≡ false) × (is_rewriting command ≡ false) × (is_shutdown command ≡ false) × (question_asked command ≡ None) × IsPlannedAs (Ok command) replica given m (view plan.reply) plan.effects.items
 IsAnswerTo replica command given m answer.Quit = is_quit command ≡ true
 IsAnswerTo replica command given m answer.Rewrite = is_rewriting command ≡ true
+IsAnswerTo replica command given m (answer.Tell question) = question_asked command ≡ Some question
+IsAnswerTo replica command given m answer.Halt = is_shutdown command ≡ true
 
 abbrev pub IsAnswer : Bool → List (List ℕ) → Given → Dataset → Answer → Type 0
-IsAnswer replica words given m (answer.Run plan) = (quits words ≡ false) × (rewrites words ≡ false) × IsPlanned replica words given m (view plan.reply) plan.effects.items
+IsAnswer replica words given m (answer.Run plan) = (quits words ≡ false) × (rewrites words ≡ false) × (halts words ≡ false) × (question_in words ≡ None) × IsPlanned replica words given m (view plan.reply) plan.effects.items
 IsAnswer replica words given m answer.Quit = quits words ≡ true
 IsAnswer replica words given m answer.Rewrite = rewrites words ≡ true
+IsAnswer replica words given m (answer.Tell question) = question_in words ≡ Some question
+IsAnswer replica words given m answer.Halt = halts words ≡ true
 
 -- what is carried out leads from the one dataset to the other
 abbrev pub Leads : Answer → Dataset → Dataset → Type 0
 Leads (answer.Run plan) m n = apply_all plan.effects.items m ≡ Some n
 Leads answer.Quit m n = Unit {0}
 Leads answer.Rewrite m n = m ≡ n
+Leads (answer.Tell question) m n = m ≡ n
+Leads answer.Halt m n = m ≡ n
 
 -- the text of each of its effects is a command text
 abbrev pub HasTexts : Answer → Type 0
 HasTexts (answer.Run plan) = All (λ e. IsCommandText commands (text e)) plan.effects.items
 HasTexts answer.Quit = Unit {0}
 HasTexts answer.Rewrite = Unit {0}
+HasTexts (answer.Tell question) = Unit {0}
+HasTexts answer.Halt = Unit {0}

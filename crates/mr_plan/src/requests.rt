@@ -7,12 +7,12 @@ ghost use Rattle.mr_resp.specs.Usual.{commands};
 ghost use Rattle.mr_ask.specs.Carried.{AskFits};
 ghost use Rattle.mr_plan.specs.PlannedCommands.{HasRoom};
 ghost use Rattle.mr_resp.specs.ReplyView.{view};
-ghost use Rattle.mr_plan.specs.Requests.{IsAnswer, IsAnswerTo, Leads, HasTexts, is_quit, is_rewriting, left, left_by, told, readonly};
+ghost use Rattle.mr_plan.specs.Requests.{IsAnswer, IsAnswerTo, Leads, HasTexts, is_quit, is_rewriting, is_shutdown, left, left_by, question_asked, told, readonly};
 
 use crate::planning::plan;
 use crate::writing::writes;
 use mr_ask::{Ask, read};
-use mr_cmd_server::ServerAsk;
+use mr_cmd_server::{Question, ServerAsk};
 use mr_data::{Dataset, Given, Plan};
 use mr_resp::Reply;
 use std::alloc::{AllocError, Global};
@@ -27,6 +27,10 @@ pub enum Answer {
     Quit,
     /// The append-only file is written anew.
     Rewrite,
+    /// The node tells of itself.
+    Tell(Question),
+    /// The program is to end. Nothing is answered.
+    Halt,
 }
 
 /// What the words of a request are answered by a master or by a replica, and their effects. Words that are no command are told why,
@@ -74,6 +78,12 @@ fn answer_to(
     if rewrites(ask) {
         return Ok(Answer::Rewrite);
     }
+    if halts(ask) {
+        return Ok(Answer::Halt);
+    }
+    if let Some(question) = question_asked(ask) {
+        return Ok(Answer::Tell(question));
+    }
     if replica {
         let reply = tell(alloc, held, ask, given)?;
         return Ok(Answer::Run(Plan {
@@ -107,6 +117,24 @@ fn quits(ask: &Ask<'_, '_>) -> bool
     match ask {
         Ask::Server(ServerAsk::Quit) => true,
         _ => false,
+    }
+}
+
+fn halts(ask: &Ask<'_, '_>) -> bool
+    ensures { result ≡ is_shutdown ask.now }
+{
+    match ask {
+        Ask::Server(ServerAsk::Shutdown { .. }) => true,
+        _ => false,
+    }
+}
+
+fn question_asked(ask: &Ask<'_, '_>) -> Option<Question>
+    ensures { result ≡ question_asked ask.now }
+{
+    match ask {
+        Ask::Server(ask) => ask.question(),
+        _ => None,
     }
 }
 

@@ -98,6 +98,8 @@ fn ask(
     match plan_words(alloc, held, false, words.as_slice(), given)? {
         Answer::Quit => tell(out, "quit"),
         Answer::Rewrite => tell(out, "rewrite"),
+        Answer::Tell(_) => tell(out, "tell"),
+        Answer::Halt => tell(out, "halt"),
         Answer::Run(plan) => {
             let mut reply = Vec::new(alloc);
             write_reply(&plan.reply, &mut reply)?;

@@ -46,5 +46,6 @@ fn letter_of(part: Out<'_>) -> u8 {
         Out::Replace(_) => b'r',
         Out::Send(_, _) => b's',
         Out::Close(_) => b'c',
+        Out::Halt => b'h',
     }
 }

@@ -15,6 +15,7 @@ returns-in-Ok-join-clause-went g c = λ before came m t s. went_one (joins c.in-
   fresh = c.in-Ok-join.ensures.fresh;
   clients = c.in-Ok-join.ensures.joined;
   batch = c.join.ensures.batch;
+  halted = c.join.ensures.halted;
   file = (refl, refl);
 })
 

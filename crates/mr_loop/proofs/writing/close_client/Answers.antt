@@ -16,6 +16,7 @@ returns-clause-went g c = λ m t s. went_one (closes c.args.k) refl (record {
   opened = c.close-2.ensures.opened;
   clients = c.remove.ensures.clients;
   batch = c.remove.ensures.batch;
+  halted = c.remove.ensures.halted;
   file = (refl, refl);
 })
 

@@ -20,20 +20,20 @@ returns-in_err-carry_out-in-Done g c = λ u ag.
     subst (λ r. IsStepped c.args.given c.args.node.now c.args.link u x c.step.new.self y r) (sym told)
     (left_out why c.args.given c.args.node.now.core u x y (output_of outs) (gives c.args.node.now c.args.link u c.args.given c.step.new.self outs row) came)
 
-pub returns-then-closes : goal.returns-then-closes
-returns-then-closes g c = λ u ag. record {
+pub returns-then-last : goal.returns-then-last
+returns-then-last g c = λ u ag. record {
   outs = c.in-Done.outs;
   row = subst (λ z. ClientRow c.args.node.now c.args.link u c.args.given z c.in-Done.outs) (sym c.reuse.ensures)
       (subst (λ s. StepRow c.args.node.now c.args.link u c.args.given c.step.new.self s) c.in-Done.is (c.in_ok-step.ensures.row u ag));
-  closes_is = search rules;
+  last_is = search rules;
   settled = c.in_ok-carry_out-in-Done.ensures;
 }
 
-pub returns-else-closes : goal.returns-else-closes
-returns-else-closes g c = λ u ag. record {
+pub returns-else-last : goal.returns-else-last
+returns-else-last g c = λ u ag. record {
   outs = c.in-Done.outs;
   row = subst (λ z. ClientRow c.args.node.now c.args.link u c.args.given z c.in-Done.outs) (sym c.reuse.ensures)
       (subst (λ s. StepRow c.args.node.now c.args.link u c.args.given c.step.new.self s) c.in-Done.is (c.in_ok-step.ensures.row u ag));
-  closes_is = search rules;
+  last_is = search rules;
   settled = c.in_ok-carry_out-in-Done.ensures;
 }

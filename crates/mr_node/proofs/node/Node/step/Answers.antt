@@ -6,12 +6,13 @@ use Rattle.mr_node.specs.Rows.{StepRow, WhyStopped}
 use Rattle.mr_resp.specs.Faults.{fault_text}
 use Rattle.mr_resp.specs.Replies.{error, reply_text}
 use Rattle.mr_planning.specs.Turns.{done}
-use Rattle.mr_node.specs.Parts.{last_outs, Passes, Quits, Rewrites, Runs}
+use Rattle.mr_node.specs.Parts.{halting_outs, last_outs, HaltsAt, Passes, Questions, Quits, Rewrites, Runs}
+use Rattle.mr_node.specs.Telling.{told_as}
 use Rattle.mr_node.specs.Outs.{outs_with}
 use Rattle.mr_node.specs.Served.{rewritten_as}
 use Rattle.mr_node.specs.Requests.{IsDoomedBy}
 use Rattle.mr_node.specs.declared.step.Step.TheVariants.{Done}
-use Rattle.mr_node.proofs.Steps.{ok_map, ok_is, ok_both, kept_is, skip_row, last_row, fault_ends, quit_ends, rewriting_row, run_row, stops_of}
+use Rattle.mr_node.proofs.Steps.{ok_map, ok_is, ok_both, kept_is, skip_row, last_row, fault_ends, quit_ends, rewriting_row, telling_row, halting_row, run_row, stops_of}
 use Rattle.mr_node.proofs.Quiet.{replica_is_quiet}
 use Rattle.mr_node.proofs.node.Node.step.Goals as goal
 
@@ -51,6 +52,25 @@ returns-in-Ok-Rewrite-clause-row c =
     ok_is c.rewrite.result (Done (outs_with (Some l) (rewritten_as a.core.held))) _ _ c.rewrite.ensures.step (ok_both c.rewrite.result _ _ c.rewrite.ensures.remakes c.rewrite.ensures.state)
     (λ e u ag. rewriting_row a c.rewrite.new.self l c.args.given u c.in-Ok-Rewrite.used up (subst (λ z. Rewrites z c.in-Ok-Rewrite.used) (kept_is a l u _ ag found) r) e.0 e.1 ag)
 
+pub returns-in-Ok-Tell-clause-row : goal.returns-in-Ok-Tell-clause-row
+returns-in-Ok-Tell-clause-row c =
+    let a = c.args.self.now in let l = c.args.link in
+    let found : end_of a l ≡ Some (client c.unread.result.now) = ap (λ (s : NodeState). end_of s l) (sym c.self.view_is) ∙ (sym c.in-Some.ensures ∙ ap Some c.unread.ensures) in
+    let up : a.core.up ≡ true = search rules in
+    let q : Questions c.unread.result.now c.in-Ok-Tell.used c.in-Ok-Tell.question = search rules in
+    ok_is c.tell.result (Done (outs_with (Some l) (told_as c.in-Ok-Tell.question a.core))) _ _ c.tell.ensures.step c.tell.ensures.state
+    (λ e u ag. telling_row a c.tell.new.self l c.args.given u c.in-Ok-Tell.used c.in-Ok-Tell.question up (subst (λ z. Questions z c.in-Ok-Tell.used c.in-Ok-Tell.question) (kept_is a l u _ ag found) q) e ag)
+
+pub returns-in-Ok-Halt-clause-row : goal.returns-in-Ok-Halt-clause-row
+returns-in-Ok-Halt-clause-row c = λ u ag.
+    let a = c.args.self.now in let l = c.args.link in
+    let found : end_of a l ≡ Some (client c.unread.result.now) = ap (λ (s : NodeState). end_of s l) (sym c.self.view_is) ∙ (sym c.in-Some.ensures ∙ ap Some c.unread.ensures) in
+    let k : c.unread.result.now ≡ u = kept_is a l u _ ag found in
+    let up : a.core.up ≡ true = search rules in
+    let h : HaltsAt c.unread.result.now c.in-Ok-Halt.used = search rules in
+    subst (λ s. StepRow a l u c.args.given c.halt.new.self s) (sym c.halt.ensures.step)
+    (halting_row a c.halt.new.self l c.args.given u c.in-Ok-Halt.used up (subst (λ z. HaltsAt z c.in-Ok-Halt.used) k h) c.halt.ensures.state ag)
+
 pub returns-in-Ok-Quit-clause-row : goal.returns-in-Ok-Quit-clause-row
 returns-in-Ok-Quit-clause-row c =
     let a = c.args.self.now in let l = c.args.link in
@@ -84,6 +104,11 @@ pub returns-in-Ok-Skip-clause-replica : goal.returns-in-Ok-Skip-clause-replica
 returns-in-Ok-Skip-clause-replica c = λ is.
     let found : end_of c.args.self.now c.args.link ≡ Some (client c.unread.result.now) = ap (λ (s : NodeState). end_of s c.args.link) (sym c.self.view_is) ∙ (sym c.in-Some.ensures ∙ ap Some c.unread.ensures) in
     ap (λ (s : NodeState). s.core) (c.skip.ensures.state c.unread.result.now found)
+
+pub returns-in-Ok-Halt-clause-replica : goal.returns-in-Ok-Halt-clause-replica
+returns-in-Ok-Halt-clause-replica c = λ is.
+    let found : end_of c.args.self.now c.args.link ≡ Some (client c.unread.result.now) = ap (λ (s : NodeState). end_of s c.args.link) (sym c.self.view_is) ∙ (sym c.in-Some.ensures ∙ ap Some c.unread.ensures) in
+    ap (λ (s : NodeState). s.core) (c.halt.ensures.state c.unread.result.now found)
 
 pub returns-in-Ok-Run-clause-replica : goal.returns-in-Ok-Run-clause-replica
 returns-in-Ok-Run-clause-replica c = λ is.

@@ -1,0 +1,19 @@
+-- What a node tells of itself.
+use Rattle.std.specs.Prelude.{[]}
+use Rattle.mr_resp.specs.Replies.{Tree, bytes, reply_text}
+use Rattle.mr_info.specs.Info.{info_text}
+use Rattle.mr_info.specs.Roles.{role_reply}
+use Rattle.mr_cmd_server.specs.declared.question.Question.{Question}
+use Rattle.mr_cmd_server.specs.declared.question.Question.TheVariants as question
+use Rattle.mr_node.specs.State.{Core}
+use Rattle.mr_node.specs.Outs.{Output, no_output}
+
+-- INFO tells of replication, and of nothing else; ROLE tells the role and the offset
+unfoldable pub answer_about : Question → Core → Tree
+answer_about question.Replication c = bytes (info_text c.replica c.id c.stream)
+answer_about question.OtherSection c = bytes []
+answer_about question.Role c = role_reply c.replica c.stream.offset
+
+-- .. as a reply, and nothing else is given out
+abbrev pub told_as : Question → Core → Output
+told_as question c = record no_output { said = reply_text (answer_about question c) }

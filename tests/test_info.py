@@ -1,0 +1,163 @@
+"""INFO and ROLE, byte for byte, and SHUTDOWN: in `pipe`, in `serve`, and as a node's step."""
+
+import shutil
+import subprocess
+import unittest
+
+from program import LATE, request, run, run_in_pieces
+from rehearsal import ID, Rehearsing, done
+from replies import OK, SYNTAX, Answering, arity, array, array_of, bulk, number
+from test_node import SET, fed
+from test_serve import GET, PING, PONG, SET_V, SET_W, Serving
+
+BACKLOG = 1_048_576
+EMPTY = bulk("")
+
+
+def information(offset, role="master", first=1, held=None):
+    """INFO's text of a node under the tests' id."""
+    lines = [
+        "# Replication",
+        "role:" + role,
+        "connected_slaves:0",
+        "master_replid:" + ID,
+        "master_replid2:" + "0" * 40,
+        "master_repl_offset:%d" % offset,
+        "second_repl_offset:-1",
+        "repl_backlog_active:1",
+        "repl_backlog_size:%d" % BACKLOG,
+        "repl_backlog_first_byte_offset:%d" % first,
+        "repl_backlog_histlen:%d" % (offset if held is None else held),
+    ]
+    return "".join(line + "\r\n" for line in lines)
+
+
+def master(offset):
+    """ROLE's reply of a master."""
+    return array_of(bulk("master"), number(offset), array())
+
+
+REPLICA = array_of(bulk("slave"), EMPTY, number(0), bulk("connect"), number(0))
+
+
+class Telling(Answering):
+    def test_the_text_has_316_bytes_at_offset_27(self):
+        self.assertEqual(len(information(27)), 316)
+        self.answers([("SET k v", OK), ("INFO replication", bulk(information(27)))], "--id", ID)
+
+    def test_the_section_is_told_under_its_names_in_any_case(self):
+        text = bulk(information(0))
+        self.answers([(line, text) for line in ("INFO", "info", "INFO all", "INFO default", "INFO REPLICATION", "INFO Default")], "--id", ID)
+
+    def test_other_sections_are_empty(self):
+        self.answers([("INFO server", EMPTY), ("INFO keyspace", EMPTY), ("INFO everything", EMPTY), ("INFO replication2", EMPTY)])
+
+    def test_a_section_may_be_an_empty_word(self):
+        ran = run(request("INFO", ""), "pipe")
+        self.assertEqual((ran.returncode, ran.stdout, ran.stderr), (0, EMPTY, b""))
+
+    def test_what_is_told_goes_with_the_stream(self):
+        self.answers([
+            ("ROLE", master(0)),
+            ("SET k v", OK),
+            ("ROLE", master(27)),
+            ("GET k", bulk("v")),
+            ("SET k v", OK),
+            ("INFO", bulk(information(27))),
+            ("DEL k", number(1)),
+            ("INFO", bulk(information(47))),
+            ("role", master(47)),
+        ], "--id", ID)
+
+    def test_a_full_backlog_begins_behind_what_it_dropped(self):
+        value, texts = "v" * (BACKLOG - 100), 0
+        for key in "ab":
+            texts += len(request("SET", key, value))
+        rows = [("SET a " + value, OK), ("SET b " + value, OK), ("INFO", bulk(information(texts, first=texts + 1 - BACKLOG, held=BACKLOG)))]
+        self.answers(rows, "--id", ID)
+
+    def test_a_word_too_many(self):
+        self.answers([("INFO a b", arity("info")), ("ROLE x", arity("role")), ("SHUTDOWN now", SYNTAX), ("SHUTDOWN SAVE NOSAVE", SYNTAX), ("PING", PONG)])
+
+
+class Ending(Serving):
+    def test_shutdown_ends_the_run_without_a_reply(self):
+        for line in ("SHUTDOWN", "shutdown", "SHUTDOWN SAVE", "SHUTDOWN NOSAVE", "shutdown nosave"):
+            ran = run(PING + request(*line.split()) + PING, "pipe")
+            self.assertEqual((ran.returncode, ran.stdout, ran.stderr), (0, PONG, b""), line)
+
+    def test_however_the_input_is_cut(self):
+        text = SET_V + request("SHUTDOWN") + GET
+        for cut in range(1, len(text)):
+            ran = run_in_pieces([text[:cut], text[cut:]], "pipe")
+            self.assertEqual((ran.returncode, ran.stdout, ran.stderr), (0, OK, b""), cut)
+
+    def test_the_file_has_what_was_answered(self):
+        ran = run(SET_V + request("SHUTDOWN") + SET_W, "pipe", "--aof", self.path)
+        self.assertEqual((ran.returncode, ran.stdout, ran.stderr), (0, OK, b""))
+        self.assertEqual(self.bytes(), SET_V)
+
+    def test_a_server_ends_with_status_0(self):
+        it = self.serve(aof=self.path)
+        first, second = self.client(it), self.client(it)
+        self.assertEqual(first.asks("SET", "k", "v"), OK)
+        second.send(request("SHUTDOWN"))
+        self.assertEqual((second.rest(), first.rest()), (b"", b""))
+        ended = it.ended()
+        self.assertEqual((ended.returncode, ended.stdout, ended.stderr), (0, b"", b""))
+        self.assertEqual(self.bytes(), SET_V)
+
+    def test_replies_before_it_are_sent_and_their_writes_kept(self):
+        it = self.serve(aof=self.path)
+        client = self.client(it)
+        client.send(SET_V + GET + request("SHUTDOWN", "NOSAVE"))
+        self.assertEqual(client.rest(), OK + bulk("v"))
+        self.assertEqual(it.ended().returncode, 0)
+        self.assertEqual(self.bytes(), SET_V)
+        again = self.client(self.serve(aof=self.path))
+        self.assertEqual(again.asks("GET", "k"), bulk("v"))
+
+    def test_a_shutdown_that_is_none_ends_nothing(self):
+        it = self.serve()
+        self.assertEqual(self.client(it).asks("SHUTDOWN", "now"), SYNTAX)
+        self.goes_on(it)
+
+    def test_redis_cli_asks_and_ends(self):
+        if not shutil.which("redis-cli"):
+            return
+        it = self.serve()
+        asked = subprocess.run(["redis-cli", "-p", str(it.port), "INFO", "replication"], capture_output=True, timeout=LATE)
+        self.assertIn(b"role:master\r\n", asked.stdout)
+        ended = subprocess.run(["redis-cli", "-p", str(it.port), "SHUTDOWN"], capture_output=True, timeout=LATE)
+        self.assertEqual((ended.returncode, ended.stdout, ended.stderr), (0, b"", b""))
+        self.assertEqual(it.ended().returncode, 0)
+
+
+class Stepping(Rehearsing):
+    def test_a_node_tells_and_halts(self):
+        self.rehearses([
+            ("open", "opened"),
+            fed(0, SET + request("INFO") + request("ROLE") + request("SHUTDOWN") + PING),
+            ("step 0", done(OK, SET)),
+            ("step 0", done(bulk(information(27)))),
+            ("step 0", done(master(27))),
+            ("step 0", "done h - -"),
+            ("shows", "shows %s 27" % ID),
+            ("step 0", done(PONG)),
+            ("step 0", "idle"),
+        ])
+
+    def test_a_replica_tells_and_halts_too(self):
+        self.rehearses([
+            ("replica", "started"),
+            ("open", "opened"),
+            fed(0, request("INFO") + request("ROLE") + request("SHUTDOWN")),
+            ("step 0", done(bulk(information(0, role="slave")))),
+            ("step 0", done(REPLICA)),
+            ("step 0", "done h - -"),
+            ("shows", "shows %s 0" % ID),
+        ])
+
+
+if __name__ == "__main__":
+    unittest.main()
