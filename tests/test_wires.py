@@ -139,6 +139,33 @@ class MemoryWires(Playing):
             ("written 1 1", "written " + spelled("2")),
         ])
 
+    def test_behind_each_wait_all_open_links_are_named_in_order(self):
+        self.plays("memory", [
+            *listed("accepts link", "accepts link", "accepts link", "accepts link"),
+            ("begin", "begun"),
+            ("ready", "none"),
+            ("accept", "id 0 0"),
+            ("accept", "id 1 1"),
+            ("ready", "id 0 0"),
+            ("ready", "id 1 1"),
+            ("ready", "none"),
+            ("accept", "id 2 2"),
+            ("ready", "id 2 2"),
+            ("ready", "none"),
+            ("wait 0", "waited"),
+            ("ready", "id 0 0"),
+            ("close 1 1", "closed"),
+            ("ready", "id 2 2"),
+            ("ready", "none"),
+            ("accept", "id 1 3"),
+            ("ready", "none"),
+            ("wait 0", "waited"),
+            ("ready", "id 0 0"),
+            ("ready", "id 1 3"),
+            ("ready", "id 2 2"),
+            ("ready", "none"),
+        ])
+
     def test_calls_are_made_until_they_are_answered(self):
         self.plays("memory", [
             *listed("reads not-ready", "reads " + spelled("ab"), "writes not-ready", "writes 1", "writes 9", "writes 9"),
@@ -293,6 +320,61 @@ class SocketWires(unittest.TestCase):
             ("write-all 0 0 " + spelled("C"), "moved all"),
             ("close 1 1", "closed"),
             ("read-ready 0 0 8", "end"),
+        ], talk)
+
+    def test_a_link_is_named_once_something_comes_of_it(self):
+        def talk(port):
+            with connected(port) as client:
+                self.assertEqual(received(client, 2), b"go")
+                client.sendall(b"abcdef")
+                self.assertEqual(received(client, 2), b"on")
+                client.shutdown(socket.SHUT_WR)
+                self.assertEqual(received(client, 1), b"")
+
+        self.plays_beside([
+            ("ready", "none"),
+            ("accept-ready", "id 0 0"),
+            ("ready", "none"),
+            # it can be written on
+            ("name-ready", "id 0 0"),
+            ("write-all 0 0 " + spelled("go"), "moved all"),
+            ("name-ready", "id 0 0"),
+            ("ready", "none"),
+            ("read 0 0 4", "bytes " + spelled("abcd")),
+            ("ready", "none"),
+            # there is more, though nothing came
+            ("wait 1000", "waited"),
+            ("ready", "id 0 0"),
+            ("ready", "none"),
+            ("read 0 0 4", "bytes " + spelled("ef")),
+            ("wait 0", "waited"),
+            ("ready", "none"),
+            ("write-all 0 0 " + spelled("on"), "moved all"),
+            ("name-ready", "id 0 0"),
+            ("read 0 0 4", "end"),
+            ("wait 0", "waited"),
+            ("ready", "none"),
+            ("close 0 0", "closed"),
+            ("wait 0", "waited"),
+            ("ready", "none"),
+        ], talk)
+
+    def test_a_link_that_is_closed_is_not_named(self):
+        def talk(port):
+            with connected(port) as one:
+                self.assertEqual(received(one, 1), b"")
+            with connected(port) as other:
+                self.assertEqual(received(other, 1), b"2")
+
+        self.plays_beside([
+            ("accept-ready", "id 0 0"),
+            # something came of it by then
+            ("wait 1000", "waited"),
+            ("close 0 0", "closed"),
+            ("ready", "none"),
+            ("accept-ready", "id 0 1"),
+            ("name-ready", "id 0 1"),
+            ("write-all 0 1 " + spelled("2"), "moved all"),
         ], talk)
 
     def test_a_port_in_use_is_told(self):

@@ -28,6 +28,8 @@ pub fn on_wire<W: Wire>(
         "wait" => wait(wire, step, out),
         "accept" => tell_accepted(alloc, wire.accept(), out),
         "accept-ready" => tell_accepted(alloc, accept_ready(wire), out),
+        "ready" => tell_named(alloc, wire.ready(), out),
+        "name-ready" => tell_accepted(alloc, name_ready(wire), out),
         "read" => read(alloc, wire, step, out),
         "read-ready" => read_once_ready(alloc, wire, step, out),
         "write" => write(alloc, wire, step, out),
@@ -45,6 +47,17 @@ fn wait<W: Wire>(wire: &mut W, step: Step<'_>, out: &mut Vec<u8>) -> Result<(), 
     }
 }
 
+/// Waits until something is ready, and takes the names of what is, so that the next wait waits as well.
+fn wait_for<W: Wire>(wire: &mut W) -> Result<(), Failed> {
+    wire.wait(A_SECOND)?;
+    for _ in 0..MOST_TRIES {
+        if wire.ready().is_none() {
+            return Ok(());
+        }
+    }
+    Ok(())
+}
+
 fn close<W: Wire>(wire: &mut W, step: Step<'_>, out: &mut Vec<u8>) -> Result<(), RehearsalFault> {
     let link = link_of(step)?;
     wire.close(link);
@@ -55,6 +68,17 @@ fn close<W: Wire>(wire: &mut W, step: Step<'_>, out: &mut Vec<u8>) -> Result<(),
 fn accept_ready<W: Wire>(wire: &mut W) -> Result<Option<LinkId>, Failed> {
     for _ in 0..MOST_TRIES {
         if let Some(link) = wire.accept()? {
+            return Ok(Some(link));
+        }
+        wait_for(wire)?;
+    }
+    Ok(None)
+}
+
+/// The next link that is named, once one is.
+fn name_ready<W: Wire>(wire: &mut W) -> Result<Option<LinkId>, Failed> {
+    for _ in 0..MOST_TRIES {
+        if let Some(link) = wire.ready() {
             return Ok(Some(link));
         }
         wire.wait(A_SECOND)?;
@@ -68,13 +92,23 @@ fn tell_accepted(
     out: &mut Vec<u8>,
 ) -> Result<(), RehearsalFault> {
     match accepted {
-        Ok(Some(link)) => {
+        Ok(named) => tell_named(alloc, named, out),
+        Err(_failed) => tell(out, "failed"),
+    }
+}
+
+fn tell_named(
+    alloc: Global,
+    named: Option<LinkId>,
+    out: &mut Vec<u8>,
+) -> Result<(), RehearsalFault> {
+    match named {
+        Some(link) => {
             tell(out, "id")?;
             tell_shown(alloc, link.index, out)?;
             tell_shown(alloc, link.generation, out)
         }
-        Ok(None) => tell(out, "none"),
-        Err(_failed) => tell(out, "failed"),
+        None => tell(out, "none"),
     }
 }
 
@@ -120,7 +154,7 @@ fn read_ready<W: Wire>(wire: &mut W, link: LinkId, into: &mut [u8]) -> Moved
         if !matches!(moved, Moved::NotReady) {
             return moved;
         }
-        if wire.wait(A_SECOND).is_err() {
+        if wait_for(wire).is_err() {
             return Moved::Failed;
         }
     }
@@ -191,7 +225,7 @@ fn parts_of<W: Wire>(wire: &mut W, link: LinkId, bytes: &[u8]) -> Option<u32> {
                 parts = parts.saturating_add(1);
             }
             Moved::NotReady => {
-                if wire.wait(A_SECOND).is_err() {
+                if wait_for(wire).is_err() {
                     return None;
                 }
             }
