@@ -6,12 +6,12 @@ use Rattle.mr_value.specs.Words.{fits}
 use Rattle.mr_value.specs.declared.ends.End.TheVariants.{Left, Right}
 use Rattle.mr_words.specs.Names.{lowered, named}
 use Rattle.mr_cmd_string.specs.Arguments.{get, set, setex, psetex, strlen, getrange, mget, setnx, getset, getdel, mset, msetnx, append, setrange, step, incrby, decrby}
-use Rattle.mr_cmd_key.specs.Arguments.{del, unlink, exists, key_type, matching_keys, scan, dbsize, rename, renamenx, clear, expire, ttl, pttl, expiretime, pexpiretime, persist}
-use Rattle.mr_cmd_hash.specs.Arguments.{set_fields, hsetnx, hget, hmget, list_hash, hdel, hexists, hlen, hstrlen, hincrby}
+use Rattle.mr_cmd_key.specs.Arguments.{del, unlink, exists, key_type, keys, scan, dbsize, rename, renamenx, clear, expire, ttl, pttl, expiretime, pexpiretime, persist}
+use Rattle.mr_cmd_hash.specs.Arguments.{hset, hsetnx, hget, hmget, list_hash, hdel, hexists, hlen, hstrlen, hincrby}
 use Rattle.mr_cmd_list.specs.Arguments.{push, pop, llen, lrange, lindex, lset, linsert, lrem, ltrim, lmove, rpoplpush}
 use Rattle.mr_cmd_set.specs.Arguments.{sadd, srem, sismember, smismember, smembers, scard, spop, srandmember, smove, combine}
 use Rattle.mr_cmd_zset.specs.Arguments.{zadd, zincrby, zrem, zcard, zcount, zscore, zmscore, zrank, zrange, zrevrange, range_by_score, zpop, zremrangebyrank, zremrangebyscore}
-use Rattle.mr_cmd_server.specs.Arguments.{ping, echo, select, quit, rewrite, info, role, shutdown, command, client}
+use Rattle.mr_cmd_server.specs.Arguments.{ping, echo, select, quit, bgrewriteaof, info, role, shutdown, command, client}
 use Rattle.mr_ask.specs.Asks.{asked, asked_by, reading}
 use Rattle.mr_ask.specs.Carried.{AskFits}
 use Rattle.mr_ask.specs.Spelled.{SpellsNamed, Spells}
@@ -20,15 +20,15 @@ use Rattle.mr_words.proofs.NameLemmas.{named_is}
 use Rattle.mr_ask.proofs.Carries.{of_kind_carries}
 use Rattle.mr_ask.proofs.TimeLemmas.{IsTimedAsk, reading_timed}
 use Rattle.mr_cmd_string.proofs.ArgumentLemmas.{get_carries, set_carries, setex_carries, psetex_carries, strlen_carries, getrange_carries, mget_carries, setnx_carries, getset_carries, getdel_carries, mset_carries, msetnx_carries, append_carries, setrange_carries, incr_carries, decr_carries, incrby_carries, decrby_carries}
-use Rattle.mr_cmd_key.proofs.ArgumentLemmas.{del_carries, unlink_carries, exists_carries, key_type_carries, matching_keys_carries, scan_carries, dbsize_carries, rename_carries, renamenx_carries, clear_carries, expire_carries, ttl_carries, pttl_carries, expiretime_carries, pexpiretime_carries, persist_carries}
-use Rattle.mr_cmd_hash.proofs.ArgumentLemmas.{set_fields_spells, hsetnx_spells, hget_spells, hmget_spells, list_hash_spells, hdel_spells, hexists_spells, hlen_spells, hstrlen_spells, hincrby_spells, hash_fits}
+use Rattle.mr_cmd_key.proofs.ArgumentLemmas.{del_carries, unlink_carries, exists_carries, key_type_carries, keys_carries, scan_carries, dbsize_carries, rename_carries, renamenx_carries, clear_carries, expire_carries, ttl_carries, pttl_carries, expiretime_carries, pexpiretime_carries, persist_carries}
+use Rattle.mr_cmd_hash.proofs.ArgumentLemmas.{hset_spells, hsetnx_spells, hget_spells, hmget_spells, list_hash_spells, hdel_spells, hexists_spells, hlen_spells, hstrlen_spells, hincrby_spells, hash_fits}
 use Rattle.mr_cmd_list.proofs.ArgumentLemmas.{push_spells, pop_spells, llen_spells, lrange_spells, lindex_spells, lset_spells, linsert_spells, lrem_spells, ltrim_spells, lmove_spells, rpoplpush_spells, list_fits}
 use Rattle.mr_cmd_set.proofs.ArgumentLemmas.{sadd_spells, srem_spells, sismember_spells, smismember_spells, smembers_spells, scard_spells, spop_spells, srandmember_spells, smove_spells, combine_spells, set_fits}
 use Rattle.mr_cmd_zset.proofs.AddArgumentLemmas.{zadd_spells}
 use Rattle.mr_cmd_zset.proofs.RangeArgumentLemmas.{zrange_spells, zrevrange_spells, range_by_score_spells}
 use Rattle.mr_cmd_zset.proofs.ArgumentLemmas.{zincrby_spells, zrem_spells, zcard_spells, zcount_spells, zscore_spells, zmscore_spells, zrank_spells, zpop_spells, zremrangebyrank_spells, zremrangebyscore_spells, zset_fits}
 use Rattle.mr_zset_options.specs.declared.choices.Order.TheVariants.{Ascending, Descending}
-use Rattle.mr_cmd_server.proofs.ArgumentLemmas.{ping_carries, echo_carries, select_carries, quit_carries, rewrite_carries, info_carries, role_carries, shutdown_carries, command_carries, client_carries}
+use Rattle.mr_cmd_server.proofs.ArgumentLemmas.{ping_carries, echo_carries, select_carries, quit_carries, bgrewriteaof_carries, info_carries, role_carries, shutdown_carries, command_carries, client_carries}
 use Rattle.mr_cmd_string.proofs.FitLemmas.{texts_fit}
 use Rattle.mr_cmd_key.proofs.FitLemmas.{keys_fit}
 use Rattle.mr_cmd_server.proofs.FitLemmas.{carried_server}
@@ -58,7 +58,7 @@ reading_carries name.MGet ws = of_kind_carries (mget ws) ask.Texts (SpellsNamed 
 reading_carries name.SetNx ws = of_kind_carries (setnx ws) ask.Texts (SpellsNamed name.SetNx ws) (setnx_carries ws)
 reading_carries name.GetSet ws = of_kind_carries (getset ws) ask.Texts (SpellsNamed name.GetSet ws) (getset_carries ws)
 reading_carries name.GetDel ws = of_kind_carries (getdel ws) ask.Texts (SpellsNamed name.GetDel ws) (getdel_carries ws)
-reading_carries name.Keys ws = of_kind_carries (matching_keys ws) ask.Keys (SpellsNamed name.Keys ws) (matching_keys_carries ws)
+reading_carries name.Keys ws = of_kind_carries (keys ws) ask.Keys (SpellsNamed name.Keys ws) (keys_carries ws)
 reading_carries name.Scan ws = of_kind_carries (scan ws) ask.Keys (SpellsNamed name.Scan ws) (scan_carries ws)
 reading_carries name.DbSize ws = of_kind_carries (dbsize ws) ask.Keys (SpellsNamed name.DbSize ws) (dbsize_carries ws)
 reading_carries name.MSet ws = of_kind_carries (mset ws) ask.Texts (SpellsNamed name.MSet ws) (mset_carries ws)
@@ -84,8 +84,8 @@ reading_carries name.PTtl ws = of_kind_carries (pttl ws) ask.Keys (SpellsNamed n
 reading_carries name.ExpireTime ws = of_kind_carries (expiretime ws) ask.Keys (SpellsNamed name.ExpireTime ws) (expiretime_carries ws)
 reading_carries name.PExpireTime ws = of_kind_carries (pexpiretime ws) ask.Keys (SpellsNamed name.PExpireTime ws) (pexpiretime_carries ws)
 reading_carries name.Persist ws = of_kind_carries (persist ws) ask.Keys (SpellsNamed name.Persist ws) (persist_carries ws)
-reading_carries name.HSet ws = of_kind_carries (set_fields name.HSet Added ws) ask.Hashes (SpellsNamed name.HSet ws) (set_fields_spells name.HSet Added (λ k ps. refl) ws)
-reading_carries name.HMSet ws = of_kind_carries (set_fields name.HMSet Done ws) ask.Hashes (SpellsNamed name.HMSet ws) (set_fields_spells name.HMSet Done (λ k ps. refl) ws)
+reading_carries name.HSet ws = of_kind_carries (hset name.HSet Added ws) ask.Hashes (SpellsNamed name.HSet ws) (hset_spells name.HSet Added (λ k ps. refl) ws)
+reading_carries name.HMSet ws = of_kind_carries (hset name.HMSet Done ws) ask.Hashes (SpellsNamed name.HMSet ws) (hset_spells name.HMSet Done (λ k ps. refl) ws)
 reading_carries name.HSetNx ws = of_kind_carries (hsetnx ws) ask.Hashes (SpellsNamed name.HSetNx ws) (hsetnx_spells ws)
 reading_carries name.HGet ws = of_kind_carries (hget ws) ask.Hashes (SpellsNamed name.HGet ws) (hget_spells ws)
 reading_carries name.HMGet ws = of_kind_carries (hmget ws) ask.Hashes (SpellsNamed name.HMGet ws) (hmget_spells ws)
@@ -145,7 +145,7 @@ reading_carries name.Ping ws = of_kind_carries (ping ws) ask.Server (SpellsNamed
 reading_carries name.Echo ws = of_kind_carries (echo ws) ask.Server (SpellsNamed name.Echo ws) (echo_carries ws)
 reading_carries name.Select ws = of_kind_carries (select ws) ask.Server (SpellsNamed name.Select ws) (select_carries ws)
 reading_carries name.Quit ws = of_kind_carries (quit ws) ask.Server (SpellsNamed name.Quit ws) (quit_carries ws)
-reading_carries name.BgRewriteAof ws = of_kind_carries (rewrite ws) ask.Server (SpellsNamed name.BgRewriteAof ws) (rewrite_carries ws)
+reading_carries name.BgRewriteAof ws = of_kind_carries (bgrewriteaof ws) ask.Server (SpellsNamed name.BgRewriteAof ws) (bgrewriteaof_carries ws)
 reading_carries name.Info ws = of_kind_carries (info ws) ask.Server (SpellsNamed name.Info ws) (info_carries ws)
 reading_carries name.Role ws = of_kind_carries (role ws) ask.Server (SpellsNamed name.Role ws) (role_carries ws)
 reading_carries name.Shutdown ws = of_kind_carries (shutdown ws) ask.Server (SpellsNamed name.Shutdown ws) (shutdown_carries ws)

@@ -63,26 +63,26 @@ hash_words_read : (ws : List (List ℕ)) (a : HashAsk) → hash_parts a ≡ map 
 hash_words_read ws a e s = ap (reading (hash_name a)) (words_are ws (hash_words a) (subst (AreParts ws) e s))
 
 pub hash_read : (ws : List (List ℕ)) (a : HashAsk) → HashIsAskable a → AreParts ws (hash_parts a) → reading (hash_name a) ws ≡ Ok (ask.Hashes a)
-hash_read ws (hash.SetFields key [] reply) h s = absurd (h refl)
-hash_read ws (hash.SetFields key (p ∷ ps) Added) h s =
-    hash_words_read ws (hash.SetFields key (p ∷ ps) Added) refl s
-    ∙ ap (λ o. of_kind ask.Hashes (with (ok_or o (Arity name.HSet)) (λ pairs. Ok (hash.SetFields key pairs Added)))) (pairs_itself (p ∷ ps))
-hash_read ws (hash.SetFields key (p ∷ ps) Done) h s =
-    hash_words_read ws (hash.SetFields key (p ∷ ps) Done) refl s
-    ∙ ap (λ o. of_kind ask.Hashes (with (ok_or o (Arity name.HMSet)) (λ pairs. Ok (hash.SetFields key pairs Done)))) (pairs_itself (p ∷ ps))
-hash_read ws (hash.SetNewField key field value) h s = hash_words_read ws (hash.SetNewField key field value) refl s
-hash_read ws (hash.GetField key field) h s = hash_words_read ws (hash.GetField key field) refl s
-hash_read ws (hash.GetFields key []) h s = absurd (h refl)
-hash_read ws (hash.GetFields key (f ∷ fs)) h s = hash_words_read ws (hash.GetFields key (f ∷ fs)) refl s
+hash_read ws (hash.HSet key [] reply) h s = absurd (h refl)
+hash_read ws (hash.HSet key (p ∷ ps) Added) h s =
+    hash_words_read ws (hash.HSet key (p ∷ ps) Added) refl s
+    ∙ ap (λ o. of_kind ask.Hashes (with (ok_or o (Arity name.HSet)) (λ pairs. Ok (hash.HSet key pairs Added)))) (pairs_itself (p ∷ ps))
+hash_read ws (hash.HSet key (p ∷ ps) Done) h s =
+    hash_words_read ws (hash.HSet key (p ∷ ps) Done) refl s
+    ∙ ap (λ o. of_kind ask.Hashes (with (ok_or o (Arity name.HMSet)) (λ pairs. Ok (hash.HSet key pairs Done)))) (pairs_itself (p ∷ ps))
+hash_read ws (hash.HSetNx key field value) h s = hash_words_read ws (hash.HSetNx key field value) refl s
+hash_read ws (hash.HGet key field) h s = hash_words_read ws (hash.HGet key field) refl s
+hash_read ws (hash.HMGet key []) h s = absurd (h refl)
+hash_read ws (hash.HMGet key (f ∷ fs)) h s = hash_words_read ws (hash.HMGet key (f ∷ fs)) refl s
 hash_read ws (hash.ListHash key Pairs) h s = hash_words_read ws (hash.ListHash key Pairs) refl s
 hash_read ws (hash.ListHash key Fields) h s = hash_words_read ws (hash.ListHash key Fields) refl s
 hash_read ws (hash.ListHash key Values) h s = hash_words_read ws (hash.ListHash key Values) refl s
-hash_read ws (hash.RemoveFields key []) h s = absurd (h refl)
-hash_read ws (hash.RemoveFields key (f ∷ fs)) h s = hash_words_read ws (hash.RemoveFields key (f ∷ fs)) refl s
-hash_read ws (hash.HasField key field) h s = hash_words_read ws (hash.HasField key field) refl s
-hash_read ws (hash.CountFields key) h s = hash_words_read ws (hash.CountFields key) refl s
-hash_read ws (hash.FieldLength key field) h s = hash_words_read ws (hash.FieldLength key field) refl s
-hash_read ws (hash.IncreaseField key field by) h s =
+hash_read ws (hash.HDel key []) h s = absurd (h refl)
+hash_read ws (hash.HDel key (f ∷ fs)) h s = hash_words_read ws (hash.HDel key (f ∷ fs)) refl s
+hash_read ws (hash.HExists key field) h s = hash_words_read ws (hash.HExists key field) refl s
+hash_read ws (hash.HLen key) h s = hash_words_read ws (hash.HLen key) refl s
+hash_read ws (hash.HStrLen key field) h s = hash_words_read ws (hash.HStrLen key field) refl s
+hash_read ws (hash.HIncrBy key field by) h s =
     ap (reading name.HIncrBy) (literals ws (Word key ∷ Word field ∷ Number by ∷ []) refl s) ∙ rw (number_of-signed_decimal by h) refl
 
 -- ---- lists
@@ -110,19 +110,19 @@ side_is w e h = ap side_said h ∙ side_itself e
 list_words_read : (ws : List (List ℕ)) (a : ListAsk) → list_parts a ≡ map Word (list_words a) → AreParts ws (list_parts a) → reading (list_name a) ws ≡ reading (list_name a) (list_words a)
 list_words_read ws a e s = ap (reading (list_name a)) (words_are ws (list_words a) (subst (AreParts ws) e s))
 
-insert_read : (k p v : List ℕ) (e : Side) (a b c d : List ℕ) → a ≡ k → IsPart b (Keyword (side_text e)) → c ≡ p → d ≡ v → reading name.LInsert (a ∷ b ∷ c ∷ d ∷ []) ≡ Ok (ask.Lists (list.InsertItem k e p v))
+insert_read : (k p v : List ℕ) (e : Side) (a b c d : List ℕ) → a ≡ k → IsPart b (Keyword (side_text e)) → c ≡ p → d ≡ v → reading name.LInsert (a ∷ b ∷ c ∷ d ∷ []) ≡ Ok (ask.Lists (list.LInsert k e p v))
 insert_read k p v e a b c d ek es ep ev =
-    ap (λ x. of_kind ask.Lists (with x (λ side. Ok (list.InsertItem a side c d)))) (side_is b e es)
-    ∙ ap (λ (x : List ℕ). Ok (ask.Lists (list.InsertItem x e c d))) ek
-    ∙ ap (λ (x : List ℕ). Ok (ask.Lists (list.InsertItem k e x d))) ep
-    ∙ ap (λ (x : List ℕ). Ok (ask.Lists (list.InsertItem k e p x))) ev
+    ap (λ x. of_kind ask.Lists (with x (λ side. Ok (list.LInsert a side c d)))) (side_is b e es)
+    ∙ ap (λ (x : List ℕ). Ok (ask.Lists (list.LInsert x e c d))) ek
+    ∙ ap (λ (x : List ℕ). Ok (ask.Lists (list.LInsert k e x d))) ep
+    ∙ ap (λ (x : List ℕ). Ok (ask.Lists (list.LInsert k e p x))) ev
 
-move_read : (from to : List ℕ) (e f : End) (a b c d : List ℕ) → a ≡ from → b ≡ to → IsPart c (Keyword (end_text e)) → IsPart d (Keyword (end_text f)) → reading name.LMove (a ∷ b ∷ c ∷ d ∷ []) ≡ Ok (ask.Lists (list.MoveItem from to e f))
+move_read : (from to : List ℕ) (e f : End) (a b c d : List ℕ) → a ≡ from → b ≡ to → IsPart c (Keyword (end_text e)) → IsPart d (Keyword (end_text f)) → reading name.LMove (a ∷ b ∷ c ∷ d ∷ []) ≡ Ok (ask.Lists (list.LMove from to e f))
 move_read from to e f a b c d ea eb ec ed =
-    ap (λ x. of_kind ask.Lists (with x (λ taken. with (end_of d) (λ put. Ok (list.MoveItem a b taken put))))) (end_is c e ec)
-    ∙ ap (λ x. of_kind ask.Lists (with x (λ put. Ok (list.MoveItem a b e put)))) (end_is d f ed)
-    ∙ ap (λ (x : List ℕ). Ok (ask.Lists (list.MoveItem x b e f))) ea
-    ∙ ap (λ (x : List ℕ). Ok (ask.Lists (list.MoveItem from x e f))) eb
+    ap (λ x. of_kind ask.Lists (with x (λ taken. with (end_of d) (λ put. Ok (list.LMove a b taken put))))) (end_is c e ec)
+    ∙ ap (λ x. of_kind ask.Lists (with x (λ put. Ok (list.LMove a b e put)))) (end_is d f ed)
+    ∙ ap (λ (x : List ℕ). Ok (ask.Lists (list.LMove x b e f))) ea
+    ∙ ap (λ (x : List ℕ). Ok (ask.Lists (list.LMove from x e f))) eb
 
 pub list_read : (ws : List (List ℕ)) (a : ListAsk) → ListIsAskable a → AreParts ws (list_parts a) → reading (list_name a) ws ≡ Ok (ask.Lists a)
 list_read ws (list.Push key end to []) h s = absurd (h refl)
@@ -134,39 +134,39 @@ list_read ws (list.Pop key Left None) h s = ap (reading name.LPop) (literals ws 
 list_read ws (list.Pop key Right None) h s = ap (reading name.RPop) (literals ws (Word key ∷ []) refl s)
 list_read ws (list.Pop key Left (Some n)) h s = ap (reading name.LPop) (literals ws (Word key ∷ Number (pos n) ∷ []) refl s) ∙ rw (number_of-signed_decimal (pos n) h) refl
 list_read ws (list.Pop key Right (Some n)) h s = ap (reading name.RPop) (literals ws (Word key ∷ Number (pos n) ∷ []) refl s) ∙ rw (number_of-signed_decimal (pos n) h) refl
-list_read ws (list.CountItems key) h s = list_words_read ws (list.CountItems key) refl s
-list_read ws (list.Range key first last) h s =
+list_read ws (list.LLen key) h s = list_words_read ws (list.LLen key) refl s
+list_read ws (list.LRange key first last) h s =
     ap (reading name.LRange) (literals ws (Word key ∷ Number first ∷ Number last ∷ []) refl s) ∙ rw (number_of-signed_decimal first h.0, number_of-signed_decimal last h.1) refl
-list_read ws (list.GetItem key index) h s = ap (reading name.LIndex) (literals ws (Word key ∷ Number index ∷ []) refl s) ∙ rw (number_of-signed_decimal index h) refl
-list_read ws (list.SetItem key index item) h s = ap (reading name.LSet) (literals ws (Word key ∷ Number index ∷ Word item ∷ []) refl s) ∙ rw (number_of-signed_decimal index h) refl
-list_read ws (list.InsertItem key side pivot item) h s =
-    four_parts (λ xs. reading name.LInsert xs ≡ Ok (ask.Lists (list.InsertItem key side pivot item))) (Word key) (Keyword (side_text side)) (Word pivot) (Word item) (insert_read key pivot item side) ws s
-list_read ws (list.RemoveItems key count item) h s = ap (reading name.LRem) (literals ws (Word key ∷ Number count ∷ Word item ∷ []) refl s) ∙ rw (number_of-signed_decimal count h) refl
-list_read ws (list.Trim key first last) h s =
+list_read ws (list.LIndex key index) h s = ap (reading name.LIndex) (literals ws (Word key ∷ Number index ∷ []) refl s) ∙ rw (number_of-signed_decimal index h) refl
+list_read ws (list.LSet key index item) h s = ap (reading name.LSet) (literals ws (Word key ∷ Number index ∷ Word item ∷ []) refl s) ∙ rw (number_of-signed_decimal index h) refl
+list_read ws (list.LInsert key side pivot item) h s =
+    four_parts (λ xs. reading name.LInsert xs ≡ Ok (ask.Lists (list.LInsert key side pivot item))) (Word key) (Keyword (side_text side)) (Word pivot) (Word item) (insert_read key pivot item side) ws s
+list_read ws (list.LRem key count item) h s = ap (reading name.LRem) (literals ws (Word key ∷ Number count ∷ Word item ∷ []) refl s) ∙ rw (number_of-signed_decimal count h) refl
+list_read ws (list.LTrim key first last) h s =
     ap (reading name.LTrim) (literals ws (Word key ∷ Number first ∷ Number last ∷ []) refl s) ∙ rw (number_of-signed_decimal first h.0, number_of-signed_decimal last h.1) refl
-list_read ws (list.MoveItem from to taken put) h s =
-    four_parts (λ xs. reading name.LMove xs ≡ Ok (ask.Lists (list.MoveItem from to taken put))) (Word from) (Word to) (Keyword (end_text taken)) (Keyword (end_text put)) (move_read from to taken put) ws s
-list_read ws (list.MoveLastToFront from to) h s = list_words_read ws (list.MoveLastToFront from to) refl s
+list_read ws (list.LMove from to taken put) h s =
+    four_parts (λ xs. reading name.LMove xs ≡ Ok (ask.Lists (list.LMove from to taken put))) (Word from) (Word to) (Keyword (end_text taken)) (Keyword (end_text put)) (move_read from to taken put) ws s
+list_read ws (list.RPopLPush from to) h s = list_words_read ws (list.RPopLPush from to) refl s
 
 -- ---- sets
 set_words_read : (ws : List (List ℕ)) (a : SetAsk) → set_parts a ≡ map Word (set_words a) → AreParts ws (set_parts a) → reading (set_name a) ws ≡ reading (set_name a) (set_words a)
 set_words_read ws a e s = ap (reading (set_name a)) (words_are ws (set_words a) (subst (AreParts ws) e s))
 
 pub set_read : (ws : List (List ℕ)) (a : SetAsk) → SetIsAskable a → AreParts ws (set_parts a) → reading (set_name a) ws ≡ Ok (ask.Sets a)
-set_read ws (set.AddMembers key []) h s = absurd (h refl)
-set_read ws (set.AddMembers key (m ∷ ms)) h s = set_words_read ws (set.AddMembers key (m ∷ ms)) refl s
-set_read ws (set.RemoveMembers key []) h s = absurd (h refl)
-set_read ws (set.RemoveMembers key (m ∷ ms)) h s = set_words_read ws (set.RemoveMembers key (m ∷ ms)) refl s
-set_read ws (set.HasMember key member) h s = set_words_read ws (set.HasMember key member) refl s
-set_read ws (set.HaveMembers key []) h s = absurd (h refl)
-set_read ws (set.HaveMembers key (m ∷ ms)) h s = set_words_read ws (set.HaveMembers key (m ∷ ms)) refl s
-set_read ws (set.ListMembers key) h s = set_words_read ws (set.ListMembers key) refl s
-set_read ws (set.CountMembers key) h s = set_words_read ws (set.CountMembers key) refl s
-set_read ws (set.TakeMembers key None) h s = ap (reading name.SPop) (literals ws (Word key ∷ []) refl s)
-set_read ws (set.TakeMembers key (Some n)) h s = ap (reading name.SPop) (literals ws (Word key ∷ Number (pos n) ∷ []) refl s) ∙ rw (number_of-signed_decimal (pos n) h) refl
-set_read ws (set.DrawMembers key None) h s = ap (reading name.SRandMember) (literals ws (Word key ∷ []) refl s)
-set_read ws (set.DrawMembers key (Some n)) h s = ap (reading name.SRandMember) (literals ws (Word key ∷ Number (pos n) ∷ []) refl s) ∙ rw (number_of-signed_decimal (pos n) h) refl
-set_read ws (set.MoveMember from to member) h s = set_words_read ws (set.MoveMember from to member) refl s
+set_read ws (set.SAdd key []) h s = absurd (h refl)
+set_read ws (set.SAdd key (m ∷ ms)) h s = set_words_read ws (set.SAdd key (m ∷ ms)) refl s
+set_read ws (set.SRem key []) h s = absurd (h refl)
+set_read ws (set.SRem key (m ∷ ms)) h s = set_words_read ws (set.SRem key (m ∷ ms)) refl s
+set_read ws (set.SIsMember key member) h s = set_words_read ws (set.SIsMember key member) refl s
+set_read ws (set.SMIsMember key []) h s = absurd (h refl)
+set_read ws (set.SMIsMember key (m ∷ ms)) h s = set_words_read ws (set.SMIsMember key (m ∷ ms)) refl s
+set_read ws (set.SMembers key) h s = set_words_read ws (set.SMembers key) refl s
+set_read ws (set.SCard key) h s = set_words_read ws (set.SCard key) refl s
+set_read ws (set.SPop key None) h s = ap (reading name.SPop) (literals ws (Word key ∷ []) refl s)
+set_read ws (set.SPop key (Some n)) h s = ap (reading name.SPop) (literals ws (Word key ∷ Number (pos n) ∷ []) refl s) ∙ rw (number_of-signed_decimal (pos n) h) refl
+set_read ws (set.SRandMember key None) h s = ap (reading name.SRandMember) (literals ws (Word key ∷ []) refl s)
+set_read ws (set.SRandMember key (Some n)) h s = ap (reading name.SRandMember) (literals ws (Word key ∷ Number (pos n) ∷ []) refl s) ∙ rw (number_of-signed_decimal (pos n) h) refl
+set_read ws (set.SMove from to member) h s = set_words_read ws (set.SMove from to member) refl s
 set_read ws (set.Combine operation []) h s = absurd (h refl)
 set_read ws (set.Combine Intersection (k ∷ ks)) h s = set_words_read ws (set.Combine Intersection (k ∷ ks)) refl s
 set_read ws (set.Combine Union (k ∷ ks)) h s = set_words_read ws (set.Combine Union (k ∷ ks)) refl s
@@ -174,18 +174,18 @@ set_read ws (set.Combine Difference (k ∷ ks)) h s = set_words_read ws (set.Com
 
 -- ---- sorted sets
 pub zset_read : (n : Name) (ws : List (List ℕ)) (a : ZSetAsk) → ZSetIsAskable a → ZSetSpells n ws a → reading n ws ≡ Ok (ask.SortedSets a)
-zset_read n ws (zset.AddScores key c d r pairs) h s = ap (λ x. reading x ws) s.0 ∙ ap (of_kind ask.SortedSets) (zadd_scores key c d r pairs ws h.0 h.1 s.1)
-zset_read n ws (zset.IncreaseScore key by member) h s = ap (λ x. reading x ws) s.0 ∙ ap (of_kind ask.SortedSets) (zincrby_read key member by ws s.1)
-zset_read n ws (zset.RemoveMembers key []) h s = absurd (h refl)
-zset_read n ws (zset.RemoveMembers key (m ∷ ms)) h s = ap (λ x. reading x ws) s.0 ∙ ap (reading name.ZRem) (words_are ws (key ∷ m ∷ ms) s.1)
-zset_read n ws (zset.CountMembers key) h s = ap (λ x. reading x ws) s.0 ∙ ap (reading name.ZCard) (words_are ws (key ∷ []) s.1)
-zset_read n ws (zset.CountScores key min max) h s =
+zset_read n ws (zset.ZAdd key c d r pairs) h s = ap (λ x. reading x ws) s.0 ∙ ap (of_kind ask.SortedSets) (zadd_scores key c d r pairs ws h.0 h.1 s.1)
+zset_read n ws (zset.ZIncrBy key by member) h s = ap (λ x. reading x ws) s.0 ∙ ap (of_kind ask.SortedSets) (zincrby_read key member by ws s.1)
+zset_read n ws (zset.ZRem key []) h s = absurd (h refl)
+zset_read n ws (zset.ZRem key (m ∷ ms)) h s = ap (λ x. reading x ws) s.0 ∙ ap (reading name.ZRem) (words_are ws (key ∷ m ∷ ms) s.1)
+zset_read n ws (zset.ZCard key) h s = ap (λ x. reading x ws) s.0 ∙ ap (reading name.ZCard) (words_are ws (key ∷ []) s.1)
+zset_read n ws (zset.ZCount key min max) h s =
     ap (λ x. reading x ws) s.0
-    ∙ three_parts (λ xs. reading name.ZCount xs ≡ Ok (ask.SortedSets (zset.CountScores key min max))) (Word key) (ScoreBound min) (ScoreBound max)
+    ∙ three_parts (λ xs. reading name.ZCount xs ≡ Ok (ask.SortedSets (zset.ZCount key min max))) (Word key) (ScoreBound min) (ScoreBound max)
     (λ a b c ek eb ec. rw (ek, eb, ec) refl) ws s.1
-zset_read n ws (zset.GetScore key member) h s = ap (λ x. reading x ws) s.0 ∙ ap (reading name.ZScore) (words_are ws (key ∷ member ∷ []) s.1)
-zset_read n ws (zset.GetScores key []) h s = absurd (h refl)
-zset_read n ws (zset.GetScores key (m ∷ ms)) h s = ap (λ x. reading x ws) s.0 ∙ ap (reading name.ZMScore) (words_are ws (key ∷ m ∷ ms) s.1)
+zset_read n ws (zset.ZScore key member) h s = ap (λ x. reading x ws) s.0 ∙ ap (reading name.ZScore) (words_are ws (key ∷ member ∷ []) s.1)
+zset_read n ws (zset.ZMScore key []) h s = absurd (h refl)
+zset_read n ws (zset.ZMScore key (m ∷ ms)) h s = ap (λ x. reading x ws) s.0 ∙ ap (reading name.ZMScore) (words_are ws (key ∷ m ∷ ms) s.1)
 zset_read n ws (zset.GetRank key member Ascending) h s = ap (λ x. reading x ws) s.0 ∙ ap (reading name.ZRank) (words_are ws (key ∷ member ∷ []) s.1)
 zset_read n ws (zset.GetRank key member Descending) h s = ap (λ x. reading x ws) s.0 ∙ ap (reading name.ZRevRank) (words_are ws (key ∷ member ∷ []) s.1)
 zset_read n ws (zset.RangeByRank key first last order r) h (inl s) = ap (λ x. reading x ws) s.0 ∙ ap (of_kind ask.SortedSets) (zrange_ranks key first last order r ws h.0 h.1 s.1)
@@ -204,28 +204,28 @@ zset_read n ws (zset.TakePairs key Ascending (Some m)) h s =
     ap (λ x. reading x ws) s.0 ∙ ap (reading name.ZPopMin) (literals ws (Word key ∷ Number (pos m) ∷ []) refl s.1) ∙ rw (number_of-signed_decimal (pos m) h) refl
 zset_read n ws (zset.TakePairs key Descending (Some m)) h s =
     ap (λ x. reading x ws) s.0 ∙ ap (reading name.ZPopMax) (literals ws (Word key ∷ Number (pos m) ∷ []) refl s.1) ∙ rw (number_of-signed_decimal (pos m) h) refl
-zset_read n ws (zset.RemoveRanks key first last) h s =
+zset_read n ws (zset.ZRemRangeByRank key first last) h s =
     ap (λ x. reading x ws) s.0
     ∙ ap (reading name.ZRemRangeByRank) (literals ws (Word key ∷ Number first ∷ Number last ∷ []) refl s.1) ∙ rw (number_of-signed_decimal first h.0, number_of-signed_decimal last h.1) refl
-zset_read n ws (zset.RemoveScores key min max) h s =
+zset_read n ws (zset.ZRemRangeByScore key min max) h s =
     ap (λ x. reading x ws) s.0
-    ∙ three_parts (λ xs. reading name.ZRemRangeByScore xs ≡ Ok (ask.SortedSets (zset.RemoveScores key min max))) (Word key) (ScoreBound min) (ScoreBound max)
+    ∙ three_parts (λ xs. reading name.ZRemRangeByScore xs ≡ Ok (ask.SortedSets (zset.ZRemRangeByScore key min max))) (Word key) (ScoreBound min) (ScoreBound max)
     (λ a b c ek eb ec. rw (ek, eb, ec) refl) ws s.1
 
 -- ---- to the server
 zero_is : (w : List ℕ) → w ≡ signed_decimal (pos 0) → reading name.Select (w ∷ []) ≡ Ok (ask.Server server.Select)
 zero_is w e = ap (λ (x : List ℕ). reading name.Select (x ∷ [])) e ∙ rw (number_of-signed_decimal (pos 0) refl) refl
 
-setname_read : (label a b : List ℕ) → IsPart a (Keyword setname) → b ≡ label → reading name.Client (a ∷ b ∷ []) ≡ Ok (ask.Server (server.SetClientName label))
+setname_read : (label a b : List ℕ) → IsPart a (Keyword setname) → b ≡ label → reading name.Client (a ∷ b ∷ []) ≡ Ok (ask.Server (server.ClientSetName label))
 setname_read label a b ea eb =
-    ap (λ (x : Bool). of_kind ask.Server (if x then Ok (server.SetClientName b) else Err Syntax)) (keyword_is a setname ea)
-    ∙ ap (λ (x : List ℕ). Ok (ask.Server (server.SetClientName x))) eb
+    ap (λ (x : Bool). of_kind ask.Server (if x then Ok (server.ClientSetName b) else Err Syntax)) (keyword_is a setname ea)
+    ∙ ap (λ (x : List ℕ). Ok (ask.Server (server.ClientSetName x))) eb
 
-setinfo_read : (attribute value a b c : List ℕ) → IsPart a (Keyword setinfo) → b ≡ attribute → c ≡ value → reading name.Client (a ∷ b ∷ c ∷ []) ≡ Ok (ask.Server (server.SetClientInfo attribute value))
+setinfo_read : (attribute value a b c : List ℕ) → IsPart a (Keyword setinfo) → b ≡ attribute → c ≡ value → reading name.Client (a ∷ b ∷ c ∷ []) ≡ Ok (ask.Server (server.ClientSetInfo attribute value))
 setinfo_read attribute value a b c ea eb ec =
-    ap (λ (x : Bool). of_kind ask.Server (if x then Ok (server.SetClientInfo b c) else Err Syntax)) (keyword_is a setinfo ea)
-    ∙ ap (λ (x : List ℕ). Ok (ask.Server (server.SetClientInfo x c))) eb
-    ∙ ap (λ (x : List ℕ). Ok (ask.Server (server.SetClientInfo attribute x))) ec
+    ap (λ (x : Bool). of_kind ask.Server (if x then Ok (server.ClientSetInfo b c) else Err Syntax)) (keyword_is a setinfo ea)
+    ∙ ap (λ (x : List ℕ). Ok (ask.Server (server.ClientSetInfo x c))) eb
+    ∙ ap (λ (x : List ℕ). Ok (ask.Server (server.ClientSetInfo attribute x))) ec
 
 -- SHUTDOWN's option, of a word in lower case
 abbrev saving_said : List ℕ → Result Saving AskFault
@@ -244,7 +244,7 @@ server_read ws (server.Ping (Some message)) s = ap (reading name.Ping) (words_ar
 server_read ws (server.Echo message) s = ap (reading name.Echo) (words_are ws (message ∷ []) s)
 server_read ws server.Select s = one_part (λ xs. reading name.Select xs ≡ Ok (ask.Server server.Select)) (Number (pos 0)) zero_is ws s
 server_read ws server.Quit s = ap (reading name.Quit) (words_are ws [] s)
-server_read ws server.Rewrite s = ap (reading name.BgRewriteAof) (words_are ws [] s)
+server_read ws server.BgRewriteAof s = ap (reading name.BgRewriteAof) (words_are ws [] s)
 server_read ws (server.Info None) s = ap (reading name.Info) (words_are ws [] s)
 server_read ws (server.Info (Some section)) s = ap (reading name.Info) (words_are ws (section ∷ []) s)
 server_read ws server.Role s = ap (reading name.Role) (words_are ws [] s)
@@ -252,7 +252,7 @@ server_read ws (server.Shutdown None) s = ap (reading name.Shutdown) (words_are 
 server_read ws (server.Shutdown (Some saving)) s =
     one_part (λ xs. reading name.Shutdown xs ≡ Ok (ask.Server (server.Shutdown (Some saving)))) (Keyword (saving_text saving)) (saving_read saving) ws s
 server_read ws (server.Command arguments) s = ap (reading name.Command) (words_are ws arguments s)
-server_read ws (server.SetClientName label) s =
-    two_parts (λ xs. reading name.Client xs ≡ Ok (ask.Server (server.SetClientName label))) (Keyword setname) (Word label) (setname_read label) ws s
-server_read ws (server.SetClientInfo attribute value) s =
-    three_parts (λ xs. reading name.Client xs ≡ Ok (ask.Server (server.SetClientInfo attribute value))) (Keyword setinfo) (Word attribute) (Word value) (setinfo_read attribute value) ws s
+server_read ws (server.ClientSetName label) s =
+    two_parts (λ xs. reading name.Client xs ≡ Ok (ask.Server (server.ClientSetName label))) (Keyword setname) (Word label) (setname_read label) ws s
+server_read ws (server.ClientSetInfo attribute value) s =
+    three_parts (λ xs. reading name.Client xs ≡ Ok (ask.Server (server.ClientSetInfo attribute value))) (Keyword setinfo) (Word attribute) (Word value) (setinfo_read attribute value) ws s

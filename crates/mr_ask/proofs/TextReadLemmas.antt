@@ -30,20 +30,20 @@ text_read ws (text.SetEx key n value) h s =
     ap (reading name.SetEx) (literals ws (Word key ∷ Number n ∷ Word value ∷ []) refl s) ∙ rw (number_of-signed_decimal n h.0.0, from_one n h.1, h.0.1) refl
 text_read ws (text.PSetEx key n value) h s =
     ap (reading name.PSetEx) (literals ws (Word key ∷ Number n ∷ Word value ∷ []) refl s) ∙ rw (number_of-signed_decimal n h.0.0, from_one n h.1, h.0.1) refl
-text_read ws (text.TextLength key) h s = plain_read ws (text.TextLength key) refl s
+text_read ws (text.StrLen key) h s = plain_read ws (text.StrLen key) refl s
 text_read ws (text.GetRange key first last) h s =
     ap (reading name.GetRange) (literals ws (Word key ∷ Number first ∷ Number last ∷ []) refl s) ∙ rw (number_of-signed_decimal first h.0, number_of-signed_decimal last h.1) refl
-text_read ws (text.GetAll []) h s = absurd (h refl)
-text_read ws (text.GetAll (k ∷ ks)) h s = plain_read ws (text.GetAll (k ∷ ks)) refl s
-text_read ws (text.SetNew key value) h s = plain_read ws (text.SetNew key value) refl s
-text_read ws (text.GetAndSet key value) h s = plain_read ws (text.GetAndSet key value) refl s
-text_read ws (text.GetAndDelete key) h s = plain_read ws (text.GetAndDelete key) refl s
-text_read ws (text.SetAll []) h s = absurd (h refl)
-text_read ws (text.SetAll (p ∷ ps)) h s =
-    plain_read ws (text.SetAll (p ∷ ps)) refl s ∙ ap (λ o. of_kind ask.Texts (with (ok_or o (Arity name.MSet)) (λ pairs. Ok (text.SetAll pairs)))) (pairs_itself (p ∷ ps))
-text_read ws (text.SetAllNew []) h s = absurd (h refl)
-text_read ws (text.SetAllNew (p ∷ ps)) h s =
-    plain_read ws (text.SetAllNew (p ∷ ps)) refl s ∙ ap (λ o. of_kind ask.Texts (with (ok_or o (Arity name.MSetNx)) (λ pairs. Ok (text.SetAllNew pairs)))) (pairs_itself (p ∷ ps))
+text_read ws (text.MGet []) h s = absurd (h refl)
+text_read ws (text.MGet (k ∷ ks)) h s = plain_read ws (text.MGet (k ∷ ks)) refl s
+text_read ws (text.SetNx key value) h s = plain_read ws (text.SetNx key value) refl s
+text_read ws (text.GetSet key value) h s = plain_read ws (text.GetSet key value) refl s
+text_read ws (text.GetDel key) h s = plain_read ws (text.GetDel key) refl s
+text_read ws (text.MSet []) h s = absurd (h refl)
+text_read ws (text.MSet (p ∷ ps)) h s =
+    plain_read ws (text.MSet (p ∷ ps)) refl s ∙ ap (λ o. of_kind ask.Texts (with (ok_or o (Arity name.MSet)) (λ pairs. Ok (text.MSet pairs)))) (pairs_itself (p ∷ ps))
+text_read ws (text.MSetNx []) h s = absurd (h refl)
+text_read ws (text.MSetNx (p ∷ ps)) h s =
+    plain_read ws (text.MSetNx (p ∷ ps)) refl s ∙ ap (λ o. of_kind ask.Texts (with (ok_or o (Arity name.MSetNx)) (λ pairs. Ok (text.MSetNx pairs)))) (pairs_itself (p ∷ ps))
 text_read ws (text.Append key value) h s = plain_read ws (text.Append key value) refl s
 text_read ws (text.SetRange key offset value) h s =
     ap (reading name.SetRange) (literals ws (Word key ∷ Number (pos offset) ∷ Word value ∷ []) refl s) ∙ rw (number_of-signed_decimal (pos offset) h) refl

@@ -4,12 +4,12 @@ use Rattle.mr_value.specs.declared.ends.End.TheVariants.{Left, Right}
 use Rattle.mr_words.specs.Names.{lowered, named}
 use Rattle.mr_words.specs.Parts.{with}
 use Rattle.mr_cmd_string.specs.Arguments.{get, set, setex, psetex, strlen, getrange, mget, setnx, getset, getdel, mset, msetnx, append, setrange, step, incrby, decrby}
-use Rattle.mr_cmd_key.specs.Arguments.{del, unlink, exists, key_type, matching_keys, scan, dbsize, rename, renamenx, clear, expire, ttl, pttl, expiretime, pexpiretime, persist}
-use Rattle.mr_cmd_hash.specs.Arguments.{set_fields, hsetnx, hget, hmget, list_hash, hdel, hexists, hlen, hstrlen, hincrby}
+use Rattle.mr_cmd_key.specs.Arguments.{del, unlink, exists, key_type, keys, scan, dbsize, rename, renamenx, clear, expire, ttl, pttl, expiretime, pexpiretime, persist}
+use Rattle.mr_cmd_hash.specs.Arguments.{hset, hsetnx, hget, hmget, list_hash, hdel, hexists, hlen, hstrlen, hincrby}
 use Rattle.mr_cmd_list.specs.Arguments.{push, pop, llen, lrange, lindex, lset, linsert, lrem, ltrim, lmove, rpoplpush}
 use Rattle.mr_cmd_set.specs.Arguments.{sadd, srem, sismember, smismember, smembers, scard, spop, srandmember, smove, combine}
 use Rattle.mr_cmd_zset.specs.Arguments.{zadd, zincrby, zrem, zcard, zcount, zscore, zmscore, zrank, zrange, zrevrange, range_by_score, zpop, zremrangebyrank, zremrangebyscore}
-use Rattle.mr_cmd_server.specs.Arguments.{ping, echo, select, quit, rewrite, info, role, shutdown, command, client}
+use Rattle.mr_cmd_server.specs.Arguments.{ping, echo, select, quit, bgrewriteaof, info, role, shutdown, command, client}
 use Rattle.mr_words.specs.declared.name.Name.{Name}
 use Rattle.mr_words.specs.declared.name.Name.TheVariants as name
 use Rattle.mr_words.specs.declared.fault.AskFault.{AskFault}
@@ -45,7 +45,7 @@ reading name.MGet arguments = of_kind ask.Texts (mget arguments)
 reading name.SetNx arguments = of_kind ask.Texts (setnx arguments)
 reading name.GetSet arguments = of_kind ask.Texts (getset arguments)
 reading name.GetDel arguments = of_kind ask.Texts (getdel arguments)
-reading name.Keys arguments = of_kind ask.Keys (matching_keys arguments)
+reading name.Keys arguments = of_kind ask.Keys (keys arguments)
 reading name.Scan arguments = of_kind ask.Keys (scan arguments)
 reading name.DbSize arguments = of_kind ask.Keys (dbsize arguments)
 reading name.MSet arguments = of_kind ask.Texts (mset arguments)
@@ -71,8 +71,8 @@ reading name.PTtl arguments = of_kind ask.Keys (pttl arguments)
 reading name.ExpireTime arguments = of_kind ask.Keys (expiretime arguments)
 reading name.PExpireTime arguments = of_kind ask.Keys (pexpiretime arguments)
 reading name.Persist arguments = of_kind ask.Keys (persist arguments)
-reading name.HSet arguments = of_kind ask.Hashes (set_fields name.HSet Added arguments)
-reading name.HMSet arguments = of_kind ask.Hashes (set_fields name.HMSet Done arguments)
+reading name.HSet arguments = of_kind ask.Hashes (hset name.HSet Added arguments)
+reading name.HMSet arguments = of_kind ask.Hashes (hset name.HMSet Done arguments)
 reading name.HSetNx arguments = of_kind ask.Hashes (hsetnx arguments)
 reading name.HGet arguments = of_kind ask.Hashes (hget arguments)
 reading name.HMGet arguments = of_kind ask.Hashes (hmget arguments)
@@ -132,7 +132,7 @@ reading name.Ping arguments = of_kind ask.Server (ping arguments)
 reading name.Echo arguments = of_kind ask.Server (echo arguments)
 reading name.Select arguments = of_kind ask.Server (select arguments)
 reading name.Quit arguments = of_kind ask.Server (quit arguments)
-reading name.BgRewriteAof arguments = of_kind ask.Server (rewrite arguments)
+reading name.BgRewriteAof arguments = of_kind ask.Server (bgrewriteaof arguments)
 reading name.Info arguments = of_kind ask.Server (info arguments)
 reading name.Role arguments = of_kind ask.Server (role arguments)
 reading name.Shutdown arguments = of_kind ask.Server (shutdown arguments)

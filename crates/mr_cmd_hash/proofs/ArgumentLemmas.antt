@@ -3,7 +3,7 @@ use Rattle.std.proofs.Common.{ℕ, ◌≡◌, List, [], ◌∷◌, map, refl, su
 use Rattle.std.specs.Prelude.{IsTrue, IfOk}
 use Rattle.std.specs.List.{list_all}
 use Rattle.mr_value.specs.Words.{fits}
-use Rattle.mr_cmd_hash.specs.Arguments.{set_fields, hsetnx, hget, hmget, list_hash, hdel, hexists, hlen, hstrlen, hincrby}
+use Rattle.mr_cmd_hash.specs.Arguments.{hset, hsetnx, hget, hmget, list_hash, hdel, hexists, hlen, hstrlen, hincrby}
 use Rattle.mr_cmd_hash.specs.Called.{hash_name}
 use Rattle.mr_cmd_hash.specs.Carried.{hash_words}
 use Rattle.mr_words.specs.Spelling.{Word, AreParts}
@@ -18,10 +18,10 @@ use Rattle.mr_cmd_hash.specs.declared.hash_ask.FieldsReply.{FieldsReply}
 use Rattle.mr_cmd_hash.specs.declared.hash_ask.HashPart.{HashPart}
 use Rattle.mr_words.specs.declared.fault.AskFault.TheVariants.{Arity}
 
-pub set_fields_spells : (n : Name) (r : FieldsReply) → ((k : List ℕ) (ps : List (List ℕ × List ℕ)) → hash_name (hash.SetFields k ps r) ≡ n) → (ws : List (List ℕ)) → IfOk (set_fields n r ws) (HashSpells n ws)
-set_fields_spells n r is [] = tt
-set_fields_spells n r is (k ∷ []) = tt
-set_fields_spells n r is (k ∷ w ∷ ws) = with_pairs (w ∷ ws) (Arity n) _ _ (λ pairs e. record {
+pub hset_spells : (n : Name) (r : FieldsReply) → ((k : List ℕ) (ps : List (List ℕ × List ℕ)) → hash_name (hash.HSet k ps r) ≡ n) → (ws : List (List ℕ)) → IfOk (hset n r ws) (HashSpells n ws)
+hset_spells n r is [] = tt
+hset_spells n r is (k ∷ []) = tt
+hset_spells n r is (k ∷ w ∷ ws) = with_pairs (w ∷ ws) (Arity n) _ _ (λ pairs e. record {
   name_is = is k pairs;
   parts = (refl, subst (λ (xs : List (List ℕ)). AreParts (w ∷ ws) (map Word xs)) e (all_words (w ∷ ws)));
 })
@@ -66,7 +66,7 @@ hincrby_spells _ = tt
 
 carried_hashes : (a : HashAsk) → carried (hash_parts a) ≡ hash_words a
 unfolding carried
-carried_hashes (hash.IncreaseField key field by) = refl
+carried_hashes (hash.HIncrBy key field by) = refl
 carried_hashes a = carried-words (hash_words a)
 
 pub hash_fits : (n : Name) (ws : List (List ℕ)) (a : HashAsk) → HashSpells n ws a → IsTrue (list_all fits ws) → IsTrue (list_all fits (hash_words a))

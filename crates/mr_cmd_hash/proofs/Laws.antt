@@ -35,7 +35,7 @@ use Rattle.mr_data.proofs.KindLaws.{hashes_are, hashes_kept}
 use Rattle.mr_planning.proofs.Laws.{faithful, at_key_faithful, IsLawful}
 use Rattle.mr_planning.proofs.Changing.{IsFaithfulChange, changing_faithful}
 use Rattle.mr_planning.proofs.PlanLemmas.{purged_at}
-use Rattle.mr_cmd_hash.specs.Hashes.{Hash, unchanged, last_values, changed, set_pairs, count_reply, set_new_field, number_at, overflow, no_integer, set_number, increase_from, increase_field, removed, remove_fields, fields_reply, count_new}
+use Rattle.mr_cmd_hash.specs.Hashes.{Hash, unchanged, last_values, changed, set_pairs, count_reply, hsetnx, number_at, overflow, no_integer, set_number, increase_from, hincrby, removed, hdel, fields_reply, count_new}
 use Rattle.mr_cmd_hash.specs.Commands.{key_of, change, turn, command}
 use Rattle.mr_cmd_hash.proofs.Fields.{all_map, own_entries, with_changed, none_changed}
 use Rattle.mr_cmd_hash.proofs.Gone.{without_removed, none_removed, removed_fit}
@@ -131,7 +131,7 @@ set_faithful k reply ps h o fit all is = cut_faithful k (effect.SetFields k) wit
 one_pair : (f v : Bytes) → fits f ≡ true → fits v ≡ true → list_all pair_fits ((f, v) ∷ []) ≡ true
 one_pair f v a b = both (fits f && fits v) true (both (fits f) (fits v) a b) refl
 
-new_faithful : (k f v : Bytes) (h : Hash) (o : Option Entry) → fits k ≡ true → fits f ≡ true → fits v ≡ true → held hashes o ≡ Some h → IsFaithfulChange hashes (set_new_field k f v h) h k o
+new_faithful : (k f v : Bytes) (h : Hash) (o : Option Entry) → fits k ≡ true → fits f ≡ true → fits v ≡ true → held hashes o ≡ Some h → IsFaithfulChange hashes (hsetnx k f v h) h k o
 new_faithful k f v h o a b c is = elim (contains_key h f) as (λ t. IsFaithfulChange hashes (if t then unchanged (count_reply 0) h else set_pairs k (count_reply 1) ((f, v) ∷ []) h) h k o) [
   | true ↦ unchanged_faithful (count_reply 0) h k o
   | false ↦ set_faithful k (count_reply 1) ((f, v) ∷ []) h o a (one_pair f v b c) is
@@ -143,26 +143,26 @@ number_faithful k f n h o a b is = elim (is_i64 n) as (λ t. is_i64 n ≡ t → 
   | false ↦ λ t. unchanged_faithful overflow h k o
 ] refl
 
-increase_faithful : (k f : Bytes) (by : ℤ) (h : Hash) (o : Option Entry) → fits k ≡ true → fits f ≡ true → held hashes o ≡ Some h → IsFaithfulChange hashes (increase_field k f by h) h k o
+increase_faithful : (k f : Bytes) (by : ℤ) (h : Hash) (o : Option Entry) → fits k ≡ true → fits f ≡ true → held hashes o ≡ Some h → IsFaithfulChange hashes (hincrby k f by h) h k o
 increase_faithful k f by h o a b is = elim (number_at (get h f)) as (λ n. IsFaithfulChange hashes (increase_from k f by n h) h k o) [
   | None ↦ unchanged_faithful no_integer h k o
   | Some n ↦ number_faithful k f (n +ℤ by) h o a b is
 ]
 
-remove_faithful : (k : Bytes) (fs : List Bytes) (h : Hash) (o : Option Entry) → fits k ≡ true → list_all fits fs ≡ true → held hashes o ≡ Some h → IsFaithfulChange hashes (remove_fields k fs h) h k o
+remove_faithful : (k : Bytes) (fs : List Bytes) (h : Hash) (o : Option Entry) → fits k ≡ true → list_all fits fs ≡ true → held hashes o ≡ Some h → IsFaithfulChange hashes (hdel k fs h) h k o
 remove_faithful k fs h o fit all is = cut_faithful k (effect.RemoveFields k) without_fields removing fits (remove_step k fit) (count_reply (length (removed fs h))) (without_fields fs h) h o (removed fs h) (removed_fit fs h all) is (without_removed fs h) (none_removed fs h)
 
 change_faithful : (c : HashAsk) (h : Hash) (o : Option Entry) → IsTrue (list_all fits (hash_words c)) → held hashes o ≡ Some h → IsFaithfulChange hashes (change c h) h (key_of c) o
-change_faithful (ask.SetFields k ps reply) h o fit is = set_faithful k (fields_reply reply (count_new ps h)) ps h o (left (fits k) _ fit) (pairs_fit ps (right (fits k) _ fit)) is
-change_faithful (ask.SetNewField k f v) h o fit is = new_faithful k f v h o (left (fits k) _ fit) (left (fits f) _ (right (fits k) _ fit)) (left (fits v) _ (right (fits f) _ (right (fits k) _ fit))) is
-change_faithful (ask.GetField k f) h o fit is = unchanged_faithful _ h k o
-change_faithful (ask.GetFields k fs) h o fit is = unchanged_faithful _ h k o
+change_faithful (ask.HSet k ps reply) h o fit is = set_faithful k (fields_reply reply (count_new ps h)) ps h o (left (fits k) _ fit) (pairs_fit ps (right (fits k) _ fit)) is
+change_faithful (ask.HSetNx k f v) h o fit is = new_faithful k f v h o (left (fits k) _ fit) (left (fits f) _ (right (fits k) _ fit)) (left (fits v) _ (right (fits f) _ (right (fits k) _ fit))) is
+change_faithful (ask.HGet k f) h o fit is = unchanged_faithful _ h k o
+change_faithful (ask.HMGet k fs) h o fit is = unchanged_faithful _ h k o
 change_faithful (ask.ListHash k part) h o fit is = unchanged_faithful _ h k o
-change_faithful (ask.RemoveFields k fs) h o fit is = remove_faithful k fs h o (left (fits k) _ fit) (right (fits k) _ fit) is
-change_faithful (ask.HasField k f) h o fit is = unchanged_faithful _ h k o
-change_faithful (ask.CountFields k) h o fit is = unchanged_faithful _ h k o
-change_faithful (ask.FieldLength k f) h o fit is = unchanged_faithful _ h k o
-change_faithful (ask.IncreaseField k f by) h o fit is = increase_faithful k f by h o (left (fits k) _ fit) (left (fits f) _ (right (fits k) _ fit)) is
+change_faithful (ask.HDel k fs) h o fit is = remove_faithful k fs h o (left (fits k) _ fit) (right (fits k) _ fit) is
+change_faithful (ask.HExists k f) h o fit is = unchanged_faithful _ h k o
+change_faithful (ask.HLen k) h o fit is = unchanged_faithful _ h k o
+change_faithful (ask.HStrLen k f) h o fit is = unchanged_faithful _ h k o
+change_faithful (ask.HIncrBy k f by) h o fit is = increase_faithful k f by h o (left (fits k) _ fit) (left (fits f) _ (right (fits k) _ fit)) is
 
 -- ---- what is seen of a hash has a field
 live_kept : (now : ℤ) (o : Option Entry) → IsKept hashes o → IsKept hashes (live now o)
@@ -176,16 +176,16 @@ live_kept now (Some e) kept = elim (is_past now e.deadline) as (λ b. IsKept has
     no_entry f h = cc
 
 key_fits : (c : HashAsk) → IsTrue (list_all fits (hash_words c)) → fits (key_of c) ≡ true
-key_fits (ask.SetFields k ps reply) fit = left (fits k) _ fit
-key_fits (ask.SetNewField k f v) fit = left (fits k) _ fit
-key_fits (ask.GetField k f) fit = left (fits k) _ fit
-key_fits (ask.GetFields k fs) fit = left (fits k) _ fit
+key_fits (ask.HSet k ps reply) fit = left (fits k) _ fit
+key_fits (ask.HSetNx k f v) fit = left (fits k) _ fit
+key_fits (ask.HGet k f) fit = left (fits k) _ fit
+key_fits (ask.HMGet k fs) fit = left (fits k) _ fit
 key_fits (ask.ListHash k part) fit = left (fits k) _ fit
-key_fits (ask.RemoveFields k fs) fit = left (fits k) _ fit
-key_fits (ask.HasField k f) fit = left (fits k) _ fit
-key_fits (ask.CountFields k) fit = left (fits k) _ fit
-key_fits (ask.FieldLength k f) fit = left (fits k) _ fit
-key_fits (ask.IncreaseField k f by) fit = left (fits k) _ fit
+key_fits (ask.HDel k fs) fit = left (fits k) _ fit
+key_fits (ask.HExists k f) fit = left (fits k) _ fit
+key_fits (ask.HLen k) fit = left (fits k) _ fit
+key_fits (ask.HStrLen k f) fit = left (fits k) _ fit
+key_fits (ask.HIncrBy k f by) fit = left (fits k) _ fit
 
 pub hash_faithful : (c : HashAsk) (now : ℤ) (m : Dataset) → IsDataset m → IsTrue (list_all fits (hash_words c)) → IsLawful (command c) now m
 hash_faithful c now m kept fit =

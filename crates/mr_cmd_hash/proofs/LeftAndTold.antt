@@ -12,8 +12,8 @@ use Rattle.mr_resp.specs.ReplyView.{trees_of}
 use Rattle.mr_entries.specs.Collections.{with_fields, without_fields, with_members}
 use Rattle.mr_entries.proofs.Maps.{got}
 use Rattle.mr_planning.specs.Taken.{is_key}
-use Rattle.mr_cmd_hash.specs.Hashes.{Hash, count_reply, value_reply, get_field, last_values, count_new, set_pairs, unchanged, overflow, number_at, increase_from, removed}
-use Rattle.mr_cmd_hash.specs.Laws.{SetCountsNewFields, SetIsRead, RemoveCountsFields, IncreaseIsRead, GetFieldsIsGetOfEach}
+use Rattle.mr_cmd_hash.specs.Hashes.{Hash, count_reply, value_reply, hget, last_values, count_new, set_pairs, unchanged, overflow, number_at, increase_from, removed}
+use Rattle.mr_cmd_hash.specs.Laws.{SetCountsNewFields, SetIsRead, RemoveCountsFields, IncreaseIsRead, HMGetIsHGetOfEach}
 use Rattle.mr_cmd_hash.proofs.Fields.{Pair, AreApart, entries_apart, with_entries}
 use Rattle.mr_cmd_hash.proofs.Gone.{NamesApart, names_apart, with_names}
 
@@ -104,11 +104,11 @@ remove_counts k fs h n is = ap count_reply (same_count (len (without_fields fs h
 -- ---- HINCRBY
 pub increase_read : IncreaseIsRead
 increase_read k f by n h =
-    elim (number_at (get h f)) as (λ o. (increase_from k f by o h).reply ≡ reply.int n → (get_field f (increase_from k f by o h).value).reply ≡ reply.bytes (signed_decimal n)) [
+    elim (number_at (get h f)) as (λ o. (increase_from k f by o h).reply ≡ reply.int n → (hget f (increase_from k f by o h).value).reply ≡ reply.bytes (signed_decimal n)) [
       | None ↦ λ e. cc
       | Some a ↦ elim (is_i64 (a +ℤ by)) as (λ b.
           (if b then set_pairs k (reply.int (a +ℤ by)) ((f, signed_decimal (a +ℤ by)) ∷ []) h else unchanged overflow h).reply ≡ reply.int n
-          → (get_field f (if b then set_pairs k (reply.int (a +ℤ by)) ((f, signed_decimal (a +ℤ by)) ∷ []) h else unchanged overflow h).value).reply ≡ reply.bytes (signed_decimal n)) [
+          → (hget f (if b then set_pairs k (reply.int (a +ℤ by)) ((f, signed_decimal (a +ℤ by)) ∷ []) h else unchanged overflow h).value).reply ≡ reply.bytes (signed_decimal n)) [
             | true ↦ λ e. let same : a +ℤ by ≡ n = cc in ap value_reply (got h f (signed_decimal (a +ℤ by))) ∙ ap (λ z. reply.bytes (signed_decimal z)) same
             | false ↦ λ e. cc
           ]
@@ -119,5 +119,5 @@ each_value : (fs : List Bytes) (h : Hash) → map value_reply (map (get h) fs) �
 each_value [] h = refl
 each_value (f ∷ fs) h = ap (λ ts. value_reply (get h f) ∷ ts) (each_value fs h)
 
-pub each_got : GetFieldsIsGetOfEach
+pub each_got : HMGetIsHGetOfEach
 each_got fs h = ap (λ ts. reply.array (trees_of ts)) (each_value fs h)

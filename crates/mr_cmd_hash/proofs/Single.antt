@@ -14,7 +14,7 @@ use Rattle.mr_resp.specs.Replies.{Tree}
 use Rattle.mr_effect.specs.declared.effect.Effect.{Effect}
 use Rattle.mr_effect.specs.declared.effect.Effect.TheVariants as effect
 use Rattle.mr_entries.specs.Cuts.{cut}
-use Rattle.mr_cmd_hash.specs.Hashes.{Hash, is_value, changed, set_pairs, unchanged, count_reply, set_new_field, number_at, increase_from, increase_field, overflow, fields_reply, count_new, set_fields, removed, remove_fields}
+use Rattle.mr_cmd_hash.specs.Hashes.{Hash, is_value, changed, set_pairs, unchanged, count_reply, hsetnx, number_at, increase_from, hincrby, overflow, fields_reply, count_new, hset, removed, hdel}
 use Rattle.mr_cmd_hash.specs.declared.hash_ask.FieldsReply.{FieldsReply}
 use Rattle.mr_cmd_hash.specs.Commands.{Makes}
 
@@ -46,7 +46,7 @@ absent None h = refl
 absent (Some x) h = cc
 
 -- HSETNX of a field that isn't there
-pub new_set : (k f v : Bytes) (r : Tree) (h : Hash) (es es2 : List Effect) → contains_key h f ≡ false → r ≡ count_reply 1 → es2 ≡ es ++ map (effect.SetFields k) (cut ((f, v) ∷ [])) → Makes (set_new_field k f v h) r es es2
+pub new_set : (k f v : Bytes) (r : Tree) (h : Hash) (es es2 : List Effect) → contains_key h f ≡ false → r ≡ count_reply 1 → es2 ≡ es ++ map (effect.SetFields k) (cut ((f, v) ∷ [])) → Makes (hsetnx k f v h) r es es2
 new_set k f v r h es es2 there told put =
     subst (λ (b : Bool). Makes (if b then unchanged (count_reply 0) h else set_pairs k (count_reply 1) ((f, v) ∷ []) h) r es es2) (sym there)
     (one_set k f v (count_reply 1) r h None es es2 (absent (get h f) there) told put)
@@ -55,7 +55,7 @@ pub is_i64-fits : (n : ℤ) → FitsSigned w64 n → is_i64 n ≡ true
 is_i64-fits n h = lt-ltb _ _ h.sfits
 
 -- HINCRBY of a number whose sum fits
-pub sum_set : (k f : Bytes) (by n sum : ℤ) (text : Bytes) (r : Tree) (h : Hash) (o : Option Bytes) (es es2 : List Effect) → o ≡ get h f → number_at o ≡ Some n → FitsSigned w64 (n +ℤ by) → sum ≡ n +ℤ by → text ≡ signed_decimal sum → r ≡ reply.int sum → es2 ≡ es ++ map (effect.SetFields k) (cut (if is_value text o then [] else (f, text) ∷ [])) → Makes (increase_field k f by h) r es es2
+pub sum_set : (k f : Bytes) (by n sum : ℤ) (text : Bytes) (r : Tree) (h : Hash) (o : Option Bytes) (es es2 : List Effect) → o ≡ get h f → number_at o ≡ Some n → FitsSigned w64 (n +ℤ by) → sum ≡ n +ℤ by → text ≡ signed_decimal sum → r ≡ reply.int sum → es2 ≡ es ++ map (effect.SetFields k) (cut (if is_value text o then [] else (f, text) ∷ [])) → Makes (hincrby k f by h) r es es2
 sum_set k f by n sum text r h o es es2 is number fits total spelled told put =
     subst (λ (x : Option ℤ). Makes (increase_from k f by x h) r es es2) (sym number ∙ ap number_at is)
     (subst (λ (b : Bool). Makes (if b then set_pairs k (reply.int (n +ℤ by)) ((f, signed_decimal (n +ℤ by)) ∷ []) h else unchanged overflow h) r es es2) (sym (is_i64-fits (n +ℤ by) fits))
@@ -74,7 +74,7 @@ none_counted : {X : Type 0} (o : Option (Bor X)) → from_bool (is_none o) ≡ c
 none_counted None = refl
 none_counted (Some x) = refl
 
-pub field_set : (k f v : Bytes) (answer : FieldsReply) (n : ℕ) (r : Tree) (h : Hash) (o : Option (Bor Bytes)) (es es2 : List Effect) → option_copied o ≡ get h f → n ≡ from_bool (is_none o) → r ≡ fields_reply answer n → es2 ≡ es ++ map (effect.SetFields k) (cut (if is_value v (option_copied o) then [] else (f, v) ∷ [])) → Makes (set_fields k answer ((f, v) ∷ []) h) r es es2
+pub field_set : (k f v : Bytes) (answer : FieldsReply) (n : ℕ) (r : Tree) (h : Hash) (o : Option (Bor Bytes)) (es es2 : List Effect) → option_copied o ≡ get h f → n ≡ from_bool (is_none o) → r ≡ fields_reply answer n → es2 ≡ es ++ map (effect.SetFields k) (cut (if is_value v (option_copied o) then [] else (f, v) ∷ [])) → Makes (hset k answer ((f, v) ∷ []) h) r es es2
 field_set k f v answer n r h o es es2 is new told put =
     one_set k f v (fields_reply answer (count_new ((f, v) ∷ []) h)) r h (option_copied o) es es2 is
     (told ∙ ap (fields_reply answer) (new ∙ none_counted o ∙ ap (λ (x : Option Bytes). cond (is_some x) 0 1) is ∙ sym (one_new f v h))) put
@@ -83,7 +83,7 @@ field_set k f v answer n r h o es es2 is new told put =
 one_removed : (f : Bytes) (h : Hash) → removed (f ∷ []) h ≡ (if contains_key h f then f ∷ [] else [])
 one_removed f h = ap (λ es. filter (contains_key h) (map (λ e. e.0) es)) (one_entry {X = Unit {0}} f tt)
 
-pub field_gone : (k f : Bytes) (there : Bool) (n : ℕ) (r : Tree) (h : Hash) (es es2 : List Effect) → there ≡ contains_key h f → n ≡ from_bool there → r ≡ count_reply n → es2 ≡ es ++ map (effect.RemoveFields k) (cut (if there then f ∷ [] else [])) → Makes (remove_fields k (f ∷ []) h) r es es2
+pub field_gone : (k f : Bytes) (there : Bool) (n : ℕ) (r : Tree) (h : Hash) (es es2 : List Effect) → there ≡ contains_key h f → n ≡ from_bool there → r ≡ count_reply n → es2 ≡ es ++ map (effect.RemoveFields k) (cut (if there then f ∷ [] else [])) → Makes (hdel k (f ∷ []) h) r es es2
 field_gone k f there n r h es es2 is counted told put =
     let gone : (if there then f ∷ [] else []) ≡ removed (f ∷ []) h = ap (λ b. if b then f ∷ [] else []) is ∙ sym (one_removed f h) in
     record {

@@ -13,26 +13,26 @@ use Rattle.mr_cmd_hash.specs.declared.hash_ask.FieldsReply.{FieldsReply}
 use Rattle.mr_cmd_hash.specs.declared.hash_ask.HashPart.{HashPart}
 
 -- HSET key field value [field value ..], HMSET the same; no pair is cut
-abbrev pub set_fields : Name → FieldsReply → List (List ℕ) → Result HashAsk AskFault
-set_fields name reply [] = Err (Arity name)
-set_fields name reply (key ∷ []) = Err (Arity name)
-set_fields name reply (key ∷ words) = with (ok_or (pairs_of words) (Arity name)) (λ pairs. Ok (ask.SetFields key pairs reply))
+abbrev pub hset : Name → FieldsReply → List (List ℕ) → Result HashAsk AskFault
+hset name reply [] = Err (Arity name)
+hset name reply (key ∷ []) = Err (Arity name)
+hset name reply (key ∷ words) = with (ok_or (pairs_of words) (Arity name)) (λ pairs. Ok (ask.HSet key pairs reply))
 
 -- HSETNX key field value
 abbrev pub hsetnx : List (List ℕ) → Result HashAsk AskFault
-hsetnx (key ∷ field ∷ value ∷ []) = Ok (ask.SetNewField key field value)
+hsetnx (key ∷ field ∷ value ∷ []) = Ok (ask.HSetNx key field value)
 hsetnx _ = Err (Arity name.HSetNx)
 
 -- HGET key field
 abbrev pub hget : List (List ℕ) → Result HashAsk AskFault
-hget (key ∷ field ∷ []) = Ok (ask.GetField key field)
+hget (key ∷ field ∷ []) = Ok (ask.HGet key field)
 hget _ = Err (Arity name.HGet)
 
 -- HMGET key field [field ..]
 abbrev pub hmget : List (List ℕ) → Result HashAsk AskFault
 hmget [] = Err (Arity name.HMGet)
 hmget (key ∷ []) = Err (Arity name.HMGet)
-hmget (key ∷ fields) = Ok (ask.GetFields key fields)
+hmget (key ∷ fields) = Ok (ask.HMGet key fields)
 
 -- HGETALL key, HKEYS key, HVALS key
 abbrev pub list_hash : Name → HashPart → List (List ℕ) → Result HashAsk AskFault
@@ -43,24 +43,24 @@ list_hash name part _ = Err (Arity name)
 abbrev pub hdel : List (List ℕ) → Result HashAsk AskFault
 hdel [] = Err (Arity name.HDel)
 hdel (key ∷ []) = Err (Arity name.HDel)
-hdel (key ∷ fields) = Ok (ask.RemoveFields key fields)
+hdel (key ∷ fields) = Ok (ask.HDel key fields)
 
 -- HEXISTS key field
 abbrev pub hexists : List (List ℕ) → Result HashAsk AskFault
-hexists (key ∷ field ∷ []) = Ok (ask.HasField key field)
+hexists (key ∷ field ∷ []) = Ok (ask.HExists key field)
 hexists _ = Err (Arity name.HExists)
 
 -- HLEN key
 abbrev pub hlen : List (List ℕ) → Result HashAsk AskFault
-hlen (key ∷ []) = Ok (ask.CountFields key)
+hlen (key ∷ []) = Ok (ask.HLen key)
 hlen _ = Err (Arity name.HLen)
 
 -- HSTRLEN key field
 abbrev pub hstrlen : List (List ℕ) → Result HashAsk AskFault
-hstrlen (key ∷ field ∷ []) = Ok (ask.FieldLength key field)
+hstrlen (key ∷ field ∷ []) = Ok (ask.HStrLen key field)
 hstrlen _ = Err (Arity name.HStrLen)
 
 -- HINCRBY key field number
 abbrev pub hincrby : List (List ℕ) → Result HashAsk AskFault
-hincrby (key ∷ field ∷ by ∷ []) = with (integer by) (λ n. Ok (ask.IncreaseField key field n))
+hincrby (key ∷ field ∷ by ∷ []) = with (integer by) (λ n. Ok (ask.HIncrBy key field n))
 hincrby _ = Err (Arity name.HIncrBy)

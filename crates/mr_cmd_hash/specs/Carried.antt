@@ -6,13 +6,13 @@ use Rattle.mr_cmd_hash.specs.declared.hash_ask.HashAsk.TheVariants as hash
 
 -- of a command on hashes
 abbrev pub hash_words : HashAsk → List (List ℕ)
-hash_words (hash.SetFields key pairs reply) = key ∷ unpaired pairs
-hash_words (hash.SetNewField key field value) = key ∷ field ∷ value ∷ []
-hash_words (hash.GetField key field) = key ∷ field ∷ []
-hash_words (hash.GetFields key fields) = key ∷ fields
+hash_words (hash.HSet key pairs reply) = key ∷ unpaired pairs
+hash_words (hash.HSetNx key field value) = key ∷ field ∷ value ∷ []
+hash_words (hash.HGet key field) = key ∷ field ∷ []
+hash_words (hash.HMGet key fields) = key ∷ fields
 hash_words (hash.ListHash key part) = key ∷ []
-hash_words (hash.RemoveFields key fields) = key ∷ fields
-hash_words (hash.HasField key field) = key ∷ field ∷ []
-hash_words (hash.CountFields key) = key ∷ []
-hash_words (hash.FieldLength key field) = key ∷ field ∷ []
-hash_words (hash.IncreaseField key field by) = key ∷ field ∷ []
+hash_words (hash.HDel key fields) = key ∷ fields
+hash_words (hash.HExists key field) = key ∷ field ∷ []
+hash_words (hash.HLen key) = key ∷ []
+hash_words (hash.HStrLen key field) = key ∷ field ∷ []
+hash_words (hash.HIncrBy key field by) = key ∷ field ∷ []

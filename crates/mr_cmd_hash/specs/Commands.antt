@@ -10,33 +10,33 @@ use Rattle.mr_cmd_hash.specs.declared.hash_ask.HashAsk.TheVariants as ask
 use Rattle.mr_planning.specs.Turns.{Turn}
 use Rattle.mr_planning.specs.Collections.{Change, changing}
 use Rattle.mr_planning.specs.Commands.{Command, on_key}
-use Rattle.mr_cmd_hash.specs.Hashes.{Hash, set_fields, set_new_field, get_field, get_fields, list_hash, remove_fields, has_field, count_fields, field_length, increase_field}
+use Rattle.mr_cmd_hash.specs.Hashes.{Hash, hset, hsetnx, hget, hmget, list_hash, hdel, hexists, hlen, hstrlen, hincrby}
 
 -- the key that a command names
 abbrev pub key_of : HashAsk → Bytes
-key_of (ask.SetFields k pairs reply) = k
-key_of (ask.SetNewField k f v) = k
-key_of (ask.GetField k f) = k
-key_of (ask.GetFields k fs) = k
+key_of (ask.HSet k pairs reply) = k
+key_of (ask.HSetNx k f v) = k
+key_of (ask.HGet k f) = k
+key_of (ask.HMGet k fs) = k
 key_of (ask.ListHash k part) = k
-key_of (ask.RemoveFields k fs) = k
-key_of (ask.HasField k f) = k
-key_of (ask.CountFields k) = k
-key_of (ask.FieldLength k f) = k
-key_of (ask.IncreaseField k f by) = k
+key_of (ask.HDel k fs) = k
+key_of (ask.HExists k f) = k
+key_of (ask.HLen k) = k
+key_of (ask.HStrLen k f) = k
+key_of (ask.HIncrBy k f by) = k
 
 -- what it does to the hash there
 abbrev pub change : HashAsk → Hash → Change Hash
-change (ask.SetFields k pairs reply) = set_fields k reply pairs
-change (ask.SetNewField k f v) = set_new_field k f v
-change (ask.GetField k f) = get_field f
-change (ask.GetFields k fs) = get_fields fs
+change (ask.HSet k pairs reply) = hset k reply pairs
+change (ask.HSetNx k f v) = hsetnx k f v
+change (ask.HGet k f) = hget f
+change (ask.HMGet k fs) = hmget fs
 change (ask.ListHash k part) = list_hash part
-change (ask.RemoveFields k fs) = remove_fields k fs
-change (ask.HasField k f) = has_field f
-change (ask.CountFields k) = count_fields
-change (ask.FieldLength k f) = field_length f
-change (ask.IncreaseField k f by) = increase_field k f by
+change (ask.HDel k fs) = hdel k fs
+change (ask.HExists k f) = hexists f
+change (ask.HLen k) = hlen
+change (ask.HStrLen k f) = hstrlen f
+change (ask.HIncrBy k f by) = hincrby k f by
 
 -- a key of another kind is left alone
 abbrev pub turn : HashAsk → Option Entry → Turn

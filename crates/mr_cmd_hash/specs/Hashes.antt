@@ -41,12 +41,12 @@ abbrev pub values_reply : List (Option Bytes) → Tree
 values_reply vs = reply.array (trees_of (map value_reply vs))
 
 -- HGET key field
-abbrev pub get_field : Bytes → Hash → Change Hash
-get_field f h = unchanged (value_reply (get h f)) h
+abbrev pub hget : Bytes → Hash → Change Hash
+hget f h = unchanged (value_reply (get h f)) h
 
 -- HMGET key field [field ..]
-abbrev pub get_fields : List Bytes → Hash → Change Hash
-get_fields fs h = unchanged (values_reply (map (get h) fs)) h
+abbrev pub hmget : List Bytes → Hash → Change Hash
+hmget fs h = unchanged (values_reply (map (get h) fs)) h
 
 -- in byte order of the fields
 abbrev pub listed : HashPart → Hash → List Bytes
@@ -59,20 +59,20 @@ abbrev pub list_hash : HashPart → Hash → Change Hash
 list_hash part h = unchanged (reply.array (trees_of (map reply.bytes (listed part h)))) h
 
 -- HEXISTS key field
-abbrev pub has_field : Bytes → Hash → Change Hash
-has_field f h = unchanged (count_reply (if contains_key h f then 1 else 0)) h
+abbrev pub hexists : Bytes → Hash → Change Hash
+hexists f h = unchanged (count_reply (if contains_key h f then 1 else 0)) h
 
 -- HLEN key
-abbrev pub count_fields : Hash → Change Hash
-count_fields h = unchanged (count_reply (len h)) h
+abbrev pub hlen : Hash → Change Hash
+hlen h = unchanged (count_reply (len h)) h
 
 abbrev pub length_of : Option Bytes → ℕ
 length_of None = 0
 length_of (Some v) = length v
 
 -- HSTRLEN key field
-abbrev pub field_length : Bytes → Hash → Change Hash
-field_length f h = unchanged (count_reply (length_of (get h f))) h
+abbrev pub hstrlen : Bytes → Hash → Change Hash
+hstrlen f h = unchanged (count_reply (length_of (get h f))) h
 
 -- ---- fields that get values
 
@@ -105,12 +105,12 @@ fields_reply answer.Added new = count_reply new
 fields_reply answer.Done new = done
 
 -- HSET key field value [field value ..], HMSET the same
-abbrev pub set_fields : Bytes → FieldsReply → List (Bytes × Bytes) → Hash → Change Hash
-set_fields k reply pairs h = set_pairs k (fields_reply reply (count_new pairs h)) pairs h
+abbrev pub hset : Bytes → FieldsReply → List (Bytes × Bytes) → Hash → Change Hash
+hset k reply pairs h = set_pairs k (fields_reply reply (count_new pairs h)) pairs h
 
 -- HSETNX key field value: a field that is there stays as it is
-abbrev pub set_new_field : Bytes → Bytes → Bytes → Hash → Change Hash
-set_new_field k f v h = if contains_key h f then unchanged (count_reply 0) h else set_pairs k (count_reply 1) ((f, v) ∷ []) h
+abbrev pub hsetnx : Bytes → Bytes → Bytes → Hash → Change Hash
+hsetnx k f v h = if contains_key h f then unchanged (count_reply 0) h else set_pairs k (count_reply 1) ((f, v) ∷ []) h
 
 abbrev pub no_integer : Tree
 no_integer = reply.error (codes "ERR hash value is not an integer")
@@ -131,8 +131,8 @@ increase_from k f by None h = unchanged no_integer h
 increase_from k f by (Some n) h = set_number k f (n +ℤ by) h
 
 -- HINCRBY key field number
-abbrev pub increase_field : Bytes → Bytes → ℤ → Hash → Change Hash
-increase_field k f by h = increase_from k f by (number_at (get h f)) h
+abbrev pub hincrby : Bytes → Bytes → ℤ → Hash → Change Hash
+hincrby k f by h = increase_from k f by (number_at (get h f)) h
 
 -- ---- fields that go
 
@@ -141,8 +141,8 @@ abbrev pub removed : List Bytes → Hash → List Bytes
 removed fs h = filter (contains_key h) (keys (with_members fs empty))
 
 -- HDEL key field [field ..]
-abbrev pub remove_fields : Bytes → List Bytes → Hash → Change Hash
-remove_fields k fs h = record {
+abbrev pub hdel : Bytes → List Bytes → Hash → Change Hash
+hdel k fs h = record {
   reply = count_reply (length (removed fs h));
   value = without_fields fs h;
   effects = map (effect.RemoveFields k) (cut (removed fs h));

@@ -9,7 +9,7 @@ use Rattle.mr_cmd_hash.specs.declared.hash_ask.HashAsk.TheVariants as hash
 
 -- what stands behind the name of a command on hashes
 abbrev pub hash_parts : HashAsk → List Part
-hash_parts (hash.IncreaseField key field by) = Word key ∷ Word field ∷ Number by ∷ []
+hash_parts (hash.HIncrBy key field by) = Word key ∷ Word field ∷ Number by ∷ []
 hash_parts command = map Word (hash_words command)
 
 -- These words, behind this name, spell the command.

@@ -1,7 +1,7 @@
 // Commands on hashes from the words behind their names.
 ghost use Rattle.std.specs.Prelude.{◌≡◌, map};
 ghost use Rattle.std.specs.Cow.{cow_slice_items};
-ghost use Rattle.mr_cmd_hash.specs.Arguments.{set_fields, hsetnx, hget, hmget, list_hash, hdel, hexists, hlen, hstrlen, hincrby};
+ghost use Rattle.mr_cmd_hash.specs.Arguments.{hset, hsetnx, hget, hmget, list_hash, hdel, hexists, hlen, hstrlen, hincrby};
 
 use crate::hash_ask::{FieldsReply, HashAsk, HashPart};
 use mr_words::{Argument, Arguments, AskFault, Name, Pairs, Words, integer};
@@ -13,16 +13,16 @@ type Reading<'a, 't> = Result<HashAsk<'a, 't>, AskFault>;
 /// # Errors
 ///
 /// There are fewer than three words, or a field has no value.
-pub fn set_fields<'a, 't>(
+pub fn hset<'a, 't>(
     name: Name,
     reply: FieldsReply,
     arguments: Arguments<'a, 't>,
 ) -> Reading<'a, 't>
-    ensures { result ≡ set_fields name reply (map cow_slice_items arguments.now) }
+    ensures { result ≡ hset name reply (map cow_slice_items arguments.now) }
 {
     match arguments {
         [] | [_] => Err(AskFault::Arity(name)),
-        [key, words @ ..] => Ok(HashAsk::SetFields {
+        [key, words @ ..] => Ok(HashAsk::HSet {
             key: Argument::of(key),
             pairs: Pairs::of(words).ok_or(AskFault::Arity(name))?,
             reply,
@@ -39,7 +39,7 @@ pub fn hsetnx<'a, 't>(arguments: Arguments<'a, 't>) -> Reading<'a, 't>
     ensures { result ≡ hsetnx (map cow_slice_items arguments.now) }
 {
     match arguments {
-        [key, field, value] => Ok(HashAsk::SetNewField {
+        [key, field, value] => Ok(HashAsk::HSetNx {
             key: Argument::of(key),
             field: Argument::of(field),
             value: Argument::of(value),
@@ -57,7 +57,7 @@ pub fn hget<'a, 't>(arguments: Arguments<'a, 't>) -> Reading<'a, 't>
     ensures { result ≡ hget (map cow_slice_items arguments.now) }
 {
     match arguments {
-        [key, field] => Ok(HashAsk::GetField {
+        [key, field] => Ok(HashAsk::HGet {
             key: Argument::of(key),
             field: Argument::of(field),
         }),
@@ -75,7 +75,7 @@ pub fn hmget<'a, 't>(arguments: Arguments<'a, 't>) -> Reading<'a, 't>
 {
     match arguments {
         [] | [_] => Err(AskFault::Arity(Name::HMGet)),
-        [key, fields @ ..] => Ok(HashAsk::GetFields {
+        [key, fields @ ..] => Ok(HashAsk::HMGet {
             key: Argument::of(key),
             fields: Words::new(fields),
         }),
@@ -113,7 +113,7 @@ pub fn hdel<'a, 't>(arguments: Arguments<'a, 't>) -> Reading<'a, 't>
 {
     match arguments {
         [] | [_] => Err(AskFault::Arity(Name::HDel)),
-        [key, fields @ ..] => Ok(HashAsk::RemoveFields {
+        [key, fields @ ..] => Ok(HashAsk::HDel {
             key: Argument::of(key),
             fields: Words::new(fields),
         }),
@@ -129,7 +129,7 @@ pub fn hexists<'a, 't>(arguments: Arguments<'a, 't>) -> Reading<'a, 't>
     ensures { result ≡ hexists (map cow_slice_items arguments.now) }
 {
     match arguments {
-        [key, field] => Ok(HashAsk::HasField {
+        [key, field] => Ok(HashAsk::HExists {
             key: Argument::of(key),
             field: Argument::of(field),
         }),
@@ -146,7 +146,7 @@ pub fn hlen<'a, 't>(arguments: Arguments<'a, 't>) -> Reading<'a, 't>
     ensures { result ≡ hlen (map cow_slice_items arguments.now) }
 {
     match arguments {
-        [key] => Ok(HashAsk::CountFields {
+        [key] => Ok(HashAsk::HLen {
             key: Argument::of(key),
         }),
         _ => Err(AskFault::Arity(Name::HLen)),
@@ -162,7 +162,7 @@ pub fn hstrlen<'a, 't>(arguments: Arguments<'a, 't>) -> Reading<'a, 't>
     ensures { result ≡ hstrlen (map cow_slice_items arguments.now) }
 {
     match arguments {
-        [key, field] => Ok(HashAsk::FieldLength {
+        [key, field] => Ok(HashAsk::HStrLen {
             key: Argument::of(key),
             field: Argument::of(field),
         }),
@@ -179,7 +179,7 @@ pub fn hincrby<'a, 't>(arguments: Arguments<'a, 't>) -> Reading<'a, 't>
     ensures { result ≡ hincrby (map cow_slice_items arguments.now) }
 {
     match arguments {
-        [key, field, by] => Ok(HashAsk::IncreaseField {
+        [key, field, by] => Ok(HashAsk::HIncrBy {
             key: Argument::of(key),
             field: Argument::of(field),
             by: integer(by)?,

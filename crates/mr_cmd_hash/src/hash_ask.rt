@@ -5,24 +5,24 @@ use mr_words::{Argument, Pairs, Words};
 #[derive(Drop)]
 pub enum HashAsk<'a, 't> {
     /// `HSET key field value [field value ..]`, `HMSET` the same
-    SetFields {
+    HSet {
         key: Argument<'a>,
         pairs: Pairs<'a, 't>,
         reply: FieldsReply,
     },
     /// `HSETNX key field value`
-    SetNewField {
+    HSetNx {
         key: Argument<'a>,
         field: Argument<'a>,
         value: Argument<'a>,
     },
     /// `HGET key field`
-    GetField {
+    HGet {
         key: Argument<'a>,
         field: Argument<'a>,
     },
     /// `HMGET key field [field ..]`
-    GetFields {
+    HMGet {
         key: Argument<'a>,
         fields: Words<'a, 't>,
     },
@@ -32,26 +32,26 @@ pub enum HashAsk<'a, 't> {
         part: HashPart,
     },
     /// `HDEL key field [field ..]`
-    RemoveFields {
+    HDel {
         key: Argument<'a>,
         fields: Words<'a, 't>,
     },
     /// `HEXISTS key field`
-    HasField {
+    HExists {
         key: Argument<'a>,
         field: Argument<'a>,
     },
     /// `HLEN key`
-    CountFields {
+    HLen {
         key: Argument<'a>,
     },
     /// `HSTRLEN key field`
-    FieldLength {
+    HStrLen {
         key: Argument<'a>,
         field: Argument<'a>,
     },
     /// `HINCRBY key field number`
-    IncreaseField {
+    HIncrBy {
         key: Argument<'a>,
         field: Argument<'a>,
         by: i64,

@@ -61,16 +61,16 @@ fn key_of<'c, 'a>(ask: &'c HashAsk<'a, '_>) -> &'c Argument<'a>
     ensures { result.now ≡ key_of ask.now }
 {
     match ask {
-        HashAsk::SetFields { key, .. } => key,
-        HashAsk::SetNewField { key, .. } => key,
-        HashAsk::GetField { key, .. } => key,
-        HashAsk::GetFields { key, .. } => key,
+        HashAsk::HSet { key, .. } => key,
+        HashAsk::HSetNx { key, .. } => key,
+        HashAsk::HGet { key, .. } => key,
+        HashAsk::HMGet { key, .. } => key,
         HashAsk::ListHash { key, .. } => key,
-        HashAsk::RemoveFields { key, .. } => key,
-        HashAsk::HasField { key, .. } => key,
-        HashAsk::CountFields { key } => key,
-        HashAsk::FieldLength { key, .. } => key,
-        HashAsk::IncreaseField { key, .. } => key,
+        HashAsk::HDel { key, .. } => key,
+        HashAsk::HExists { key, .. } => key,
+        HashAsk::HLen { key } => key,
+        HashAsk::HStrLen { key, .. } => key,
+        HashAsk::HIncrBy { key, .. } => key,
     }
 }
 
@@ -98,23 +98,23 @@ fn change(
     ensures { IfOk result (λ r. Makes (change ask.now hash.now) (view r) effects.old effects.new) }
 {
     match ask {
-        HashAsk::SetFields { key, pairs, reply } => {
-            setting::set_fields(alloc, key, pairs, *reply, hash, effects)
+        HashAsk::HSet { key, pairs, reply } => {
+            setting::hset(alloc, key, pairs, *reply, hash, effects)
         }
-        HashAsk::SetNewField { key, field, value } => {
-            setting::set_new_field(alloc, key, field, value, hash, effects)
+        HashAsk::HSetNx { key, field, value } => {
+            setting::hsetnx(alloc, key, field, value, hash, effects)
         }
-        HashAsk::GetField { key: _, field } => reading::get_field(alloc, field, hash),
-        HashAsk::GetFields { key: _, fields } => reading::get_fields(alloc, fields, hash),
+        HashAsk::HGet { key: _, field } => reading::hget(alloc, field, hash),
+        HashAsk::HMGet { key: _, fields } => reading::hmget(alloc, fields, hash),
         HashAsk::ListHash { key: _, part } => reading::list_hash(alloc, *part, hash),
-        HashAsk::RemoveFields { key, fields } => {
-            removing::remove_fields(alloc, key, fields, hash, effects)
+        HashAsk::HDel { key, fields } => {
+            removing::hdel(alloc, key, fields, hash, effects)
         }
-        HashAsk::HasField { key: _, field } => Ok(reading::has_field(field, hash)),
-        HashAsk::CountFields { key: _ } => Ok(reading::count_fields(hash)),
-        HashAsk::FieldLength { key: _, field } => Ok(reading::field_length(field, hash)),
-        HashAsk::IncreaseField { key, field, by } => {
-            setting::increase_field(alloc, key, field, *by, hash, effects)
+        HashAsk::HExists { key: _, field } => Ok(reading::hexists(field, hash)),
+        HashAsk::HLen { key: _ } => Ok(reading::hlen(hash)),
+        HashAsk::HStrLen { key: _, field } => Ok(reading::hstrlen(field, hash)),
+        HashAsk::HIncrBy { key, field, by } => {
+            setting::hincrby(alloc, key, field, *by, hash, effects)
         }
     }
 }

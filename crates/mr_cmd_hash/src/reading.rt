@@ -1,7 +1,7 @@
 // What a hash has.
 ghost use Rattle.std.specs.Prelude.{◌≡◌, ◌<◌, ◌^◌, IfOk, option_copied};
 ghost use Rattle.mr_resp.specs.ReplyView.{view};
-ghost use Rattle.mr_cmd_hash.specs.Hashes.{value_reply, get_field, get_fields, list_hash, has_field, count_fields, field_length};
+ghost use Rattle.mr_cmd_hash.specs.Hashes.{value_reply, hget, hmget, list_hash, hexists, hlen, hstrlen};
 
 use crate::hash_ask::HashPart;
 use mr_planning::{count, integer};
@@ -20,15 +20,15 @@ fn value(alloc: Global, value: Option<&[u8]>) -> Result<Reply, AllocError>
 }
 
 /// `HGET`
-pub fn get_field(alloc: Global, field: &Argument<'_>, hash: &Hash) -> Result<Reply, AllocError>
-    ensures { IfOk result (λ r. view r ≡ (get_field field.now hash.now).reply) }
+pub fn hget(alloc: Global, field: &Argument<'_>, hash: &Hash) -> Result<Reply, AllocError>
+    ensures { IfOk result (λ r. view r ≡ (hget field.now hash.now).reply) }
 {
     value(alloc, hash.get(field.as_slice()))
 }
 
 /// `HMGET`
-pub fn get_fields(alloc: Global, fields: &Words<'_, '_>, hash: &Hash) -> Result<Reply, AllocError>
-    ensures { IfOk result (λ r. view r ≡ (get_fields fields.now hash.now).reply) }
+pub fn hmget(alloc: Global, fields: &Words<'_, '_>, hash: &Hash) -> Result<Reply, AllocError>
+    ensures { IfOk result (λ r. view r ≡ (hmget fields.now hash.now).reply) }
 {
     let fields = fields.as_slice();
     let mut replies = Vec::with_capacity(alloc, fields.len())?;
@@ -50,22 +50,22 @@ pub fn list_hash(alloc: Global, part: HashPart, hash: &Hash) -> Result<Reply, Al
 }
 
 /// `HEXISTS`
-pub fn has_field(field: &Argument<'_>, hash: &Hash) -> Reply
-    ensures { view result ≡ (has_field field.now hash.now).reply }
+pub fn hexists(field: &Argument<'_>, hash: &Hash) -> Reply
+    ensures { view result ≡ (hexists field.now hash.now).reply }
 {
     integer(i64::from(hash.contains(field.as_slice())))
 }
 
 /// `HLEN`
-pub fn count_fields(hash: &Hash) -> Reply
-    ensures { view result ≡ (count_fields hash.now).reply }
+pub fn hlen(hash: &Hash) -> Reply
+    ensures { view result ≡ (hlen hash.now).reply }
 {
     count(hash.len())
 }
 
 /// `HSTRLEN`
-pub fn field_length(field: &Argument<'_>, hash: &Hash) -> Reply
-    ensures { view result ≡ (field_length field.now hash.now).reply }
+pub fn hstrlen(field: &Argument<'_>, hash: &Hash) -> Reply
+    ensures { view result ≡ (hstrlen field.now hash.now).reply }
 {
     match hash.get(field.as_slice()) {
         None => count(0),

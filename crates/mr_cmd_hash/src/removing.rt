@@ -5,7 +5,7 @@ ghost use Rattle.mr_resp.specs.ReplyView.{view};
 ghost use Rattle.mr_effect.specs.declared.effect.Effect.TheVariants as made;
 ghost use Rattle.mr_entries.specs.Collections.{with_members};
 ghost use Rattle.mr_entries.specs.Cuts.{cut};
-ghost use Rattle.mr_cmd_hash.specs.Hashes.{remove_fields};
+ghost use Rattle.mr_cmd_hash.specs.Hashes.{hdel};
 ghost use Rattle.mr_cmd_hash.specs.Commands.{Makes};
 
 use crate::groups::{FieldGroup, end_fields};
@@ -58,7 +58,7 @@ fn remove_field(
     hash: &Hash,
     effects: &mut Effects,
 ) -> Result<Reply, AllocError>
-    ensures { IfOk result (λ r. Makes (remove_fields key.now (field.now ∷ []) hash.now) (view r) effects.old effects.new) }
+    ensures { IfOk result (λ r. Makes (hdel key.now (field.now ∷ []) hash.now) (view r) effects.old effects.new) }
 {
     let there = hash.contains(field);
     let mut group = FieldGroup::new(alloc, key.as_slice());
@@ -68,14 +68,14 @@ fn remove_field(
 }
 
 /// `HDEL`
-pub fn remove_fields(
+pub fn hdel(
     alloc: Global,
     key: &Argument<'_>,
     fields: &Words<'_, '_>,
     hash: &Hash,
     effects: &mut Effects,
 ) -> Result<Reply, AllocError>
-    ensures { IfOk result (λ r. Makes (remove_fields key.now fields.now hash.now) (view r) effects.old effects.new) }
+    ensures { IfOk result (λ r. Makes (hdel key.now fields.now hash.now) (view r) effects.old effects.new) }
 {
     if let [field] = fields.as_slice() {
         return remove_field(alloc, key, field.as_slice(), hash, effects);

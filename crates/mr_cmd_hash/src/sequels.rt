@@ -1,5 +1,5 @@
 // Laws of the definitions that the contracts cite.
-ghost use Rattle.mr_cmd_hash.specs.Laws.{SetCountsNewFields, SetIsRead, RemoveCountsFields, IncreaseIsRead, GetFieldsIsGetOfEach};
+ghost use Rattle.mr_cmd_hash.specs.Laws.{SetCountsNewFields, SetIsRead, RemoveCountsFields, IncreaseIsRead, HMGetIsHGetOfEach};
 
 /// HSET answers how many fields were new, and HGET reads what it put last.
 pub fn what_is_set_is_counted_and_read()
@@ -19,5 +19,5 @@ pub fn what_is_increased_is_read()
 
 /// HMGET answers what HGET answers for each field.
 pub fn hmget_is_hget_of_each()
-    ensures { GetFieldsIsGetOfEach }
+    ensures { HMGetIsHGetOfEach }
 {}

@@ -4,7 +4,7 @@ ghost use Rattle.std.specs.FinMap.{entries, get, contains_key};
 ghost use Rattle.mr_resp.specs.ReplyView.{view};
 ghost use Rattle.mr_effect.specs.declared.effect.Effect.TheVariants as made;
 ghost use Rattle.mr_entries.specs.Cuts.{cut};
-ghost use Rattle.mr_cmd_hash.specs.Hashes.{is_value, last_values, fields_reply, set_fields, set_new_field, number_at, increase_field};
+ghost use Rattle.mr_cmd_hash.specs.Hashes.{is_value, last_values, fields_reply, hset, hsetnx, number_at, hincrby};
 ghost use Rattle.mr_cmd_hash.specs.Commands.{Makes};
 
 use crate::groups::{PairGroup, end_pairs};
@@ -103,7 +103,7 @@ fn set_field(
     hash: &Hash,
     effects: &mut Effects,
 ) -> Result<Reply, AllocError>
-    ensures { IfOk result (λ r. Makes (set_fields key.now reply ((field.now, value.now) ∷ []) hash.now) (view r) effects.old effects.new) }
+    ensures { IfOk result (λ r. Makes (hset key.now reply ((field.now, value.now) ∷ []) hash.now) (view r) effects.old effects.new) }
 {
     let before = hash.get(field);
     push_pair(alloc, key, field, value, before, effects)?;
@@ -111,7 +111,7 @@ fn set_field(
 }
 
 /// `HSET`, `HMSET`
-pub fn set_fields(
+pub fn hset(
     alloc: Global,
     key: &Argument<'_>,
     pairs: &Pairs<'_, '_>,
@@ -119,7 +119,7 @@ pub fn set_fields(
     hash: &Hash,
     effects: &mut Effects,
 ) -> Result<Reply, AllocError>
-    ensures { IfOk result (λ r. Makes (set_fields key.now reply pairs.now hash.now) (view r) effects.old effects.new) }
+    ensures { IfOk result (λ r. Makes (hset key.now reply pairs.now hash.now) (view r) effects.old effects.new) }
 {
     if let Some((field, value)) = only_pair(pairs) {
         return set_field(alloc, key, field, value, reply, hash, effects);
@@ -130,7 +130,7 @@ pub fn set_fields(
 }
 
 /// `HSETNX`
-pub fn set_new_field(
+pub fn hsetnx(
     alloc: Global,
     key: &Argument<'_>,
     field: &Argument<'_>,
@@ -138,7 +138,7 @@ pub fn set_new_field(
     hash: &Hash,
     effects: &mut Effects,
 ) -> Result<Reply, AllocError>
-    ensures { IfOk result (λ r. Makes (set_new_field key.now field.now value.now hash.now) (view r) effects.old effects.new) }
+    ensures { IfOk result (λ r. Makes (hsetnx key.now field.now value.now hash.now) (view r) effects.old effects.new) }
 {
     if hash.contains(field.as_slice()) {
         return Ok(integer(0));
@@ -165,7 +165,7 @@ fn number_at(before: Option<&[u8]>) -> Option<i64>
 }
 
 /// `HINCRBY`
-pub fn increase_field(
+pub fn hincrby(
     alloc: Global,
     key: &Argument<'_>,
     field: &Argument<'_>,
@@ -173,7 +173,7 @@ pub fn increase_field(
     hash: &Hash,
     effects: &mut Effects,
 ) -> Result<Reply, AllocError>
-    ensures { IfOk result (λ r. Makes (increase_field key.now field.now by hash.now) (view r) effects.old effects.new) }
+    ensures { IfOk result (λ r. Makes (hincrby key.now field.now by hash.now) (view r) effects.old effects.new) }
 {
     let before = hash.get(field.as_slice());
     let Some(number) = number_at(before) else {

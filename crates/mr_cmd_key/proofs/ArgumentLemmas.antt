@@ -9,7 +9,7 @@ use Rattle.mr_expiry.specs.Expiry.{said, number_said}
 use Rattle.mr_words.specs.Options.{added}
 use Rattle.mr_cmd_key.specs.Options.{scan_text, no_scan_options, scan_also, scan_pair, scan_options, condition_if_any}
 use Rattle.mr_cmd_key.specs.Options as options
-use Rattle.mr_cmd_key.specs.Arguments.{del, unlink, exists, key_type, matching_keys, scan, dbsize, rename, renamenx, clear, expire, ttl, pttl, expiretime, pexpiretime, persist}
+use Rattle.mr_cmd_key.specs.Arguments.{del, unlink, exists, key_type, keys, scan, dbsize, rename, renamenx, clear, expire, ttl, pttl, expiretime, pexpiretime, persist}
 use Rattle.mr_words.specs.Spelling.{Part, Word, Keyword, AreParts, in_a_row}
 use Rattle.mr_cmd_key.specs.Called.{key_name}
 use Rattle.mr_cmd_key.specs.Spelled.{scan_option, KeySpells}
@@ -50,9 +50,9 @@ pub key_type_carries : (ws : List (List ℕ)) → IfOk (key_type ws) (KeySpells 
 key_type_carries (k ∷ []) = record { name_is = refl; parts = (refl, tt) }
 key_type_carries _ = tt
 
-pub matching_keys_carries : (ws : List (List ℕ)) → IfOk (matching_keys ws) (KeySpells name.Keys ws)
-matching_keys_carries (p ∷ []) = record { name_is = refl; parts = (refl, tt) }
-matching_keys_carries _ = tt
+pub keys_carries : (ws : List (List ℕ)) → IfOk (keys ws) (KeySpells name.Keys ws)
+keys_carries (p ∷ []) = record { name_is = refl; parts = (refl, tt) }
+keys_carries _ = tt
 
 argument_part : ScanOption → List ℕ → List Part
 argument_part o w = Keyword (scan_text o) ∷ Word w ∷ []

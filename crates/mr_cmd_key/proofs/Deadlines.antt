@@ -18,7 +18,7 @@ use Rattle.mr_data.specs.Dataset.{IsDataset, IsLifetime, live, is_past}
 use Rattle.mr_data.specs.Meaning.{apply, apply_all}
 use Rattle.mr_planning.proofs.Laws.{IsFaithfulTurn, if_faithful, kept_faithful, one_short}
 use Rattle.mr_cmd_key.specs.declared.key_ask.ExpireCondition.{ExpireCondition}
-use Rattle.mr_cmd_key.specs.Expiring.{allows, with_deadline, is_until, lasting, ended, expire_turn, endless, persist_turn, CanBeNamed}
+use Rattle.mr_cmd_key.specs.Expiring.{allows, with_deadline, is_until, lasting, ended, expire_answer, endless, persist_answer, CanBeNamed}
 
 -- ---- a deadline that a key has already
 same_number : (m n : ℤ) → int_eq m n ≡ true → m ≡ n
@@ -86,8 +86,8 @@ module _ (k : Bytes) (m : Dataset) (fit : fits k ≡ true) (e : Entry) (is : get
     some = λ n. absurd (let wrong : false ≡ true = ap (λ (x : Entry). is_some x.deadline) (of_some _ _ (n ∙ is)) ∙ some in cc);
   }
 
-pub expire_faithful : (k : Bytes) (when : Option ExpireCondition) (now d : ℤ) (m : Dataset) → fits k ≡ true → CanBeNamed now d → IsFaithfulTurn (expire_turn k when now d (get m k)) k m
-expire_faithful k when now d m fit named = elim (get m k) as (λ o. get m k ≡ o → IsFaithfulTurn (expire_turn k when now d o) k m) [
+pub expire_faithful : (k : Bytes) (when : Option ExpireCondition) (now d : ℤ) (m : Dataset) → fits k ≡ true → CanBeNamed now d → IsFaithfulTurn (expire_answer k when now d (get m k)) k m
+expire_faithful k when now d m fit named = elim (get m k) as (λ o. get m k ≡ o → IsFaithfulTurn (expire_answer k when now d o) k m) [
   | None ↦ λ is. kept_faithful _ k m (sym is) refl
   | Some e ↦ λ is. if_faithful (allows when e.deadline d) _ _ k m
       (elim (int_le d now) as (λ b. int_le d now ≡ b → IsFaithfulTurn (if b then ended k else lasting k d e) k m) [
@@ -97,10 +97,10 @@ expire_faithful k when now d m fit named = elim (get m k) as (λ o. get m k ≡ 
       (kept_faithful _ k m (sym is) refl)
 ] refl
 
-pub persist_faithful : (k : Bytes) (m : Dataset) → fits k ≡ true → IsFaithfulTurn (persist_turn k (get m k)) k m
-persist_faithful k m fit = elim (get m k) as (λ o. get m k ≡ o → IsFaithfulTurn (persist_turn k o) k m) [
+pub persist_faithful : (k : Bytes) (m : Dataset) → fits k ≡ true → IsFaithfulTurn (persist_answer k (get m k)) k m
+persist_faithful k m fit = elim (get m k) as (λ o. get m k ≡ o → IsFaithfulTurn (persist_answer k o) k m) [
   | None ↦ λ is. kept_faithful _ k m (sym is) refl
-  | Some e ↦ λ is. elim (is_some e.deadline) as (λ b. is_some e.deadline ≡ b → IsFaithfulTurn (if b then endless k e else record { reply = (persist_turn k None).reply; entry = Some e; effects = [] }) k m) [
+  | Some e ↦ λ is. elim (is_some e.deadline) as (λ b. is_some e.deadline ≡ b → IsFaithfulTurn (if b then endless k e else record { reply = (persist_answer k None).reply; entry = Some e; effects = [] }) k m) [
     | true ↦ λ t. endless_faithful k m fit e is t
     | false ↦ λ t. kept_faithful _ k m (sym is) refl
   ] refl

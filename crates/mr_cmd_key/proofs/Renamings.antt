@@ -30,7 +30,7 @@ use Rattle.mr_entries.proofs.Maps.{same_key}
 use Rattle.mr_entries.proofs.Puts.{is_key_itself, get_remove, removed}
 use Rattle.mr_planning.proofs.KeyLists.{get_purged}
 use Rattle.mr_planning.proofs.Laws.{faithful, IsFaithfulAt, answered_faithful, IsLawful, one_short}
-use Rattle.mr_cmd_key.specs.Renaming.{no_key, carried, carried_if, renamed, renamed_new, cleared, Gives}
+use Rattle.mr_cmd_key.specs.Renaming.{no_key, carried, carried_if, renamed, renamed_nx, cleared, Gives}
 use Rattle.mr_effect.proofs.Texts.{short_effect}
 
 pub same_bytes : (xs ys : List ℕ) → bytes_eq xs ys ≡ true → xs ≡ ys
@@ -82,7 +82,7 @@ module _ (from to : Bytes) (m : Dataset) (fit : fits from && fits to ≡ true) w
   carried_if_faithful answer None is = answered_faithful _ m refl refl
   carried_if_faithful answer (Some e) is = carried_faithful answer e is
 
-  new_faithful : IsFaithfulAt (renamed_new from to m) m
+  new_faithful : IsFaithfulAt (renamed_nx from to m) m
   new_faithful = elim (is_some (get m from)) as (λ b. IsFaithfulAt (if b then (if is_some (get m to) then answered (reply.int (pos 0)) m else carried_if from to (reply.int (pos 1)) (get m from) m) else answered no_key m) m) [
     | true ↦ elim (is_some (get m to)) as (λ c. IsFaithfulAt (if c then answered (reply.int (pos 0)) m else carried_if from to (reply.int (pos 1)) (get m from) m) m) [
       | true ↦ answered_faithful _ m refl refl
@@ -101,9 +101,9 @@ renamed_faithful from to now m h =
     let command : Command = on_keys (from ∷ to ∷ []) (renamed from to) in
     faithful command now m h (carried_if_faithful from to (before command now m) (two_fit _ _ h) done _ refl)
 
-pub renamed_new_faithful : (from to : Bytes) (now : ℤ) (m : Dataset) → IsTrue (list_all fits (from ∷ to ∷ [])) → IsLawful (on_keys (from ∷ to ∷ []) (renamed_new from to)) now m
-renamed_new_faithful from to now m h =
-    let command : Command = on_keys (from ∷ to ∷ []) (renamed_new from to) in
+pub renamed_nx_faithful : (from to : Bytes) (now : ℤ) (m : Dataset) → IsTrue (list_all fits (from ∷ to ∷ [])) → IsLawful (on_keys (from ∷ to ∷ []) (renamed_nx from to)) now m
+renamed_nx_faithful from to now m h =
+    let command : Command = on_keys (from ∷ to ∷ []) (renamed_nx from to) in
     faithful command now m h (new_faithful from to (before command now m) (two_fit _ _ h))
 
 -- ---- every key goes

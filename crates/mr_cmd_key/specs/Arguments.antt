@@ -34,9 +34,9 @@ key_type (key ∷ []) = Ok (ask.KeyType key)
 key_type _ = Err (Arity name.KeyType)
 
 -- KEYS pattern
-abbrev pub matching_keys : List (List ℕ) → Result KeyAsk AskFault
-matching_keys (pattern ∷ []) = Ok (ask.MatchingKeys pattern)
-matching_keys _ = Err (Arity name.Keys)
+abbrev pub keys : List (List ℕ) → Result KeyAsk AskFault
+keys (pattern ∷ []) = Ok (ask.Keys pattern)
+keys _ = Err (Arity name.Keys)
 
 -- SCAN cursor [MATCH pattern] [COUNT number] [TYPE kind]
 abbrev pub scan : List (List ℕ) → Result KeyAsk AskFault
@@ -47,7 +47,7 @@ scan (cursor ∷ words) = with (scan_options words) (λ options.
 
 -- DBSIZE
 abbrev pub dbsize : List (List ℕ) → Result KeyAsk AskFault
-dbsize [] = Ok ask.CountKeys
+dbsize [] = Ok ask.DbSize
 dbsize _ = Err (Arity name.DbSize)
 
 -- RENAME key key
@@ -57,7 +57,7 @@ rename _ = Err (Arity name.Rename)
 
 -- RENAMENX key key
 abbrev pub renamenx : List (List ℕ) → Result KeyAsk AskFault
-renamenx (from ∷ to ∷ []) = Ok (ask.RenameNew from to)
+renamenx (from ∷ to ∷ []) = Ok (ask.RenameNx from to)
 renamenx _ = Err (Arity name.RenameNx)
 
 -- FLUSHALL [ASYNC|SYNC], FLUSHDB the same

@@ -46,9 +46,9 @@ lasting k d e = record {
 abbrev pub ended : Bytes → Turn
 ended k = record { reply = reply.int (pos 1); entry = None; effects = effect.Del k ∷ [] }
 
-abbrev pub expire_turn : Bytes → Option ExpireCondition → ℤ → ℤ → Option Entry → Turn
-expire_turn k when now d None = kept (reply.int (pos 0)) None
-expire_turn k when now d (Some e) =
+abbrev pub expire_answer : Bytes → Option ExpireCondition → ℤ → ℤ → Option Entry → Turn
+expire_answer k when now d None = kept (reply.int (pos 0)) None
+expire_answer k when now d (Some e) =
     if allows when e.deadline d then (if int_le d now then ended k else lasting k d e) else kept (reply.int (pos 0)) (Some e)
 
 -- an effect can name the deadline, where this lies ahead
@@ -59,9 +59,9 @@ CanBeNamed now d = int_le d now ≡ false → IsTrue (is_deadline d)
 abbrev pub endless : Bytes → Entry → Turn
 endless k e = record { reply = reply.int (pos 1); entry = Some (with_deadline None e); effects = effect.Persist k ∷ [] }
 
-abbrev pub persist_turn : Bytes → Option Entry → Turn
-persist_turn k None = kept (reply.int (pos 0)) None
-persist_turn k (Some e) = if is_some e.deadline then endless k e else kept (reply.int (pos 0)) (Some e)
+abbrev pub persist_answer : Bytes → Option Entry → Turn
+persist_answer k None = kept (reply.int (pos 0)) None
+persist_answer k (Some e) = if is_some e.deadline then endless k e else kept (reply.int (pos 0)) (Some e)
 
 -- ---- TTL key, PTTL key, EXPIRETIME key, PEXPIRETIME key
 
@@ -86,5 +86,5 @@ abbrev pub told_in : DeadlineForm → ℤ → Option Entry → ℤ
 told_in form now None = negsuc 1
 told_in form now (Some e) = lifetime_in form now e.deadline
 
-abbrev pub deadline_turn : DeadlineForm → ℤ → Option Entry → Turn
-deadline_turn form now before = kept (reply.int (told_in form now before)) before
+abbrev pub deadline_answer : DeadlineForm → ℤ → Option Entry → Turn
+deadline_answer form now before = kept (reply.int (told_in form now before)) before

@@ -29,8 +29,8 @@ module _ (from to : Bytes) where
   renamed m = carried_if done (get m from) m
 
   -- RENAMENX key key: where the other key is there, nothing changes
-  abbrev pub renamed_new : Dataset → Outcome
-  renamed_new m =
+  abbrev pub renamed_nx : Dataset → Outcome
+  renamed_nx m =
       if is_some (get m from) then (if is_some (get m to) then answered (reply.int (pos 0)) m else carried_if (reply.int (pos 1)) (get m from) m)
       else answered no_key m
 

@@ -19,5 +19,5 @@ abbrev pub type_reply : Option Entry → Tree
 type_reply None = reply.simple (codes "none")
 type_reply (Some e) = kind_name e.value
 
-abbrev pub type_turn : Option Entry → Turn
-type_turn before = kept (type_reply before) before
+abbrev pub type_answer : Option Entry → Turn
+type_answer before = kept (type_reply before) before

@@ -1,7 +1,7 @@
 // Commands on keys of any kind.
 ghost use Rattle.std.specs.Prelude.{◌≡◌, map};
 ghost use Rattle.std.specs.Cow.{cow_slice_items};
-ghost use Rattle.mr_cmd_key.specs.Arguments.{del, unlink, exists, key_type, matching_keys, scan, dbsize, rename, renamenx, clear, expire, ttl, pttl, expiretime, pexpiretime, persist};
+ghost use Rattle.mr_cmd_key.specs.Arguments.{del, unlink, exists, key_type, keys, scan, dbsize, rename, renamenx, clear, expire, ttl, pttl, expiretime, pexpiretime, persist};
 
 use crate::key_ask::{Databases, ExpireCondition, KeyAsk};
 use crate::options::ScanOptions;
@@ -60,11 +60,11 @@ pub fn key_type<'a, 't>(arguments: Arguments<'a, 't>) -> Reading<'a, 't>
 }
 
 /// `KEYS pattern`
-pub fn matching_keys<'a, 't>(arguments: Arguments<'a, 't>) -> Reading<'a, 't>
-    ensures { result ≡ matching_keys (map cow_slice_items arguments.now) }
+pub fn keys<'a, 't>(arguments: Arguments<'a, 't>) -> Reading<'a, 't>
+    ensures { result ≡ keys (map cow_slice_items arguments.now) }
 {
     match arguments {
-        [pattern] => Ok(KeyAsk::MatchingKeys {
+        [pattern] => Ok(KeyAsk::Keys {
             pattern: Argument::of(pattern),
         }),
         _ => Err(AskFault::Arity(Name::Keys)),
@@ -94,7 +94,7 @@ pub fn dbsize<'a, 't>(arguments: Arguments<'a, 't>) -> Reading<'a, 't>
     ensures { result ≡ dbsize (map cow_slice_items arguments.now) }
 {
     match arguments {
-        [] => Ok(KeyAsk::CountKeys),
+        [] => Ok(KeyAsk::DbSize),
         _ => Err(AskFault::Arity(Name::DbSize)),
     }
 }
@@ -117,7 +117,7 @@ pub fn renamenx<'a, 't>(arguments: Arguments<'a, 't>) -> Reading<'a, 't>
     ensures { result ≡ renamenx (map cow_slice_items arguments.now) }
 {
     match arguments {
-        [from, to] => Ok(KeyAsk::RenameNew {
+        [from, to] => Ok(KeyAsk::RenameNx {
             from: Argument::of(from),
             to: Argument::of(to),
         }),

@@ -3,7 +3,7 @@ ghost use Rattle.std.specs.Prelude.{◌≡◌, ◌≤ℤ◌, ◌^◌, pos, IfOk,
 ghost use Rattle.mr_resp.specs.ReplyView.{view};
 ghost use Rattle.mr_data.specs.Dataset.{IsLifetime};
 ghost use Rattle.mr_planning.specs.Turns.{Takes};
-ghost use Rattle.mr_cmd_key.specs.Expiring.{allows, deadline_in, expire_turn, in_seconds, is_until, lifetime_in, persist_turn, told_in};
+ghost use Rattle.mr_cmd_key.specs.Expiring.{allows, deadline_in, expire_answer, in_seconds, is_until, lifetime_in, persist_answer, told_in};
 
 use crate::key_ask::ExpireCondition;
 use mr_data::{Effect, Entry, Given};
@@ -23,7 +23,7 @@ pub fn expire(
     given: Given,
     effects: &mut Effects,
 ) -> Result<Reply, AllocError>
-    ensures { IfOk result (λ r. Takes (expire_turn key.now condition given.now deadline (option_copied seen.entry)) (view r) effects.old effects.new) }
+    ensures { IfOk result (λ r. Takes (expire_answer key.now condition given.now deadline (option_copied seen.entry)) (view r) effects.old effects.new) }
 {
     let Some(entry) = seen else {
         return Ok(count(0));
@@ -80,7 +80,7 @@ pub fn persist(
     seen: Option<&Entry>,
     effects: &mut Effects,
 ) -> Result<Reply, AllocError>
-    ensures { IfOk result (λ r. Takes (persist_turn key.now (option_copied seen.entry)) (view r) effects.old effects.new) }
+    ensures { IfOk result (λ r. Takes (persist_answer key.now (option_copied seen.entry)) (view r) effects.old effects.new) }
 {
     let Some(entry) = seen else {
         return Ok(count(0));

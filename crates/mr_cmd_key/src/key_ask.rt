@@ -22,7 +22,7 @@ pub enum KeyAsk<'a, 't> {
         key: Argument<'a>,
     },
     /// `KEYS pattern`
-    MatchingKeys {
+    Keys {
         pattern: Argument<'a>,
     },
     /// `SCAN cursor [MATCH pattern] [COUNT number] [TYPE kind]`. The number is read and says nothing.
@@ -32,14 +32,14 @@ pub enum KeyAsk<'a, 't> {
         kind: Option<KindName>,
     },
     /// `DBSIZE`
-    CountKeys,
+    DbSize,
     /// `RENAME key key`
     Rename {
         from: Argument<'a>,
         to: Argument<'a>,
     },
     /// `RENAMENX key key`
-    RenameNew {
+    RenameNx {
         from: Argument<'a>,
         to: Argument<'a>,
     },

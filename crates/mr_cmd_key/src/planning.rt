@@ -7,8 +7,8 @@ ghost use Rattle.mr_cmd_key.specs.Carried.{key_words};
 ghost use Rattle.mr_expiry.specs.Expiry.{deadline_at};
 ghost use Rattle.mr_planning.specs.Commands.{IsPlan, IsFaithful, HasCommandTexts, on_key, on_keys, on_none};
 ghost use Rattle.mr_cmd_key.specs.Commands.{command, HasDeadline};
-ghost use Rattle.mr_cmd_key.specs.Turns.{type_turn};
-ghost use Rattle.mr_cmd_key.specs.Expiring.{expire_turn, persist_turn, deadline_turn};
+ghost use Rattle.mr_cmd_key.specs.Turns.{type_answer};
+ghost use Rattle.mr_cmd_key.specs.Expiring.{expire_answer, persist_answer, deadline_answer};
 ghost use Rattle.mr_cmd_key.specs.Outcomes.{deleted, counted};
 ghost use Rattle.mr_cmd_key.specs.Renaming.{cleared};
 ghost use Rattle.mr_cmd_key.specs.Listing.{matching, scanned, sized};
@@ -16,7 +16,7 @@ ghost use Rattle.mr_cmd_key.specs.Listing.{matching, scanned, sized};
 use crate::counting::{count_keys, count_present};
 use crate::expiring::DeadlineForm;
 use crate::key_ask::{Cursor, ExpireCondition, KeyAsk, KindName};
-use crate::renaming::{rename, rename_new};
+use crate::renaming::{rename, renamenx};
 use crate::{expiring, kinds, listing};
 use mr_data::{Dataset, Effect, Given, Plan};
 use mr_expiry::Expiry;
@@ -69,15 +69,15 @@ fn planned(
         KeyAsk::Unlink { keys } => delete(alloc, held, keys, given),
         KeyAsk::Exists { keys } => exists(alloc, held, keys, given),
         KeyAsk::KeyType { key } => key_type(alloc, held, key, given),
-        KeyAsk::MatchingKeys { pattern } => matching_keys(alloc, held, pattern, given),
+        KeyAsk::Keys { pattern } => keys(alloc, held, pattern, given),
         KeyAsk::Scan {
             cursor,
             pattern,
             kind,
         } => scan(alloc, held, *cursor, pattern, *kind, given),
-        KeyAsk::CountKeys => key_count(alloc, held, given),
+        KeyAsk::DbSize => dbsize(alloc, held, given),
         KeyAsk::Rename { from, to } => rename(alloc, held, from, to, given),
-        KeyAsk::RenameNew { from, to } => rename_new(alloc, held, from, to, given),
+        KeyAsk::RenameNx { from, to } => renamenx(alloc, held, from, to, given),
         KeyAsk::Clear { .. } => clear(alloc, held, given),
         KeyAsk::Expire {
             key,
@@ -128,7 +128,7 @@ fn key_type(
     key: &Argument<'_>,
     given: Given,
 ) -> Result<Plan, AllocError>
-    ensures { IfOk result (λ p. IsPlan (on_key key.now type_turn) given.now held.now (view p.reply) p.effects.items) }
+    ensures { IfOk result (λ p. IsPlan (on_key key.now type_answer) given.now held.now (view p.reply) p.effects.items) }
 {
     let mut effects = Effects::new(alloc);
     let seen = look(alloc, held, key, given, &mut effects)?;
@@ -136,7 +136,7 @@ fn key_type(
     Ok(effects.into_plan(reply))
 }
 
-fn matching_keys(
+fn keys(
     alloc: Global,
     held: &Dataset,
     pattern: &Argument<'_>,
@@ -171,7 +171,7 @@ fn bytes_of<'a>(word: &Option<Argument<'a>>) -> Option<&'a [u8]>
     }
 }
 
-fn key_count(alloc: Global, held: &Dataset, given: Given) -> Result<Plan, AllocError>
+fn dbsize(alloc: Global, held: &Dataset, given: Given) -> Result<Plan, AllocError>
     ensures { IfOk result (λ p. IsPlan (on_none sized) given.now held.now (view p.reply) p.effects.items) }
 {
     let present = count_keys(held, given);
@@ -196,7 +196,7 @@ fn expire(
     condition: Option<ExpireCondition>,
     given: Given,
 ) -> Result<Plan, AllocError>
-    ensures { IfOk result (λ p. IsPlan (on_key key.now (expire_turn key.now condition given.now (deadline_at given.now expiry))) given.now held.now (view p.reply) p.effects.items) }
+    ensures { IfOk result (λ p. IsPlan (on_key key.now (expire_answer key.now condition given.now (deadline_at given.now expiry))) given.now held.now (view p.reply) p.effects.items) }
 {
     let mut effects = Effects::new(alloc);
     let seen = look(alloc, held, key, given, &mut effects)?;
@@ -211,7 +211,7 @@ fn persist(
     key: &Argument<'_>,
     given: Given,
 ) -> Result<Plan, AllocError>
-    ensures { IfOk result (λ p. IsPlan (on_key key.now (persist_turn key.now)) given.now held.now (view p.reply) p.effects.items) }
+    ensures { IfOk result (λ p. IsPlan (on_key key.now (persist_answer key.now)) given.now held.now (view p.reply) p.effects.items) }
 {
     let mut effects = Effects::new(alloc);
     let seen = look(alloc, held, key, given, &mut effects)?;
@@ -226,7 +226,7 @@ fn deadline(
     form: DeadlineForm,
     given: Given,
 ) -> Result<Plan, AllocError>
-    ensures { IfOk result (λ p. IsPlan (on_key key.now (deadline_turn form given.now)) given.now held.now (view p.reply) p.effects.items) }
+    ensures { IfOk result (λ p. IsPlan (on_key key.now (deadline_answer form given.now)) given.now held.now (view p.reply) p.effects.items) }
 {
     let mut effects = Effects::new(alloc);
     let seen = look(alloc, held, key, given, &mut effects)?;

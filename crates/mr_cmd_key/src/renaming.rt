@@ -7,7 +7,7 @@ ghost use Rattle.mr_data.specs.Dataset.{live};
 ghost use Rattle.mr_entries.specs.Dataset.{Dataset as Map};
 ghost use Rattle.mr_planning.specs.Keys.{dels, past};
 ghost use Rattle.mr_planning.specs.Commands.{IsPlan, on_keys};
-ghost use Rattle.mr_cmd_key.specs.Renaming.{Gives, carried_if, no_key, renamed, renamed_new};
+ghost use Rattle.mr_cmd_key.specs.Renaming.{Gives, carried_if, no_key, renamed, renamed_nx};
 
 use mr_data::{Dataset, Effect, Entry, Given, Plan};
 use mr_planning::{Effects, count, done, look};
@@ -34,14 +34,14 @@ pub fn rename(
 }
 
 /// `RENAMENX`
-pub fn rename_new(
+pub fn renamenx(
     alloc: Global,
     held: &Dataset,
     from: &Argument<'_>,
     to: &Argument<'_>,
     given: Given,
 ) -> Result<Plan, AllocError>
-    ensures { IfOk result (λ p. IsPlan (on_keys (from.now ∷ to.now ∷ []) (renamed_new from.now to.now)) given.now held.now (view p.reply) p.effects.items) }
+    ensures { IfOk result (λ p. IsPlan (on_keys (from.now ∷ to.now ∷ []) (renamed_nx from.now to.now)) given.now held.now (view p.reply) p.effects.items) }
 {
     let mut effects = Effects::new(alloc);
     let (source, target) = look_at_both(alloc, held, from, to, given, &mut effects)?;
@@ -103,7 +103,7 @@ fn carry_new(
     target: Option<&Entry>,
     effects: &mut Effects,
 ) -> Result<Reply, AllocError>
-    ensures { IfOk result (λ r. (m : Map) → get m from.now ≡ option_copied source.entry → get m to.now ≡ option_copied target.entry → Gives (renamed_new from.now to.now m) (view r) effects.old effects.new) }
+    ensures { IfOk result (λ r. (m : Map) → get m from.now ≡ option_copied source.entry → get m to.now ≡ option_copied target.entry → Gives (renamed_nx from.now to.now m) (view r) effects.old effects.new) }
 {
     if source.is_some() && target.is_some() {
         return Ok(count(0));

@@ -67,13 +67,13 @@ carried_lists : (a : ListAsk) → carried (list_parts a) ≡ list_words a
 unfolding carried
 carried_lists (list.Pop key end None) = refl
 carried_lists (list.Pop key end (Some n)) = refl
-carried_lists (list.Range key first last) = refl
-carried_lists (list.GetItem key index) = refl
-carried_lists (list.SetItem key index item) = refl
-carried_lists (list.InsertItem key side pivot item) = refl
-carried_lists (list.RemoveItems key count item) = refl
-carried_lists (list.Trim key first last) = refl
-carried_lists (list.MoveItem from to taken put) = refl
+carried_lists (list.LRange key first last) = refl
+carried_lists (list.LIndex key index) = refl
+carried_lists (list.LSet key index item) = refl
+carried_lists (list.LInsert key side pivot item) = refl
+carried_lists (list.LRem key count item) = refl
+carried_lists (list.LTrim key first last) = refl
+carried_lists (list.LMove from to taken put) = refl
 carried_lists a = carried-words (list_words a)
 
 pub list_fits : (n : Name) (ws : List (List ℕ)) (a : ListAsk) → ListSpells n ws a → IsTrue (list_all fits ws) → IsTrue (list_all fits (list_words a))

@@ -30,9 +30,9 @@ use Rattle.mr_planning.proofs.PlanLemmas.{purged_at}
 use Rattle.mr_planning.proofs.Laws.{faithful, IsFaithfulAt, IsFaithfulTurn, at_key_faithful, IsLawful}
 use Rattle.mr_data.proofs.KindLaws.{lists_kept}
 use Rattle.mr_cmd_list.specs.Numbers.{HasFewItems, IsShort, IsShortFor, IsNumberFor, HasNumbersIn}
-use Rattle.mr_cmd_list.specs.Pushes.{push_change, push_turn}
-use Rattle.mr_cmd_list.specs.Pops.{pop_turn}
-use Rattle.mr_cmd_list.specs.Moves.{rotate_turn, carry, carried, moving}
+use Rattle.mr_cmd_list.specs.Pushes.{push_change, push_answer}
+use Rattle.mr_cmd_list.specs.Pops.{pop_answer}
+use Rattle.mr_cmd_list.specs.Moves.{rotate_answer, carry, carried, moving}
 use Rattle.mr_cmd_list.specs.Commands.{turn, command}
 use Rattle.mr_cmd_list.proofs.Sizes.{both}
 use Rattle.mr_cmd_list.proofs.OneEffect.{of_list_faithful, changing_list, on_list_faithful}
@@ -66,15 +66,15 @@ kept_purged now ks m kept = record { entries = λ q e is. kept.entries q e (was 
     was q e false h = h
 
 -- ---- commands on one key
-pushes : (k : Bytes) (end : End) (to : PushTo) (items : List Bytes) (m : Dataset) → IsDataset m → IsTrue (fits k) → IsTrue (list_all fits items) → IsFaithfulTurn (push_turn k end to items (get m k)) k m
+pushes : (k : Bytes) (end : End) (to : PushTo) (items : List Bytes) (m : Dataset) → IsDataset m → IsTrue (fits k) → IsTrue (list_all fits items) → IsFaithfulTurn (push_answer k end to items (get m k)) k m
 pushes k end AnyKey items m kept named fit = changing_list (push_change k end items) k m kept (λ xs there. push_faithful k end items xs (get m k) named fit there)
 pushes k end ExistingKey items m kept named fit = on_list_faithful (push_change k end items) k m kept _ (λ e is xs there. push_faithful k end items xs (get m k) named fit there)
 
-pops : (k : Bytes) (end : End) (count : Option ℕ) (m : Dataset) → IsDataset m → IsTrue (fits k) → IsShortFor count (get m k) → IsFaithfulTurn (pop_turn k end count (get m k)) k m
+pops : (k : Bytes) (end : End) (count : Option ℕ) (m : Dataset) → IsDataset m → IsTrue (fits k) → IsShortFor count (get m k) → IsFaithfulTurn (pop_answer k end count (get m k)) k m
 pops k end None m kept named short = on_list_faithful _ k m kept _ (λ e is xs there. pop_one_faithful k end xs (get m k) named there)
 pops k end (Some most) m kept named short = on_list_faithful _ k m kept _ (λ e is xs there. pop_some_faithful k end xs (get m k) named there (min most (length xs)) (min-le_right most (length xs)) (is_short (get m k) xs short there))
 
-turned_in_place : (k : Bytes) (taken put : End) (m : Dataset) → IsDataset m → IsTrue (fits k) → IsFaithfulTurn (rotate_turn k taken put (get m k)) k m
+turned_in_place : (k : Bytes) (taken put : End) (m : Dataset) → IsDataset m → IsTrue (fits k) → IsFaithfulTurn (rotate_answer k taken put (get m k)) k m
 turned_in_place k taken put m kept named = on_list_faithful _ k m kept _ (λ e is xs there. turn_faithful k xs (get m k) named there taken put)
 
 left : (a b : Bool) → a && b ≡ true → a ≡ true
@@ -98,8 +98,8 @@ at_one k t now m named f kept =
     faithful (on_key k t) now m (one_fits k named) (at_key_faithful k t n (f n (purged_at now k m) (kept_purged now (k ∷ []) m kept)))
 
 moves_in : (s d : Bytes) (taken put : End) (n : Dataset) → IsDataset n → IsTrue (fits s) → IsTrue (fits d) → (b : Bool) → bytes_eq s d ≡ b
-    → IsFaithfulAt (if b then at_key s (rotate_turn s taken put) n else carried s d (carry s d taken put (get n s) (get n d)) n) n
-moves_in s d taken put n kept named_s named_d true h = at_key_faithful s (rotate_turn s taken put) n (turned_in_place s taken put n kept named_s)
+    → IsFaithfulAt (if b then at_key s (rotate_answer s taken put) n else carried s d (carry s d taken put (get n s) (get n d)) n) n
+moves_in s d taken put n kept named_s named_d true h = at_key_faithful s (rotate_answer s taken put) n (turned_in_place s taken put n kept named_s)
 moves_in s d taken put n kept named_s named_d false h = carry_faithful s d taken put h n named_s named_d
 
 moves : (s d : Bytes) (taken put : End) (now : ℤ) (m : Dataset) → IsDataset m → IsTrue (list_all fits (s ∷ d ∷ [])) → IsLawful (moving s d taken put) now m
@@ -116,21 +116,21 @@ lists_faithful (ask.Push k end to items) now m kept numbers fit =
 lists_faithful (ask.Pop k end count) now m kept numbers fit =
     let named = (all_words k [] fit).0 in
     at_one k (turn (ask.Pop k end count)) now m named (λ n is is_kept. pops k end count n is_kept named (subst (IsShortFor count) (sym is) numbers)) kept
-lists_faithful (ask.CountItems k) now m kept numbers fit = at_one k (turn (ask.CountItems k)) now m (all_words k [] fit).0 (λ n is is_kept. of_list_faithful _ _ k n) kept
-lists_faithful (ask.Range k first last) now m kept numbers fit = at_one k (turn (ask.Range k first last)) now m (all_words k [] fit).0 (λ n is is_kept. of_list_faithful _ _ k n) kept
-lists_faithful (ask.GetItem k index) now m kept numbers fit = at_one k (turn (ask.GetItem k index)) now m (all_words k [] fit).0 (λ n is is_kept. of_list_faithful _ _ k n) kept
-lists_faithful (ask.SetItem k index item) now m kept numbers fit =
+lists_faithful (ask.LLen k) now m kept numbers fit = at_one k (turn (ask.LLen k)) now m (all_words k [] fit).0 (λ n is is_kept. of_list_faithful _ _ k n) kept
+lists_faithful (ask.LRange k first last) now m kept numbers fit = at_one k (turn (ask.LRange k first last)) now m (all_words k [] fit).0 (λ n is is_kept. of_list_faithful _ _ k n) kept
+lists_faithful (ask.LIndex k index) now m kept numbers fit = at_one k (turn (ask.LIndex k index)) now m (all_words k [] fit).0 (λ n is is_kept. of_list_faithful _ _ k n) kept
+lists_faithful (ask.LSet k index item) now m kept numbers fit =
     let words = all_words k (item ∷ []) fit in
-    at_one k (turn (ask.SetItem k index item)) now m words.0 (λ n is is_kept. on_list_faithful _ k n is_kept _ (λ e here xs there. set_faithful k xs (get n k) words.0 there index item (all_words item [] words.1).0 (is_short (get n k) xs (subst IsShort (sym is) numbers) there))) kept
-lists_faithful (ask.InsertItem k side pivot item) now m kept numbers fit =
+    at_one k (turn (ask.LSet k index item)) now m words.0 (λ n is is_kept. on_list_faithful _ k n is_kept _ (λ e here xs there. set_faithful k xs (get n k) words.0 there index item (all_words item [] words.1).0 (is_short (get n k) xs (subst IsShort (sym is) numbers) there))) kept
+lists_faithful (ask.LInsert k side pivot item) now m kept numbers fit =
     let words = all_words k (pivot ∷ item ∷ []) fit in
     let others = all_words pivot (item ∷ []) words.1 in
-    at_one k (turn (ask.InsertItem k side pivot item)) now m words.0 (λ n is is_kept. on_list_faithful _ k n is_kept _ (λ e here xs there. insert_faithful k xs (get n k) words.0 there side pivot item others.0 (all_words item [] others.1).0)) kept
-lists_faithful (ask.RemoveItems k count item) now m kept numbers fit =
+    at_one k (turn (ask.LInsert k side pivot item)) now m words.0 (λ n is is_kept. on_list_faithful _ k n is_kept _ (λ e here xs there. insert_faithful k xs (get n k) words.0 there side pivot item others.0 (all_words item [] others.1).0)) kept
+lists_faithful (ask.LRem k count item) now m kept numbers fit =
     let words = all_words k (item ∷ []) fit in
-    at_one k (turn (ask.RemoveItems k count item)) now m words.0 (λ n is is_kept. on_list_faithful _ k n is_kept _ (λ e here xs there. remove_faithful k xs (get n k) words.0 there count item (all_words item [] words.1).0 (subst (IsNumberFor count) (sym is ∙ here) numbers))) kept
-lists_faithful (ask.Trim k first last) now m kept numbers fit =
+    at_one k (turn (ask.LRem k count item)) now m words.0 (λ n is is_kept. on_list_faithful _ k n is_kept _ (λ e here xs there. remove_faithful k xs (get n k) words.0 there count item (all_words item [] words.1).0 (subst (IsNumberFor count) (sym is ∙ here) numbers))) kept
+lists_faithful (ask.LTrim k first last) now m kept numbers fit =
     let named = (all_words k [] fit).0 in
-    at_one k (turn (ask.Trim k first last)) now m named (λ n is is_kept. on_list_faithful _ k n is_kept _ (λ e here xs there. trim_faithful k xs (get n k) named there first last (is_short (get n k) xs (subst IsShort (sym is) numbers) there) (lists_kept n k is_kept e here xs (sym (ap (held lists) here) ∙ there)))) kept
-lists_faithful (ask.MoveItem from to taken put) now m kept numbers fit = moves from to taken put now m kept fit
-lists_faithful (ask.MoveLastToFront from to) now m kept numbers fit = moves from to Right Left now m kept fit
+    at_one k (turn (ask.LTrim k first last)) now m named (λ n is is_kept. on_list_faithful _ k n is_kept _ (λ e here xs there. trim_faithful k xs (get n k) named there first last (is_short (get n k) xs (subst IsShort (sym is) numbers) there) (lists_kept n k is_kept e here xs (sym (ap (held lists) here) ∙ there)))) kept
+lists_faithful (ask.LMove from to taken put) now m kept numbers fit = moves from to taken put now m kept fit
+lists_faithful (ask.RPopLPush from to) now m kept numbers fit = moves from to Right Left now m kept fit

@@ -27,10 +27,10 @@ use Rattle.mr_planning.specs.Outcomes.{at_key}
 use Rattle.mr_planning.specs.Turns.{wrong_kind}
 use Rattle.mr_cmd_list.specs.Laws.{PushAnswersLength, PushIsRead, PopTakesTheEnd, MoveTakesTheEnd, MovePutsAtTheEnd, with_pushed, end_index}
 use Rattle.mr_cmd_list.specs.Lists.{of_list, item_reply, items_reply}
-use Rattle.mr_cmd_list.specs.Moves.{rotate_turn, with_rotated, carry, carry_from, carry_to, carry_item, carried}
+use Rattle.mr_cmd_list.specs.Moves.{rotate_answer, with_rotated, carry, carry_from, carry_to, carry_item, carried}
 use Rattle.mr_cmd_list.specs.Pops.{without_item}
 use Rattle.mr_cmd_list.specs.Pushes.{push_change}
-use Rattle.mr_cmd_list.specs.Telling.{length_turn, range_turn, named_item, index_turn}
+use Rattle.mr_cmd_list.specs.Telling.{llen_answer, lrange_answer, named_item, lindex_answer}
 use Rattle.mr_cmd_list.proofs.Sizes.{same_bytes}
 
 -- ---- what is told of a list that was left
@@ -60,13 +60,13 @@ with_length : (end : End) (items xs : List Bytes) → length xs + length items �
 with_length Left items xs = omega (arith, length-append (reverse items) xs, length-reverse items)
 with_length Right items xs = omega (arith, length-append xs items)
 
-length_left : (end : End) (items xs : List Bytes) (d : Option ℤ) → reply.int (pos (length xs + length items)) ≡ (length_turn (entry_of lists d (pushed end items xs))).reply
+length_left : (end : End) (items xs : List Bytes) (d : Option ℤ) → reply.int (pos (length xs + length items)) ≡ (llen_answer (entry_of lists d (pushed end items xs))).reply
 length_left end items xs d =
     ap (λ n. reply.int (pos n)) (with_length end items xs ∙ ap length (sym (pushed_is end items xs)))
     ∙ sym (of_left (reply.int (pos 0)) (λ ys. reply.int (pos (length ys))) d (pushed end items xs) refl)
 
 pushed_length : (k : Bytes) (end : End) (items : List Bytes) (before : Option Entry) (h : Option (List Bytes)) → held lists before ≡ h
-    → (changed lists (push_change k end items) h before).reply ≡ (length_turn (changed lists (push_change k end items) h before).entry).reply
+    → (changed lists (push_change k end items) h before).reply ≡ (llen_answer (changed lists (push_change k end items) h before).entry).reply
 pushed_length k end items before None e = of_other (reply.int (pos 0)) (λ ys. reply.int (pos (length ys))) before e
 pushed_length k end items before (Some xs) e = length_left end items xs (deadline_of before)
 
@@ -81,7 +81,7 @@ none_cut (Some w) = ap (take (w.1 + 1 - w.0)) (drop_all {X = Bytes} w.0 [] (omeg
 
 pub push_read : PushIsRead
 push_read k end items xs first last before is =
-    ap (λ h. (range_turn first last (changed lists (push_change k end items) h before).entry).reply) is
+    ap (λ h. (lrange_answer first last (changed lists (push_change k end items) h before).entry).reply) is
     ∙ of_left (items_reply []) (λ ys. items_reply (windowed (window_of first last (length ys)) ys)) (deadline_of before) (pushed end items xs) (ap items_reply (sym (none_cut (window_of first last 0))))
     ∙ ap (λ ys. items_reply (windowed (window_of first last (length ys)) ys)) (pushed_is end items xs)
 
@@ -110,7 +110,7 @@ put_there Left x zs = refl
 put_there Right x zs = ap (slice_get (zs ++ x ∷ [])) (let at : length (zs ++ x ∷ []) - 1 ≡ length zs = omega (arith, length-append zs (x ∷ [])) in at) ∙ last_item x zs
 
 -- LINDEX shows what was put at an end
-shown_there : (put : End) (x : Bytes) (zs : List Bytes) (d : Option ℤ) → (index_turn (end_index put) (entry_of lists d (put_item put x zs))).reply ≡ reply.bytes x
+shown_there : (put : End) (x : Bytes) (zs : List Bytes) (d : Option ℤ) → (lindex_answer (end_index put) (entry_of lists d (put_item put x zs))).reply ≡ reply.bytes x
 shown_there put x zs d =
     of_left reply.null_bulk (λ ys. item_reply (named_item (end_index put) ys)) d (put_item put x zs) (ap item_reply (sym (end_named put [] ∙ no_end put)))
     ∙ ap item_reply (end_named put (put_item put x zs) ∙ put_there put x zs)
@@ -134,22 +134,22 @@ turned_reply : (k : Bytes) (taken put : End) (o : Option Bytes) (xs : List Bytes
 turned_reply k taken put None xs = refl
 turned_reply k taken put (Some x) xs = refl
 
-turned_end : (k : Bytes) (taken put : End) (before : Option Entry) → (rotate_turn k taken put before).reply ≡ (index_turn (end_index taken) before).reply
+turned_end : (k : Bytes) (taken put : End) (before : Option Entry) → (rotate_answer k taken put before).reply ≡ (lindex_answer (end_index taken) before).reply
 turned_end k taken put None = refl
 turned_end k taken put (Some e) = elim (held lists (Some e)) as (λ h. (changed lists (λ xs. with_rotated k taken put (end_item taken xs) xs) h (Some e)).reply ≡ (told lists (λ xs. item_reply (named_item (end_index taken) xs)) h (Some e)).reply) [
   | None ↦ refl
   | Some xs ↦ turned_reply k taken put (end_item taken xs) xs ∙ ap item_reply (sym (end_named taken xs))
 ]
 
-turned_put : (k item : Bytes) (taken put : End) (before : Option Entry) → (rotate_turn k taken put before).reply ≡ reply.bytes item → (index_turn (end_index put) (rotate_turn k taken put before).entry).reply ≡ reply.bytes item
+turned_put : (k item : Bytes) (taken put : End) (before : Option Entry) → (rotate_answer k taken put before).reply ≡ reply.bytes item → (lindex_answer (end_index put) (rotate_answer k taken put before).entry).reply ≡ reply.bytes item
 turned_put k item taken put None = λ h. cc
 turned_put k item taken put (Some e) = elim (held lists (Some e)) as (λ h.
     (changed lists (λ xs. with_rotated k taken put (end_item taken xs) xs) h (Some e)).reply ≡ reply.bytes item
-    → (index_turn (end_index put) (changed lists (λ xs. with_rotated k taken put (end_item taken xs) xs) h (Some e)).entry).reply ≡ reply.bytes item) [
+    → (lindex_answer (end_index put) (changed lists (λ xs. with_rotated k taken put (end_item taken xs) xs) h (Some e)).entry).reply ≡ reply.bytes item) [
       | None ↦ λ h. cc
       | Some xs ↦ elim (end_item taken xs) as (λ o.
           (with_rotated k taken put o xs).reply ≡ reply.bytes item
-          → (index_turn (end_index put) (entry_of lists e.deadline (with_rotated k taken put o xs).value)).reply ≡ reply.bytes item) [
+          → (lindex_answer (end_index put) (entry_of lists e.deadline (with_rotated k taken put o xs).value)).reply ≡ reply.bytes item) [
             | None ↦ λ h. cc
             | Some x ↦ λ h. shown_there put x (popped taken 1 xs) e.deadline ∙ h
           ]
@@ -160,7 +160,7 @@ carried_reply : (from to : Bytes) (taken put : End) (o : Option Bytes) (xs ys : 
 carried_reply from to taken put None xs ys source target = refl
 carried_reply from to taken put (Some x) xs ys source target = refl
 
-carried_end : (from to : Bytes) (taken put : End) (source target : Option Entry) → (carry from to taken put source target).reply ≢ wrong_kind → (carry from to taken put source target).reply ≡ (index_turn (end_index taken) source).reply
+carried_end : (from to : Bytes) (taken put : End) (source target : Option Entry) → (carry from to taken put source target).reply ≢ wrong_kind → (carry from to taken put source target).reply ≡ (lindex_answer (end_index taken) source).reply
 carried_end from to taken put None target = λ other. refl
 carried_end from to taken put (Some e) target = elim (held lists (Some e)) as (λ h. (carry_from from to taken put h (Some e) target).reply ≢ wrong_kind → (carry_from from to taken put h (Some e) target).reply ≡ (told lists (λ xs. item_reply (named_item (end_index taken) xs)) h (Some e)).reply) [
   | None ↦ λ other. refl
@@ -170,13 +170,13 @@ carried_end from to taken put (Some e) target = elim (held lists (Some e)) as (�
   ]
 ]
 
-carried_put : (from to item : Bytes) (taken put : End) (source target : Option Entry) → (carry from to taken put source target).reply ≡ reply.bytes item → (index_turn (end_index put) (carry from to taken put source target).target).reply ≡ reply.bytes item
+carried_put : (from to item : Bytes) (taken put : End) (source target : Option Entry) → (carry from to taken put source target).reply ≡ reply.bytes item → (lindex_answer (end_index put) (carry from to taken put source target).target).reply ≡ reply.bytes item
 carried_put from to item taken put None target = λ h. cc
-carried_put from to item taken put (Some e) target = elim (held lists (Some e)) as (λ h. (carry_from from to taken put h (Some e) target).reply ≡ reply.bytes item → (index_turn (end_index put) (carry_from from to taken put h (Some e) target).target).reply ≡ reply.bytes item) [
+carried_put from to item taken put (Some e) target = elim (held lists (Some e)) as (λ h. (carry_from from to taken put h (Some e) target).reply ≡ reply.bytes item → (lindex_answer (end_index put) (carry_from from to taken put h (Some e) target).target).reply ≡ reply.bytes item) [
   | None ↦ λ h. cc
-  | Some xs ↦ elim (held lists target) as (λ h. (carry_to from to taken put xs h (Some e) target).reply ≡ reply.bytes item → (index_turn (end_index put) (carry_to from to taken put xs h (Some e) target).target).reply ≡ reply.bytes item) [
+  | Some xs ↦ elim (held lists target) as (λ h. (carry_to from to taken put xs h (Some e) target).reply ≡ reply.bytes item → (lindex_answer (end_index put) (carry_to from to taken put xs h (Some e) target).target).reply ≡ reply.bytes item) [
     | None ↦ λ h. cc
-    | Some ys ↦ elim (end_item taken xs) as (λ o. (carry_item from to taken put o xs ys (Some e) target).reply ≡ reply.bytes item → (index_turn (end_index put) (carry_item from to taken put o xs ys (Some e) target).target).reply ≡ reply.bytes item) [
+    | Some ys ↦ elim (end_item taken xs) as (λ o. (carry_item from to taken put o xs ys (Some e) target).reply ≡ reply.bytes item → (lindex_answer (end_index put) (carry_item from to taken put o xs ys (Some e) target).target).reply ≡ reply.bytes item) [
       | None ↦ λ h. cc
       | Some x ↦ λ h. shown_there put x ys (deadline_of target) ∙ h
     ]
@@ -187,8 +187,8 @@ carried_put from to item taken put (Some e) target = elim (held lists (Some e)) 
 pub move_taken : MoveTakesTheEnd
 move_taken from to taken put m =
     elim (bytes_eq from to) as (λ b.
-    (if b then at_key from (rotate_turn from taken put) m else carried from to (carry from to taken put (get m from) (get m to)) m).reply ≢ wrong_kind
-    → (if b then at_key from (rotate_turn from taken put) m else carried from to (carry from to taken put (get m from) (get m to)) m).reply ≡ (index_turn (end_index taken) (get m from)).reply) [
+    (if b then at_key from (rotate_answer from taken put) m else carried from to (carry from to taken put (get m from) (get m to)) m).reply ≢ wrong_kind
+    → (if b then at_key from (rotate_answer from taken put) m else carried from to (carry from to taken put (get m from) (get m to)) m).reply ≡ (lindex_answer (end_index taken) (get m from)).reply) [
       | true ↦ λ other. turned_end from taken put (get m from)
       | false ↦ carried_end from to taken put (get m from) (get m to)
     ]
@@ -196,15 +196,15 @@ move_taken from to taken put m =
 pub move_put : MovePutsAtTheEnd
 move_put from to item taken put m =
     elim (bytes_eq from to) as (λ b. bytes_eq from to ≡ b →
-    (if b then at_key from (rotate_turn from taken put) m else carried from to (carry from to taken put (get m from) (get m to)) m).reply ≡ reply.bytes item
-    → (index_turn (end_index put) (get (if b then at_key from (rotate_turn from taken put) m else carried from to (carry from to taken put (get m from) (get m to)) m).after to)).reply ≡ reply.bytes item) [
+    (if b then at_key from (rotate_answer from taken put) m else carried from to (carry from to taken put (get m from) (get m to)) m).reply ≡ reply.bytes item
+    → (lindex_answer (end_index put) (get (if b then at_key from (rotate_answer from taken put) m else carried from to (carry from to taken put (get m from) (get m to)) m).after to)).reply ≡ reply.bytes item) [
       | true ↦ λ same h.
-          let left : Option Entry = (rotate_turn from taken put (get m from)).entry in
-          ap (λ (q : Bytes). (index_turn (end_index put) (get (put_at m from left) q)).reply) (sym (same_bytes from to same))
-          ∙ ap (λ o. (index_turn (end_index put) o).reply) (get_put m from left)
+          let left : Option Entry = (rotate_answer from taken put (get m from)).entry in
+          ap (λ (q : Bytes). (lindex_answer (end_index put) (get (put_at m from left) q)).reply) (sym (same_bytes from to same))
+          ∙ ap (λ o. (lindex_answer (end_index put) o).reply) (get_put m from left)
           ∙ turned_put from item taken put (get m from) h
       | false ↦ λ apart h.
           let both = carry from to taken put (get m from) (get m to) in
-          ap (λ o. (index_turn (end_index put) o).reply) (get_put (put_at m from both.source) to both.target)
+          ap (λ o. (lindex_answer (end_index put) o).reply) (get_put (put_at m from both.source) to both.target)
           ∙ carried_put from to item taken put (get m from) (get m to) h
     ] refl

@@ -21,7 +21,7 @@ use Rattle.mr_entries.proofs.Maps.{same_key}
 use Rattle.mr_entries.proofs.Puts.{is_key_itself, get_remove, removed}
 use Rattle.mr_planning.proofs.KeyLists.{get_purged}
 use Rattle.mr_cmd_list.proofs.Sizes.{same_bytes, bytes_itself}
-use Rattle.mr_cmd_list.specs.Moves.{rotate_turn, carry, carried, moved, moving}
+use Rattle.mr_cmd_list.specs.Moves.{rotate_answer, carry, carried, moved, moving}
 
 pub apart_key : (s d : Bytes) → bytes_eq s d ≡ false → is_key d s ≡ false
 apart_key s d apart = elim (is_key d s) as (λ b. is_key d s ≡ b → b ≡ false) [
@@ -42,17 +42,17 @@ past_twice : (now : ℤ) (k : Bytes) (m : Dataset) → past now (k ∷ k ∷ [])
 past_twice now k m = twice (is_stored now true) k m refl
 
 module _ (s d : Bytes) (taken put : End) (same : bytes_eq s d ≡ true) where
-  at_one : (m : Dataset) → moved s d taken put m ≡ at_key s (rotate_turn s taken put) m
-  at_one m = ap (λ b. if b then at_key s (rotate_turn s taken put) m else carried s d (carry s d taken put (get m s) (get m d)) m) same
+  at_one : (m : Dataset) → moved s d taken put m ≡ at_key s (rotate_answer s taken put) m
+  at_one m = ap (λ b. if b then at_key s (rotate_answer s taken put) m else carried s d (carry s d taken put (get m s) (get m d)) m) same
 
   past_one : (now : ℤ) (m : Dataset) → past now (s ∷ d ∷ []) m ≡ past now (s ∷ []) m
   past_one now m = ap (λ (q : Bytes). past now (s ∷ q ∷ []) m) (sym (same_bytes s d same)) ∙ past_twice now s m
 
-  pub turned_plan : (now : ℤ) (m : Dataset) (r : Tree) (list : List Effect) → IsPlan (on_key s (rotate_turn s taken put)) now m r list → IsPlan (moving s d taken put) now m r list
+  pub turned_plan : (now : ℤ) (m : Dataset) (r : Tree) (list : List Effect) → IsPlan (on_key s (rotate_answer s taken put)) now m r list → IsPlan (moving s d taken put) now m r list
   turned_plan now m r list p = record {
     reply_is = p.reply_is ∙ sym (ap (λ (o : Outcome). o.reply) (at_one (seen now m)));
     effects_are = p.effects_are
-        ∙ ap (λ (ks : List Bytes). dels ks ++ (at_key s (rotate_turn s taken put) (without ks m)).effects) (sym (past_one now m))
+        ∙ ap (λ (ks : List Bytes). dels ks ++ (at_key s (rotate_answer s taken put) (without ks m)).effects) (sym (past_one now m))
         ∙ ap (λ (o : Outcome). dels (past now (s ∷ d ∷ []) m) ++ o.effects) (sym (at_one (purged now (s ∷ d ∷ []) m)));
   }
 
@@ -84,7 +84,7 @@ module _ (s d : Bytes) (now : ℤ) (m : Dataset) where
 
 module _ (s d : Bytes) (taken put : End) (apart : bytes_eq s d ≡ false) where
   pub at_two : (m : Dataset) → moved s d taken put m ≡ carried s d (carry s d taken put (get m s) (get m d)) m
-  at_two m = ap (λ b. if b then at_key s (rotate_turn s taken put) m else carried s d (carry s d taken put (get m s) (get m d)) m) apart
+  at_two m = ap (λ b. if b then at_key s (rotate_answer s taken put) m else carried s d (carry s d taken put (get m s) (get m d)) m) apart
 
   pub carried_plan : (now : ℤ) (m : Dataset) (o p : Option Entry) (r : Tree) (none first second list : List Effect)
       → o ≡ live now (get m s) → p ≡ live now (get m d)

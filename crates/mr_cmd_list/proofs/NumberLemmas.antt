@@ -12,15 +12,15 @@ not_many (Some most) = tt
 not_there : (a : ListAsk) → HasNumbers a None
 not_there (ask.Push k end to items) = tt
 not_there (ask.Pop k end count) = not_many count
-not_there (ask.CountItems k) = tt
-not_there (ask.Range k first last) = tt
-not_there (ask.GetItem k index) = tt
-not_there (ask.SetItem k index item) = tt
-not_there (ask.InsertItem k side pivot item) = tt
-not_there (ask.RemoveItems k count item) = tt
-not_there (ask.Trim k first last) = tt
-not_there (ask.MoveItem from to taken put) = tt
-not_there (ask.MoveLastToFront from to) = tt
+not_there (ask.LLen k) = tt
+not_there (ask.LRange k first last) = tt
+not_there (ask.LIndex k index) = tt
+not_there (ask.LSet k index item) = tt
+not_there (ask.LInsert k side pivot item) = tt
+not_there (ask.LRem k count item) = tt
+not_there (ask.LTrim k first last) = tt
+not_there (ask.LMove from to taken put) = tt
+not_there (ask.RPopLPush from to) = tt
 
 -- with nothing at the key there are none
 pub nothing_seen : (a : ListAsk) (o : Option Entry) → o ≡ None → HasNumbers a o

@@ -25,45 +25,45 @@ pop name end _ = Err (Arity name)
 
 -- LLEN key
 abbrev pub llen : List (List ℕ) → Result ListAsk AskFault
-llen (key ∷ []) = Ok (ask.CountItems key)
+llen (key ∷ []) = Ok (ask.LLen key)
 llen _ = Err (Arity name.LLen)
 
 -- LRANGE key first last
 abbrev pub lrange : List (List ℕ) → Result ListAsk AskFault
-lrange (key ∷ first ∷ last ∷ []) = with (integer first) (λ a. with (integer last) (λ b. Ok (ask.Range key a b)))
+lrange (key ∷ first ∷ last ∷ []) = with (integer first) (λ a. with (integer last) (λ b. Ok (ask.LRange key a b)))
 lrange _ = Err (Arity name.LRange)
 
 -- LINDEX key index
 abbrev pub lindex : List (List ℕ) → Result ListAsk AskFault
-lindex (key ∷ index ∷ []) = with (integer index) (λ i. Ok (ask.GetItem key i))
+lindex (key ∷ index ∷ []) = with (integer index) (λ i. Ok (ask.LIndex key i))
 lindex _ = Err (Arity name.LIndex)
 
 -- LSET key index item
 abbrev pub lset : List (List ℕ) → Result ListAsk AskFault
-lset (key ∷ index ∷ item ∷ []) = with (integer index) (λ i. Ok (ask.SetItem key i item))
+lset (key ∷ index ∷ item ∷ []) = with (integer index) (λ i. Ok (ask.LSet key i item))
 lset _ = Err (Arity name.LSet)
 
 -- LINSERT key BEFORE|AFTER pivot item
 abbrev pub linsert : List (List ℕ) → Result ListAsk AskFault
-linsert (key ∷ side ∷ pivot ∷ item ∷ []) = with (side_of side) (λ s. Ok (ask.InsertItem key s pivot item))
+linsert (key ∷ side ∷ pivot ∷ item ∷ []) = with (side_of side) (λ s. Ok (ask.LInsert key s pivot item))
 linsert _ = Err (Arity name.LInsert)
 
 -- LREM key count item
 abbrev pub lrem : List (List ℕ) → Result ListAsk AskFault
-lrem (key ∷ most ∷ item ∷ []) = with (integer most) (λ n. Ok (ask.RemoveItems key n item))
+lrem (key ∷ most ∷ item ∷ []) = with (integer most) (λ n. Ok (ask.LRem key n item))
 lrem _ = Err (Arity name.LRem)
 
 -- LTRIM key first last
 abbrev pub ltrim : List (List ℕ) → Result ListAsk AskFault
-ltrim (key ∷ first ∷ last ∷ []) = with (integer first) (λ a. with (integer last) (λ b. Ok (ask.Trim key a b)))
+ltrim (key ∷ first ∷ last ∷ []) = with (integer first) (λ a. with (integer last) (λ b. Ok (ask.LTrim key a b)))
 ltrim _ = Err (Arity name.LTrim)
 
 -- LMOVE from to LEFT|RIGHT LEFT|RIGHT
 abbrev pub lmove : List (List ℕ) → Result ListAsk AskFault
-lmove (from ∷ to ∷ taken ∷ put ∷ []) = with (end_of taken) (λ a. with (end_of put) (λ b. Ok (ask.MoveItem from to a b)))
+lmove (from ∷ to ∷ taken ∷ put ∷ []) = with (end_of taken) (λ a. with (end_of put) (λ b. Ok (ask.LMove from to a b)))
 lmove _ = Err (Arity name.LMove)
 
 -- RPOPLPUSH from to
 abbrev pub rpoplpush : List (List ℕ) → Result ListAsk AskFault
-rpoplpush (from ∷ to ∷ []) = Ok (ask.MoveLastToFront from to)
+rpoplpush (from ∷ to ∷ []) = Ok (ask.RPopLPush from to)
 rpoplpush _ = Err (Arity name.RPopLPush)

@@ -7,9 +7,9 @@ use Rattle.mr_cmd_list.specs.declared.list_ask.ListAsk.TheVariants as list
 abbrev pub ListIsAskable : ListAsk → Type 0
 ListIsAskable (list.Push key end to items) = items ≢ []
 ListIsAskable (list.Pop key end count) = IsCount count
-ListIsAskable (list.Range key first last) = IsI64 first × IsI64 last
-ListIsAskable (list.GetItem key index) = IsI64 index
-ListIsAskable (list.SetItem key index item) = IsI64 index
-ListIsAskable (list.RemoveItems key count item) = IsI64 count
-ListIsAskable (list.Trim key first last) = IsI64 first × IsI64 last
+ListIsAskable (list.LRange key first last) = IsI64 first × IsI64 last
+ListIsAskable (list.LIndex key index) = IsI64 index
+ListIsAskable (list.LSet key index item) = IsI64 index
+ListIsAskable (list.LRem key count item) = IsI64 count
+ListIsAskable (list.LTrim key first last) = IsI64 first × IsI64 last
 ListIsAskable _ = Unit {0}

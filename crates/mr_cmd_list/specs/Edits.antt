@@ -27,8 +27,8 @@ with_item k item (Some place) xs = record {
   effects = unless (is_item item (slice_get xs place)) (effect.SetItem k (pos place) item);
 }
 
-abbrev pub set_turn : Bytes → ℤ → Bytes → Option Entry → Turn
-set_turn k index item = on_list no_such_key (λ xs. with_item k item (named_place index (length xs)) xs)
+abbrev pub lset_answer : Bytes → ℤ → Bytes → Option Entry → Turn
+lset_answer k index item = on_list no_such_key (λ xs. with_item k item (named_place index (length xs)) xs)
 
 -- ---- LINSERT key BEFORE|AFTER pivot item: the new length, -1 without a pivot, 0 where the key is absent
 
@@ -40,8 +40,8 @@ with_inserted k side pivot item (Some place) xs = record {
   effects = effect.InsertItem k side pivot item ∷ [];
 }
 
-abbrev pub insert_turn : Bytes → Side → Bytes → Bytes → Option Entry → Turn
-insert_turn k side pivot item = on_list (reply.int (pos 0)) (λ xs. with_inserted k side pivot item (place_beside side pivot xs) xs)
+abbrev pub linsert_answer : Bytes → Side → Bytes → Bytes → Option Entry → Turn
+linsert_answer k side pivot item = on_list (reply.int (pos 0)) (λ xs. with_inserted k side pivot item (place_beside side pivot xs) xs)
 
 -- ---- LREM key count item: how many are removed
 
@@ -52,8 +52,8 @@ without_equal k count item removed xs = record {
   effects = unless (removed == 0) (effect.RemoveItems k count item);
 }
 
-abbrev pub remove_turn : Bytes → ℤ → Bytes → Option Entry → Turn
-remove_turn k count item = on_list (reply.int (pos 0)) (λ xs. without_equal k count item (removed_count count (count_of item xs)) xs)
+abbrev pub lrem_answer : Bytes → ℤ → Bytes → Option Entry → Turn
+lrem_answer k count item = on_list (reply.int (pos 0)) (λ xs. without_equal k count item (removed_count count (count_of item xs)) xs)
 
 -- ---- LTRIM key first last: OK
 
@@ -70,5 +70,5 @@ trimmed k (Some w) xs = record {
   effects = unless (is_whole w (length xs)) (effect.Trim k (pos w.0) (pos w.1));
 }
 
-abbrev pub trim_turn : Bytes → ℤ → ℤ → Option Entry → Turn
-trim_turn k first last = on_list done (λ xs. trimmed k (window_of first last (length xs)) xs)
+abbrev pub ltrim_answer : Bytes → ℤ → ℤ → Option Entry → Turn
+ltrim_answer k first last = on_list done (λ xs. trimmed k (window_of first last (length xs)) xs)

@@ -13,9 +13,9 @@ use Rattle.mr_cmd_list.specs.declared.list_ask.PushTo.{PushTo}
 use Rattle.mr_cmd_list.specs.declared.list_ask.PushTo.TheVariants.{AnyKey}
 use Rattle.mr_planning.specs.Turns.{wrong_kind}
 use Rattle.mr_cmd_list.specs.Lists.{items_reply}
-use Rattle.mr_cmd_list.specs.Telling.{length_turn, range_turn, index_turn}
-use Rattle.mr_cmd_list.specs.Pushes.{push_turn}
-use Rattle.mr_cmd_list.specs.Pops.{pop_turn}
+use Rattle.mr_cmd_list.specs.Telling.{llen_answer, lrange_answer, lindex_answer}
+use Rattle.mr_cmd_list.specs.Pushes.{push_answer}
+use Rattle.mr_cmd_list.specs.Pops.{pop_answer}
 use Rattle.mr_cmd_list.specs.Moves.{moved}
 
 -- the key holds these items; an absent one holds none
@@ -29,7 +29,7 @@ end_index Right = negsuc 0
 
 -- LPUSH and RPUSH answer what LLEN then answers
 abbrev pub PushAnswersLength : Type 0
-PushAnswersLength = (k : Bytes) (end : End) (to : PushTo) (items : List Bytes) (before : Option Entry) → (push_turn k end to items before).reply ≡ (length_turn (push_turn k end to items before).entry).reply
+PushAnswersLength = (k : Bytes) (end : End) (to : PushTo) (items : List Bytes) (before : Option Entry) → (push_answer k end to items before).reply ≡ (llen_answer (push_answer k end to items before).entry).reply
 
 -- the list after a push: on the right the items stand behind those before, on the left in front of them, the last one first
 abbrev pub with_pushed : End → List Bytes → List Bytes → List Bytes
@@ -39,16 +39,16 @@ with_pushed Right items xs = xs ++ items
 -- LRANGE is the cut of that list
 abbrev pub PushIsRead : Type 0
 PushIsRead = (k : Bytes) (end : End) (items xs : List Bytes) (first last : ℤ) (before : Option Entry) → HoldsItems before xs
-    → (range_turn first last (push_turn k end AnyKey items before).entry).reply ≡ items_reply (windowed (window_of first last (length (with_pushed end items xs))) (with_pushed end items xs))
+    → (lrange_answer first last (push_answer k end AnyKey items before).entry).reply ≡ items_reply (windowed (window_of first last (length (with_pushed end items xs))) (with_pushed end items xs))
 
 -- LPOP and RPOP answer what LINDEX showed at that end
 abbrev pub PopTakesTheEnd : Type 0
-PopTakesTheEnd = (k : Bytes) (end : End) (before : Option Entry) → (pop_turn k end None before).reply ≡ (index_turn (end_index end) before).reply
+PopTakesTheEnd = (k : Bytes) (end : End) (before : Option Entry) → (pop_answer k end None before).reply ≡ (lindex_answer (end_index end) before).reply
 
 -- LMOVE answers what LINDEX showed at the end that it takes from
 abbrev pub MoveTakesTheEnd : Type 0
-MoveTakesTheEnd = (from to : Bytes) (taken put : End) (m : Dataset) → (moved from to taken put m).reply ≢ wrong_kind → (moved from to taken put m).reply ≡ (index_turn (end_index taken) (get m from)).reply
+MoveTakesTheEnd = (from to : Bytes) (taken put : End) (m : Dataset) → (moved from to taken put m).reply ≢ wrong_kind → (moved from to taken put m).reply ≡ (lindex_answer (end_index taken) (get m from)).reply
 
 -- .. and LINDEX then shows it at the end where it was put
 abbrev pub MovePutsAtTheEnd : Type 0
-MovePutsAtTheEnd = (from to item : Bytes) (taken put : End) (m : Dataset) → (moved from to taken put m).reply ≡ reply.bytes item → (index_turn (end_index put) (get (moved from to taken put m).after to)).reply ≡ reply.bytes item
+MovePutsAtTheEnd = (from to item : Bytes) (taken put : End) (m : Dataset) → (moved from to taken put m).reply ≡ reply.bytes item → (lindex_answer (end_index put) (get (moved from to taken put m).after to)).reply ≡ reply.bytes item

@@ -36,8 +36,8 @@ with_rotated k taken put (Some item) xs = record {
   effects = unless (is_same_end taken put || are_equal xs) (effect.MoveItem k k taken put);
 }
 
-abbrev pub rotate_turn : Bytes → End → End → Option Entry → Turn
-rotate_turn k taken put = on_list reply.null_bulk (λ xs. with_rotated k taken put (end_item taken xs) xs)
+abbrev pub rotate_answer : Bytes → End → End → Option Entry → Turn
+rotate_answer k taken put = on_list reply.null_bulk (λ xs. with_rotated k taken put (end_item taken xs) xs)
 
 -- ---- from one key to another
 
@@ -82,7 +82,7 @@ carried from to c m = record { reply = c.reply; after = put_at (put_at m from c.
 -- ---- LMOVE from to LEFT|RIGHT LEFT|RIGHT
 
 abbrev pub moved : Bytes → Bytes → End → End → Dataset → Outcome
-moved from to taken put m = if bytes_eq from to then at_key from (rotate_turn from taken put) m else carried from to (carry from to taken put (get m from) (get m to)) m
+moved from to taken put m = if bytes_eq from to then at_key from (rotate_answer from taken put) m else carried from to (carry from to taken put (get m from) (get m to)) m
 
 abbrev pub moving : Bytes → Bytes → End → End → Command
 moving from to taken put = record { keys = from ∷ to ∷ []; outcome = moved from to taken put }

@@ -32,15 +32,15 @@ IsNumberFor count (Some e) = IsTrue (is_i64 count)
 -- the numbers in a command's effects have 64 bits, with this entry at its key
 abbrev pub HasNumbers : ListAsk → Option Entry → Type 0
 HasNumbers (ask.Pop k end count) o = IsShortFor count o
-HasNumbers (ask.SetItem k index item) o = IsShort o
-HasNumbers (ask.RemoveItems k count item) o = IsNumberFor count o
-HasNumbers (ask.Trim k first last) o = IsShort o
+HasNumbers (ask.LSet k index item) o = IsShort o
+HasNumbers (ask.LRem k count item) o = IsNumberFor count o
+HasNumbers (ask.LTrim k first last) o = IsShort o
 HasNumbers _ o = Unit {0}
 
 -- .. with what is seen in a dataset
 abbrev pub HasNumbersIn : ListAsk → ℤ → Dataset → Type 0
 HasNumbersIn (ask.Pop k end count) now m = IsShortFor count (live now (get m k))
-HasNumbersIn (ask.SetItem k index item) now m = IsShort (live now (get m k))
-HasNumbersIn (ask.RemoveItems k count item) now m = IsNumberFor count (live now (get m k))
-HasNumbersIn (ask.Trim k first last) now m = IsShort (live now (get m k))
+HasNumbersIn (ask.LSet k index item) now m = IsShort (live now (get m k))
+HasNumbersIn (ask.LRem k count item) now m = IsNumberFor count (live now (get m k))
+HasNumbersIn (ask.LTrim k first last) now m = IsShort (live now (get m k))
 HasNumbersIn _ now m = Unit {0}

@@ -29,6 +29,6 @@ without_items k end n xs = record {
 
 -- LPOP key, RPOP key: the item, nil where the key is absent. LPOP key most, RPOP key most: the items, of which there may be fewer,
 -- and a null array where the key is absent.
-abbrev pub pop_turn : Bytes → End → Option ℕ → Option Entry → Turn
-pop_turn k end None = on_list reply.null_bulk (λ xs. without_item k end (end_item end xs) xs)
-pop_turn k end (Some most) = on_list reply.null_array (λ xs. without_items k end (min most (length xs)) xs)
+abbrev pub pop_answer : Bytes → End → Option ℕ → Option Entry → Turn
+pop_answer k end None = on_list reply.null_bulk (λ xs. without_item k end (end_item end xs) xs)
+pop_answer k end (Some most) = on_list reply.null_array (λ xs. without_items k end (min most (length xs)) xs)

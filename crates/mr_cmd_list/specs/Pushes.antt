@@ -27,6 +27,6 @@ push_change k end items xs = record {
 }
 
 -- LPUSH key item [item ..], RPUSH: the new length. LPUSHX, RPUSHX: 0 where the key is absent.
-abbrev pub push_turn : Bytes → End → PushTo → List Bytes → Option Entry → Turn
-push_turn k end AnyKey items = changing lists (push_change k end items)
-push_turn k end ExistingKey items = on_list (reply.int (pos 0)) (push_change k end items)
+abbrev pub push_answer : Bytes → End → PushTo → List Bytes → Option Entry → Turn
+push_answer k end AnyKey items = changing lists (push_change k end items)
+push_answer k end ExistingKey items = on_list (reply.int (pos 0)) (push_change k end items)

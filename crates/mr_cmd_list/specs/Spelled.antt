@@ -11,13 +11,13 @@ use Rattle.mr_cmd_list.specs.declared.list_ask.ListAsk.TheVariants as list
 -- what stands behind the name of a command on lists
 abbrev pub list_parts : ListAsk → List Part
 list_parts (list.Pop key end count) = Word key ∷ count_part count
-list_parts (list.Range key first last) = Word key ∷ Number first ∷ Number last ∷ []
-list_parts (list.GetItem key index) = Word key ∷ Number index ∷ []
-list_parts (list.SetItem key index item) = Word key ∷ Number index ∷ Word item ∷ []
-list_parts (list.InsertItem key side pivot item) = Word key ∷ Keyword (side_text side) ∷ Word pivot ∷ Word item ∷ []
-list_parts (list.RemoveItems key count item) = Word key ∷ Number count ∷ Word item ∷ []
-list_parts (list.Trim key first last) = Word key ∷ Number first ∷ Number last ∷ []
-list_parts (list.MoveItem from to taken put) = Word from ∷ Word to ∷ Keyword (end_text taken) ∷ Keyword (end_text put) ∷ []
+list_parts (list.LRange key first last) = Word key ∷ Number first ∷ Number last ∷ []
+list_parts (list.LIndex key index) = Word key ∷ Number index ∷ []
+list_parts (list.LSet key index item) = Word key ∷ Number index ∷ Word item ∷ []
+list_parts (list.LInsert key side pivot item) = Word key ∷ Keyword (side_text side) ∷ Word pivot ∷ Word item ∷ []
+list_parts (list.LRem key count item) = Word key ∷ Number count ∷ Word item ∷ []
+list_parts (list.LTrim key first last) = Word key ∷ Number first ∷ Number last ∷ []
+list_parts (list.LMove from to taken put) = Word from ∷ Word to ∷ Keyword (end_text taken) ∷ Keyword (end_text put) ∷ []
 list_parts command = map Word (list_words command)
 
 abbrev pub ListSpells : Name → List (List ℕ) → ListAsk → Type 0

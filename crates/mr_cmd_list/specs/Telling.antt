@@ -10,17 +10,17 @@ use Rattle.mr_planning.specs.Turns.{Turn}
 use Rattle.mr_cmd_list.specs.Lists.{of_list, item_reply, items_reply}
 
 -- LLEN key: how many items there are, 0 where the key is absent
-abbrev pub length_turn : Option Entry → Turn
-length_turn = of_list (reply.int (pos 0)) (λ xs. reply.int (pos (length xs)))
+abbrev pub llen_answer : Option Entry → Turn
+llen_answer = of_list (reply.int (pos 0)) (λ xs. reply.int (pos (length xs)))
 
 -- LRANGE key first last: the items in the window, none where the key is absent
-abbrev pub range_turn : ℤ → ℤ → Option Entry → Turn
-range_turn first last = of_list (items_reply []) (λ xs. items_reply (windowed (window_of first last (length xs)) xs))
+abbrev pub lrange_answer : ℤ → ℤ → Option Entry → Turn
+lrange_answer first last = of_list (items_reply []) (λ xs. items_reply (windowed (window_of first last (length xs)) xs))
 
 -- the item at the place that an index names
 abbrev pub named_item : ℤ → List Bytes → Option Bytes
 named_item index xs = option_and_then (slice_get xs) (named_place index (length xs))
 
 -- LINDEX key index: that item, nil where there is none
-abbrev pub index_turn : ℤ → Option Entry → Turn
-index_turn index = of_list reply.null_bulk (λ xs. item_reply (named_item index xs))
+abbrev pub lindex_answer : ℤ → Option Entry → Turn
+lindex_answer index = of_list reply.null_bulk (λ xs. item_reply (named_item index xs))

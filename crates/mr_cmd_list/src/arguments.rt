@@ -66,7 +66,7 @@ pub fn llen<'a, 't>(arguments: Arguments<'a, 't>) -> Reading<'a, 't>
     ensures { result ≡ llen (map cow_slice_items arguments.now) }
 {
     match arguments {
-        [key] => Ok(ListAsk::CountItems {
+        [key] => Ok(ListAsk::LLen {
             key: Argument::of(key),
         }),
         _ => Err(AskFault::Arity(Name::LLen)),
@@ -82,7 +82,7 @@ pub fn lrange<'a, 't>(arguments: Arguments<'a, 't>) -> Reading<'a, 't>
     ensures { result ≡ lrange (map cow_slice_items arguments.now) }
 {
     match arguments {
-        [key, first, last] => Ok(ListAsk::Range {
+        [key, first, last] => Ok(ListAsk::LRange {
             key: Argument::of(key),
             first: integer(first)?,
             last: integer(last)?,
@@ -100,7 +100,7 @@ pub fn lindex<'a, 't>(arguments: Arguments<'a, 't>) -> Reading<'a, 't>
     ensures { result ≡ lindex (map cow_slice_items arguments.now) }
 {
     match arguments {
-        [key, index] => Ok(ListAsk::GetItem {
+        [key, index] => Ok(ListAsk::LIndex {
             key: Argument::of(key),
             index: integer(index)?,
         }),
@@ -117,7 +117,7 @@ pub fn lset<'a, 't>(arguments: Arguments<'a, 't>) -> Reading<'a, 't>
     ensures { result ≡ lset (map cow_slice_items arguments.now) }
 {
     match arguments {
-        [key, index, item] => Ok(ListAsk::SetItem {
+        [key, index, item] => Ok(ListAsk::LSet {
             key: Argument::of(key),
             index: integer(index)?,
             item: Argument::of(item),
@@ -135,7 +135,7 @@ pub fn linsert<'a, 't>(arguments: Arguments<'a, 't>) -> Reading<'a, 't>
     ensures { result ≡ linsert (map cow_slice_items arguments.now) }
 {
     match arguments {
-        [key, side, pivot, item] => Ok(ListAsk::InsertItem {
+        [key, side, pivot, item] => Ok(ListAsk::LInsert {
             key: Argument::of(key),
             side: side_of(side)?,
             pivot: Argument::of(pivot),
@@ -154,7 +154,7 @@ pub fn lrem<'a, 't>(arguments: Arguments<'a, 't>) -> Reading<'a, 't>
     ensures { result ≡ lrem (map cow_slice_items arguments.now) }
 {
     match arguments {
-        [key, most, item] => Ok(ListAsk::RemoveItems {
+        [key, most, item] => Ok(ListAsk::LRem {
             key: Argument::of(key),
             count: integer(most)?,
             item: Argument::of(item),
@@ -172,7 +172,7 @@ pub fn ltrim<'a, 't>(arguments: Arguments<'a, 't>) -> Reading<'a, 't>
     ensures { result ≡ ltrim (map cow_slice_items arguments.now) }
 {
     match arguments {
-        [key, first, last] => Ok(ListAsk::Trim {
+        [key, first, last] => Ok(ListAsk::LTrim {
             key: Argument::of(key),
             first: integer(first)?,
             last: integer(last)?,
@@ -190,7 +190,7 @@ pub fn lmove<'a, 't>(arguments: Arguments<'a, 't>) -> Reading<'a, 't>
     ensures { result ≡ lmove (map cow_slice_items arguments.now) }
 {
     match arguments {
-        [from, to, taken, put] => Ok(ListAsk::MoveItem {
+        [from, to, taken, put] => Ok(ListAsk::LMove {
             from: Argument::of(from),
             to: Argument::of(to),
             taken: end_of(taken)?,
@@ -209,7 +209,7 @@ pub fn rpoplpush<'a, 't>(arguments: Arguments<'a, 't>) -> Reading<'a, 't>
     ensures { result ≡ rpoplpush (map cow_slice_items arguments.now) }
 {
     match arguments {
-        [from, to] => Ok(ListAsk::MoveLastToFront {
+        [from, to] => Ok(ListAsk::RPopLPush {
             from: Argument::of(from),
             to: Argument::of(to),
         }),

@@ -4,7 +4,7 @@ ghost use Rattle.mr_resp.specs.ReplyView.{view};
 ghost use Rattle.mr_value.specs.Lists.{removed_count, count_of};
 ghost use Rattle.mr_planning.specs.Turns.{Takes};
 ghost use Rattle.mr_cmd_list.specs.Numbers.{IsShort, IsNumberFor};
-ghost use Rattle.mr_cmd_list.specs.Edits.{set_turn, insert_turn, remove_turn, trim_turn, is_item};
+ghost use Rattle.mr_cmd_list.specs.Edits.{lset_answer, linsert_answer, lrem_answer, ltrim_answer, is_item};
 
 use crate::replies::{no_such_key, out_of_range};
 use mr_data::{Effect, Entry, Value};
@@ -15,7 +15,7 @@ use mr_words::Argument;
 use std::alloc::{AllocError, Global};
 
 /// Another item in the place that an index names.
-pub fn set(
+pub fn lset(
     alloc: Global,
     key: &Argument<'_>,
     index: i64,
@@ -23,7 +23,7 @@ pub fn set(
     seen: Option<&Entry>,
     effects: &mut Effects,
 ) -> Result<Reply, AllocError>
-    ensures takes { IfOk result (λ r. Takes (set_turn key.now index item.now (option_copied seen.entry)) (view r) effects.old effects.new) }
+    ensures takes { IfOk result (λ r. Takes (lset_answer key.now index item.now (option_copied seen.entry)) (view r) effects.old effects.new) }
     ensures short { IsShort (option_copied seen.entry) }
 {
     let Some(entry) = seen else {
@@ -56,7 +56,7 @@ fn is_item(item: &[u8], there: Option<&[u8]>) -> bool
 }
 
 /// An item beside the first pivot.
-pub fn insert(
+pub fn linsert(
     alloc: Global,
     key: &Argument<'_>,
     side: Side,
@@ -65,7 +65,7 @@ pub fn insert(
     seen: Option<&Entry>,
     effects: &mut Effects,
 ) -> Result<Reply, AllocError>
-    ensures { IfOk result (λ r. Takes (insert_turn key.now side pivot.now item.now (option_copied seen.entry)) (view r) effects.old effects.new) }
+    ensures { IfOk result (λ r. Takes (linsert_answer key.now side pivot.now item.now (option_copied seen.entry)) (view r) effects.old effects.new) }
 {
     let Some(entry) = seen else {
         return Ok(integer(0));
@@ -86,7 +86,7 @@ pub fn insert(
 }
 
 /// Items that equal one removed.
-pub fn remove(
+pub fn lrem(
     alloc: Global,
     key: &Argument<'_>,
     count: i64,
@@ -95,7 +95,7 @@ pub fn remove(
     effects: &mut Effects,
 ) -> Result<Reply, AllocError>
     ensures number { IsNumberFor count (option_copied seen.entry) }
-    ensures takes { IfOk result (λ r. Takes (remove_turn key.now count item.now (option_copied seen.entry)) (view r) effects.old effects.new) }
+    ensures takes { IfOk result (λ r. Takes (lrem_answer key.now count item.now (option_copied seen.entry)) (view r) effects.old effects.new) }
 {
     let Some(entry) = seen else {
         return Ok(integer(0));
@@ -126,7 +126,7 @@ fn removed_count(list: &ListValue, count: i64, item: &[u8]) -> usize
 }
 
 /// The items between two indexes alone, both included.
-pub fn trim(
+pub fn ltrim(
     alloc: Global,
     key: &Argument<'_>,
     first: i64,
@@ -134,7 +134,7 @@ pub fn trim(
     seen: Option<&Entry>,
     effects: &mut Effects,
 ) -> Result<Reply, AllocError>
-    ensures takes { IfOk result (λ r. Takes (trim_turn key.now first last (option_copied seen.entry)) (view r) effects.old effects.new) }
+    ensures takes { IfOk result (λ r. Takes (ltrim_answer key.now first last (option_copied seen.entry)) (view r) effects.old effects.new) }
     ensures short { IsShort (option_copied seen.entry) }
 {
     let Some(entry) = seen else {

@@ -19,54 +19,54 @@ pub enum ListAsk<'a, 't> {
         count: Option<usize>,
     },
     /// `LLEN key`
-    CountItems {
+    LLen {
         key: Argument<'a>,
     },
     /// `LRANGE key first last`
-    Range {
+    LRange {
         key: Argument<'a>,
         first: i64,
         last: i64,
     },
     /// `LINDEX key index`
-    GetItem {
+    LIndex {
         key: Argument<'a>,
         index: i64,
     },
     /// `LSET key index item`
-    SetItem {
+    LSet {
         key: Argument<'a>,
         index: i64,
         item: Argument<'a>,
     },
     /// `LINSERT key BEFORE|AFTER pivot item`
-    InsertItem {
+    LInsert {
         key: Argument<'a>,
         side: Side,
         pivot: Argument<'a>,
         item: Argument<'a>,
     },
     /// `LREM key count item`
-    RemoveItems {
+    LRem {
         key: Argument<'a>,
         count: i64,
         item: Argument<'a>,
     },
     /// `LTRIM key first last`
-    Trim {
+    LTrim {
         key: Argument<'a>,
         first: i64,
         last: i64,
     },
     /// `LMOVE from to LEFT|RIGHT LEFT|RIGHT`
-    MoveItem {
+    LMove {
         from: Argument<'a>,
         to: Argument<'a>,
         taken: End,
         put: End,
     },
     /// `RPOPLPUSH from to`
-    MoveLastToFront {
+    RPopLPush {
         from: Argument<'a>,
         to: Argument<'a>,
     },

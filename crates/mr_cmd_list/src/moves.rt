@@ -6,7 +6,7 @@ ghost use Rattle.mr_data.specs.Dataset.{IsDataset};
 ghost use Rattle.mr_entries.specs.Steps.{lists, held};
 ghost use Rattle.mr_planning.specs.Turns.{Takes};
 ghost use Rattle.mr_planning.specs.Commands.{IsPlan};
-ghost use Rattle.mr_cmd_list.specs.Moves.{rotate_turn, carry, moving};
+ghost use Rattle.mr_cmd_list.specs.Moves.{rotate_answer, carry, moving};
 
 use crate::ends::{end_item, is_same_end};
 use mr_data::{Dataset, Effect, Entry, Given, Plan, Value};
@@ -55,7 +55,7 @@ pub fn rotate(
     seen: Option<&Entry>,
     effects: &mut Effects,
 ) -> Result<Reply, AllocError>
-    ensures { IfOk result (λ r. Takes (rotate_turn key.now taken put (option_copied seen.entry)) (view r) effects.old effects.new) }
+    ensures { IfOk result (λ r. Takes (rotate_answer key.now taken put (option_copied seen.entry)) (view r) effects.old effects.new) }
 {
     let Some(entry) = seen else {
         return Ok(Reply::NullBulk);

@@ -52,20 +52,20 @@ fn planned(
     match ask {
         ListAsk::Push { key, .. } => at_key(alloc, held, key, ask, given),
         ListAsk::Pop { key, .. } => at_key(alloc, held, key, ask, given),
-        ListAsk::CountItems { key } => at_key(alloc, held, key, ask, given),
-        ListAsk::Range { key, .. } => at_key(alloc, held, key, ask, given),
-        ListAsk::GetItem { key, .. } => at_key(alloc, held, key, ask, given),
-        ListAsk::SetItem { key, .. } => at_key(alloc, held, key, ask, given),
-        ListAsk::InsertItem { key, .. } => at_key(alloc, held, key, ask, given),
-        ListAsk::RemoveItems { key, .. } => at_key(alloc, held, key, ask, given),
-        ListAsk::Trim { key, .. } => at_key(alloc, held, key, ask, given),
-        ListAsk::MoveItem {
+        ListAsk::LLen { key } => at_key(alloc, held, key, ask, given),
+        ListAsk::LRange { key, .. } => at_key(alloc, held, key, ask, given),
+        ListAsk::LIndex { key, .. } => at_key(alloc, held, key, ask, given),
+        ListAsk::LSet { key, .. } => at_key(alloc, held, key, ask, given),
+        ListAsk::LInsert { key, .. } => at_key(alloc, held, key, ask, given),
+        ListAsk::LRem { key, .. } => at_key(alloc, held, key, ask, given),
+        ListAsk::LTrim { key, .. } => at_key(alloc, held, key, ask, given),
+        ListAsk::LMove {
             from,
             to,
             taken,
             put,
         } => moves::move_item(alloc, held, from, to, *taken, *put, given),
-        ListAsk::MoveLastToFront { from, to } => {
+        ListAsk::RPopLPush { from, to } => {
             moves::move_item(alloc, held, from, to, End::Right, End::Left, given)
         }
     }
@@ -107,35 +107,35 @@ fn turn(
             items,
         } => pushes::push(alloc, key, *end, *to, items, seen, effects),
         ListAsk::Pop { key, end, count } => pops::pop(alloc, key, *end, *count, seen, effects),
-        ListAsk::CountItems { .. } => Ok(telling::length(seen)),
-        ListAsk::Range {
+        ListAsk::LLen { .. } => Ok(telling::llen(seen)),
+        ListAsk::LRange {
             key: _,
             first,
             last,
-        } => telling::range(alloc, *first, *last, seen),
-        ListAsk::GetItem { key: _, index } => telling::item(alloc, *index, seen),
-        ListAsk::SetItem { key, index, item } => {
-            edits::set(alloc, key, *index, item, seen, effects)
+        } => telling::lrange(alloc, *first, *last, seen),
+        ListAsk::LIndex { key: _, index } => telling::lindex(alloc, *index, seen),
+        ListAsk::LSet { key, index, item } => {
+            edits::lset(alloc, key, *index, item, seen, effects)
         }
-        ListAsk::InsertItem {
+        ListAsk::LInsert {
             key,
             side,
             pivot,
             item,
-        } => edits::insert(alloc, key, *side, pivot, item, seen, effects),
-        ListAsk::RemoveItems { key, count, item } => {
-            edits::remove(alloc, key, *count, item, seen, effects)
+        } => edits::linsert(alloc, key, *side, pivot, item, seen, effects),
+        ListAsk::LRem { key, count, item } => {
+            edits::lrem(alloc, key, *count, item, seen, effects)
         }
-        ListAsk::Trim { key, first, last } => {
-            edits::trim(alloc, key, *first, *last, seen, effects)
+        ListAsk::LTrim { key, first, last } => {
+            edits::ltrim(alloc, key, *first, *last, seen, effects)
         }
-        ListAsk::MoveItem {
+        ListAsk::LMove {
             from,
             to: _,
             taken,
             put,
         } => moves::rotate(alloc, from, *taken, *put, seen, effects),
-        ListAsk::MoveLastToFront { from, to: _ } => {
+        ListAsk::RPopLPush { from, to: _ } => {
             moves::rotate(alloc, from, End::Right, End::Left, seen, effects)
         }
     }

@@ -4,7 +4,7 @@ ghost use Rattle.mr_resp.specs.ReplyView.{view};
 ghost use Rattle.mr_planning.specs.Turns.{Takes};
 ghost use Rattle.mr_cmd_list.specs.Lists.{items_reply};
 ghost use Rattle.mr_cmd_list.specs.Numbers.{IsShort, IsShortFor};
-ghost use Rattle.mr_cmd_list.specs.Pops.{pop_turn, taken_items};
+ghost use Rattle.mr_cmd_list.specs.Pops.{pop_answer, taken_items};
 
 use crate::ends::end_item;
 use mr_data::{Effect, Entry, Value};
@@ -22,7 +22,7 @@ pub fn pop(
     seen: Option<&Entry>,
     effects: &mut Effects,
 ) -> Result<Reply, AllocError>
-    ensures takes { IfOk result (λ r. Takes (pop_turn key.now end count (option_copied seen.entry)) (view r) effects.old effects.new) }
+    ensures takes { IfOk result (λ r. Takes (pop_answer key.now end count (option_copied seen.entry)) (view r) effects.old effects.new) }
     ensures short { IsShortFor count (option_copied seen.entry) }
 {
     match count {
@@ -38,7 +38,7 @@ fn pop_one(
     seen: Option<&Entry>,
     effects: &mut Effects,
 ) -> Result<Reply, AllocError>
-    ensures { IfOk result (λ r. Takes (pop_turn key.now end None (option_copied seen.entry)) (view r) effects.old effects.new) }
+    ensures { IfOk result (λ r. Takes (pop_answer key.now end None (option_copied seen.entry)) (view r) effects.old effects.new) }
 {
     let Some(entry) = seen else {
         return Ok(Reply::NullBulk);
@@ -66,7 +66,7 @@ fn pop_some(
     seen: Option<&Entry>,
     effects: &mut Effects,
 ) -> Result<Reply, AllocError>
-    ensures takes { IfOk result (λ r. Takes (pop_turn key.now end (Some most) (option_copied seen.entry)) (view r) effects.old effects.new) }
+    ensures takes { IfOk result (λ r. Takes (pop_answer key.now end (Some most) (option_copied seen.entry)) (view r) effects.old effects.new) }
     ensures short { IsShort (option_copied seen.entry) }
 {
     let Some(entry) = seen else {

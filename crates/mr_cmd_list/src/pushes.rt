@@ -5,7 +5,7 @@ ghost use Rattle.mr_resp.specs.Replies.{int};
 ghost use Rattle.mr_resp.specs.ReplyView.{view};
 ghost use Rattle.mr_entries.specs.Cuts.{cut};
 ghost use Rattle.mr_planning.specs.Turns.{Takes};
-ghost use Rattle.mr_cmd_list.specs.Pushes.{push_turn, push_effects};
+ghost use Rattle.mr_cmd_list.specs.Pushes.{push_answer, push_effects};
 
 use crate::list_ask::PushTo;
 use mr_data::{Effect, Entry, Value};
@@ -25,7 +25,7 @@ pub fn push(
     seen: Option<&Entry>,
     effects: &mut Effects,
 ) -> Result<Reply, AllocError>
-    ensures { IfOk result (λ r. Takes (push_turn key.now end to items.now (option_copied seen.entry)) (view r) effects.old effects.new) }
+    ensures { IfOk result (λ r. Takes (push_answer key.now end to items.now (option_copied seen.entry)) (view r) effects.old effects.new) }
 {
     let before = match seen {
         None => match to {

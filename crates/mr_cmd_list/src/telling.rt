@@ -1,7 +1,7 @@
 // Commands that tell of a list.
 ghost use Rattle.std.specs.Prelude.{◌≡◌, IfOk, option_copied};
 ghost use Rattle.mr_resp.specs.ReplyView.{view};
-ghost use Rattle.mr_cmd_list.specs.Telling.{length_turn, range_turn, index_turn};
+ghost use Rattle.mr_cmd_list.specs.Telling.{llen_answer, lrange_answer, lindex_answer};
 
 use crate::replies::{listed, none_listed};
 use mr_data::{Entry, Value};
@@ -11,8 +11,8 @@ use mr_value::{place, window};
 use std::alloc::{AllocError, Global};
 
 /// How many items there are.
-pub fn length(seen: Option<&Entry>) -> Reply
-    ensures { view result ≡ (length_turn (option_copied seen.entry)).reply }
+pub fn llen(seen: Option<&Entry>) -> Reply
+    ensures { view result ≡ (llen_answer (option_copied seen.entry)).reply }
 {
     let Some(entry) = seen else {
         return integer(0);
@@ -24,13 +24,13 @@ pub fn length(seen: Option<&Entry>) -> Reply
 }
 
 /// The items between two indexes, both included.
-pub fn range(
+pub fn lrange(
     alloc: Global,
     first: i64,
     last: i64,
     seen: Option<&Entry>,
 ) -> Result<Reply, AllocError>
-    ensures { IfOk result (λ r. view r ≡ (range_turn first last (option_copied seen.entry)).reply) }
+    ensures { IfOk result (λ r. view r ≡ (lrange_answer first last (option_copied seen.entry)).reply) }
 {
     let Some(entry) = seen else {
         return Ok(none_listed(alloc));
@@ -45,8 +45,8 @@ pub fn range(
 }
 
 /// The item that an index names.
-pub fn item(alloc: Global, index: i64, seen: Option<&Entry>) -> Result<Reply, AllocError>
-    ensures { IfOk result (λ r. view r ≡ (index_turn index (option_copied seen.entry)).reply) }
+pub fn lindex(alloc: Global, index: i64, seen: Option<&Entry>) -> Result<Reply, AllocError>
+    ensures { IfOk result (λ r. view r ≡ (lindex_answer index (option_copied seen.entry)).reply) }
 {
     let Some(entry) = seen else {
         return Ok(Reply::NullBulk);

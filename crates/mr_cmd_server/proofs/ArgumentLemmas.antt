@@ -8,7 +8,7 @@ use Rattle.mr_words.specs.Parts.{with}
 use Rattle.std.specs.Ordering.{int_eq}
 use Rattle.std.specs.Fmt.{signed_decimal}
 use Rattle.std.proofs.lemmas.Bool.Decides.{Decides-int_eq}
-use Rattle.mr_cmd_server.specs.Arguments.{ping, echo, select, quit, rewrite, info, role, shutdown, saving_of, saving_text, command, client, database, setname, setinfo}
+use Rattle.mr_cmd_server.specs.Arguments.{ping, echo, select, quit, bgrewriteaof, info, role, shutdown, saving_of, saving_text, command, client, database, setname, setinfo}
 use Rattle.mr_words.proofs.FitLemmas.{all_words}
 use Rattle.mr_cmd_server.specs.Spelled.{ServerSpells}
 use Rattle.mr_words.proofs.PartLemmas.{with_integer, with_keyword}
@@ -46,9 +46,9 @@ pub quit_carries : (ws : List (List ℕ)) → IfOk (quit ws) (ServerSpells name.
 quit_carries [] = record { name_is = refl; parts = tt }
 quit_carries _ = tt
 
-pub rewrite_carries : (ws : List (List ℕ)) → IfOk (rewrite ws) (ServerSpells name.BgRewriteAof ws)
-rewrite_carries [] = record { name_is = refl; parts = tt }
-rewrite_carries _ = tt
+pub bgrewriteaof_carries : (ws : List (List ℕ)) → IfOk (bgrewriteaof ws) (ServerSpells name.BgRewriteAof ws)
+bgrewriteaof_carries [] = record { name_is = refl; parts = tt }
+bgrewriteaof_carries _ = tt
 
 pub info_carries : (ws : List (List ℕ)) → IfOk (info ws) (ServerSpells name.Info ws)
 info_carries [] = record { name_is = refl; parts = tt }

@@ -9,8 +9,8 @@ use Rattle.mr_cmd_server.specs.declared.server_ask.ServerAsk.TheVariants as serv
 pub carried_server : (a : ServerAsk) → carried (server_parts a) ≡ server_words a
 unfolding carried
 carried_server server.Select = refl
-carried_server (server.SetClientName name) = refl
-carried_server (server.SetClientInfo attribute value) = refl
+carried_server (server.ClientSetName name) = refl
+carried_server (server.ClientSetInfo attribute value) = refl
 carried_server (server.Shutdown None) = refl
 carried_server (server.Shutdown (Some saving)) = refl
 carried_server a = carried-words (server_words a)

@@ -39,9 +39,9 @@ quit [] = Ok ask.Quit
 quit _ = Err (Arity name.Quit)
 
 -- BGREWRITEAOF
-abbrev pub rewrite : List (List ℕ) → Result ServerAsk AskFault
-rewrite [] = Ok ask.Rewrite
-rewrite _ = Err (Arity name.BgRewriteAof)
+abbrev pub bgrewriteaof : List (List ℕ) → Result ServerAsk AskFault
+bgrewriteaof [] = Ok ask.BgRewriteAof
+bgrewriteaof _ = Err (Arity name.BgRewriteAof)
 
 -- INFO [section]
 abbrev pub info : List (List ℕ) → Result ServerAsk AskFault
@@ -82,6 +82,6 @@ setinfo = codes "setinfo"
 
 -- CLIENT SETNAME name, CLIENT SETINFO attribute value
 abbrev pub client : List (List ℕ) → Result ServerAsk AskFault
-client (option ∷ name ∷ []) = if bytes_eq (lowered option) setname then Ok (ask.SetClientName name) else Err Syntax
-client (option ∷ attribute ∷ value ∷ []) = if bytes_eq (lowered option) setinfo then Ok (ask.SetClientInfo attribute value) else Err Syntax
+client (option ∷ name ∷ []) = if bytes_eq (lowered option) setname then Ok (ask.ClientSetName name) else Err Syntax
+client (option ∷ attribute ∷ value ∷ []) = if bytes_eq (lowered option) setinfo then Ok (ask.ClientSetInfo attribute value) else Err Syntax
 client _ = Err Syntax

@@ -23,13 +23,13 @@ server_reply (ask.Ping message) = pong message
 server_reply (ask.Echo message) = reply.bytes message
 server_reply ask.Select = done
 server_reply ask.Quit = done
-server_reply ask.Rewrite = rewriting
+server_reply ask.BgRewriteAof = rewriting
 server_reply (ask.Info section) = done
 server_reply ask.Role = done
 server_reply (ask.Shutdown saving) = done
 server_reply (ask.Command arguments) = reply.array reply.none
-server_reply (ask.SetClientName label) = done
-server_reply (ask.SetClientInfo attribute value) = done
+server_reply (ask.ClientSetName label) = done
+server_reply (ask.ClientSetInfo attribute value) = done
 
 -- what a command is
 abbrev pub command : ServerAsk → Command

@@ -17,8 +17,8 @@ saving_part (Some saving) = Keyword (saving_text saving) ∷ []
 -- what stands behind the name of a command to the server itself
 abbrev pub server_parts : ServerAsk → List Part
 server_parts server.Select = Number (pos 0) ∷ []
-server_parts (server.SetClientName name) = Keyword setname ∷ Word name ∷ []
-server_parts (server.SetClientInfo attribute value) = Keyword setinfo ∷ Word attribute ∷ Word value ∷ []
+server_parts (server.ClientSetName name) = Keyword setname ∷ Word name ∷ []
+server_parts (server.ClientSetInfo attribute value) = Keyword setinfo ∷ Word attribute ∷ Word value ∷ []
 server_parts (server.Shutdown saving) = saving_part saving
 server_parts command = map Word (server_words command)
 

@@ -3,7 +3,7 @@ ghost use Rattle.std.specs.Prelude.{◌≡◌, map};
 ghost use Rattle.std.specs.Cow.{cow_slice_items};
 ghost use Rattle.std.specs.Str.{bytes_eq};
 ghost use Rattle.mr_words.specs.Names.{lowered};
-ghost use Rattle.mr_cmd_server.specs.Arguments.{ping, echo, select, quit, rewrite, info, role, shutdown, saving_of, saving_text, command, client, setname, setinfo};
+ghost use Rattle.mr_cmd_server.specs.Arguments.{ping, echo, select, quit, bgrewriteaof, info, role, shutdown, saving_of, saving_text, command, client, setname, setinfo};
 
 use crate::server_ask::{Saving, ServerAsk};
 use mr_words::{Argument, Arguments, AskFault, BadValue, Name, Words, integer};
@@ -62,11 +62,11 @@ pub fn quit<'a, 't>(arguments: Arguments<'a, 't>) -> Reading<'a, 't>
 }
 
 /// `BGREWRITEAOF`
-pub fn rewrite<'a, 't>(arguments: Arguments<'a, 't>) -> Reading<'a, 't>
-    ensures { result ≡ rewrite (map cow_slice_items arguments.now) }
+pub fn bgrewriteaof<'a, 't>(arguments: Arguments<'a, 't>) -> Reading<'a, 't>
+    ensures { result ≡ bgrewriteaof (map cow_slice_items arguments.now) }
 {
     match arguments {
-        [] => Ok(ServerAsk::Rewrite),
+        [] => Ok(ServerAsk::BgRewriteAof),
         _ => Err(AskFault::Arity(Name::BgRewriteAof)),
     }
 }
@@ -121,10 +121,10 @@ pub fn client<'a, 't>(arguments: Arguments<'a, 't>) -> Reading<'a, 't>
     ensures { result ≡ client (map cow_slice_items arguments.now) }
 {
     match arguments {
-        [option, name] if is_setname(option) => Ok(ServerAsk::SetClientName {
+        [option, name] if is_setname(option) => Ok(ServerAsk::ClientSetName {
             name: Argument::of(name),
         }),
-        [option, attribute, value] if is_setinfo(option) => Ok(ServerAsk::SetClientInfo {
+        [option, attribute, value] if is_setinfo(option) => Ok(ServerAsk::ClientSetInfo {
             attribute: Argument::of(attribute),
             value: Argument::of(value),
         }),

@@ -38,7 +38,7 @@ fn reply_to(alloc: Global, ask: &ServerAsk<'_, '_>) -> Result<Reply, AllocError>
             message: Some(message),
         } => bulk(alloc, message.as_slice()),
         ServerAsk::Echo { message } => bulk(alloc, message.as_slice()),
-        ServerAsk::Rewrite => Ok(Reply::Simple(CowSlice::Borrowed(
+        ServerAsk::BgRewriteAof => Ok(Reply::Simple(CowSlice::Borrowed(
             b"Background append only file rewriting started",
         ))),
         ServerAsk::Command { .. } => Ok(Reply::Array(Vec::new(alloc))),
@@ -47,7 +47,7 @@ fn reply_to(alloc: Global, ask: &ServerAsk<'_, '_>) -> Result<Reply, AllocError>
         | ServerAsk::Info { .. }
         | ServerAsk::Role
         | ServerAsk::Shutdown { .. }
-        | ServerAsk::SetClientName { .. }
-        | ServerAsk::SetClientInfo { .. } => Ok(done()),
+        | ServerAsk::ClientSetName { .. }
+        | ServerAsk::ClientSetInfo { .. } => Ok(done()),
     }
 }

@@ -17,7 +17,7 @@ pub enum ServerAsk<'a, 't> {
     /// `QUIT`
     Quit,
     /// `BGREWRITEAOF`
-    Rewrite,
+    BgRewriteAof,
     /// `INFO [section]`
     Info {
         section: Option<Argument<'a>>,
@@ -33,11 +33,11 @@ pub enum ServerAsk<'a, 't> {
         arguments: Words<'a, 't>,
     },
     /// `CLIENT SETNAME name`
-    SetClientName {
+    ClientSetName {
         name: Argument<'a>,
     },
     /// `CLIENT SETINFO attribute value`
-    SetClientInfo {
+    ClientSetInfo {
         attribute: Argument<'a>,
         value: Argument<'a>,
     },

@@ -62,10 +62,10 @@ combine_spells n o is (k ∷ ks) = record { name_is = is (k ∷ ks); parts = all
 
 carried_sets : (a : SetAsk) → carried (set_parts a) ≡ set_words a
 unfolding carried
-carried_sets (set.TakeMembers key None) = refl
-carried_sets (set.TakeMembers key (Some n)) = refl
-carried_sets (set.DrawMembers key None) = refl
-carried_sets (set.DrawMembers key (Some n)) = refl
+carried_sets (set.SPop key None) = refl
+carried_sets (set.SPop key (Some n)) = refl
+carried_sets (set.SRandMember key None) = refl
+carried_sets (set.SRandMember key (Some n)) = refl
 carried_sets a = carried-words (set_words a)
 
 pub set_fits : (n : Name) (ws : List (List ℕ)) (a : SetAsk) → SetSpells n ws a → IsTrue (list_all fits ws) → IsTrue (list_all fits (set_words a))

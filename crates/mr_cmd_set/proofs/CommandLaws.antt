@@ -23,18 +23,18 @@ one_key : (a b : Bool) → a && b ≡ true → a && true ≡ true
 one_key a b h = both a true (first a b h) refl
 
 pub sets_faithful : (command_asked : SetAsk) (word : ℕ) (now : ℤ) (m : Dataset) → RestsOn command_asked m → IsTrue (list_all fits (set_words command_asked)) → IsLawful (command command_asked word) now m
-sets_faithful (ask.AddMembers k xs) word now m kept h = changing_set k (adding k xs) now m kept (first _ _ h) (λ n s n_kept is.
+sets_faithful (ask.SAdd k xs) word now m kept h = changing_set k (adding k xs) now m kept (first _ _ h) (λ n s n_kept is.
     group_change write.Add k s (added xs s) _ _ _ is (first _ _ h) (added_fit xs s (second _ _ h)) (with_added xs s) (added_none xs s))
-sets_faithful (ask.RemoveMembers k xs) word now m kept h = changing_set k (removing k xs) now m kept (first _ _ h) (λ n s n_kept is.
+sets_faithful (ask.SRem k xs) word now m kept h = changing_set k (removing k xs) now m kept (first _ _ h) (λ n s n_kept is.
     group_change write.Remove k s (removed xs s) _ _ _ is (first _ _ h) (removed_fit xs s (second _ _ h)) (without_removed xs s) (removed_none xs s))
-sets_faithful (ask.TakeMembers k count) word now m kept h = changing_set k (taking k count word) now m kept (first _ _ h) (λ n s n_kept is.
+sets_faithful (ask.SPop k count) word now m kept h = changing_set k (taking k count word) now m kept (first _ _ h) (λ n s n_kept is.
     group_change write.Remove k s (as_set (taken count word s)) _ _ _ is (first _ _ h) (set_fits (taken count word s) s (λ q i. held_fits n k _ s q n_kept refl is (taken_there count word s q i))) (without_set (taken count word s) s) (set_none (taken count word s) s (taken_there count word s)))
-sets_faithful (ask.HasMember k x) word now m kept h = told_faithful k (λ s. flag (contains_key s x)) now m (one_key _ _ h)
-sets_faithful (ask.HaveMembers k xs) word now m kept h = told_faithful k (flags xs) now m (one_key _ _ h)
-sets_faithful (ask.ListMembers k) word now m kept h = told_faithful k (λ s. bulks (keys s)) now m h
-sets_faithful (ask.CountMembers k) word now m kept h = told_faithful k (λ s. number (len s)) now m h
-sets_faithful (ask.DrawMembers k count) word now m kept h = told_faithful k (λ s. drawn_reply count (taken count word s)) now m h
-sets_faithful (ask.MoveMember from to x) word now m kept h = move_faithful from to x now m h
+sets_faithful (ask.SIsMember k x) word now m kept h = told_faithful k (λ s. flag (contains_key s x)) now m (one_key _ _ h)
+sets_faithful (ask.SMIsMember k xs) word now m kept h = told_faithful k (flags xs) now m (one_key _ _ h)
+sets_faithful (ask.SMembers k) word now m kept h = told_faithful k (λ s. bulks (keys s)) now m h
+sets_faithful (ask.SCard k) word now m kept h = told_faithful k (λ s. number (len s)) now m h
+sets_faithful (ask.SRandMember k count) word now m kept h = told_faithful k (λ s. drawn_reply count (taken count word s)) now m h
+sets_faithful (ask.SMove from to x) word now m kept h = move_faithful from to x now m h
 sets_faithful (ask.Combine op ks) word now m rests h =
     let c = command (ask.Combine op ks) word in
     faithful c now m h (answered_faithful _ (before c now m) refl refl)

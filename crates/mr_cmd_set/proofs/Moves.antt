@@ -33,7 +33,7 @@ use Rattle.mr_data.proofs.Running.{held_entry}
 use Rattle.mr_data.proofs.KindLaws.{sets_are}
 use Rattle.mr_cmd_set.specs.Members.{Members}
 use Rattle.mr_cmd_set.specs.Turns.{number}
-use Rattle.mr_cmd_set.specs.Moving.{carried, moved, moving, move_member, Gives}
+use Rattle.mr_cmd_set.specs.Moving.{carried, moved, moving, smove, Gives}
 use Rattle.mr_cmd_set.proofs.Sets.{contains_remove}
 use Rattle.mr_effect.proofs.Texts.{short_effect}
 
@@ -126,7 +126,7 @@ module _ (from to x : Bytes) (m : Dataset) (fit : fits from && fits to && fits x
     | false ↦ λ t. answered_faithful _ m refl refl
   ] refl
 
-  pub move_at : IsFaithfulAt (move_member from to x m) m
+  pub move_at : IsFaithfulAt (smove from to x m) m
   move_at = elim (is_some (get m from)) as (λ c. is_some (get m from) ≡ c → IsFaithfulAt (if c then moving from to x m (held sets (get m from)) (held sets (get m to)) else answered (number 0) m) m) [
     | true ↦ λ t. moving_faithful (held sets (get m from)) (held sets (get m to)) refl refl t
     | false ↦ λ t. answered_faithful _ m refl refl
@@ -163,15 +163,15 @@ module _ (now : ℤ) (from to : Bytes) (m : Dataset) where
 
 module _ (from to x : Bytes) (now : ℤ) (m : Dataset) where
   abbrev the_move : Command
-  the_move = record { keys = from ∷ to ∷ []; outcome = move_member from to x }
+  the_move = record { keys = from ∷ to ∷ []; outcome = smove from to x }
 
-  pub move_plan : (o p : Option Entry) (r : Tree) (none looked own list : List Effect) → o ≡ live now (get m from) → p ≡ live now (get m to) → none ≡ [] → looked ≡ none ++ dels (past now (from ∷ to ∷ []) m) → list ≡ own → ((n : Dataset) → get n from ≡ o → get n to ≡ p → Gives (move_member from to x n) r looked own) → IsPlan the_move now m r list
+  pub move_plan : (o p : Option Entry) (r : Tree) (none looked own list : List Effect) → o ≡ live now (get m from) → p ≡ live now (get m to) → none ≡ [] → looked ≡ none ++ dels (past now (from ∷ to ∷ []) m) → list ≡ own → ((n : Dataset) → get n from ≡ o → get n to ≡ p → Gives (smove from to x n) r looked own) → IsPlan the_move now m r list
   move_plan o p r none looked own list source target start look all gives =
       let shown = gives (seen now m) (get-seen now m from ∙ sym source) (get-seen now m to ∙ sym target) in
       let done = gives (purged now (from ∷ to ∷ []) m) (seen_first now from to m ∙ sym source) (seen_second now from to m ∙ sym target) in
       record {
         reply_is = shown.reply_is;
-        effects_are = all ∙ done.effects_are ∙ ap (λ es. es ++ (move_member from to x (purged now (from ∷ to ∷ []) m)).effects) (look ∙ ap (λ es. es ++ dels (past now (from ∷ to ∷ []) m)) start);
+        effects_are = all ∙ done.effects_are ∙ ap (λ es. es ++ (smove from to x (purged now (from ∷ to ∷ []) m)).effects) (look ∙ ap (λ es. es ++ dels (past now (from ∷ to ∷ []) m)) start);
       }
 
   pub looked_two : bytes_eq from to ≡ false → (none first second : List Effect) → first ≡ none ++ dels (past now (from ∷ []) m) → second ≡ first ++ dels (past now (to ∷ []) m) → second ≡ none ++ dels (past now (from ∷ to ∷ []) m)

@@ -13,50 +13,50 @@ use Rattle.mr_cmd_set.specs.declared.set_ask.SetOperation.{SetOperation}
 abbrev pub sadd : List (List ℕ) → Result SetAsk AskFault
 sadd [] = Err (Arity name.SAdd)
 sadd (key ∷ []) = Err (Arity name.SAdd)
-sadd (key ∷ members) = Ok (ask.AddMembers key members)
+sadd (key ∷ members) = Ok (ask.SAdd key members)
 
 -- SREM key member [member ..]
 abbrev pub srem : List (List ℕ) → Result SetAsk AskFault
 srem [] = Err (Arity name.SRem)
 srem (key ∷ []) = Err (Arity name.SRem)
-srem (key ∷ members) = Ok (ask.RemoveMembers key members)
+srem (key ∷ members) = Ok (ask.SRem key members)
 
 -- SISMEMBER key member
 abbrev pub sismember : List (List ℕ) → Result SetAsk AskFault
-sismember (key ∷ member ∷ []) = Ok (ask.HasMember key member)
+sismember (key ∷ member ∷ []) = Ok (ask.SIsMember key member)
 sismember _ = Err (Arity name.SIsMember)
 
 -- SMISMEMBER key member [member ..]
 abbrev pub smismember : List (List ℕ) → Result SetAsk AskFault
 smismember [] = Err (Arity name.SMIsMember)
 smismember (key ∷ []) = Err (Arity name.SMIsMember)
-smismember (key ∷ members) = Ok (ask.HaveMembers key members)
+smismember (key ∷ members) = Ok (ask.SMIsMember key members)
 
 -- SMEMBERS key
 abbrev pub smembers : List (List ℕ) → Result SetAsk AskFault
-smembers (key ∷ []) = Ok (ask.ListMembers key)
+smembers (key ∷ []) = Ok (ask.SMembers key)
 smembers _ = Err (Arity name.SMembers)
 
 -- SCARD key
 abbrev pub scard : List (List ℕ) → Result SetAsk AskFault
-scard (key ∷ []) = Ok (ask.CountMembers key)
+scard (key ∷ []) = Ok (ask.SCard key)
 scard _ = Err (Arity name.SCard)
 
 -- SPOP key [count]
 abbrev pub spop : List (List ℕ) → Result SetAsk AskFault
-spop (key ∷ []) = Ok (ask.TakeMembers key None)
-spop (key ∷ most ∷ []) = with (count most) (λ n. Ok (ask.TakeMembers key (Some n)))
+spop (key ∷ []) = Ok (ask.SPop key None)
+spop (key ∷ most ∷ []) = with (count most) (λ n. Ok (ask.SPop key (Some n)))
 spop _ = Err (Arity name.SPop)
 
 -- SRANDMEMBER key [count]
 abbrev pub srandmember : List (List ℕ) → Result SetAsk AskFault
-srandmember (key ∷ []) = Ok (ask.DrawMembers key None)
-srandmember (key ∷ most ∷ []) = with (count most) (λ n. Ok (ask.DrawMembers key (Some n)))
+srandmember (key ∷ []) = Ok (ask.SRandMember key None)
+srandmember (key ∷ most ∷ []) = with (count most) (λ n. Ok (ask.SRandMember key (Some n)))
 srandmember _ = Err (Arity name.SRandMember)
 
 -- SMOVE from to member
 abbrev pub smove : List (List ℕ) → Result SetAsk AskFault
-smove (from ∷ to ∷ member ∷ []) = Ok (ask.MoveMember from to member)
+smove (from ∷ to ∷ member ∷ []) = Ok (ask.SMove from to member)
 smove _ = Err (Arity name.SMove)
 
 -- SINTER key [key ..], SUNION, SDIFF the same

@@ -28,8 +28,8 @@ module _ (from to x : Bytes) (m : Dataset) where
   moving (Some s) (Some d) = if contains_key s x then moved s d else answered (number 0) m
 
   -- An absent source is answered first, and the target isn't looked at.
-  abbrev pub move_member : Outcome
-  move_member = if is_some (get m from) then moving (held sets (get m from)) (held sets (get m to)) else answered (number 0) m
+  abbrev pub smove : Outcome
+  smove = if is_some (get m from) then moving (held sets (get m from)) (held sets (get m to)) else answered (number 0) m
 
 -- the reply is the outcome's, and its effects were put behind those that were there
 pub record Gives (outcome : Outcome) (reply : Tree) (old new : List Effect) : Type 0 where

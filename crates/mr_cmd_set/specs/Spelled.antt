@@ -9,8 +9,8 @@ use Rattle.mr_cmd_set.specs.declared.set_ask.SetAsk.TheVariants as set
 
 -- what stands behind the name of a command on sets
 abbrev pub set_parts : SetAsk → List Part
-set_parts (set.TakeMembers key count) = Word key ∷ count_part count
-set_parts (set.DrawMembers key count) = Word key ∷ count_part count
+set_parts (set.SPop key count) = Word key ∷ count_part count
+set_parts (set.SRandMember key count) = Word key ∷ count_part count
 set_parts command = map Word (set_words command)
 
 abbrev pub SetSpells : Name → List (List ℕ) → SetAsk → Type 0

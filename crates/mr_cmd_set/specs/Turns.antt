@@ -27,20 +27,20 @@ bulks xs = reply.array (trees_of (map reply.bytes xs))
 
 -- ---- SISMEMBER, SMISMEMBER, SMEMBERS, SCARD
 
-abbrev pub has_member_turn : Bytes → Option Entry → Turn
-has_member_turn x = telling sets (λ s. flag (contains_key s x))
+abbrev pub sismember_answer : Bytes → Option Entry → Turn
+sismember_answer x = telling sets (λ s. flag (contains_key s x))
 
 abbrev pub flags : List Bytes → Members → Tree
 flags xs s = reply.array (trees_of (map (λ x. flag (contains_key s x)) xs))
 
-abbrev pub have_members_turn : List Bytes → Option Entry → Turn
-have_members_turn xs = telling sets (flags xs)
+abbrev pub smismember_answer : List Bytes → Option Entry → Turn
+smismember_answer xs = telling sets (flags xs)
 
-abbrev pub list_members_turn : Option Entry → Turn
-list_members_turn = telling sets (λ s. bulks (keys s))
+abbrev pub smembers_answer : Option Entry → Turn
+smembers_answer = telling sets (λ s. bulks (keys s))
 
-abbrev pub count_members_turn : Option Entry → Turn
-count_members_turn = telling sets (λ s. number (len s))
+abbrev pub scard_answer : Option Entry → Turn
+scard_answer = telling sets (λ s. number (len s))
 
 -- ---- SADD: how many of the words are no members yet, each counted once
 abbrev pub added : List Bytes → Members → Members
@@ -53,8 +53,8 @@ adding k xs s = record {
   effects = map (effect.AddMembers k) (cut (keys (added xs s)));
 }
 
-abbrev pub add_members_turn : Bytes → List Bytes → Option Entry → Turn
-add_members_turn k xs = changing sets (adding k xs)
+abbrev pub sadd_answer : Bytes → List Bytes → Option Entry → Turn
+sadd_answer k xs = changing sets (adding k xs)
 
 -- ---- SREM: how many of the words are members, each counted once
 abbrev pub removed : List Bytes → Members → Members
@@ -67,8 +67,8 @@ removing k xs s = record {
   effects = map (effect.RemoveMembers k) (cut (keys (removed xs s)));
 }
 
-abbrev pub remove_members_turn : Bytes → List Bytes → Option Entry → Turn
-remove_members_turn k xs = changing sets (removing k xs)
+abbrev pub srem_answer : Bytes → List Bytes → Option Entry → Turn
+srem_answer k xs = changing sets (removing k xs)
 
 -- ---- SPOP, SRANDMEMBER: without a count one member, or nil where there is none; else an array
 abbrev pub count_or_one : Option ℕ → ℕ
@@ -91,8 +91,8 @@ drawn_reply (Some n) xs = bulks xs
 abbrev pub taken : Option ℕ → ℕ → Members → List Bytes
 taken count word s = drawn word (count_or_one count) (keys s)
 
-abbrev pub draw_members_turn : Option ℕ → ℕ → Option Entry → Turn
-draw_members_turn count word = telling sets (λ s. drawn_reply count (taken count word s))
+abbrev pub srandmember_answer : Option ℕ → ℕ → Option Entry → Turn
+srandmember_answer count word = telling sets (λ s. drawn_reply count (taken count word s))
 
 -- the effects name them in byte order
 abbrev pub taking : Bytes → Option ℕ → ℕ → Members → Change Members
@@ -102,5 +102,5 @@ taking k count word s = record {
   effects = map (effect.RemoveMembers k) (cut (keys (as_set (taken count word s))));
 }
 
-abbrev pub take_members_turn : Bytes → Option ℕ → ℕ → Option Entry → Turn
-take_members_turn k count word = changing sets (taking k count word)
+abbrev pub spop_answer : Bytes → Option ℕ → ℕ → Option Entry → Turn
+spop_answer k count word = changing sets (taking k count word)

@@ -18,7 +18,7 @@ pub fn sadd<'a, 't>(arguments: Arguments<'a, 't>) -> Reading<'a, 't>
 {
     match arguments {
         [] | [_] => Err(AskFault::Arity(Name::SAdd)),
-        [key, members @ ..] => Ok(SetAsk::AddMembers {
+        [key, members @ ..] => Ok(SetAsk::SAdd {
             key: Argument::of(key),
             members: Words::new(members),
         }),
@@ -35,7 +35,7 @@ pub fn srem<'a, 't>(arguments: Arguments<'a, 't>) -> Reading<'a, 't>
 {
     match arguments {
         [] | [_] => Err(AskFault::Arity(Name::SRem)),
-        [key, members @ ..] => Ok(SetAsk::RemoveMembers {
+        [key, members @ ..] => Ok(SetAsk::SRem {
             key: Argument::of(key),
             members: Words::new(members),
         }),
@@ -51,7 +51,7 @@ pub fn sismember<'a, 't>(arguments: Arguments<'a, 't>) -> Reading<'a, 't>
     ensures { result ≡ sismember (map cow_slice_items arguments.now) }
 {
     match arguments {
-        [key, member] => Ok(SetAsk::HasMember {
+        [key, member] => Ok(SetAsk::SIsMember {
             key: Argument::of(key),
             member: Argument::of(member),
         }),
@@ -69,7 +69,7 @@ pub fn smismember<'a, 't>(arguments: Arguments<'a, 't>) -> Reading<'a, 't>
 {
     match arguments {
         [] | [_] => Err(AskFault::Arity(Name::SMIsMember)),
-        [key, members @ ..] => Ok(SetAsk::HaveMembers {
+        [key, members @ ..] => Ok(SetAsk::SMIsMember {
             key: Argument::of(key),
             members: Words::new(members),
         }),
@@ -85,7 +85,7 @@ pub fn smembers<'a, 't>(arguments: Arguments<'a, 't>) -> Reading<'a, 't>
     ensures { result ≡ smembers (map cow_slice_items arguments.now) }
 {
     match arguments {
-        [key] => Ok(SetAsk::ListMembers {
+        [key] => Ok(SetAsk::SMembers {
             key: Argument::of(key),
         }),
         _ => Err(AskFault::Arity(Name::SMembers)),
@@ -101,7 +101,7 @@ pub fn scard<'a, 't>(arguments: Arguments<'a, 't>) -> Reading<'a, 't>
     ensures { result ≡ scard (map cow_slice_items arguments.now) }
 {
     match arguments {
-        [key] => Ok(SetAsk::CountMembers {
+        [key] => Ok(SetAsk::SCard {
             key: Argument::of(key),
         }),
         _ => Err(AskFault::Arity(Name::SCard)),
@@ -117,11 +117,11 @@ pub fn spop<'a, 't>(arguments: Arguments<'a, 't>) -> Reading<'a, 't>
     ensures { result ≡ spop (map cow_slice_items arguments.now) }
 {
     match arguments {
-        [key] => Ok(SetAsk::TakeMembers {
+        [key] => Ok(SetAsk::SPop {
             key: Argument::of(key),
             count: None,
         }),
-        [key, most] => Ok(SetAsk::TakeMembers {
+        [key, most] => Ok(SetAsk::SPop {
             key: Argument::of(key),
             count: Some(count(most)?),
         }),
@@ -138,11 +138,11 @@ pub fn srandmember<'a, 't>(arguments: Arguments<'a, 't>) -> Reading<'a, 't>
     ensures { result ≡ srandmember (map cow_slice_items arguments.now) }
 {
     match arguments {
-        [key] => Ok(SetAsk::DrawMembers {
+        [key] => Ok(SetAsk::SRandMember {
             key: Argument::of(key),
             count: None,
         }),
-        [key, most] => Ok(SetAsk::DrawMembers {
+        [key, most] => Ok(SetAsk::SRandMember {
             key: Argument::of(key),
             count: Some(count(most)?),
         }),
@@ -159,7 +159,7 @@ pub fn smove<'a, 't>(arguments: Arguments<'a, 't>) -> Reading<'a, 't>
     ensures { result ≡ smove (map cow_slice_items arguments.now) }
 {
     match arguments {
-        [from, to, member] => Ok(SetAsk::MoveMember {
+        [from, to, member] => Ok(SetAsk::SMove {
             from: Argument::of(from),
             to: Argument::of(to),
             member: Argument::of(member),

@@ -2,7 +2,7 @@
 ghost use Rattle.std.specs.Prelude.{IfOk, option_copied};
 ghost use Rattle.mr_resp.specs.ReplyView.{view};
 ghost use Rattle.mr_planning.specs.Turns.{Takes};
-ghost use Rattle.mr_cmd_set.specs.Turns.{add_members_turn, remove_members_turn};
+ghost use Rattle.mr_cmd_set.specs.Turns.{sadd_answer, srem_answer};
 
 use crate::grouping::{Write, push_changes};
 use crate::replies::set_at;
@@ -14,14 +14,14 @@ use mr_words::{Argument, Words};
 use std::alloc::{AllocError, Global};
 
 /// `SADD`
-pub fn add_members(
+pub fn sadd(
     alloc: Global,
     key: &Argument<'_>,
     members: &Words<'_, '_>,
     seen: Option<&Entry>,
     effects: &mut Effects,
 ) -> Result<Reply, AllocError>
-    ensures { IfOk result (λ r. Takes (add_members_turn key.now members.now (option_copied seen.entry)) (view r) effects.old effects.new) }
+    ensures { IfOk result (λ r. Takes (sadd_answer key.now members.now (option_copied seen.entry)) (view r) effects.old effects.new) }
 {
     let empty = SetValue::new(alloc);
     let Some(set) = set_at(seen, &empty) else {
@@ -32,14 +32,14 @@ pub fn add_members(
 }
 
 /// `SREM`
-pub fn remove_members(
+pub fn srem(
     alloc: Global,
     key: &Argument<'_>,
     members: &Words<'_, '_>,
     seen: Option<&Entry>,
     effects: &mut Effects,
 ) -> Result<Reply, AllocError>
-    ensures { IfOk result (λ r. Takes (remove_members_turn key.now members.now (option_copied seen.entry)) (view r) effects.old effects.new) }
+    ensures { IfOk result (λ r. Takes (srem_answer key.now members.now (option_copied seen.entry)) (view r) effects.old effects.new) }
 {
     let empty = SetValue::new(alloc);
     let Some(set) = set_at(seen, &empty) else {

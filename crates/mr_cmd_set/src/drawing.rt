@@ -6,7 +6,7 @@ ghost use Rattle.mr_planning.specs.Turns.{Takes};
 ghost use Rattle.mr_cmd_set.specs.Members.{drawn, as_set};
 ghost use Rattle.mr_cmd_set.specs.Grouping.{texts, group_effects};
 ghost use Rattle.mr_cmd_set.specs.declared.grouping.Write.TheVariants as write;
-ghost use Rattle.mr_cmd_set.specs.Turns.{draw_members_turn, take_members_turn, first_bulk, one_bulk, bulks};
+ghost use Rattle.mr_cmd_set.specs.Turns.{srandmember_answer, spop_answer, first_bulk, one_bulk, bulks};
 
 use crate::grouping::{Write, push_groups, push_member};
 use crate::replies::set_at;
@@ -103,13 +103,13 @@ fn in_order<'d>(alloc: Global, drawn: &[&'d [u8]]) -> Result<SliceMap<'d, ()>, A
 }
 
 /// `SRANDMEMBER`
-pub fn draw_members(
+pub fn srandmember(
     alloc: Global,
     count: Option<usize>,
     word: u64,
     seen: Option<&Entry>,
 ) -> Result<Reply, AllocError>
-    ensures { IfOk result (λ r. view r ≡ (draw_members_turn count word (option_copied seen.entry)).reply) }
+    ensures { IfOk result (λ r. view r ≡ (srandmember_answer count word (option_copied seen.entry)).reply) }
 {
     let empty = SetValue::new(alloc);
     let Some(set) = set_at(seen, &empty) else {
@@ -133,7 +133,7 @@ fn one_bulk(alloc: Global, member: Option<&[u8]>) -> Result<Reply, AllocError>
 }
 
 /// `SPOP`
-pub fn take_members(
+pub fn spop(
     alloc: Global,
     key: &Argument<'_>,
     count: Option<usize>,
@@ -141,7 +141,7 @@ pub fn take_members(
     seen: Option<&Entry>,
     effects: &mut Effects,
 ) -> Result<Reply, AllocError>
-    ensures { IfOk result (λ r. Takes (take_members_turn key.now count word (option_copied seen.entry)) (view r) effects.old effects.new) }
+    ensures { IfOk result (λ r. Takes (spop_answer key.now count word (option_copied seen.entry)) (view r) effects.old effects.new) }
 {
     let empty = SetValue::new(alloc);
     let Some(set) = set_at(seen, &empty) else {

@@ -4,7 +4,7 @@ ghost use Rattle.std.specs.FinMap.{get};
 ghost use Rattle.std.specs.Str.{bytes_eq};
 ghost use Rattle.mr_resp.specs.ReplyView.{view};
 ghost use Rattle.mr_entries.specs.Dataset.{Dataset as Map};
-ghost use Rattle.mr_cmd_set.specs.Moving.{move_member, Gives};
+ghost use Rattle.mr_cmd_set.specs.Moving.{smove, Gives};
 
 use crate::replies::set_at;
 use mr_data::{Effect, Entry};
@@ -24,7 +24,7 @@ pub fn moved(
     target: Option<&Entry>,
     effects: &mut Effects,
 ) -> Result<Reply, AllocError>
-    ensures { IfOk result (λ r. (m : Map) → get m from.now ≡ option_copied source.entry → get m to.now ≡ option_copied target.entry → Gives (move_member from.now to.now member.now m) (view r) effects.old effects.new) }
+    ensures { IfOk result (λ r. (m : Map) → get m from.now ≡ option_copied source.entry → get m to.now ≡ option_copied target.entry → Gives (smove from.now to.now member.now m) (view r) effects.old effects.new) }
 {
     if source.is_none() {
         return Ok(count(0));

@@ -47,148 +47,148 @@ fn planned(
     ensures rests { RestsOn ask.now held.now }
 {
     match ask {
-        SetAsk::AddMembers { key, members } => add_members(alloc, held, key, members, given),
-        SetAsk::RemoveMembers { key, members } => remove_members(alloc, held, key, members, given),
-        SetAsk::HasMember { key, member } => has_member(alloc, held, key, member, given),
-        SetAsk::HaveMembers { key, members } => have_members(alloc, held, key, members, given),
-        SetAsk::ListMembers { key } => list_members(alloc, held, key, given),
-        SetAsk::CountMembers { key } => count_members(alloc, held, key, given),
-        SetAsk::TakeMembers { key, count } => take_members(alloc, held, key, *count, given),
-        SetAsk::DrawMembers { key, count } => draw_members(alloc, held, key, *count, given),
-        SetAsk::MoveMember { from, to, member } => {
-            move_member(alloc, held, from, to, member, given)
+        SetAsk::SAdd { key, members } => sadd(alloc, held, key, members, given),
+        SetAsk::SRem { key, members } => srem(alloc, held, key, members, given),
+        SetAsk::SIsMember { key, member } => sismember(alloc, held, key, member, given),
+        SetAsk::SMIsMember { key, members } => smismember(alloc, held, key, members, given),
+        SetAsk::SMembers { key } => smembers(alloc, held, key, given),
+        SetAsk::SCard { key } => scard(alloc, held, key, given),
+        SetAsk::SPop { key, count } => spop(alloc, held, key, *count, given),
+        SetAsk::SRandMember { key, count } => srandmember(alloc, held, key, *count, given),
+        SetAsk::SMove { from, to, member } => {
+            smove(alloc, held, from, to, member, given)
         }
         SetAsk::Combine { operation, keys } => combine(alloc, held, *operation, keys, given),
     }
 }
 
-fn add_members(
+fn sadd(
     alloc: Global,
     held: &Dataset,
     key: &Argument<'_>,
     members: &Words<'_, '_>,
     given: Given,
 ) -> Result<Plan, AllocError>
-    ensures plan { IfOk result (λ p. IsPlan (command (asks.AddMembers key.now members.now) given.word) given.now held.now (view p.reply) p.effects.items) }
+    ensures plan { IfOk result (λ p. IsPlan (command (asks.SAdd key.now members.now) given.word) given.now held.now (view p.reply) p.effects.items) }
     ensures kept { IsDataset held.now }
 {
     let mut effects = Effects::new(alloc);
     let seen = look(alloc, held, key, given, &mut effects)?;
-    let reply = changing::add_members(alloc, key, members, seen, &mut effects)?;
+    let reply = changing::sadd(alloc, key, members, seen, &mut effects)?;
     Ok(effects.into_plan(reply))
 }
 
-fn remove_members(
+fn srem(
     alloc: Global,
     held: &Dataset,
     key: &Argument<'_>,
     members: &Words<'_, '_>,
     given: Given,
 ) -> Result<Plan, AllocError>
-    ensures plan { IfOk result (λ p. IsPlan (command (asks.RemoveMembers key.now members.now) given.word) given.now held.now (view p.reply) p.effects.items) }
+    ensures plan { IfOk result (λ p. IsPlan (command (asks.SRem key.now members.now) given.word) given.now held.now (view p.reply) p.effects.items) }
     ensures kept { IsDataset held.now }
 {
     let mut effects = Effects::new(alloc);
     let seen = look(alloc, held, key, given, &mut effects)?;
-    let reply = changing::remove_members(alloc, key, members, seen, &mut effects)?;
+    let reply = changing::srem(alloc, key, members, seen, &mut effects)?;
     Ok(effects.into_plan(reply))
 }
 
-fn has_member(
+fn sismember(
     alloc: Global,
     held: &Dataset,
     key: &Argument<'_>,
     member: &Argument<'_>,
     given: Given,
 ) -> Result<Plan, AllocError>
-    ensures plan { IfOk result (λ p. IsPlan (command (asks.HasMember key.now member.now) given.word) given.now held.now (view p.reply) p.effects.items) }
+    ensures plan { IfOk result (λ p. IsPlan (command (asks.SIsMember key.now member.now) given.word) given.now held.now (view p.reply) p.effects.items) }
     ensures kept { IsDataset held.now }
 {
     let mut effects = Effects::new(alloc);
     let seen = look(alloc, held, key, given, &mut effects)?;
-    let reply = telling::has_member(alloc, member, seen);
+    let reply = telling::sismember(alloc, member, seen);
     Ok(effects.into_plan(reply))
 }
 
-fn have_members(
+fn smismember(
     alloc: Global,
     held: &Dataset,
     key: &Argument<'_>,
     members: &Words<'_, '_>,
     given: Given,
 ) -> Result<Plan, AllocError>
-    ensures plan { IfOk result (λ p. IsPlan (command (asks.HaveMembers key.now members.now) given.word) given.now held.now (view p.reply) p.effects.items) }
+    ensures plan { IfOk result (λ p. IsPlan (command (asks.SMIsMember key.now members.now) given.word) given.now held.now (view p.reply) p.effects.items) }
     ensures kept { IsDataset held.now }
 {
     let mut effects = Effects::new(alloc);
     let seen = look(alloc, held, key, given, &mut effects)?;
-    let reply = telling::have_members(alloc, members, seen)?;
+    let reply = telling::smismember(alloc, members, seen)?;
     Ok(effects.into_plan(reply))
 }
 
-fn list_members(
+fn smembers(
     alloc: Global,
     held: &Dataset,
     key: &Argument<'_>,
     given: Given,
 ) -> Result<Plan, AllocError>
-    ensures plan { IfOk result (λ p. IsPlan (command (asks.ListMembers key.now) given.word) given.now held.now (view p.reply) p.effects.items) }
+    ensures plan { IfOk result (λ p. IsPlan (command (asks.SMembers key.now) given.word) given.now held.now (view p.reply) p.effects.items) }
     ensures kept { IsDataset held.now }
 {
     let mut effects = Effects::new(alloc);
     let seen = look(alloc, held, key, given, &mut effects)?;
-    let reply = telling::list_members(alloc, seen)?;
+    let reply = telling::smembers(alloc, seen)?;
     Ok(effects.into_plan(reply))
 }
 
-fn count_members(
+fn scard(
     alloc: Global,
     held: &Dataset,
     key: &Argument<'_>,
     given: Given,
 ) -> Result<Plan, AllocError>
-    ensures plan { IfOk result (λ p. IsPlan (command (asks.CountMembers key.now) given.word) given.now held.now (view p.reply) p.effects.items) }
+    ensures plan { IfOk result (λ p. IsPlan (command (asks.SCard key.now) given.word) given.now held.now (view p.reply) p.effects.items) }
     ensures kept { IsDataset held.now }
 {
     let mut effects = Effects::new(alloc);
     let seen = look(alloc, held, key, given, &mut effects)?;
-    let reply = telling::count_members(alloc, seen);
+    let reply = telling::scard(alloc, seen);
     Ok(effects.into_plan(reply))
 }
 
-fn take_members(
-    alloc: Global,
-    held: &Dataset,
-    key: &Argument<'_>,
-    count: Option<usize>,
-    given: Given,
-) -> Result<Plan, AllocError>
-    ensures plan { IfOk result (λ p. IsPlan (command (asks.TakeMembers key.now count) given.word) given.now held.now (view p.reply) p.effects.items) }
-    ensures kept { IsDataset held.now }
-{
-    let mut effects = Effects::new(alloc);
-    let seen = look(alloc, held, key, given, &mut effects)?;
-    let reply = drawing::take_members(alloc, key, count, given.word(), seen, &mut effects)?;
-    Ok(effects.into_plan(reply))
-}
-
-fn draw_members(
+fn spop(
     alloc: Global,
     held: &Dataset,
     key: &Argument<'_>,
     count: Option<usize>,
     given: Given,
 ) -> Result<Plan, AllocError>
-    ensures plan { IfOk result (λ p. IsPlan (command (asks.DrawMembers key.now count) given.word) given.now held.now (view p.reply) p.effects.items) }
+    ensures plan { IfOk result (λ p. IsPlan (command (asks.SPop key.now count) given.word) given.now held.now (view p.reply) p.effects.items) }
     ensures kept { IsDataset held.now }
 {
     let mut effects = Effects::new(alloc);
     let seen = look(alloc, held, key, given, &mut effects)?;
-    let reply = drawing::draw_members(alloc, count, given.word(), seen)?;
+    let reply = drawing::spop(alloc, key, count, given.word(), seen, &mut effects)?;
     Ok(effects.into_plan(reply))
 }
 
-fn move_member(
+fn srandmember(
+    alloc: Global,
+    held: &Dataset,
+    key: &Argument<'_>,
+    count: Option<usize>,
+    given: Given,
+) -> Result<Plan, AllocError>
+    ensures plan { IfOk result (λ p. IsPlan (command (asks.SRandMember key.now count) given.word) given.now held.now (view p.reply) p.effects.items) }
+    ensures kept { IsDataset held.now }
+{
+    let mut effects = Effects::new(alloc);
+    let seen = look(alloc, held, key, given, &mut effects)?;
+    let reply = drawing::srandmember(alloc, count, given.word(), seen)?;
+    Ok(effects.into_plan(reply))
+}
+
+fn smove(
     alloc: Global,
     held: &Dataset,
     from: &Argument<'_>,
@@ -196,7 +196,7 @@ fn move_member(
     member: &Argument<'_>,
     given: Given,
 ) -> Result<Plan, AllocError>
-    ensures plan { IfOk result (λ p. IsPlan (command (asks.MoveMember from.now to.now member.now) given.word) given.now held.now (view p.reply) p.effects.items) }
+    ensures plan { IfOk result (λ p. IsPlan (command (asks.SMove from.now to.now member.now) given.word) given.now held.now (view p.reply) p.effects.items) }
     ensures kept { IsDataset held.now }
 {
     let mut effects = Effects::new(alloc);

@@ -5,45 +5,45 @@ use mr_words::{Argument, Words};
 #[derive(Drop)]
 pub enum SetAsk<'a, 't> {
     /// `SADD key member [member ..]`
-    AddMembers {
+    SAdd {
         key: Argument<'a>,
         members: Words<'a, 't>,
     },
     /// `SREM key member [member ..]`
-    RemoveMembers {
+    SRem {
         key: Argument<'a>,
         members: Words<'a, 't>,
     },
     /// `SISMEMBER key member`
-    HasMember {
+    SIsMember {
         key: Argument<'a>,
         member: Argument<'a>,
     },
     /// `SMISMEMBER key member [member ..]`
-    HaveMembers {
+    SMIsMember {
         key: Argument<'a>,
         members: Words<'a, 't>,
     },
     /// `SMEMBERS key`
-    ListMembers {
+    SMembers {
         key: Argument<'a>,
     },
     /// `SCARD key`
-    CountMembers {
+    SCard {
         key: Argument<'a>,
     },
     /// `SPOP key [count]`
-    TakeMembers {
+    SPop {
         key: Argument<'a>,
         count: Option<usize>,
     },
     /// `SRANDMEMBER key [count]`
-    DrawMembers {
+    SRandMember {
         key: Argument<'a>,
         count: Option<usize>,
     },
     /// `SMOVE from to member`
-    MoveMember {
+    SMove {
         from: Argument<'a>,
         to: Argument<'a>,
         member: Argument<'a>,

@@ -1,7 +1,7 @@
 // Commands that tell of one set.
 ghost use Rattle.std.specs.Prelude.{◌≡◌, IfOk, option_copied};
 ghost use Rattle.mr_resp.specs.ReplyView.{view};
-ghost use Rattle.mr_cmd_set.specs.Turns.{has_member_turn, have_members_turn, list_members_turn, count_members_turn, flags};
+ghost use Rattle.mr_cmd_set.specs.Turns.{sismember_answer, smismember_answer, smembers_answer, scard_answer, flags};
 
 use crate::replies::{bulks_of, flag, set_at};
 use mr_data::Entry;
@@ -12,8 +12,8 @@ use mr_words::{Argument, Words};
 use std::alloc::{AllocError, Global};
 
 /// `SISMEMBER`
-pub fn has_member(alloc: Global, member: &Argument<'_>, seen: Option<&Entry>) -> Reply
-    ensures { view result ≡ (has_member_turn member.now (option_copied seen.entry)).reply }
+pub fn sismember(alloc: Global, member: &Argument<'_>, seen: Option<&Entry>) -> Reply
+    ensures { view result ≡ (sismember_answer member.now (option_copied seen.entry)).reply }
 {
     let empty = SetValue::new(alloc);
     match set_at(seen, &empty) {
@@ -23,12 +23,12 @@ pub fn has_member(alloc: Global, member: &Argument<'_>, seen: Option<&Entry>) ->
 }
 
 /// `SMISMEMBER`
-pub fn have_members(
+pub fn smismember(
     alloc: Global,
     members: &Words<'_, '_>,
     seen: Option<&Entry>,
 ) -> Result<Reply, AllocError>
-    ensures { IfOk result (λ r. view r ≡ (have_members_turn members.now (option_copied seen.entry)).reply) }
+    ensures { IfOk result (λ r. view r ≡ (smismember_answer members.now (option_copied seen.entry)).reply) }
 {
     let empty = SetValue::new(alloc);
     match set_at(seen, &empty) {
@@ -49,8 +49,8 @@ fn flags_of(alloc: Global, members: &Words<'_, '_>, set: &SetValue) -> Result<Re
 }
 
 /// `SMEMBERS`
-pub fn list_members(alloc: Global, seen: Option<&Entry>) -> Result<Reply, AllocError>
-    ensures { IfOk result (λ r. view r ≡ (list_members_turn (option_copied seen.entry)).reply) }
+pub fn smembers(alloc: Global, seen: Option<&Entry>) -> Result<Reply, AllocError>
+    ensures { IfOk result (λ r. view r ≡ (smembers_answer (option_copied seen.entry)).reply) }
 {
     let empty = SetValue::new(alloc);
     match set_at(seen, &empty) {
@@ -60,8 +60,8 @@ pub fn list_members(alloc: Global, seen: Option<&Entry>) -> Result<Reply, AllocE
 }
 
 /// `SCARD`
-pub fn count_members(alloc: Global, seen: Option<&Entry>) -> Reply
-    ensures { view result ≡ (count_members_turn (option_copied seen.entry)).reply }
+pub fn scard(alloc: Global, seen: Option<&Entry>) -> Reply
+    ensures { view result ≡ (scard_answer (option_copied seen.entry)).reply }
 {
     let empty = SetValue::new(alloc);
     match set_at(seen, &empty) {

@@ -25,7 +25,7 @@ use Rattle.mr_entries.specs.declared.value.Entry.{Entry}
 use Rattle.mr_entries.proofs.Puts.{put_same}
 use Rattle.mr_data.proofs.Running.{one_step}
 use Rattle.mr_planning.proofs.Laws.{IsFaithfulTurn, stays_faithful, none_short, one_short}
-use Rattle.mr_cmd_string.specs.Changing.{holds, rewritten, length_of, too_long, lengthened, appended, append_turn, put_over, set_range_turn, overflow, increase_from, increase_text, increase_turn}
+use Rattle.mr_cmd_string.specs.Changing.{holds, rewritten, length_of, too_long, lengthened, appended, append_answer, put_over, setrange_answer, overflow, increase_from, increase_text, increase_answer}
 use Rattle.mr_cmd_string.proofs.SameTexts.{is_this_text, bytes_itself, both}
 use Rattle.mr_effect.proofs.Texts.{short_effect}
 use Rattle.mr_effect.specs.Spelling.{IsShort}
@@ -72,7 +72,7 @@ append_does k more text m fit is within =
     ∙ ap (λ h. option_map (put_at m k) (option_and_then (λ x. option_map (entry_of (strings []) (deadline_of (get m k))) (fitting (x ++ more))) h)) is
     ∙ ap (λ b. option_map (put_at m k) (option_map (entry_of (strings []) (deadline_of (get m k))) (if b then Some (text ++ more) else None))) within
 
-pub append_faithful : (k more : Bytes) (m : Dataset) → fits k && fits more ≡ true → IsFaithfulTurn (append_turn k more (get m k)) k m
+pub append_faithful : (k more : Bytes) (m : Dataset) → fits k && fits more ≡ true → IsFaithfulTurn (append_answer k more (get m k)) k m
 append_faithful k more m fit = elim (held (strings []) (get m k)) as (λ h. held (strings []) (get m k) ≡ h → IsFaithfulTurn (appended k more h (get m k)) k m) [
   | None ↦ λ is. stays_faithful _ k m
   | Some text ↦ λ is. lengthened_faithful (text ++ more) (effect.Append k more) k m (short_effect (effect.Append k more) (omega arith)) (append_does k more text m fit is)
@@ -92,8 +92,8 @@ put_over_does k offset part text m fit is some within =
     ∙ ap (λ h. option_map (put_at m k) (option_and_then (λ x. option_map (entry_of (strings []) (deadline_of (get m k))) (fitting (overwritten offset part x))) h)) is
     ∙ ap (λ b. option_map (put_at m k) (option_map (entry_of (strings []) (deadline_of (get m k))) (if b then Some (overwritten offset part text) else None))) within
 
-pub set_range_faithful : (k : Bytes) (offset : ℕ) (part : Bytes) (m : Dataset) → fits k && fits part ≡ true → IsFaithfulTurn (set_range_turn k offset part (get m k)) k m
-set_range_faithful k offset part m fit = elim (held (strings []) (get m k)) as (λ h. held (strings []) (get m k) ≡ h → IsFaithfulTurn (put_over k offset part h (get m k)) k m) [
+pub setrange_faithful : (k : Bytes) (offset : ℕ) (part : Bytes) (m : Dataset) → fits k && fits part ≡ true → IsFaithfulTurn (setrange_answer k offset part (get m k)) k m
+setrange_faithful k offset part m fit = elim (held (strings []) (get m k)) as (λ h. held (strings []) (get m k) ≡ h → IsFaithfulTurn (put_over k offset part h (get m k)) k m) [
   | None ↦ λ is. stays_faithful _ k m
   | Some text ↦ λ is. elim (length part == 0) as (λ b. (length part == 0) ≡ b → IsFaithfulTurn (if b then record { reply = length_of text; entry = get m k; effects = [] } else lengthened (overwritten offset part text) (effect.SetRange k (pos offset) part) (get m k)) k m) [
     | true ↦ λ t. stays_faithful _ k m
@@ -111,7 +111,7 @@ increase_does k by text n m fit number is spelled within =
     ∙ ap (λ a. put (option_map signed_decimal (option_and_then (λ b. if is_i64 (b +ℤ by) then Some (b +ℤ by) else None) a))) spelled
     ∙ ap (λ b. put (option_map signed_decimal (if b then Some (n +ℤ by) else None))) within
 
-pub increase_faithful : (k : Bytes) (by : ℤ) (m : Dataset) → fits k ≡ true → is_i64 by ≡ true → IsFaithfulTurn (increase_turn k by (get m k)) k m
+pub increase_faithful : (k : Bytes) (by : ℤ) (m : Dataset) → fits k ≡ true → is_i64 by ≡ true → IsFaithfulTurn (increase_answer k by (get m k)) k m
 increase_faithful k by m fit number = elim (held (strings (codes "0")) (get m k)) as (λ h. held (strings (codes "0")) (get m k) ≡ h → IsFaithfulTurn (increase_text k by h (get m k)) k m) [
   | None ↦ λ is. stays_faithful _ k m
   | Some text ↦ λ is. elim (number_of text) as (λ a. number_of text ≡ a → IsFaithfulTurn (increase_from k by a (get m k)) k m) [

@@ -37,16 +37,16 @@ use Rattle.mr_planning.specs.Turns.{Turn, done}
 use Rattle.mr_planning.specs.Commands.{IsFaithful, on_key, HasCommandTexts}
 use Rattle.mr_entries.proofs.Puts.{put_same}
 use Rattle.mr_planning.proofs.Laws.{IsFaithfulTurn, kept_faithful, stays_faithful, if_faithful, by_turn, by_telling, keys_told, IsLawful, none_short, one_short}
-use Rattle.mr_cmd_string.specs.Texts.{get_reply, length_reply, range_reply, found}
-use Rattle.mr_cmd_string.specs.Setting.{said_at, until, set_effect, text_until, holds_until, put, plain, allows, holds_other, set_turn, set_for_turn, set_new_turn, get_and_set_turn, taken, get_and_delete_turn}
+use Rattle.mr_cmd_string.specs.Texts.{get_reply, strlen_reply, getrange_reply, found}
+use Rattle.mr_cmd_string.specs.Setting.{said_at, until, set_effect, text_until, holds_until, put, plain, allows, holds_other, set_answer, set_for_answer, setnx_answer, getset_answer, taken, getdel_answer}
 use Rattle.mr_cmd_string.specs.declared.deadlines.NewDeadline.{NewDeadline}
 use Rattle.mr_cmd_string.specs.declared.deadlines.NewDeadline.TheVariants as deadline
 use Rattle.mr_cmd_string.specs.Parts.{amount_number}
-use Rattle.mr_cmd_string.specs.Changing.{append_turn, set_range_turn, increase_turn}
+use Rattle.mr_cmd_string.specs.Changing.{append_answer, setrange_answer, increase_answer}
 use Rattle.mr_cmd_string.specs.Commands.{command, HasNumber, HasLimit, IsLimited}
 use Rattle.mr_cmd_string.proofs.SameTexts.{until_is, until_itself, both}
-use Rattle.mr_cmd_string.proofs.ChangingLaws.{append_faithful, set_range_faithful, increase_faithful}
-use Rattle.mr_cmd_string.proofs.SettingAllLaws.{set_all_faithful, set_all_new_faithful, set_all_texts, set_all_new_texts}
+use Rattle.mr_cmd_string.proofs.ChangingLaws.{append_faithful, setrange_faithful, increase_faithful}
+use Rattle.mr_cmd_string.proofs.SettingAllLaws.{mset_faithful, msetnx_faithful, mset_texts, msetnx_texts}
 use Rattle.mr_effect.proofs.Texts.{short_effect}
 use Rattle.mr_resp.specs.Usual.{commands}
 use Rattle.mr_effect.specs.Spelling.{IsShort}
@@ -107,15 +107,15 @@ module _ (k text : Bytes) (new : NewDeadline) (m : Dataset) where
   put_faithful : (answer : Tree) → IsNamed new → fits k && fits text ≡ true → IsFaithfulTurn (put k text new answer (get m k)) k m
   put_faithful answer named h = record { leads = put_leads named h; short = put_short (holds_until text wanted (get m k)); none = put_none; some = put_some }
 
-set_faithful : (k text : Bytes) (when : Option SetCondition) (reply : SetReply) (new : NewDeadline) (m : Dataset) → IsNamed new → fits k && fits text ≡ true → IsFaithfulTurn (set_turn k text when reply new (get m k)) k m
+set_faithful : (k text : Bytes) (when : Option SetCondition) (reply : SetReply) (new : NewDeadline) (m : Dataset) → IsNamed new → fits k && fits text ≡ true → IsFaithfulTurn (set_answer k text when reply new (get m k)) k m
 set_faithful k text when asked.Done new m named h = if_faithful (allows when (get m k)) _ _ k m (put_faithful k text new m done named h) (stays_faithful _ k m)
 set_faithful k text when asked.Before new m named h = if_faithful (holds_other (get m k)) _ _ k m (stays_faithful _ k m) (if_faithful (allows when (get m k)) _ _ k m (put_faithful k text new m _ named h) (stays_faithful _ k m))
 
-set_new_faithful : (k text : Bytes) (m : Dataset) → fits k && fits text ≡ true → IsFaithfulTurn (set_new_turn k text (get m k)) k m
-set_new_faithful k text m h = if_faithful (is_none (get m k)) _ _ k m (put_faithful k text deadline.Endless m _ tt h) (stays_faithful _ k m)
+setnx_faithful : (k text : Bytes) (m : Dataset) → fits k && fits text ≡ true → IsFaithfulTurn (setnx_answer k text (get m k)) k m
+setnx_faithful k text m h = if_faithful (is_none (get m k)) _ _ k m (put_faithful k text deadline.Endless m _ tt h) (stays_faithful _ k m)
 
-get_and_set_faithful : (k text : Bytes) (m : Dataset) → fits k && fits text ≡ true → IsFaithfulTurn (get_and_set_turn k text (get m k)) k m
-get_and_set_faithful k text m h = if_faithful (holds_other (get m k)) _ _ k m (stays_faithful _ k m) (put_faithful k text deadline.Endless m _ tt h)
+getset_faithful : (k text : Bytes) (m : Dataset) → fits k && fits text ≡ true → IsFaithfulTurn (getset_answer k text (get m k)) k m
+getset_faithful k text m h = if_faithful (holds_other (get m k)) _ _ k m (stays_faithful _ k m) (put_faithful k text deadline.Endless m _ tt h)
 
 -- ---- a lifetime that is within the limits, from a moment on, ends at a deadline
 added : (now n : ℤ) → IsMoment now → IsTrue (int_le (pos 1) n) → IsTrue (is_amount n) → IsTrue (is_deadline (now +ℤ n))
@@ -159,8 +159,8 @@ taken_faithful k (value.List t) e m h is = kept_faithful _ k m (sym is) refl
 taken_faithful k (value.Set t) e m h is = kept_faithful _ k m (sym is) refl
 taken_faithful k (value.SortedSet t) e m h is = kept_faithful _ k m (sym is) refl
 
-get_and_delete_faithful : (k : Bytes) (m : Dataset) → fits k ≡ true → IsFaithfulTurn (get_and_delete_turn k (get m k)) k m
-get_and_delete_faithful k m h = elim (get m k) as (λ o. get m k ≡ o → IsFaithfulTurn (get_and_delete_turn k o) k m) [
+getdel_faithful : (k : Bytes) (m : Dataset) → fits k ≡ true → IsFaithfulTurn (getdel_answer k (get m k)) k m
+getdel_faithful k m h = elim (get m k) as (λ o. get m k ≡ o → IsFaithfulTurn (getdel_answer k o) k m) [
   | None ↦ λ is. kept_faithful _ k m (sym is) refl
   | Some e ↦ λ is. taken_faithful k e.value e m h is
 ] refl
@@ -175,22 +175,22 @@ one_text : (c : TextAsk) (now : ℤ) (m : Dataset) → IsLawful (command c now) 
 one_text c now m h = record { faithful = h.faithful; texts = λ _. h.texts }
 
 -- SETEX, PSETEX
-by_time : (k text : Bytes) (e : Expiry) (now : ℤ) (m : Dataset) → IsTrue (list_all fits (k ∷ text ∷ [])) → IsMoment now → IsTime e → IsLimited e → IsLawful (on_key k (set_for_turn k text (said_at now (Until e)))) now m
-by_time k text e now m h moment least most = by_setting k text (set_for_turn k text (said_at now (Until e))) now m h (λ n. set_faithful k text None asked.Done (said_at now (Until e)) n (expiry_named now e moment least most))
+by_time : (k text : Bytes) (e : Expiry) (now : ℤ) (m : Dataset) → IsTrue (list_all fits (k ∷ text ∷ [])) → IsMoment now → IsTime e → IsLimited e → IsLawful (on_key k (set_for_answer k text (said_at now (Until e)))) now m
+by_time k text e now m h moment least most = by_setting k text (set_for_answer k text (said_at now (Until e))) now m h (λ n. set_faithful k text None asked.Done (said_at now (Until e)) n (expiry_named now e moment least most))
 
 pub texts_faithful : (c : TextAsk) (now : ℤ) (m : Dataset) → IsTrue (list_all fits (text_words c)) → IsMoment now → IsTimed c → HasLimit c → HasNumber c → IsLawfulText c now m
 texts_faithful (ask.Get k) now m h moment timed limit number = one_text (ask.Get k) now m (by_telling k get_reply now m h)
-texts_faithful (ask.Set k text when says l) now m h moment timed limit number = one_text (ask.Set k text when says l) now m (by_setting k text (set_turn k text when says (said_at now l)) now m h (λ n. set_faithful k text when says (said_at now l) n (lifetime_named k text when says l now moment timed limit)))
+texts_faithful (ask.Set k text when says l) now m h moment timed limit number = one_text (ask.Set k text when says l) now m (by_setting k text (set_answer k text when says (said_at now l)) now m h (λ n. set_faithful k text when says (said_at now l) n (lifetime_named k text when says l now moment timed limit)))
 texts_faithful (ask.SetEx k n text) now m h moment timed limit number = one_text (ask.SetEx k n text) now m (by_time k text (expiry.Seconds n) now m h moment timed limit)
 texts_faithful (ask.PSetEx k n text) now m h moment timed limit number = one_text (ask.PSetEx k n text) now m (by_time k text (expiry.Milliseconds n) now m h moment timed limit)
-texts_faithful (ask.TextLength k) now m h moment timed limit number = one_text (ask.TextLength k) now m (by_telling k length_reply now m h)
-texts_faithful (ask.GetRange k a b) now m h moment timed limit number = one_text (ask.GetRange k a b) now m (by_telling k (range_reply a b) now m h)
-texts_faithful (ask.GetAll ks) now m h moment timed limit number = one_text (ask.GetAll ks) now m (keys_told ks (λ n. reply.array (trees_of (map (λ k. found (get n k)) ks))) now m h)
-texts_faithful (ask.SetNew k text) now m h moment timed limit number = one_text (ask.SetNew k text) now m (by_setting k text (set_new_turn k text) now m h (set_new_faithful k text))
-texts_faithful (ask.GetAndSet k text) now m h moment timed limit number = one_text (ask.GetAndSet k text) now m (by_setting k text (get_and_set_turn k text) now m h (get_and_set_faithful k text))
-texts_faithful (ask.GetAndDelete k) now m h moment timed limit number = one_text (ask.GetAndDelete k) now m (by_turn k (get_and_delete_turn k) now m h (λ n. get_and_delete_faithful k n (first _ _ h)))
-texts_faithful (ask.SetAll ps) now m h moment timed limit number = record { faithful = set_all_faithful ps now m h; texts = set_all_texts ps now m h }
-texts_faithful (ask.SetAllNew ps) now m h moment timed limit number = record { faithful = set_all_new_faithful ps now m h; texts = set_all_new_texts ps now m h }
-texts_faithful (ask.Append k more) now m h moment timed limit number = one_text (ask.Append k more) now m (by_setting k more (append_turn k more) now m h (append_faithful k more))
-texts_faithful (ask.SetRange k offset part) now m h moment timed limit number = one_text (ask.SetRange k offset part) now m (by_setting k part (set_range_turn k offset part) now m h (set_range_faithful k offset part))
-texts_faithful (ask.Increase k by) now m h moment timed limit number = one_text (ask.Increase k by) now m (by_turn k (increase_turn k (amount_number by)) now m h (λ n. increase_faithful k (amount_number by) n (first _ _ h) number))
+texts_faithful (ask.StrLen k) now m h moment timed limit number = one_text (ask.StrLen k) now m (by_telling k strlen_reply now m h)
+texts_faithful (ask.GetRange k a b) now m h moment timed limit number = one_text (ask.GetRange k a b) now m (by_telling k (getrange_reply a b) now m h)
+texts_faithful (ask.MGet ks) now m h moment timed limit number = one_text (ask.MGet ks) now m (keys_told ks (λ n. reply.array (trees_of (map (λ k. found (get n k)) ks))) now m h)
+texts_faithful (ask.SetNx k text) now m h moment timed limit number = one_text (ask.SetNx k text) now m (by_setting k text (setnx_answer k text) now m h (setnx_faithful k text))
+texts_faithful (ask.GetSet k text) now m h moment timed limit number = one_text (ask.GetSet k text) now m (by_setting k text (getset_answer k text) now m h (getset_faithful k text))
+texts_faithful (ask.GetDel k) now m h moment timed limit number = one_text (ask.GetDel k) now m (by_turn k (getdel_answer k) now m h (λ n. getdel_faithful k n (first _ _ h)))
+texts_faithful (ask.MSet ps) now m h moment timed limit number = record { faithful = mset_faithful ps now m h; texts = mset_texts ps now m h }
+texts_faithful (ask.MSetNx ps) now m h moment timed limit number = record { faithful = msetnx_faithful ps now m h; texts = msetnx_texts ps now m h }
+texts_faithful (ask.Append k more) now m h moment timed limit number = one_text (ask.Append k more) now m (by_setting k more (append_answer k more) now m h (append_faithful k more))
+texts_faithful (ask.SetRange k offset part) now m h moment timed limit number = one_text (ask.SetRange k offset part) now m (by_setting k part (setrange_answer k offset part) now m h (setrange_faithful k offset part))
+texts_faithful (ask.Increase k by) now m h moment timed limit number = one_text (ask.Increase k by) now m (by_turn k (increase_answer k (amount_number by)) now m h (λ n. increase_faithful k (amount_number by) n (first _ _ h) number))

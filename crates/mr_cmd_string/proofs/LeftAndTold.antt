@@ -22,10 +22,10 @@ use Rattle.mr_entries.specs.declared.value.Value.{Value}
 use Rattle.mr_entries.specs.declared.value.Value.TheVariants as value
 use Rattle.mr_entries.specs.declared.value.Entry.{Entry}
 use Rattle.mr_planning.specs.Turns.{kept, wrong_kind}
-use Rattle.mr_cmd_string.specs.Texts.{get_reply, length_reply, range_reply, found, text_or_null, of_value}
+use Rattle.mr_cmd_string.specs.Texts.{get_reply, strlen_reply, getrange_reply, found, text_or_null, of_value}
 use Rattle.mr_cmd_string.specs.Setting.{holds_other, is_other}
 use Rattle.mr_cmd_string.specs.Changing.{rewritten, length_of, too_long, lengthened, appended, put_over, overflow, increase_from, increase_text}
-use Rattle.mr_cmd_string.specs.Laws.{AppendAnswersLength, AppendIsRead, SetRangeIsRead, IncreaseIsRead, IncreaseAdds, GetAllIsGetOfEach}
+use Rattle.mr_cmd_string.specs.Laws.{AppendAnswersLength, AppendIsRead, SetRangeIsRead, IncreaseIsRead, IncreaseAdds, MGetIsGetOfEach}
 
 -- ---- APPEND
 other_value : (answer : Bytes → Tree) (v : Value) → text_of v ≡ None → wrong_kind ≡ of_value answer v
@@ -35,19 +35,19 @@ other_value answer (value.List t) h = refl
 other_value answer (value.Set t) h = refl
 other_value answer (value.SortedSet t) h = refl
 
-other_length : (before : Option Entry) → held (strings []) before ≡ None → wrong_kind ≡ length_reply before
+other_length : (before : Option Entry) → held (strings []) before ≡ None → wrong_kind ≡ strlen_reply before
 other_length None h = cc
 other_length (Some e) h = other_value (λ text. reply.int (pos (length text))) e.value h
 
 pub append_length : AppendAnswersLength
 append_length k more before =
-    elim (held (strings []) before) as (λ h. held (strings []) before ≡ h → (appended k more h before).reply ≢ too_long → (appended k more h before).reply ≡ length_reply (appended k more h before).entry) [
+    elim (held (strings []) before) as (λ h. held (strings []) before ≡ h → (appended k more h before).reply ≢ too_long → (appended k more h before).reply ≡ strlen_reply (appended k more h before).entry) [
       | None ↦ λ e short. other_length before e
       | Some text ↦ λ e.
           elim (fits (text ++ more)) as (λ b.
           (if b then rewritten (text ++ more) (effect.Append k more) (length_of (text ++ more)) before else kept too_long before).reply ≢ too_long
           → (if b then rewritten (text ++ more) (effect.Append k more) (length_of (text ++ more)) before else kept too_long before).reply
-          ≡ length_reply (if b then rewritten (text ++ more) (effect.Append k more) (length_of (text ++ more)) before else kept too_long before).entry) [
+          ≡ strlen_reply (if b then rewritten (text ++ more) (effect.Append k more) (length_of (text ++ more)) before else kept too_long before).entry) [
             | true ↦ λ short. refl
             | false ↦ λ short. absurd (short refl)
           ]
@@ -100,13 +100,13 @@ read_back t v offset last some is =
     ∙ ap (slice_range (overwritten offset v t) offset) end
     ∙ part_is t v offset
 
-pub set_range_read : SetRangeIsRead
-set_range_read k text part offset last before is fit some end =
+pub setrange_read : SetRangeIsRead
+setrange_read k text part offset last before is fit some end =
     let written : Bytes = overwritten offset part text in
     let made = effect.SetRange k (pos offset) part in
-    ap (λ h. range_reply (pos offset) (pos last) (put_over k offset part h before).entry) is
-    ∙ ap (λ b. range_reply (pos offset) (pos last) (if b then kept (length_of text) before else lengthened written made before).entry) (ne_eqb (length part) 0 (λ e. omega (arith, e, some)))
-    ∙ ap (λ b. range_reply (pos offset) (pos last) (if b then rewritten written made (length_of written) before else kept too_long before).entry) fit
+    ap (λ h. getrange_reply (pos offset) (pos last) (put_over k offset part h before).entry) is
+    ∙ ap (λ b. getrange_reply (pos offset) (pos last) (if b then kept (length_of text) before else lengthened written made before).entry) (ne_eqb (length part) 0 (λ e. omega (arith, e, some)))
+    ∙ ap (λ b. getrange_reply (pos offset) (pos last) (if b then rewritten written made (length_of written) before else kept too_long before).entry) fit
     ∙ ap reply.bytes (read_back text part offset last some end)
 
 -- ---- INCR and its kin
@@ -147,5 +147,5 @@ each_same : {X Y : Type 0} (f g : X → Y) → ((x : X) → f x ≡ g x) → (xs
 each_same f g h [] = refl
 each_same f g h (x ∷ xs) = ap (λ y. y ∷ map f xs) (h x) ∙ ap (λ ys. g x ∷ ys) (each_same f g h xs)
 
-pub each_got : GetAllIsGetOfEach
+pub each_got : MGetIsGetOfEach
 each_got ks m = ap (λ ts. reply.array (trees_of ts)) (each_same _ _ (λ k. got_one (get m k)) ks)

@@ -31,8 +31,8 @@ use Rattle.mr_planning.specs.Commands.{Command, on_keys, before, IsFaithful, Has
 use Rattle.mr_entries.proofs.Puts.{is_key_itself, is_key_symm}
 use Rattle.mr_planning.proofs.Laws.{answered_faithful, IsLeadingAt, leading_at, leading, sent, none_short, one_short}
 use Rattle.mr_cmd_string.specs.Setting.{plain, is_plain}
-use Rattle.mr_cmd_string.specs.SettingAll.{names, last_texts, changed, set_effects, put_all, set_all, is_any_there, set_all_new}
-use Rattle.mr_cmd_string.specs.Laws.{SetAllIsNoLonger, SetAllNewIsNoLonger}
+use Rattle.mr_cmd_string.specs.SettingAll.{names, last_texts, changed, set_effects, put_all, mset, is_any_there, msetnx}
+use Rattle.mr_cmd_string.specs.Laws.{MSetIsNoLonger, MSetNxIsNoLonger}
 use Rattle.mr_cmd_string.proofs.SameTexts.{bytes_itself, plain_is, both}
 use Rattle.mr_effect.specs.declared.effect.Effect.TheVariants as effect
 use Rattle.mr_effect.proofs.Texts.{short_effect}
@@ -204,17 +204,17 @@ put_all_faithful answer ps m fit = record {
   some = λ e. ap set_effects (none_changed ps m e);
 }
 
-pub set_all_faithful : (ps : List Pair) (now : ℤ) (m : Dataset) → IsTrue (list_all fits (unpaired ps)) → IsFaithful (on_keys (names ps) (set_all ps)) now m
-set_all_faithful ps now m h = let command : Command = on_keys (names ps) (set_all ps) in leading command now m (names_fit ps h) (put_all_faithful done ps (before command now m) (pairs_fit ps h))
+pub mset_faithful : (ps : List Pair) (now : ℤ) (m : Dataset) → IsTrue (list_all fits (unpaired ps)) → IsFaithful (on_keys (names ps) (mset ps)) now m
+mset_faithful ps now m h = let command : Command = on_keys (names ps) (mset ps) in leading command now m (names_fit ps h) (put_all_faithful done ps (before command now m) (pairs_fit ps h))
 
-new_faithful : (ps : List Pair) (m : Dataset) → list_all pair_fits ps ≡ true → IsLeadingAt (set_all_new ps m) m
+new_faithful : (ps : List Pair) (m : Dataset) → list_all pair_fits ps ≡ true → IsLeadingAt (msetnx ps m) m
 new_faithful ps m fit = elim (is_any_there ps m) as (λ b. IsLeadingAt (if b then answered (reply.int (pos 0)) m else put_all (reply.int (pos 1)) ps m) m) [
   | true ↦ leading_at _ m (answered_faithful _ m refl refl)
   | false ↦ put_all_faithful _ ps m fit
 ]
 
-pub set_all_new_faithful : (ps : List Pair) (now : ℤ) (m : Dataset) → IsTrue (list_all fits (unpaired ps)) → IsFaithful (on_keys (names ps) (set_all_new ps)) now m
-set_all_new_faithful ps now m h = let command : Command = on_keys (names ps) (set_all_new ps) in leading command now m (names_fit ps h) (new_faithful ps (before command now m) (pairs_fit ps h))
+pub msetnx_faithful : (ps : List Pair) (now : ℤ) (m : Dataset) → IsTrue (list_all fits (unpaired ps)) → IsFaithful (on_keys (names ps) (msetnx ps)) now m
+msetnx_faithful ps now m h = let command : Command = on_keys (names ps) (msetnx ps) in leading command now m (names_fit ps h) (new_faithful ps (before command now m) (pairs_fit ps h))
 
 -- ---- an effect of no more pairs than the command names is short
 filter_few : {X : Type 0} (p : X → Bool) (xs : List X) → length (filter p xs) ≤ length xs
@@ -241,33 +241,33 @@ unpaired_twice (p ∷ ps) = omega (arith, unpaired_twice ps)
 
 set_effects_short : (xs : List Pair) → 2 * length xs < 1048576 → All IsShort (set_effects xs)
 set_effects_short [] few = none_short [] refl
-set_effects_short (x ∷ xs) few = one_short (effect.SetAll (x ∷ xs)) (short_effect (effect.SetAll (x ∷ xs)) (omega (arith, length-pairs (x ∷ xs), few)))
+set_effects_short (x ∷ xs) few = one_short (effect.MSet (x ∷ xs)) (short_effect (effect.MSet (x ∷ xs)) (omega (arith, length-pairs (x ∷ xs), few)))
 
 put_all_short : (ps : List Pair) (m : Dataset) → length (unpaired ps) < commands.words → All IsShort (set_effects (changed ps m))
 put_all_short ps m few = set_effects_short (changed ps m) (omega (arith, commands-words, unpaired_twice ps, changed_few ps m, few))
 
-pub set_all_texts : (ps : List Pair) (now : ℤ) (m : Dataset) → IsTrue (list_all fits (unpaired ps)) → length (unpaired ps) < commands.words → HasCommandTexts (on_keys (names ps) (set_all ps)) now m
-set_all_texts ps now m h few = let command : Command = on_keys (names ps) (set_all ps) in sent command now m (set_all_faithful ps now m h) (put_all_short ps (before command now m) few)
+pub mset_texts : (ps : List Pair) (now : ℤ) (m : Dataset) → IsTrue (list_all fits (unpaired ps)) → length (unpaired ps) < commands.words → HasCommandTexts (on_keys (names ps) (mset ps)) now m
+mset_texts ps now m h few = let command : Command = on_keys (names ps) (mset ps) in sent command now m (mset_faithful ps now m h) (put_all_short ps (before command now m) few)
 
-new_short : (ps : List Pair) (m : Dataset) → length (unpaired ps) < commands.words → All IsShort (set_all_new ps m).effects
+new_short : (ps : List Pair) (m : Dataset) → length (unpaired ps) < commands.words → All IsShort (msetnx ps m).effects
 new_short ps m few = elim (is_any_there ps m) as (λ b. All IsShort (if b then answered (reply.int (pos 0)) m else put_all (reply.int (pos 1)) ps m).effects) [
   | true ↦ none_short [] refl
   | false ↦ put_all_short ps m few
 ]
 
-pub set_all_new_texts : (ps : List Pair) (now : ℤ) (m : Dataset) → IsTrue (list_all fits (unpaired ps)) → length (unpaired ps) < commands.words → HasCommandTexts (on_keys (names ps) (set_all_new ps)) now m
-set_all_new_texts ps now m h few = let command : Command = on_keys (names ps) (set_all_new ps) in sent command now m (set_all_new_faithful ps now m h) (new_short ps (before command now m) few)
+pub msetnx_texts : (ps : List Pair) (now : ℤ) (m : Dataset) → IsTrue (list_all fits (unpaired ps)) → length (unpaired ps) < commands.words → HasCommandTexts (on_keys (names ps) (msetnx ps)) now m
+msetnx_texts ps now m h few = let command : Command = on_keys (names ps) (msetnx ps) in sent command now m (msetnx_faithful ps now m h) (new_short ps (before command now m) few)
 
 -- ---- .. and carries no more words than the command
 set_effects_few : (n : ℕ) (xs : List Pair) → 2 * length xs ≤ n → All (λ e. length (arguments e) ≤ n) (set_effects xs)
 set_effects_few n [] few = All-nil (λ e. length (arguments e) ≤ n)
-set_effects_few n (x ∷ xs) few = All-cons (λ e. length (arguments e) ≤ n) (effect.SetAll (x ∷ xs)) [] (omega (arith, length-pairs (x ∷ xs), few)) (All-nil (λ e. length (arguments e) ≤ n))
+set_effects_few n (x ∷ xs) few = All-cons (λ e. length (arguments e) ≤ n) (effect.MSet (x ∷ xs)) [] (omega (arith, length-pairs (x ∷ xs), few)) (All-nil (λ e. length (arguments e) ≤ n))
 
-pub set_all_few : SetAllIsNoLonger
-set_all_few ps m = set_effects_few (length (unpaired ps)) (changed ps m) (omega (arith, unpaired_twice ps, changed_few ps m))
+pub mset_few : MSetIsNoLonger
+mset_few ps m = set_effects_few (length (unpaired ps)) (changed ps m) (omega (arith, unpaired_twice ps, changed_few ps m))
 
-pub set_all_new_few : SetAllNewIsNoLonger
-set_all_new_few ps m = elim (is_any_there ps m) as (λ b. All (λ e. length (arguments e) ≤ length (unpaired ps)) (if b then answered (reply.int (pos 0)) m else put_all (reply.int (pos 1)) ps m).effects) [
+pub msetnx_few : MSetNxIsNoLonger
+msetnx_few ps m = elim (is_any_there ps m) as (λ b. All (λ e. length (arguments e) ≤ length (unpaired ps)) (if b then answered (reply.int (pos 0)) m else put_all (reply.int (pos 1)) ps m).effects) [
   | true ↦ All-nil (λ e. length (arguments e) ≤ length (unpaired ps))
-  | false ↦ set_all_few ps m
+  | false ↦ mset_few ps m
 ]

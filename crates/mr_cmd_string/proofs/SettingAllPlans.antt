@@ -22,7 +22,7 @@ use Rattle.mr_entries.proofs.Maps.{same_key}
 use Rattle.mr_entries.proofs.Puts.{is_key_itself}
 use Rattle.mr_planning.proofs.KeyLists.{chosen_alike, get_purged}
 use Rattle.mr_cmd_string.specs.Setting.{is_plain}
-use Rattle.mr_cmd_string.specs.SettingAll.{names, last_texts, changed, set_effects, put_all, set_all, is_any_there, set_all_new}
+use Rattle.mr_cmd_string.specs.SettingAll.{names, last_texts, changed, set_effects, put_all, mset, is_any_there, msetnx}
 use Rattle.mr_cmd_string.specs.Finding.{is_any_live, is_any_past, changed_at}
 use Rattle.mr_cmd_string.proofs.SettingAllLaws.{all_map, own_entries}
 
@@ -125,8 +125,8 @@ changed_purged : (now : ℤ) (m : Dataset) (ps : List Pair) → changed_at now (
 changed_purged now m ps = filter_alike _ _ (entries (last_texts ps)) (all_map _ _ (λ x is. ap (λ o. not (is_plain x.1 o)) (sym (kept now m (names ps) x.0 (named ps x.0 x.1 is)))) (entries (last_texts ps)) (own_entries (last_texts ps)))
 
 -- MSET
-pub set_all_plan : (ps : List Pair) (now : ℤ) (m : Dataset) (r : Tree) (none looked list own : List Effect) → none ≡ [] → looked ≡ none ++ dels (past now (names ps) m) → r ≡ done → own ≡ looked ++ set_effects (changed_at now (entries (last_texts ps)) m) → list ≡ own → IsPlan (on_keys (names ps) (set_all ps)) now m r list
-set_all_plan ps now m r none looked list own start look told put all = record {
+pub mset_plan : (ps : List Pair) (now : ℤ) (m : Dataset) (r : Tree) (none looked list own : List Effect) → none ≡ [] → looked ≡ none ++ dels (past now (names ps) m) → r ≡ done → own ≡ looked ++ set_effects (changed_at now (entries (last_texts ps)) m) → list ≡ own → IsPlan (on_keys (names ps) (mset ps)) now m r list
+mset_plan ps now m r none looked list own start look told put all = record {
   reply_is = told;
   effects_are = all ∙ put ∙ ap (λ es. es ++ set_effects (changed_at now (entries (last_texts ps)) m)) (look ∙ ap (λ es. es ++ dels (past now (names ps) m)) start)
       ∙ ap (λ xs. dels (past now (names ps) m) ++ set_effects xs) (changed_purged now m ps);
@@ -171,14 +171,14 @@ all_changed : (now : ℤ) (m : Dataset) (ps : List Pair) → is_any_live now ps 
 all_changed now m ps h = sym (filter_whole _ (entries (last_texts ps)) (all_map _ _ (λ x is. let here = named ps x.0 x.1 is in ap (λ o. not (is_plain x.1 o)) (kept now m (names ps) x.0 here ∙ named_not_there now m ps h x.0 here)) (entries (last_texts ps)) (own_entries (last_texts ps))))
 
 module _ (ps : List Pair) (now : ℤ) (m : Dataset) (r : Tree) (none looked list : List Effect) (start : none ≡ []) (look : looked ≡ none ++ dels (past now (names ps) m)) where
-  pub some_there : is_any_live now ps m ≡ true → r ≡ reply.int (pos 0) → list ≡ looked → IsPlan (on_keys (names ps) (set_all_new ps)) now m r list
+  pub some_there : is_any_live now ps m ≡ true → r ≡ reply.int (pos 0) → list ≡ looked → IsPlan (on_keys (names ps) (msetnx ps)) now m r list
   some_there there told all = record {
     reply_is = told ∙ ap (λ b. (if b then answered (reply.int (pos 0)) (seen now m) else put_all (reply.int (pos 1)) ps (seen now m)).reply) (sym there ∙ live_seen now m ps);
     effects_are = all ∙ look ∙ ap (λ es. es ++ dels (past now (names ps) m)) start ∙ sym (append_none _)
         ∙ ap (λ b. dels (past now (names ps) m) ++ (if b then answered (reply.int (pos 0)) (purged now (names ps) m) else put_all (reply.int (pos 1)) ps (purged now (names ps) m)).effects) (sym there ∙ live_purged now m ps);
   }
 
-  pub none_there : (own : List Effect) → is_any_live now ps m ≡ false → r ≡ reply.int (pos 1) → own ≡ looked ++ set_effects (entries (last_texts ps)) → list ≡ own → IsPlan (on_keys (names ps) (set_all_new ps)) now m r list
+  pub none_there : (own : List Effect) → is_any_live now ps m ≡ false → r ≡ reply.int (pos 1) → own ≡ looked ++ set_effects (entries (last_texts ps)) → list ≡ own → IsPlan (on_keys (names ps) (msetnx ps)) now m r list
   none_there own there told put all = record {
     reply_is = told ∙ ap (λ b. (if b then answered (reply.int (pos 0)) (seen now m) else put_all (reply.int (pos 1)) ps (seen now m)).reply) (sym there ∙ live_seen now m ps);
     effects_are = all ∙ put

@@ -25,7 +25,7 @@ use Rattle.mr_entries.specs.declared.value.Entry.{Entry}
 use Rattle.mr_planning.specs.Turns.{Takes}
 use Rattle.mr_planning.proofs.PlanLemmas.{told}
 use Rattle.mr_cmd_string.specs.Setting.{is_text}
-use Rattle.mr_cmd_string.specs.Changing.{holds, rewritten, length_of, too_long, lengthened, put_over, set_range_turn, overflow, increase_from, increase_text, increase_turn}
+use Rattle.mr_cmd_string.specs.Changing.{holds, rewritten, length_of, too_long, lengthened, put_over, setrange_answer, overflow, increase_from, increase_text, increase_answer}
 use Rattle.mr_cmd_string.proofs.SameTexts.{same_bytes, bytes_itself}
 
 -- ---- how long a text is that is written over
@@ -85,7 +85,7 @@ pub small_end : (t v : List ℕ) (offset : ℕ) → fits (overwritten offset v t
 small_end t v offset h = omega (arith, ends_within t v offset h)
 
 module _ (k part text : Bytes) (offset : ℕ) (o : Option Entry) (is : held (strings []) o ≡ Some text) (some : (length part == 0) ≡ false) (within : fits (overwritten offset part text) ≡ true) where
-  put_over_is : set_range_turn k offset part o ≡ rewritten (overwritten offset part text) (effect.SetRange k (pos offset) part) (length_of (overwritten offset part text)) o
+  put_over_is : setrange_answer k offset part o ≡ rewritten (overwritten offset part text) (effect.SetRange k (pos offset) part) (length_of (overwritten offset part text)) o
   put_over_is =
       ap (λ h. put_over k offset part h o) is
       ∙ ap (λ b. if b then record { reply = length_of text; entry = o; effects = [] } else lengthened (overwritten offset part text) (effect.SetRange k (pos offset) part) o) some
@@ -115,12 +115,12 @@ module _ (k part text : Bytes) (offset : ℕ) (o : Option Entry) (is : held (str
     | Some f ↦ λ e. held_is (overwritten offset part text) text f.value e ∙ differs
   ] is
 
-  pub written_before : (r : Tree) (old : List Effect) → bytes_eq text (overwritten offset part text) ≡ true → r ≡ reply.int (pos (length text)) → Takes (set_range_turn k offset part o) r old old
+  pub written_before : (r : Tree) (old : List Effect) → bytes_eq text (overwritten offset part text) ≡ true → r ≡ reply.int (pos (length text)) → Takes (setrange_answer k offset part o) r old old
   written_before r old same told_so =
       subst (λ t. Takes t r old old) (sym put_over_is)
       (told _ old (ap (λ b. let none : List Effect = [] in if b then none else effect.SetRange k (pos offset) part ∷ []) (there same)) (told_so ∙ ap (λ (x : Bytes). length_of x) (same_bytes text _ same)))
 
-  pub written_over : (r : Tree) (old new : List Effect) → bytes_eq text (overwritten offset part text) ≡ false → r ≡ reply.int (pos (length (overwritten offset part text))) → new ≡ old ++ effect.SetRange k (pos offset) part ∷ [] → Takes (set_range_turn k offset part o) r old new
+  pub written_over : (r : Tree) (old new : List Effect) → bytes_eq text (overwritten offset part text) ≡ false → r ≡ reply.int (pos (length (overwritten offset part text))) → new ≡ old ++ effect.SetRange k (pos offset) part ∷ [] → Takes (setrange_answer k offset part o) r old new
   written_over r old new differs told_so put =
       subst (λ t. Takes t r old new) (sym put_over_is)
       (record { reply_is = told_so; effects_are = put ∙ ap (λ b. old ++ (if b then [] else effect.SetRange k (pos offset) part ∷ [])) (sym (not_there differs)) })
@@ -130,7 +130,7 @@ no_more : (n by : ℤ) → n ≡ n +ℤ by → by ≡ pos 0
 no_more n by h = omega (arith, ints, h)
 
 module _ (k text : Bytes) (by n : ℤ) (o : Option Entry) (is : held (strings (codes "0")) o ≡ Some text) (spelled : number_of text ≡ Some n) (within : is_i64 (n +ℤ by) ≡ true) where
-  increase_is : increase_turn k by o ≡ rewritten (signed_decimal (n +ℤ by)) (effect.Increase k by) (reply.int (n +ℤ by)) o
+  increase_is : increase_answer k by o ≡ rewritten (signed_decimal (n +ℤ by)) (effect.Increase k by) (reply.int (n +ℤ by)) o
   increase_is =
       ap (λ h. increase_text k by h o) is
       ∙ ap (λ a. increase_from k by a o) spelled
@@ -152,7 +152,7 @@ module _ (k text : Bytes) (by n : ℤ) (o : Option Entry) (is : held (strings (c
     | Some f ↦ λ e d. held_is (signed_decimal (n +ℤ by)) text f.value e ∙ not_zero d
   ] is differs
 
-  pub increased : (sum : ℤ) (r : Tree) (old new : List Effect) → (is_some o && int_eq by (pos 0)) ≡ false → sum ≡ n +ℤ by → r ≡ reply.int sum → new ≡ old ++ effect.Increase k by ∷ [] → Takes (increase_turn k by o) r old new
+  pub increased : (sum : ℤ) (r : Tree) (old new : List Effect) → (is_some o && int_eq by (pos 0)) ≡ false → sum ≡ n +ℤ by → r ≡ reply.int sum → new ≡ old ++ effect.Increase k by ∷ [] → Takes (increase_answer k by o) r old new
   increased sum r old new differs total told_so put =
       subst (λ t. Takes t r old new) (sym increase_is)
       (record { reply_is = told_so ∙ ap reply.int total; effects_are = put ∙ ap (λ b. old ++ (if b then [] else effect.Increase k by ∷ [])) (sym (other differs)) })

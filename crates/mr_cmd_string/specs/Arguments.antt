@@ -38,7 +38,7 @@ psetex _ = Err (Arity name.PSetEx)
 
 -- STRLEN key
 abbrev pub strlen : List (List ℕ) → Result TextAsk AskFault
-strlen (key ∷ []) = Ok (ask.TextLength key)
+strlen (key ∷ []) = Ok (ask.StrLen key)
 strlen _ = Err (Arity name.StrLen)
 
 -- GETRANGE key first last
@@ -49,32 +49,32 @@ getrange _ = Err (Arity name.GetRange)
 -- MGET key [key ..]
 abbrev pub mget : List (List ℕ) → Result TextAsk AskFault
 mget [] = Err (Arity name.MGet)
-mget keys = Ok (ask.GetAll keys)
+mget keys = Ok (ask.MGet keys)
 
 -- SETNX key value
 abbrev pub setnx : List (List ℕ) → Result TextAsk AskFault
-setnx (key ∷ value ∷ []) = Ok (ask.SetNew key value)
+setnx (key ∷ value ∷ []) = Ok (ask.SetNx key value)
 setnx _ = Err (Arity name.SetNx)
 
 -- GETSET key value
 abbrev pub getset : List (List ℕ) → Result TextAsk AskFault
-getset (key ∷ value ∷ []) = Ok (ask.GetAndSet key value)
+getset (key ∷ value ∷ []) = Ok (ask.GetSet key value)
 getset _ = Err (Arity name.GetSet)
 
 -- GETDEL key
 abbrev pub getdel : List (List ℕ) → Result TextAsk AskFault
-getdel (key ∷ []) = Ok (ask.GetAndDelete key)
+getdel (key ∷ []) = Ok (ask.GetDel key)
 getdel _ = Err (Arity name.GetDel)
 
 -- MSET key value [key value ..]; no pair is cut
 abbrev pub mset : List (List ℕ) → Result TextAsk AskFault
 mset [] = Err (Arity name.MSet)
-mset words = with (ok_or (pairs_of words) (Arity name.MSet)) (λ pairs. Ok (ask.SetAll pairs))
+mset words = with (ok_or (pairs_of words) (Arity name.MSet)) (λ pairs. Ok (ask.MSet pairs))
 
 -- MSETNX key value [key value ..]; no pair is cut
 abbrev pub msetnx : List (List ℕ) → Result TextAsk AskFault
 msetnx [] = Err (Arity name.MSetNx)
-msetnx words = with (ok_or (pairs_of words) (Arity name.MSetNx)) (λ pairs. Ok (ask.SetAllNew pairs))
+msetnx words = with (ok_or (pairs_of words) (Arity name.MSetNx)) (λ pairs. Ok (ask.MSetNx pairs))
 
 -- APPEND key value
 abbrev pub append : List (List ℕ) → Result TextAsk AskFault

@@ -43,8 +43,8 @@ abbrev pub appended : Bytes → Bytes → Option Bytes → Option Entry → Turn
 appended k more None before = kept wrong_kind before
 appended k more (Some text) before = lengthened (text ++ more) (effect.Append k more) before
 
-abbrev pub append_turn : Bytes → Bytes → Option Entry → Turn
-append_turn k more before = appended k more (held (strings []) before) before
+abbrev pub append_answer : Bytes → Bytes → Option Entry → Turn
+append_answer k more before = appended k more (held (strings []) before) before
 
 -- ---- SETRANGE key offset value: an absent key holds an empty text, and an empty value changes nothing
 abbrev pub put_over : Bytes → ℕ → Bytes → Option Bytes → Option Entry → Turn
@@ -53,8 +53,8 @@ put_over k offset part (Some text) before =
     if length part == 0 then kept (length_of text) before
     else lengthened (overwritten offset part text) (effect.SetRange k (pos offset) part) before
 
-abbrev pub set_range_turn : Bytes → ℕ → Bytes → Option Entry → Turn
-set_range_turn k offset part before = put_over k offset part (held (strings []) before) before
+abbrev pub setrange_answer : Bytes → ℕ → Bytes → Option Entry → Turn
+setrange_answer k offset part before = put_over k offset part (held (strings []) before) before
 
 -- ---- INCR key, DECR key, INCRBY key number, DECRBY key number: an absent key holds 0
 abbrev pub no_integer : Tree
@@ -74,5 +74,5 @@ abbrev pub increase_text : Bytes → ℤ → Option Bytes → Option Entry → T
 increase_text k by None before = kept wrong_kind before
 increase_text k by (Some text) before = increase_from k by (number_of text) before
 
-abbrev pub increase_turn : Bytes → ℤ → Option Entry → Turn
-increase_turn k by before = increase_text k by (held (strings (codes "0")) before) before
+abbrev pub increase_answer : Bytes → ℤ → Option Entry → Turn
+increase_answer k by before = increase_text k by (held (strings (codes "0")) before) before

@@ -10,28 +10,28 @@ use Rattle.mr_expiry.specs.Expiry.{milliseconds}
 use Rattle.mr_expiry.specs.declared.expiry.Expiry.{Expiry}
 use Rattle.mr_expiry.specs.declared.expiry.Expiry.TheVariants.{Seconds, Milliseconds}
 use Rattle.mr_cmd_string.specs.declared.text_ask.Lifetime.TheVariants.{Until}
-use Rattle.mr_cmd_string.specs.Texts.{get_turn, length_turn, range_turn, texts}
-use Rattle.mr_cmd_string.specs.Setting.{said_at, set_turn, set_for_turn, set_new_turn, get_and_set_turn, get_and_delete_turn}
-use Rattle.mr_cmd_string.specs.SettingAll.{names, set_all, set_all_new}
-use Rattle.mr_cmd_string.specs.Changing.{append_turn, set_range_turn, increase_turn}
+use Rattle.mr_cmd_string.specs.Texts.{get_answer, strlen_answer, getrange_answer, texts}
+use Rattle.mr_cmd_string.specs.Setting.{said_at, set_answer, set_for_answer, setnx_answer, getset_answer, getdel_answer}
+use Rattle.mr_cmd_string.specs.SettingAll.{names, mset, msetnx}
+use Rattle.mr_cmd_string.specs.Changing.{append_answer, setrange_answer, increase_answer}
 
 -- at the moment `now`
 abbrev pub command : TextAsk → ℤ → Command
-command (ask.Get k) now = on_key k get_turn
-command (ask.Set k text condition reply lifetime) now = on_key k (set_turn k text condition reply (said_at now lifetime))
-command (ask.SetEx k n text) now = on_key k (set_for_turn k text (said_at now (Until (Seconds n))))
-command (ask.PSetEx k n text) now = on_key k (set_for_turn k text (said_at now (Until (Milliseconds n))))
-command (ask.TextLength k) now = on_key k length_turn
-command (ask.GetRange k first last) now = on_key k (range_turn first last)
-command (ask.GetAll ks) now = on_keys ks (texts ks)
-command (ask.SetNew k text) now = on_key k (set_new_turn k text)
-command (ask.GetAndSet k text) now = on_key k (get_and_set_turn k text)
-command (ask.GetAndDelete k) now = on_key k (get_and_delete_turn k)
-command (ask.SetAll pairs) now = on_keys (names pairs) (set_all pairs)
-command (ask.SetAllNew pairs) now = on_keys (names pairs) (set_all_new pairs)
-command (ask.Append k text) now = on_key k (append_turn k text)
-command (ask.SetRange k offset text) now = on_key k (set_range_turn k offset text)
-command (ask.Increase k by) now = on_key k (increase_turn k (amount_number by))
+command (ask.Get k) now = on_key k get_answer
+command (ask.Set k text condition reply lifetime) now = on_key k (set_answer k text condition reply (said_at now lifetime))
+command (ask.SetEx k n text) now = on_key k (set_for_answer k text (said_at now (Until (Seconds n))))
+command (ask.PSetEx k n text) now = on_key k (set_for_answer k text (said_at now (Until (Milliseconds n))))
+command (ask.StrLen k) now = on_key k strlen_answer
+command (ask.GetRange k first last) now = on_key k (getrange_answer first last)
+command (ask.MGet ks) now = on_keys ks (texts ks)
+command (ask.SetNx k text) now = on_key k (setnx_answer k text)
+command (ask.GetSet k text) now = on_key k (getset_answer k text)
+command (ask.GetDel k) now = on_key k (getdel_answer k)
+command (ask.MSet pairs) now = on_keys (names pairs) (mset pairs)
+command (ask.MSetNx pairs) now = on_keys (names pairs) (msetnx pairs)
+command (ask.Append k text) now = on_key k (append_answer k text)
+command (ask.SetRange k offset text) now = on_key k (setrange_answer k offset text)
+command (ask.Increase k by) now = on_key k (increase_answer k (amount_number by))
 
 -- the number in a command's effect has 64 bits
 abbrev pub HasNumber : TextAsk → Type 0

@@ -14,10 +14,10 @@ use Rattle.mr_entries.specs.Steps.{texts as strings, held}
 use Rattle.mr_entries.specs.declared.value.Entry.{Entry}
 use Rattle.mr_cmd_string.specs.Carried.{text_words}
 use Rattle.mr_cmd_string.specs.declared.text_ask.TextAsk.TheVariants as ask
-use Rattle.mr_cmd_string.specs.SettingAll.{set_all, set_all_new}
-use Rattle.mr_cmd_string.specs.Texts.{get_reply, length_reply, range_reply, texts}
+use Rattle.mr_cmd_string.specs.SettingAll.{mset, msetnx}
+use Rattle.mr_cmd_string.specs.Texts.{get_reply, strlen_reply, getrange_reply, texts}
 use Rattle.mr_cmd_string.specs.Setting.{holds_other}
-use Rattle.mr_cmd_string.specs.Changing.{append_turn, set_range_turn, increase_turn, too_long}
+use Rattle.mr_cmd_string.specs.Changing.{append_answer, setrange_answer, increase_answer, too_long}
 
 -- the key holds this text; an absent one holds an empty text
 abbrev pub HoldsText : Option Entry → Bytes → Type 0
@@ -31,36 +31,36 @@ pub record HoldsNumber (before : Option Entry) (n : ℤ) : Type 0 where
 
 -- APPEND answers what STRLEN then answers, unless the text would be too long
 abbrev pub AppendAnswersLength : Type 0
-AppendAnswersLength = (k more : Bytes) (before : Option Entry) → (append_turn k more before).reply ≢ too_long
-    → (append_turn k more before).reply ≡ length_reply (append_turn k more before).entry
+AppendAnswersLength = (k more : Bytes) (before : Option Entry) → (append_answer k more before).reply ≢ too_long
+    → (append_answer k more before).reply ≡ strlen_reply (append_answer k more before).entry
 
 -- GET then reads the text that was there, and what was appended behind it
 abbrev pub AppendIsRead : Type 0
 AppendIsRead = (k text more : Bytes) (before : Option Entry) → HoldsText before text → IsTrue (fits (text ++ more))
-    → get_reply (append_turn k more before).entry ≡ reply.bytes (text ++ more)
+    → get_reply (append_answer k more before).entry ≡ reply.bytes (text ++ more)
 
 -- what SETRANGE put at an offset, GETRANGE reads from its first place to its last
 abbrev pub SetRangeIsRead : Type 0
 SetRangeIsRead = (k text part : Bytes) (offset last : ℕ) (before : Option Entry) → HoldsText before text → IsTrue (fits (overwritten offset part text))
     → 0 < length part → offset + length part ≡ last + 1
-    → range_reply (pos offset) (pos last) (set_range_turn k offset part before).entry ≡ reply.bytes part
+    → getrange_reply (pos offset) (pos last) (setrange_answer k offset part before).entry ≡ reply.bytes part
 
 -- INCR and its kin answer a number, and GET then reads its digits
 abbrev pub IncreaseIsRead : Type 0
-IncreaseIsRead = (k : Bytes) (by n : ℤ) (before : Option Entry) → (increase_turn k by before).reply ≡ reply.int n
-    → get_reply (increase_turn k by before).entry ≡ reply.bytes (signed_decimal n)
+IncreaseIsRead = (k : Bytes) (by n : ℤ) (before : Option Entry) → (increase_answer k by before).reply ≡ reply.int n
+    → get_reply (increase_answer k by before).entry ≡ reply.bytes (signed_decimal n)
 
 -- .. which is the sum, where it has 64 bits
 abbrev pub IncreaseAdds : Type 0
-IncreaseAdds = (k : Bytes) (by n : ℤ) (before : Option Entry) → HoldsNumber before n → IsTrue (is_i64 (n +ℤ by)) → (increase_turn k by before).reply ≡ reply.int (n +ℤ by)
+IncreaseAdds = (k : Bytes) (by n : ℤ) (before : Option Entry) → HoldsNumber before n → IsTrue (is_i64 (n +ℤ by)) → (increase_answer k by before).reply ≡ reply.int (n +ℤ by)
 
 -- MGET answers what GET answers for each key, and nil where GET refuses a value of another kind
-abbrev pub GetAllIsGetOfEach : Type 0
-GetAllIsGetOfEach = (ks : List Bytes) (m : Dataset) → (texts ks m).reply ≡ reply.array (trees_of (map (λ k. if holds_other (get m k) then reply.null_bulk else get_reply (get m k)) ks))
+abbrev pub MGetIsGetOfEach : Type 0
+MGetIsGetOfEach = (ks : List Bytes) (m : Dataset) → (texts ks m).reply ≡ reply.array (trees_of (map (λ k. if holds_other (get m k) then reply.null_bulk else get_reply (get m k)) ks))
 
 -- MSET and MSETNX have one effect, which isn't cut: behind its name it has at most as many words as the command
-abbrev pub SetAllIsNoLonger : Type 0
-SetAllIsNoLonger = (pairs : List (Bytes × Bytes)) (m : Dataset) → All (λ e. length (arguments e) ≤ length (text_words (ask.SetAll pairs))) (set_all pairs m).effects
+abbrev pub MSetIsNoLonger : Type 0
+MSetIsNoLonger = (pairs : List (Bytes × Bytes)) (m : Dataset) → All (λ e. length (arguments e) ≤ length (text_words (ask.MSet pairs))) (mset pairs m).effects
 
-abbrev pub SetAllNewIsNoLonger : Type 0
-SetAllNewIsNoLonger = (pairs : List (Bytes × Bytes)) (m : Dataset) → All (λ e. length (arguments e) ≤ length (text_words (ask.SetAllNew pairs))) (set_all_new pairs m).effects
+abbrev pub MSetNxIsNoLonger : Type 0
+MSetNxIsNoLonger = (pairs : List (Bytes × Bytes)) (m : Dataset) → All (λ e. length (arguments e) ≤ length (text_words (ask.MSetNx pairs))) (msetnx pairs m).effects

@@ -92,29 +92,29 @@ holds_other None = false
 holds_other (Some e) = is_other e.value
 
 -- With GET the text before is answered in every case, and a value of another kind stays.
-abbrev pub set_turn : Bytes → Bytes → Option SetCondition → SetReply → NewDeadline → Option Entry → Turn
-set_turn k text when asked.Done new before = if allows when before then put k text new done before else kept reply.null_bulk before
-set_turn k text when asked.Before new before =
+abbrev pub set_answer : Bytes → Bytes → Option SetCondition → SetReply → NewDeadline → Option Entry → Turn
+set_answer k text when asked.Done new before = if allows when before then put k text new done before else kept reply.null_bulk before
+set_answer k text when asked.Before new before =
     if holds_other before then kept wrong_kind before
     else (if allows when before then put k text new (get_reply before) before else kept (get_reply before) before)
 
 -- SETEX key seconds value, PSETEX key milliseconds value: as SET with this option alone
-abbrev pub set_for_turn : Bytes → Bytes → NewDeadline → Option Entry → Turn
-set_for_turn k text new before = set_turn k text None asked.Done new before
+abbrev pub set_for_answer : Bytes → Bytes → NewDeadline → Option Entry → Turn
+set_for_answer k text new before = set_answer k text None asked.Done new before
 
 -- SETNX key value: whether it was set
-abbrev pub set_new_turn : Bytes → Bytes → Option Entry → Turn
-set_new_turn k text before = if is_none before then put k text deadline.Endless (reply.int (pos 1)) before else kept (reply.int (pos 0)) before
+abbrev pub setnx_answer : Bytes → Bytes → Option Entry → Turn
+setnx_answer k text before = if is_none before then put k text deadline.Endless (reply.int (pos 1)) before else kept (reply.int (pos 0)) before
 
 -- GETSET key value: the text before
-abbrev pub get_and_set_turn : Bytes → Bytes → Option Entry → Turn
-get_and_set_turn k text before = if holds_other before then kept wrong_kind before else put k text deadline.Endless (get_reply before) before
+abbrev pub getset_answer : Bytes → Bytes → Option Entry → Turn
+getset_answer k text before = if holds_other before then kept wrong_kind before else put k text deadline.Endless (get_reply before) before
 
 -- ---- GETDEL key: the text, and the key goes
 abbrev pub taken : Bytes → Value → Entry → Turn
 taken k (value.Text text) e = record { reply = reply.bytes text; entry = None; effects = effect.Del k ∷ [] }
 taken k _ e = kept wrong_kind (Some e)
 
-abbrev pub get_and_delete_turn : Bytes → Option Entry → Turn
-get_and_delete_turn k None = kept reply.null_bulk None
-get_and_delete_turn k (Some e) = taken k e.value e
+abbrev pub getdel_answer : Bytes → Option Entry → Turn
+getdel_answer k None = kept reply.null_bulk None
+getdel_answer k (Some e) = taken k e.value e

@@ -29,20 +29,20 @@ changed pairs m = filter (λ p. not (is_plain p.1 (get m p.0))) (entries (last_t
 -- one effect for all of them
 abbrev pub set_effects : List (Bytes × Bytes) → List Effect
 set_effects [] = []
-set_effects (p ∷ ps) = effect.SetAll (p ∷ ps) ∷ []
+set_effects (p ∷ ps) = effect.MSet (p ∷ ps) ∷ []
 
 -- The keys get their texts, one after another. What they held before may be of any kind.
 abbrev pub put_all : Tree → List (Bytes × Bytes) → Dataset → Outcome
 put_all answer pairs m = record { reply = answer; after = with_texts pairs m; effects = set_effects (changed pairs m) }
 
 -- MSET key value [key value ..]
-abbrev pub set_all : List (Bytes × Bytes) → Dataset → Outcome
-set_all pairs m = put_all done pairs m
+abbrev pub mset : List (Bytes × Bytes) → Dataset → Outcome
+mset pairs m = put_all done pairs m
 
 -- one of the keys is there
 abbrev pub is_any_there : List (Bytes × Bytes) → Dataset → Bool
 is_any_there pairs m = list_any (λ p. is_some (get m p.0)) pairs
 
 -- MSETNX key value [key value ..]: nothing is set where one of the keys is there
-abbrev pub set_all_new : List (Bytes × Bytes) → Dataset → Outcome
-set_all_new pairs m = if is_any_there pairs m then answered (reply.int (pos 0)) m else put_all (reply.int (pos 1)) pairs m
+abbrev pub msetnx : List (Bytes × Bytes) → Dataset → Outcome
+msetnx pairs m = if is_any_there pairs m then answered (reply.int (pos 0)) m else put_all (reply.int (pos 1)) pairs m

@@ -27,25 +27,25 @@ of_text absent answer (Some e) = of_value answer e.value
 abbrev pub get_reply : Option Entry → Tree
 get_reply = of_text reply.null_bulk reply.bytes
 
-abbrev pub get_turn : Option Entry → Turn
-get_turn before = kept (get_reply before) before
+abbrev pub get_answer : Option Entry → Turn
+get_answer before = kept (get_reply before) before
 
 -- STRLEN key: how many bytes it has
-abbrev pub length_reply : Option Entry → Tree
-length_reply = of_text (reply.int (pos 0)) (λ text. reply.int (pos (length text)))
+abbrev pub strlen_reply : Option Entry → Tree
+strlen_reply = of_text (reply.int (pos 0)) (λ text. reply.int (pos (length text)))
 
-abbrev pub length_turn : Option Entry → Turn
-length_turn before = kept (length_reply before) before
+abbrev pub strlen_answer : Option Entry → Turn
+strlen_answer before = kept (strlen_reply before) before
 
 -- GETRANGE key first last: its bytes from one place to another
 abbrev pub part : ℤ → ℤ → Bytes → Bytes
 part first last text = windowed (window_of first last (length text)) text
 
-abbrev pub range_reply : ℤ → ℤ → Option Entry → Tree
-range_reply first last = of_text (reply.bytes []) (λ text. reply.bytes (part first last text))
+abbrev pub getrange_reply : ℤ → ℤ → Option Entry → Tree
+getrange_reply first last = of_text (reply.bytes []) (λ text. reply.bytes (part first last text))
 
-abbrev pub range_turn : ℤ → ℤ → Option Entry → Turn
-range_turn first last before = kept (range_reply first last before) before
+abbrev pub getrange_answer : ℤ → ℤ → Option Entry → Turn
+getrange_answer first last before = kept (getrange_reply first last before) before
 
 -- ---- MGET key [key ..]: the text of each. A key of another kind is answered as an absent one.
 abbrev pub text_or_null : Value → Tree

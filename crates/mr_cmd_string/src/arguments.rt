@@ -75,7 +75,7 @@ pub fn strlen<'a, 't>(arguments: Arguments<'a, 't>) -> Reading<'a, 't>
     ensures { result ≡ strlen (map cow_slice_items arguments.now) }
 {
     match arguments {
-        [key] => Ok(TextAsk::TextLength {
+        [key] => Ok(TextAsk::StrLen {
             key: Argument::of(key),
         }),
         _ => Err(AskFault::Arity(Name::StrLen)),
@@ -102,7 +102,7 @@ pub fn mget<'a, 't>(arguments: Arguments<'a, 't>) -> Reading<'a, 't>
 {
     match arguments {
         [] => Err(AskFault::Arity(Name::MGet)),
-        _ => Ok(TextAsk::GetAll {
+        _ => Ok(TextAsk::MGet {
             keys: Words::new(arguments),
         }),
     }
@@ -113,7 +113,7 @@ pub fn setnx<'a, 't>(arguments: Arguments<'a, 't>) -> Reading<'a, 't>
     ensures { result ≡ setnx (map cow_slice_items arguments.now) }
 {
     match arguments {
-        [key, value] => Ok(TextAsk::SetNew {
+        [key, value] => Ok(TextAsk::SetNx {
             key: Argument::of(key),
             value: Argument::of(value),
         }),
@@ -126,7 +126,7 @@ pub fn getset<'a, 't>(arguments: Arguments<'a, 't>) -> Reading<'a, 't>
     ensures { result ≡ getset (map cow_slice_items arguments.now) }
 {
     match arguments {
-        [key, value] => Ok(TextAsk::GetAndSet {
+        [key, value] => Ok(TextAsk::GetSet {
             key: Argument::of(key),
             value: Argument::of(value),
         }),
@@ -139,7 +139,7 @@ pub fn getdel<'a, 't>(arguments: Arguments<'a, 't>) -> Reading<'a, 't>
     ensures { result ≡ getdel (map cow_slice_items arguments.now) }
 {
     match arguments {
-        [key] => Ok(TextAsk::GetAndDelete {
+        [key] => Ok(TextAsk::GetDel {
             key: Argument::of(key),
         }),
         _ => Err(AskFault::Arity(Name::GetDel)),
@@ -152,7 +152,7 @@ pub fn mset<'a, 't>(arguments: Arguments<'a, 't>) -> Reading<'a, 't>
 {
     match arguments {
         [] => Err(AskFault::Arity(Name::MSet)),
-        _ => Ok(TextAsk::SetAll {
+        _ => Ok(TextAsk::MSet {
             pairs: Pairs::of(arguments).ok_or(AskFault::Arity(Name::MSet))?,
         }),
     }
@@ -164,7 +164,7 @@ pub fn msetnx<'a, 't>(arguments: Arguments<'a, 't>) -> Reading<'a, 't>
 {
     match arguments {
         [] => Err(AskFault::Arity(Name::MSetNx)),
-        _ => Ok(TextAsk::SetAllNew {
+        _ => Ok(TextAsk::MSetNx {
             pairs: Pairs::of(arguments).ok_or(AskFault::Arity(Name::MSetNx))?,
         }),
     }

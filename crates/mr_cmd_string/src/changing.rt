@@ -6,7 +6,7 @@ ghost use Rattle.mr_resp.specs.ReplyView.{view};
 ghost use Rattle.mr_value.specs.Texts.{overwritten};
 ghost use Rattle.mr_entries.specs.Steps.{texts as strings, held};
 ghost use Rattle.mr_planning.specs.Turns.{Takes};
-ghost use Rattle.mr_cmd_string.specs.Changing.{append_turn, set_range_turn, increase_turn};
+ghost use Rattle.mr_cmd_string.specs.Changing.{append_answer, setrange_answer, increase_answer};
 
 use crate::replies::{no_integer, overflow, too_long};
 use mr_data::{Effect, Entry, Value};
@@ -37,7 +37,7 @@ pub fn append(
     seen: Option<&Entry>,
     effects: &mut Effects,
 ) -> Result<Reply, AllocError>
-    ensures { IfOk result (λ r. Takes (append_turn key.now more.now (option_copied seen.entry)) (view r) effects.old effects.new) }
+    ensures { IfOk result (λ r. Takes (append_answer key.now more.now (option_copied seen.entry)) (view r) effects.old effects.new) }
 {
     let none = Bytes::from_vec(Vec::new(alloc));
     let Some(text) = text_at(&none, seen) else {
@@ -64,7 +64,7 @@ fn is_same(more: &[u8], seen: Option<&Entry>) -> bool
 }
 
 /// `SETRANGE`. The text that is there is not copied.
-pub fn set_range(
+pub fn setrange(
     alloc: Global,
     key: &Argument<'_>,
     offset: usize,
@@ -72,7 +72,7 @@ pub fn set_range(
     seen: Option<&Entry>,
     effects: &mut Effects,
 ) -> Result<Reply, AllocError>
-    ensures { IfOk result (λ r. Takes (set_range_turn key.now offset part.now (option_copied seen.entry)) (view r) effects.old effects.new) }
+    ensures { IfOk result (λ r. Takes (setrange_answer key.now offset part.now (option_copied seen.entry)) (view r) effects.old effects.new) }
 {
     let none = Bytes::from_vec(Vec::new(alloc));
     let Some(text) = text_at(&none, seen) else {
@@ -142,7 +142,7 @@ pub fn increase(
     seen: Option<&Entry>,
     effects: &mut Effects,
 ) -> Result<Reply, AllocError>
-    ensures { IfOk result (λ r. Takes (increase_turn key.now by (option_copied seen.entry)) (view r) effects.old effects.new) }
+    ensures { IfOk result (λ r. Takes (increase_answer key.now by (option_copied seen.entry)) (view r) effects.old effects.new) }
 {
     let Some(text) = number_text(seen) else {
         return Ok(wrong_kind());

@@ -9,14 +9,14 @@ ghost use Rattle.mr_data.specs.Given.{IsMoment};
 ghost use Rattle.mr_cmd_string.specs.Carried.{text_words, IsTimed};
 ghost use Rattle.mr_planning.specs.Commands.{IsPlan, IsFaithful, HasCommandTexts, on_key, on_keys};
 ghost use Rattle.mr_cmd_string.specs.Commands.{command, HasNumber, HasLimit};
-ghost use Rattle.mr_cmd_string.specs.Texts.{get_turn, length_turn, range_turn, texts};
-ghost use Rattle.mr_cmd_string.specs.Setting.{said_at, set_turn, set_for_turn, set_new_turn, get_and_set_turn, get_and_delete_turn};
+ghost use Rattle.mr_cmd_string.specs.Texts.{get_answer, strlen_answer, getrange_answer, texts};
+ghost use Rattle.mr_cmd_string.specs.Setting.{said_at, set_answer, set_for_answer, setnx_answer, getset_answer, getdel_answer};
 ghost use Rattle.mr_cmd_string.specs.declared.text_ask.Lifetime.TheVariants.{Until};
-ghost use Rattle.mr_cmd_string.specs.Changing.{append_turn, set_range_turn, increase_turn};
+ghost use Rattle.mr_cmd_string.specs.Changing.{append_answer, setrange_answer, increase_answer};
 
 use crate::deadlines::NewDeadline;
 use crate::setting::SetRules;
-use crate::setting_all::{set_all, set_all_new};
+use crate::setting_all::{mset, msetnx};
 use crate::text_ask::{Lifetime, SetReply, TextAsk};
 use crate::{changing, setting, texts};
 use mr_data::{Dataset, Given, Plan};
@@ -113,24 +113,24 @@ fn planned(
             value,
             given,
         ),
-        TextAsk::TextLength { key } => text_length(alloc, held, key, given),
-        TextAsk::GetRange { key, first, last } => get_range(alloc, held, key, *first, *last, given),
-        TextAsk::GetAll { keys } => get_all(alloc, held, keys, given),
-        TextAsk::SetNew { key, value } => set_new(alloc, held, key, value, given),
-        TextAsk::GetAndSet { key, value } => get_and_set(alloc, held, key, value, given),
-        TextAsk::GetAndDelete { key } => get_and_delete(alloc, held, key, given),
-        TextAsk::SetAll { pairs } => set_all(alloc, held, pairs, given),
-        TextAsk::SetAllNew { pairs } => set_all_new(alloc, held, pairs, given),
+        TextAsk::StrLen { key } => strlen(alloc, held, key, given),
+        TextAsk::GetRange { key, first, last } => getrange(alloc, held, key, *first, *last, given),
+        TextAsk::MGet { keys } => mget(alloc, held, keys, given),
+        TextAsk::SetNx { key, value } => setnx(alloc, held, key, value, given),
+        TextAsk::GetSet { key, value } => getset(alloc, held, key, value, given),
+        TextAsk::GetDel { key } => getdel(alloc, held, key, given),
+        TextAsk::MSet { pairs } => mset(alloc, held, pairs, given),
+        TextAsk::MSetNx { pairs } => msetnx(alloc, held, pairs, given),
         TextAsk::Append { key, value } => append(alloc, held, key, value, given),
         TextAsk::SetRange { key, offset, value } => {
-            set_range(alloc, held, key, *offset, value, given)
+            setrange(alloc, held, key, *offset, value, given)
         }
         TextAsk::Increase { key, by } => increase(alloc, held, key, by.number(), given),
     }
 }
 
 fn get(alloc: Global, held: &Dataset, key: &Argument<'_>, given: Given) -> Result<Plan, AllocError>
-    ensures { IfOk result (λ p. IsPlan (on_key key.now get_turn) given.now held.now (view p.reply) p.effects.items) }
+    ensures { IfOk result (λ p. IsPlan (on_key key.now get_answer) given.now held.now (view p.reply) p.effects.items) }
 {
     let mut effects = Effects::new(alloc);
     let seen = look(alloc, held, key, given, &mut effects)?;
@@ -138,21 +138,21 @@ fn get(alloc: Global, held: &Dataset, key: &Argument<'_>, given: Given) -> Resul
     Ok(effects.into_plan(reply))
 }
 
-fn text_length(
+fn strlen(
     alloc: Global,
     held: &Dataset,
     key: &Argument<'_>,
     given: Given,
 ) -> Result<Plan, AllocError>
-    ensures { IfOk result (λ p. IsPlan (on_key key.now length_turn) given.now held.now (view p.reply) p.effects.items) }
+    ensures { IfOk result (λ p. IsPlan (on_key key.now strlen_answer) given.now held.now (view p.reply) p.effects.items) }
 {
     let mut effects = Effects::new(alloc);
     let seen = look(alloc, held, key, given, &mut effects)?;
-    let reply = texts::text_length(seen);
+    let reply = texts::strlen(seen);
     Ok(effects.into_plan(reply))
 }
 
-fn get_range(
+fn getrange(
     alloc: Global,
     held: &Dataset,
     key: &Argument<'_>,
@@ -160,15 +160,15 @@ fn get_range(
     last: i64,
     given: Given,
 ) -> Result<Plan, AllocError>
-    ensures { IfOk result (λ p. IsPlan (on_key key.now (range_turn first last)) given.now held.now (view p.reply) p.effects.items) }
+    ensures { IfOk result (λ p. IsPlan (on_key key.now (getrange_answer first last)) given.now held.now (view p.reply) p.effects.items) }
 {
     let mut effects = Effects::new(alloc);
     let seen = look(alloc, held, key, given, &mut effects)?;
-    let reply = texts::get_range(alloc, first, last, seen)?;
+    let reply = texts::getrange(alloc, first, last, seen)?;
     Ok(effects.into_plan(reply))
 }
 
-fn get_all(
+fn mget(
     alloc: Global,
     held: &Dataset,
     keys: &Words<'_, '_>,
@@ -178,7 +178,7 @@ fn get_all(
 {
     let mut effects = Effects::new(alloc);
     push_dels(alloc, held, keys, given, true, &mut effects)?;
-    let reply = texts::get_all(alloc, held, keys, given)?;
+    let reply = texts::mget(alloc, held, keys, given)?;
     Ok(effects.into_plan(reply))
 }
 
@@ -190,7 +190,7 @@ fn set(
     rules: SetRules,
     given: Given,
 ) -> Result<Plan, AllocError>
-    ensures { IfOk result (λ p. IsPlan (on_key key.now (set_turn key.now value.now rules.condition rules.reply rules.deadline)) given.now held.now (view p.reply) p.effects.items) }
+    ensures { IfOk result (λ p. IsPlan (on_key key.now (set_answer key.now value.now rules.condition rules.reply rules.deadline)) given.now held.now (view p.reply) p.effects.items) }
 {
     let mut effects = Effects::new(alloc);
     let seen = look(alloc, held, key, given, &mut effects)?;
@@ -207,7 +207,7 @@ fn set_for(
     value: &Argument<'_>,
     given: Given,
 ) -> Result<Plan, AllocError>
-    ensures { IfOk result (λ p. IsPlan (on_key key.now (set_for_turn key.now value.now (said_at given.now (Until expiry)))) given.now held.now (view p.reply) p.effects.items) }
+    ensures { IfOk result (λ p. IsPlan (on_key key.now (set_for_answer key.now value.now (said_at given.now (Until expiry)))) given.now held.now (view p.reply) p.effects.items) }
 {
     let rules = SetRules {
         condition: None,
@@ -217,47 +217,47 @@ fn set_for(
     set(alloc, held, key, value, rules, given)
 }
 
-fn set_new(
+fn setnx(
     alloc: Global,
     held: &Dataset,
     key: &Argument<'_>,
     value: &Argument<'_>,
     given: Given,
 ) -> Result<Plan, AllocError>
-    ensures { IfOk result (λ p. IsPlan (on_key key.now (set_new_turn key.now value.now)) given.now held.now (view p.reply) p.effects.items) }
+    ensures { IfOk result (λ p. IsPlan (on_key key.now (setnx_answer key.now value.now)) given.now held.now (view p.reply) p.effects.items) }
 {
     let mut effects = Effects::new(alloc);
     let seen = look(alloc, held, key, given, &mut effects)?;
-    let reply = setting::set_new(alloc, key, value, seen, &mut effects)?;
+    let reply = setting::setnx(alloc, key, value, seen, &mut effects)?;
     Ok(effects.into_plan(reply))
 }
 
-fn get_and_set(
+fn getset(
     alloc: Global,
     held: &Dataset,
     key: &Argument<'_>,
     value: &Argument<'_>,
     given: Given,
 ) -> Result<Plan, AllocError>
-    ensures { IfOk result (λ p. IsPlan (on_key key.now (get_and_set_turn key.now value.now)) given.now held.now (view p.reply) p.effects.items) }
+    ensures { IfOk result (λ p. IsPlan (on_key key.now (getset_answer key.now value.now)) given.now held.now (view p.reply) p.effects.items) }
 {
     let mut effects = Effects::new(alloc);
     let seen = look(alloc, held, key, given, &mut effects)?;
-    let reply = setting::get_and_set(alloc, key, value, seen, &mut effects)?;
+    let reply = setting::getset(alloc, key, value, seen, &mut effects)?;
     Ok(effects.into_plan(reply))
 }
 
-fn get_and_delete(
+fn getdel(
     alloc: Global,
     held: &Dataset,
     key: &Argument<'_>,
     given: Given,
 ) -> Result<Plan, AllocError>
-    ensures { IfOk result (λ p. IsPlan (on_key key.now (get_and_delete_turn key.now)) given.now held.now (view p.reply) p.effects.items) }
+    ensures { IfOk result (λ p. IsPlan (on_key key.now (getdel_answer key.now)) given.now held.now (view p.reply) p.effects.items) }
 {
     let mut effects = Effects::new(alloc);
     let seen = look(alloc, held, key, given, &mut effects)?;
-    let reply = setting::get_and_delete(alloc, key, seen, &mut effects)?;
+    let reply = setting::getdel(alloc, key, seen, &mut effects)?;
     Ok(effects.into_plan(reply))
 }
 
@@ -268,7 +268,7 @@ fn append(
     more: &Argument<'_>,
     given: Given,
 ) -> Result<Plan, AllocError>
-    ensures { IfOk result (λ p. IsPlan (on_key key.now (append_turn key.now more.now)) given.now held.now (view p.reply) p.effects.items) }
+    ensures { IfOk result (λ p. IsPlan (on_key key.now (append_answer key.now more.now)) given.now held.now (view p.reply) p.effects.items) }
 {
     let mut effects = Effects::new(alloc);
     let seen = look(alloc, held, key, given, &mut effects)?;
@@ -276,7 +276,7 @@ fn append(
     Ok(effects.into_plan(reply))
 }
 
-fn set_range(
+fn setrange(
     alloc: Global,
     held: &Dataset,
     key: &Argument<'_>,
@@ -284,11 +284,11 @@ fn set_range(
     part: &Argument<'_>,
     given: Given,
 ) -> Result<Plan, AllocError>
-    ensures { IfOk result (λ p. IsPlan (on_key key.now (set_range_turn key.now offset part.now)) given.now held.now (view p.reply) p.effects.items) }
+    ensures { IfOk result (λ p. IsPlan (on_key key.now (setrange_answer key.now offset part.now)) given.now held.now (view p.reply) p.effects.items) }
 {
     let mut effects = Effects::new(alloc);
     let seen = look(alloc, held, key, given, &mut effects)?;
-    let reply = changing::set_range(alloc, key, offset, part, seen, &mut effects)?;
+    let reply = changing::setrange(alloc, key, offset, part, seen, &mut effects)?;
     Ok(effects.into_plan(reply))
 }
 
@@ -300,7 +300,7 @@ fn increase(
     given: Given,
 ) -> Result<Plan, AllocError>
     ensures number { IsTrue (is_i64 by) }
-    ensures plan { IfOk result (λ p. IsPlan (on_key key.now (increase_turn key.now by)) given.now held.now (view p.reply) p.effects.items) }
+    ensures plan { IfOk result (λ p. IsPlan (on_key key.now (increase_answer key.now by)) given.now held.now (view p.reply) p.effects.items) }
 {
     let mut effects = Effects::new(alloc);
     let seen = look(alloc, held, key, given, &mut effects)?;

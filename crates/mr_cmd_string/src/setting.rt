@@ -5,7 +5,7 @@ ghost use Rattle.mr_resp.specs.ReplyView.{view};
 ghost use Rattle.mr_effect.specs.declared.effect.Effect.TheVariants as effect;
 ghost use Rattle.mr_planning.specs.Turns.{Takes};
 ghost use Rattle.mr_cmd_string.specs.declared.text_ask.SetReply.TheVariants as asked;
-ghost use Rattle.mr_cmd_string.specs.Setting.{put, set_turn, set_new_turn, get_and_set_turn, get_and_delete_turn, allows, is_text, is_plain, holds_until, is_other, holds_other};
+ghost use Rattle.mr_cmd_string.specs.Setting.{put, set_answer, setnx_answer, getset_answer, getdel_answer, allows, is_text, is_plain, holds_until, is_other, holds_other};
 
 use crate::deadlines::{NewDeadline, is_same};
 use crate::text_ask::{SetCondition, SetReply};
@@ -34,7 +34,7 @@ pub fn set(
     seen: Option<&Entry>,
     effects: &mut Effects,
 ) -> Result<Reply, AllocError>
-    ensures { IfOk result (λ r. Takes (set_turn key.now text.now rules.condition rules.reply rules.deadline (option_copied seen.entry)) (view r) effects.old effects.new) }
+    ensures { IfOk result (λ r. Takes (set_answer key.now text.now rules.condition rules.reply rules.deadline (option_copied seen.entry)) (view r) effects.old effects.new) }
 {
     match rules.reply {
         SetReply::Done => set_and_say(alloc, key, text, rules, seen, effects),
@@ -51,7 +51,7 @@ fn set_and_say(
     seen: Option<&Entry>,
     effects: &mut Effects,
 ) -> Result<Reply, AllocError>
-    ensures { IfOk result (λ r. Takes (set_turn key.now text.now rules.condition asked.Done rules.deadline (option_copied seen.entry)) (view r) effects.old effects.new) }
+    ensures { IfOk result (λ r. Takes (set_answer key.now text.now rules.condition asked.Done rules.deadline (option_copied seen.entry)) (view r) effects.old effects.new) }
 {
     if !allows(rules.condition, seen) {
         return Ok(Reply::NullBulk);
@@ -68,7 +68,7 @@ fn set_and_get(
     seen: Option<&Entry>,
     effects: &mut Effects,
 ) -> Result<Reply, AllocError>
-    ensures { IfOk result (λ r. Takes (set_turn key.now text.now rules.condition asked.Before rules.deadline (option_copied seen.entry)) (view r) effects.old effects.new) }
+    ensures { IfOk result (λ r. Takes (set_answer key.now text.now rules.condition asked.Before rules.deadline (option_copied seen.entry)) (view r) effects.old effects.new) }
 {
     if holds_other(seen) {
         return Ok(wrong_kind());
@@ -81,14 +81,14 @@ fn set_and_get(
 }
 
 /// `SETNX`
-pub fn set_new(
+pub fn setnx(
     alloc: Global,
     key: &Argument<'_>,
     text: &Argument<'_>,
     seen: Option<&Entry>,
     effects: &mut Effects,
 ) -> Result<Reply, AllocError>
-    ensures { IfOk result (λ r. Takes (set_new_turn key.now text.now (option_copied seen.entry)) (view r) effects.old effects.new) }
+    ensures { IfOk result (λ r. Takes (setnx_answer key.now text.now (option_copied seen.entry)) (view r) effects.old effects.new) }
 {
     if seen.is_some() {
         return Ok(count(0));
@@ -105,14 +105,14 @@ pub fn set_new(
 }
 
 /// `GETSET`
-pub fn get_and_set(
+pub fn getset(
     alloc: Global,
     key: &Argument<'_>,
     text: &Argument<'_>,
     seen: Option<&Entry>,
     effects: &mut Effects,
 ) -> Result<Reply, AllocError>
-    ensures { IfOk result (λ r. Takes (get_and_set_turn key.now text.now (option_copied seen.entry)) (view r) effects.old effects.new) }
+    ensures { IfOk result (λ r. Takes (getset_answer key.now text.now (option_copied seen.entry)) (view r) effects.old effects.new) }
 {
     let rules = SetRules {
         condition: None,
@@ -123,13 +123,13 @@ pub fn get_and_set(
 }
 
 /// `GETDEL`
-pub fn get_and_delete(
+pub fn getdel(
     alloc: Global,
     key: &Argument<'_>,
     seen: Option<&Entry>,
     effects: &mut Effects,
 ) -> Result<Reply, AllocError>
-    ensures { IfOk result (λ r. Takes (get_and_delete_turn key.now (option_copied seen.entry)) (view r) effects.old effects.new) }
+    ensures { IfOk result (λ r. Takes (getdel_answer key.now (option_copied seen.entry)) (view r) effects.old effects.new) }
 {
     let Some(entry) = seen else {
         return Ok(Reply::NullBulk);

@@ -4,7 +4,7 @@ ghost use Rattle.std.specs.FinMap.{entries};
 ghost use Rattle.mr_resp.specs.ReplyView.{view};
 ghost use Rattle.mr_planning.specs.Keys.{dels, past};
 ghost use Rattle.mr_planning.specs.Commands.{IsPlan, on_keys};
-ghost use Rattle.mr_cmd_string.specs.SettingAll.{names, last_texts, set_effects, set_all, set_all_new};
+ghost use Rattle.mr_cmd_string.specs.SettingAll.{names, last_texts, set_effects, mset, msetnx};
 ghost use Rattle.mr_cmd_string.specs.Finding.{is_any_live, is_any_past, changed_at};
 
 use crate::setting::is_plain;
@@ -17,13 +17,13 @@ use std::alloc::{AllocError, Global};
 use std::borrow::CowSlice;
 
 /// `MSET`
-pub fn set_all(
+pub fn mset(
     alloc: Global,
     held: &Dataset,
     pairs: &Pairs<'_, '_>,
     given: Given,
 ) -> Result<Plan, AllocError>
-    ensures { IfOk result (λ p. IsPlan (on_keys (names pairs.now) (set_all pairs.now)) given.now held.now (view p.reply) p.effects.items) }
+    ensures { IfOk result (λ p. IsPlan (on_keys (names pairs.now) (mset pairs.now)) given.now held.now (view p.reply) p.effects.items) }
 {
     let values = last_texts(alloc, pairs)?;
     let changed = find_changed(alloc, held, &values, given)?;
@@ -36,13 +36,13 @@ pub fn set_all(
 }
 
 /// `MSETNX`
-pub fn set_all_new(
+pub fn msetnx(
     alloc: Global,
     held: &Dataset,
     pairs: &Pairs<'_, '_>,
     given: Given,
 ) -> Result<Plan, AllocError>
-    ensures { IfOk result (λ p. IsPlan (on_keys (names pairs.now) (set_all_new pairs.now)) given.now held.now (view p.reply) p.effects.items) }
+    ensures { IfOk result (λ p. IsPlan (on_keys (names pairs.now) (msetnx pairs.now)) given.now held.now (view p.reply) p.effects.items) }
 {
     let (there, past) = find_any(held, pairs, given);
     let mut effects = Effects::new(alloc);
@@ -160,6 +160,6 @@ fn push_texts(texts: Texts<'static>, effects: &mut Effects) -> Result<(), AllocE
     if texts.is_empty() {
         return Ok(());
     }
-    effects.push(Effect::SetAll { pairs: texts })?;
+    effects.push(Effect::MSet { pairs: texts })?;
     Ok(())
 }

@@ -33,7 +33,7 @@ pub enum TextAsk<'a, 't> {
         value: Argument<'a>,
     },
     /// `STRLEN key`
-    TextLength {
+    StrLen {
         key: Argument<'a>,
     },
     /// `GETRANGE key first last`
@@ -43,29 +43,29 @@ pub enum TextAsk<'a, 't> {
         last: i64,
     },
     /// `MGET key [key ..]`
-    GetAll {
+    MGet {
         keys: Words<'a, 't>,
     },
     /// `SETNX key value`
-    SetNew {
+    SetNx {
         key: Argument<'a>,
         value: Argument<'a>,
     },
     /// `GETSET key value`
-    GetAndSet {
+    GetSet {
         key: Argument<'a>,
         value: Argument<'a>,
     },
     /// `GETDEL key`
-    GetAndDelete {
+    GetDel {
         key: Argument<'a>,
     },
     /// `MSET key value [key value ..]`
-    SetAll {
+    MSet {
         pairs: Pairs<'a, 't>,
     },
     /// `MSETNX key value [key value ..]`
-    SetAllNew {
+    MSetNx {
         pairs: Pairs<'a, 't>,
     },
     /// `APPEND key value`

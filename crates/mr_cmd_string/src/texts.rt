@@ -4,7 +4,7 @@ ghost use Rattle.std.specs.Cow.{cow_slice_items};
 ghost use Rattle.mr_resp.specs.Replies as replies;
 ghost use Rattle.mr_resp.specs.ReplyView.{view, trees_of};
 ghost use Rattle.mr_data.specs.Dataset.{live};
-ghost use Rattle.mr_cmd_string.specs.Texts.{get_reply, length_reply, range_reply, part, found, text_or_null, texts_at};
+ghost use Rattle.mr_cmd_string.specs.Texts.{get_reply, strlen_reply, getrange_reply, part, found, text_or_null, texts_at};
 
 use mr_data::{Dataset, Entry, Given, Value};
 use mr_planning::{bulk, count, see, wrong_kind};
@@ -27,8 +27,8 @@ pub fn get(alloc: Global, seen: Option<&Entry>) -> Result<Reply, AllocError>
 }
 
 /// `STRLEN`
-pub fn text_length(seen: Option<&Entry>) -> Reply
-    ensures { view result ≡ length_reply (option_copied seen.entry) }
+pub fn strlen(seen: Option<&Entry>) -> Reply
+    ensures { view result ≡ strlen_reply (option_copied seen.entry) }
 {
     let Some(entry) = seen else {
         return count(0);
@@ -40,13 +40,13 @@ pub fn text_length(seen: Option<&Entry>) -> Reply
 }
 
 /// `GETRANGE`
-pub fn get_range(
+pub fn getrange(
     alloc: Global,
     first: i64,
     last: i64,
     seen: Option<&Entry>,
 ) -> Result<Reply, AllocError>
-    ensures { IfOk result (λ r. view r ≡ range_reply first last (option_copied seen.entry)) }
+    ensures { IfOk result (λ r. view r ≡ getrange_reply first last (option_copied seen.entry)) }
 {
     let Some(entry) = seen else {
         return Ok(Reply::Bulk(Vec::new(alloc)));
@@ -68,7 +68,7 @@ fn part(alloc: Global, text: &[u8], first: i64, last: i64) -> Result<Reply, Allo
 }
 
 /// `MGET`
-pub fn get_all(
+pub fn mget(
     alloc: Global,
     held: &Dataset,
     keys: &Words<'_, '_>,

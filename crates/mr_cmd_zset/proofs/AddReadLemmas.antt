@@ -164,15 +164,15 @@ no_option_first (p ∷ pairs) (w ∷ words) h = ap (λ (b : Bool). if b then suc
 -- ---- all of it
 scores_added : (k : List ℕ) (c : Option ScoreCondition) (d : Option Comparison) (r : ScoresReply) (pairs : List (ℤ × List ℕ)) (front back : List (List ℕ)) (order : List (List Part))
     → pairs ≢ [] → disagree c d ≡ false → IsPermutation (parts c d r) order → AreParts front (in_a_row order) → AreParts back (pair_parts pairs)
-    → add_scores k (front ++ back) ≡ Ok (ask.AddScores k c d r pairs)
+    → add_scores k (front ++ back) ≡ Ok (ask.ZAdd k c d r pairs)
 unfolding add_scores
 scores_added k c d r pairs front back order some agree p f b =
     let count : option_count (front ++ back) ≡ length front = counted front back (keywords_are c d r front order p f) (no_option_first pairs back b) in
     let front_is : option_words (front ++ back) ≡ front = ap (λ n. take n (front ++ back)) count ∙ taken front back in
     let back_is : pair_words (front ++ back) ≡ back = ap (λ n. drop n (front ++ back)) count ∙ dropped front back in
-    ap (λ x. with x (λ options. with (score_pairs (pair_words (front ++ back))) (λ ps. Ok (ask.AddScores k options.condition options.comparison options.reply ps))))
+    ap (λ x. with x (λ options. with (score_pairs (pair_words (front ++ back))) (λ ps. Ok (ask.ZAdd k options.condition options.comparison options.reply ps))))
     (ap add_options front_is ∙ options_are c d r front order agree p f)
-    ∙ ap (λ x. with x (λ ps. Ok (ask.AddScores k c d r ps))) (ap score_pairs back_is ∙ pairs_are pairs back some b)
+    ∙ ap (λ x. with x (λ ps. Ok (ask.ZAdd k c d r ps))) (ap score_pairs back_is ∙ pairs_are pairs back some b)
 
 -- there are words enough
 enough : (k : List ℕ) (front back : List (List ℕ)) (pairs : List (ℤ × List ℕ)) → pairs ≢ [] → AreParts back (pair_parts pairs) → zadd (k ∷ front ++ back) ≡ add_scores k (front ++ back)
@@ -184,15 +184,15 @@ enough k (x ∷ []) (w ∷ m ∷ back) (p ∷ pairs) some h = refl
 enough k (x ∷ y ∷ front) (w ∷ m ∷ back) (p ∷ pairs) some h = refl
 
 pub zadd_scores : (k : List ℕ) (c : Option ScoreCondition) (d : Option Comparison) (r : ScoresReply) (pairs : List (ℤ × List ℕ)) (words : List (List ℕ)) → pairs ≢ [] → disagree c d ≡ false
-    → AreAroundOptions words (Word k ∷ []) (parts c d r) (pair_parts pairs) → zadd words ≡ Ok (ask.AddScores k c d r pairs)
+    → AreAroundOptions words (Word k ∷ []) (parts c d r) (pair_parts pairs) → zadd words ≡ Ok (ask.ZAdd k c d r pairs)
 zadd_scores k c d r pairs words some agree s =
-    first_part (λ xs. zadd xs ≡ Ok (ask.AddScores k c d r pairs)) (Word k) (in_a_row s.0 ++ pair_parts pairs) (λ w rest is parts_are.
+    first_part (λ xs. zadd xs ≡ Ok (ask.ZAdd k c d r pairs)) (Word k) (in_a_row s.0 ++ pair_parts pairs) (λ w rest is parts_are.
     let cut = parts_cut rest (in_a_row s.0) (pair_parts pairs) parts_are in
     ap (λ (xs : List (List ℕ)). zadd (w ∷ xs)) cut.joined
     ∙ ap (λ (x : List ℕ). zadd (x ∷ cut.front ++ cut.back)) is
     ∙ enough k cut.front cut.back pairs some cut.back_are
     ∙ scores_added k c d r pairs cut.front cut.back s.0 some agree s.1.0 cut.front_are cut.back_are) words s.1.1
 
-pub zincrby_read : (k m : List ℕ) (by : ℤ) (words : List (List ℕ)) → AreParts words (Word k ∷ Score by ∷ Word m ∷ []) → zincrby words ≡ Ok (ask.IncreaseScore k by m)
+pub zincrby_read : (k m : List ℕ) (by : ℤ) (words : List (List ℕ)) → AreParts words (Word k ∷ Score by ∷ Word m ∷ []) → zincrby words ≡ Ok (ask.ZIncrBy k by m)
 zincrby_read k m by words h =
-    three_parts (λ xs. zincrby xs ≡ Ok (ask.IncreaseScore k by m)) (Word k) (Score by) (Word m) (λ a b c ek ez em. rw (ek, spelled_read b by ez, em) refl) words h
+    three_parts (λ xs. zincrby xs ≡ Ok (ask.ZIncrBy k by m)) (Word k) (Score by) (Word m) (λ a b c ek ez em. rw (ek, spelled_read b by ez, em) refl) words h

@@ -17,7 +17,7 @@ use Rattle.mr_zset_options.specs.declared.choices.ScoreCondition.{ScoreCondition
 use Rattle.mr_zset_options.specs.declared.choices.Comparison.{Comparison}
 use Rattle.mr_zset_options.specs.declared.choices.ScoresReply.{ScoresReply}
 use Rattle.mr_cmd_zset.specs.Scores.{Scores, number, score_reply, changed, changed_alone, over, unchanged, set_to, Makes}
-use Rattle.mr_cmd_zset.specs.Adding.{is_set, score_after, is_counted, with_pair, with_pairs, count_pairs, add_scores, out_of_range, score_or_0, increase_score}
+use Rattle.mr_cmd_zset.specs.Adding.{is_set, score_after, is_counted, with_pair, with_pairs, count_pairs, zadd, out_of_range, score_or_0, zincrby}
 use Rattle.mr_cmd_zset.proofs.Maps.{or_else, get_over, over_insert, over_none}
 use Rattle.mr_cmd_zset.proofs.Differences.{changed_over, changed_one}
 
@@ -123,7 +123,7 @@ module _ (only : Option ScoreCondition) (than : Option Comparison) where
   unpaired : (s : Scores) (x : Bytes) (z : ℤ) (q : Bytes) → is_key q x ≡ false → get (with_pair only than (z, x) s) q ≡ get s q
   unpaired s x z q h = elim (is_set only than (get s x) z) as (λ b. get (if b then insert s x z else s) q ≡ get s q) [ true ↦ other s x z q h | false ↦ refl ]
 
-  pub one_made : (answer : ScoresReply) (k x : Bytes) (z y : ℤ) (s : Scores) (r : Tree) (b : Bool) (old new : List Effect) (before after : Option ℤ) → y ≡ z → before ≡ get s x → after ≡ score_after only than before y → b ≡ is_counted answer before after → r ≡ number (from_bool b) → new ≡ old ++ map (effect.SetScores k) (cut (changed_alone x before after)) → Makes (add_scores only than k answer ((z, x) ∷ []) s) r old new
+  pub one_made : (answer : ScoresReply) (k x : Bytes) (z y : ℤ) (s : Scores) (r : Tree) (b : Bool) (old new : List Effect) (before after : Option ℤ) → y ≡ z → before ≡ get s x → after ≡ score_after only than before y → b ≡ is_counted answer before after → r ≡ number (from_bool b) → new ≡ old ++ map (effect.SetScores k) (cut (changed_alone x before after)) → Makes (zadd only than k answer ((z, x) ∷ []) s) r old new
   one_made answer k x z y s r b old new before after same is was counts told put =
       let later : after ≡ score_after only than (get s x) z = was ∙ ap (λ v. score_after only than before v) same ∙ ap (λ o. score_after only than o z) is in
       alone_made k x _ r s (with_pair only than (z, x) s) old new before after is (later ∙ sym (paired s x z)) (unpaired s x z)
@@ -133,7 +133,7 @@ module _ (only : Option ScoreCondition) (than : Option Comparison) where
 limited : (n z : ℤ) → within_limit n ≡ Some z → (is_score n ≡ true) × (n ≡ z)
 limited n z h = elim (is_score n) as (λ b. (if b then Some n else None) ≡ Some z → (b ≡ true) × (n ≡ z)) [ true ↦ λ e. (refl, cc) | false ↦ λ e. cc ] h
 
-pub sum_made : (k x : Bytes) (by y z : ℤ) (s : Scores) (r : Tree) (old new : List Effect) (before : Option ℤ) → y ≡ by → before ≡ get s x → within_limit (score_or_0 before +ℤ y) ≡ Some z → r ≡ score_reply z → new ≡ old ++ map (effect.SetScores k) (cut (changed_alone x before (Some z))) → Makes (increase_score k by x s) r old new
+pub sum_made : (k x : Bytes) (by y z : ℤ) (s : Scores) (r : Tree) (old new : List Effect) (before : Option ℤ) → y ≡ by → before ≡ get s x → within_limit (score_or_0 before +ℤ y) ≡ Some z → r ≡ score_reply z → new ≡ old ++ map (effect.SetScores k) (cut (changed_alone x before (Some z))) → Makes (zincrby k by x s) r old new
 sum_made k x by y z s r old new before same is sum told put =
     let n = score_or_0 (get s x) +ℤ by in
     let sum_is : within_limit n ≡ Some z = ap (λ o. within_limit (score_or_0 o +ℤ by)) (sym is) ∙ ap (λ v. within_limit (score_or_0 before +ℤ v)) (sym same) ∙ sum in

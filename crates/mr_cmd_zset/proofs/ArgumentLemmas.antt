@@ -79,20 +79,20 @@ key_fits ws k ps s h = both _ _ (first _ _ (parts_fit ws (Word k ∷ ps) s h)) r
 
 pub zset_fits : (n : Name) (ws : List (List ℕ)) (a : ZSetAsk) → ZSetSpells n ws a → IsTrue (list_all fits ws) → IsTrue (list_all fits (zset_words a))
 unfolding carried
-zset_fits n ws (ask.AddScores k c d r ps) s h =
+zset_fits n ws (ask.ZAdd k c d r ps) s h =
     let all = parts_fit ws (Word k ∷ (in_a_row s.1.0 ++ pair_parts ps)) s.1.1.1 h in
     both _ _ (first _ _ all) (members_fit (in_a_row s.1.0) ps (second _ _ all))
-zset_fits n ws (ask.IncreaseScore k by m) s h = parts_fit ws (Word k ∷ Score by ∷ Word m ∷ []) s.1 h
-zset_fits n ws (ask.RemoveMembers k ms) s h = of_parts_fit ws (Word k ∷ map Word ms) (k ∷ ms) (ap (λ (xs : List (List ℕ)). k ∷ xs) (carried-words ms)) s.1 h
-zset_fits n ws (ask.CountMembers k) s h = parts_fit ws (Word k ∷ []) s.1 h
-zset_fits n ws (ask.CountScores k a b) s h = key_fits ws k _ s.1 h
-zset_fits n ws (ask.GetScore k m) s h = parts_fit ws (Word k ∷ Word m ∷ []) s.1 h
-zset_fits n ws (ask.GetScores k ms) s h = of_parts_fit ws (Word k ∷ map Word ms) (k ∷ ms) (ap (λ (xs : List (List ℕ)). k ∷ xs) (carried-words ms)) s.1 h
+zset_fits n ws (ask.ZIncrBy k by m) s h = parts_fit ws (Word k ∷ Score by ∷ Word m ∷ []) s.1 h
+zset_fits n ws (ask.ZRem k ms) s h = of_parts_fit ws (Word k ∷ map Word ms) (k ∷ ms) (ap (λ (xs : List (List ℕ)). k ∷ xs) (carried-words ms)) s.1 h
+zset_fits n ws (ask.ZCard k) s h = parts_fit ws (Word k ∷ []) s.1 h
+zset_fits n ws (ask.ZCount k a b) s h = key_fits ws k _ s.1 h
+zset_fits n ws (ask.ZScore k m) s h = parts_fit ws (Word k ∷ Word m ∷ []) s.1 h
+zset_fits n ws (ask.ZMScore k ms) s h = of_parts_fit ws (Word k ∷ map Word ms) (k ∷ ms) (ap (λ (xs : List (List ℕ)). k ∷ xs) (carried-words ms)) s.1 h
 zset_fits n ws (ask.GetRank k m o) s h = parts_fit ws (Word k ∷ Word m ∷ []) s.1 h
 zset_fits n ws (ask.RangeByRank k a b o r) (inl s) h = key_fits ws k _ s.1.1.1 h
 zset_fits n ws (ask.RangeByRank k a b o r) (inr s) h = key_fits ws k _ s.2.1.1 h
 zset_fits n ws (ask.RangeByScore k a b o l r) (inl s) h = key_fits ws k _ s.1.1.1 h
 zset_fits n ws (ask.RangeByScore k a b o l r) (inr s) h = key_fits ws k _ s.1.1.1 h
 zset_fits n ws (ask.TakePairs k o c) s h = key_fits ws k _ s.1 h
-zset_fits n ws (ask.RemoveRanks k a b) s h = key_fits ws k _ s.1 h
-zset_fits n ws (ask.RemoveScores k a b) s h = key_fits ws k _ s.1 h
+zset_fits n ws (ask.ZRemRangeByRank k a b) s h = key_fits ws k _ s.1 h
+zset_fits n ws (ask.ZRemRangeByScore k a b) s h = key_fits ws k _ s.1 h

@@ -24,8 +24,8 @@ use Rattle.mr_planning.specs.Commands.{on_key, before}
 use Rattle.mr_planning.proofs.Laws.{faithful, at_key_faithful, IsLawful}
 use Rattle.mr_planning.proofs.Changing.{IsFaithfulChange, telling_faithful}
 use Rattle.mr_cmd_zset.specs.Scores.{Scores, score_reply, unchanged, set_to}
-use Rattle.mr_cmd_zset.specs.Adding.{is_set, with_pair, with_pairs, add_scores, increase_score, set_score, out_of_range, score_or_0}
-use Rattle.mr_cmd_zset.specs.Removing.{members_of as names_of, taken, remove_members, take_pairs, remove_ranks, remove_scores}
+use Rattle.mr_cmd_zset.specs.Adding.{is_set, with_pair, with_pairs, zadd, zincrby, set_score, out_of_range, score_or_0}
+use Rattle.mr_cmd_zset.specs.Removing.{members_of as names_of, taken, zrem, take_pairs, zremrangebyrank, zremrangebyscore}
 use Rattle.mr_cmd_zset.specs.Commands.{command, HasScores}
 use Rattle.mr_data.proofs.Folds.{is_kept}
 use Rattle.mr_cmd_zset.proofs.Changes.{both, left, right, AreKept, IsGrown, insert_kept, insert_grown, set_faithful, reduced_faithful, unchanged_faithful, changing_set}
@@ -61,18 +61,18 @@ told_faithful k answer now m h =
     faithful c now m (both (fits k) true h refl) (at_key_faithful k (telling sorted_sets answer) (before c now m) (telling_faithful sorted_sets answer k (before c now m)))
 
 pub zset_faithful : (c : ZSetAsk) (now : ℤ) (m : Dataset) → IsDataset m → HasScores c → IsTrue (list_all fits (zset_words c)) → IsLawful (command c) now m
-zset_faithful (ask.AddScores k only than reply ps) now m kept scores h = changing_set k (add_scores only than k reply ps) now m kept (left (fits k) _ h) (λ s o fine is.
+zset_faithful (ask.ZAdd k only than reply ps) now m kept scores h = changing_set k (zadd only than k reply ps) now m kept (left (fits k) _ h) (λ s o fine is.
     set_faithful k _ s (with_pairs only than ps s) o (left (fits k) _ h) (pairs_kept only than ps s fine scores (right (fits k) _ h)) (pairs_grown only than ps s) is)
-zset_faithful (ask.IncreaseScore k by x) now m kept scores h = changing_set k (increase_score k by x) now m kept (left (fits k) _ h) (λ s o fine is.
+zset_faithful (ask.ZIncrBy k by x) now m kept scores h = changing_set k (zincrby k by x) now m kept (left (fits k) _ h) (λ s o fine is.
     sum_faithful k x (score_or_0 (get s x) +ℤ by) s o (left (fits k) _ h) (left (fits x) _ (right (fits k) _ h)) fine is)
-zset_faithful (ask.RemoveMembers k xs) now m kept scores h = changing_set k (remove_members k xs) now m kept (left (fits k) _ h) (λ s o fine is. reduced_faithful k _ xs s o (left (fits k) _ h) fine is)
-zset_faithful (ask.CountMembers k) now m kept scores h = told_faithful k _ now m (left (fits k) _ h)
-zset_faithful (ask.CountScores k min max) now m kept scores h = told_faithful k _ now m (left (fits k) _ h)
-zset_faithful (ask.GetScore k x) now m kept scores h = told_faithful k _ now m (left (fits k) _ h)
-zset_faithful (ask.GetScores k xs) now m kept scores h = told_faithful k _ now m (left (fits k) _ h)
+zset_faithful (ask.ZRem k xs) now m kept scores h = changing_set k (zrem k xs) now m kept (left (fits k) _ h) (λ s o fine is. reduced_faithful k _ xs s o (left (fits k) _ h) fine is)
+zset_faithful (ask.ZCard k) now m kept scores h = told_faithful k _ now m (left (fits k) _ h)
+zset_faithful (ask.ZCount k min max) now m kept scores h = told_faithful k _ now m (left (fits k) _ h)
+zset_faithful (ask.ZScore k x) now m kept scores h = told_faithful k _ now m (left (fits k) _ h)
+zset_faithful (ask.ZMScore k xs) now m kept scores h = told_faithful k _ now m (left (fits k) _ h)
 zset_faithful (ask.GetRank k x order) now m kept scores h = told_faithful k _ now m (left (fits k) _ h)
 zset_faithful (ask.RangeByRank k first last order reply) now m kept scores h = told_faithful k _ now m (left (fits k) _ h)
 zset_faithful (ask.RangeByScore k min max order limit reply) now m kept scores h = told_faithful k _ now m (left (fits k) _ h)
 zset_faithful (ask.TakePairs k order count) now m kept scores h = changing_set k (take_pairs k order count) now m kept (left (fits k) _ h) (λ s o fine is. reduced_faithful k _ (names_of (taken order count s)) s o (left (fits k) _ h) fine is)
-zset_faithful (ask.RemoveRanks k first last) now m kept scores h = changing_set k (remove_ranks k first last) now m kept (left (fits k) _ h) (λ s o fine is. reduced_faithful k _ (names_of (windowed (window_of first last (len s)) (pairs_of s))) s o (left (fits k) _ h) fine is)
-zset_faithful (ask.RemoveScores k min max) now m kept scores h = changing_set k (remove_scores k min max) now m kept (left (fits k) _ h) (λ s o fine is. reduced_faithful k _ (names_of (range_of min max s)) s o (left (fits k) _ h) fine is)
+zset_faithful (ask.ZRemRangeByRank k first last) now m kept scores h = changing_set k (zremrangebyrank k first last) now m kept (left (fits k) _ h) (λ s o fine is. reduced_faithful k _ (names_of (windowed (window_of first last (len s)) (pairs_of s))) s o (left (fits k) _ h) fine is)
+zset_faithful (ask.ZRemRangeByScore k min max) now m kept scores h = changing_set k (zremrangebyscore k min max) now m kept (left (fits k) _ h) (λ s o fine is. reduced_faithful k _ (names_of (range_of min max s)) s o (left (fits k) _ h) fine is)

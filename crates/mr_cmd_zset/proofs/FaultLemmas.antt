@@ -78,7 +78,7 @@ scores_fault (w ∷ ws) = elim (pairs_of (w ∷ ws)) as (λ o. ComesNotBefore 3 
 add_first : (k : List ℕ) (ws : List (List ℕ)) → told (add_scores k ws) ≡ first_of (in_reading (add_options (option_words ws)) ++ in_reading (score_pairs (pair_words ws)))
 unfolding add_scores
 add_first k ws =
-    front_read_first (λ (options : AddOptions) pairs. zset.AddScores k options.condition options.comparison options.reply pairs) (add_options (option_words ws)) (score_pairs (pair_words ws))
+    front_read_first (λ (options : AddOptions) pairs. zset.ZAdd k options.condition options.comparison options.reply pairs) (add_options (option_words ws)) (score_pairs (pair_words ws))
     (no_other (add_options (option_words ws)) (add_options_only (option_words ws))) (scores_fault (pair_words ws))
 
 -- ---- ranges

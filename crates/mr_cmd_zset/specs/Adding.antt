@@ -57,8 +57,8 @@ module _ (only : Option ScoreCondition) (than : Option Comparison) where
   count_pairs reply (p ∷ ps) s = (if is_counted reply (get s p.1) (score_after (get s p.1) p.0) then 1 else 0) + count_pairs reply ps (with_pair p s)
 
   -- ZADD key [NX|XX] [GT|LT] [CH] score member [score member ..]
-  abbrev pub add_scores : Bytes → ScoresReply → List (ℤ × Bytes) → Scores → Change Scores
-  add_scores k reply pairs s = set_to k (number (count_pairs reply pairs s)) s (with_pairs pairs s)
+  abbrev pub zadd : Bytes → ScoresReply → List (ℤ × Bytes) → Scores → Change Scores
+  zadd k reply pairs s = set_to k (number (count_pairs reply pairs s)) s (with_pairs pairs s)
 
 -- ---- sums
 
@@ -74,5 +74,5 @@ abbrev pub set_score : Bytes → Bytes → ℤ → Scores → Change Scores
 set_score k x score s = if is_score score then set_to k (score_reply score) s (insert s x score) else unchanged out_of_range s
 
 -- ZINCRBY key by member
-abbrev pub increase_score : Bytes → ℤ → Bytes → Scores → Change Scores
-increase_score k by x s = set_score k x (score_or_0 (get s x) +ℤ by) s
+abbrev pub zincrby : Bytes → ℤ → Bytes → Scores → Change Scores
+zincrby k by x s = set_score k x (score_or_0 (get s x) +ℤ by) s

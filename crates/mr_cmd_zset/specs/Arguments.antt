@@ -27,7 +27,7 @@ score_pairs words = with (ok_or (pairs_of words) Syntax) (λ pairs. ok_or (score
 
 -- options, and behind them scores with their members
 unfoldable pub add_scores : List ℕ → List (List ℕ) → Result ZSetAsk AskFault
-add_scores key words = with (add_options (option_words words)) (λ options. with (score_pairs (pair_words words)) (λ pairs. Ok (ask.AddScores key options.condition options.comparison options.reply pairs)))
+add_scores key words = with (add_options (option_words words)) (λ options. with (score_pairs (pair_words words)) (λ pairs. Ok (ask.ZAdd key options.condition options.comparison options.reply pairs)))
 
 -- ZADD key [NX|XX] [GT|LT] [CH] score member [score member ..]
 abbrev pub zadd : List (List ℕ) → Result ZSetAsk AskFault
@@ -38,35 +38,35 @@ zadd (key ∷ words) = add_scores key words
 
 -- ZINCRBY key by member
 abbrev pub zincrby : List (List ℕ) → Result ZSetAsk AskFault
-zincrby (key ∷ by ∷ member ∷ []) = with (score by) (λ n. Ok (ask.IncreaseScore key n member))
+zincrby (key ∷ by ∷ member ∷ []) = with (score by) (λ n. Ok (ask.ZIncrBy key n member))
 zincrby _ = Err (Arity name.ZIncrBy)
 
 -- ZREM key member [member ..]
 abbrev pub zrem : List (List ℕ) → Result ZSetAsk AskFault
 zrem [] = Err (Arity name.ZRem)
 zrem (key ∷ []) = Err (Arity name.ZRem)
-zrem (key ∷ members) = Ok (ask.RemoveMembers key members)
+zrem (key ∷ members) = Ok (ask.ZRem key members)
 
 -- ZCARD key
 abbrev pub zcard : List (List ℕ) → Result ZSetAsk AskFault
-zcard (key ∷ []) = Ok (ask.CountMembers key)
+zcard (key ∷ []) = Ok (ask.ZCard key)
 zcard _ = Err (Arity name.ZCard)
 
 -- ZCOUNT key min max
 abbrev pub zcount : List (List ℕ) → Result ZSetAsk AskFault
-zcount (key ∷ min ∷ max ∷ []) = with (bounds Ascending min max) (λ ends. Ok (ask.CountScores key ends.0 ends.1))
+zcount (key ∷ min ∷ max ∷ []) = with (bounds Ascending min max) (λ ends. Ok (ask.ZCount key ends.0 ends.1))
 zcount _ = Err (Arity name.ZCount)
 
 -- ZSCORE key member
 abbrev pub zscore : List (List ℕ) → Result ZSetAsk AskFault
-zscore (key ∷ member ∷ []) = Ok (ask.GetScore key member)
+zscore (key ∷ member ∷ []) = Ok (ask.ZScore key member)
 zscore _ = Err (Arity name.ZScore)
 
 -- ZMSCORE key member [member ..]
 abbrev pub zmscore : List (List ℕ) → Result ZSetAsk AskFault
 zmscore [] = Err (Arity name.ZMScore)
 zmscore (key ∷ []) = Err (Arity name.ZMScore)
-zmscore (key ∷ members) = Ok (ask.GetScores key members)
+zmscore (key ∷ members) = Ok (ask.ZMScore key members)
 
 -- ZRANK key member in ascending order, ZREVRANK in descending order
 abbrev pub zrank : Name → Order → List (List ℕ) → Result ZSetAsk AskFault
@@ -121,10 +121,10 @@ zpop name order _ = Err (Arity name)
 
 -- ZREMRANGEBYRANK key first last
 abbrev pub zremrangebyrank : List (List ℕ) → Result ZSetAsk AskFault
-zremrangebyrank (key ∷ first ∷ last ∷ []) = with (integer first) (λ a. with (integer last) (λ b. Ok (ask.RemoveRanks key a b)))
+zremrangebyrank (key ∷ first ∷ last ∷ []) = with (integer first) (λ a. with (integer last) (λ b. Ok (ask.ZRemRangeByRank key a b)))
 zremrangebyrank _ = Err (Arity name.ZRemRangeByRank)
 
 -- ZREMRANGEBYSCORE key min max
 abbrev pub zremrangebyscore : List (List ℕ) → Result ZSetAsk AskFault
-zremrangebyscore (key ∷ min ∷ max ∷ []) = with (bounds Ascending min max) (λ ends. Ok (ask.RemoveScores key ends.0 ends.1))
+zremrangebyscore (key ∷ min ∷ max ∷ []) = with (bounds Ascending min max) (λ ends. Ok (ask.ZRemRangeByScore key ends.0 ends.1))
 zremrangebyscore _ = Err (Arity name.ZRemRangeByScore)

@@ -13,11 +13,11 @@ LimitIsAskable (Some limit) = IsI64 limit.offset × IsI64 limit.count
 
 -- places and counts are numbers of 64 bits, lists have an item, and scores of members that aren't there aren't compared
 abbrev pub ZSetIsAskable : ZSetAsk → Type 0
-ZSetIsAskable (ask.AddScores key condition comparison reply pairs) = (pairs ≢ []) × (disagree condition comparison ≡ false)
-ZSetIsAskable (ask.RemoveMembers key members) = members ≢ []
-ZSetIsAskable (ask.GetScores key members) = members ≢ []
+ZSetIsAskable (ask.ZAdd key condition comparison reply pairs) = (pairs ≢ []) × (disagree condition comparison ≡ false)
+ZSetIsAskable (ask.ZRem key members) = members ≢ []
+ZSetIsAskable (ask.ZMScore key members) = members ≢ []
 ZSetIsAskable (ask.RangeByRank key first last order reply) = IsI64 first × IsI64 last
 ZSetIsAskable (ask.RangeByScore key min max order limit reply) = LimitIsAskable limit
 ZSetIsAskable (ask.TakePairs key order count) = IsCount count
-ZSetIsAskable (ask.RemoveRanks key first last) = IsI64 first × IsI64 last
+ZSetIsAskable (ask.ZRemRangeByRank key first last) = IsI64 first × IsI64 last
 ZSetIsAskable _ = Unit {0}

@@ -25,16 +25,16 @@ abbrev pub remove_all : Bytes → List Bytes → Scores → Change Scores
 remove_all k xs s = reduced_to k (number (length (lost s (without_scores xs s)))) s (without_scores xs s)
 
 -- ZREM key member [member ..]
-abbrev pub remove_members : Bytes → List Bytes → Scores → Change Scores
-remove_members k xs s = remove_all k xs s
+abbrev pub zrem : Bytes → List Bytes → Scores → Change Scores
+zrem k xs s = remove_all k xs s
 
 -- ZREMRANGEBYRANK key first last: the pairs in the window of all pairs in order
-abbrev pub remove_ranks : Bytes → ℤ → ℤ → Scores → Change Scores
-remove_ranks k first last s = remove_all k (members_of (windowed (window_of first last (len s)) (pairs_of s))) s
+abbrev pub zremrangebyrank : Bytes → ℤ → ℤ → Scores → Change Scores
+zremrangebyrank k first last s = remove_all k (members_of (windowed (window_of first last (len s)) (pairs_of s))) s
 
 -- ZREMRANGEBYSCORE key min max
-abbrev pub remove_scores : Bytes → Bound → Bound → Scores → Change Scores
-remove_scores k min max s = remove_all k (members_of (range_of min max s)) s
+abbrev pub zremrangebyscore : Bytes → Bound → Bound → Scores → Change Scores
+zremrangebyscore k min max s = remove_all k (members_of (range_of min max s)) s
 
 -- ---- ZPOPMIN key [count], ZPOPMAX: without a count one pair
 

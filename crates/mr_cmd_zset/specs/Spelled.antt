@@ -32,14 +32,14 @@ pop_name Descending = name.ZPopMax
 
 -- These words, behind this name, spell the command. Some commands are spelled in two ways.
 abbrev pub ZSetSpells : Name → List (List ℕ) → ZSetAsk → Type 0
-ZSetSpells called words (ask.AddScores key condition comparison reply pairs) =
+ZSetSpells called words (ask.ZAdd key condition comparison reply pairs) =
     (called ≡ name.ZAdd) × AreAroundOptions words (Word key ∷ []) (condition_option condition ++ comparison_option comparison ++ changed_option reply) (pair_parts pairs)
-ZSetSpells called words (ask.IncreaseScore key by member) = (called ≡ name.ZIncrBy) × AreParts words (Word key ∷ Score by ∷ Word member ∷ [])
-ZSetSpells called words (ask.RemoveMembers key members) = (called ≡ name.ZRem) × AreParts words (Word key ∷ map Word members)
-ZSetSpells called words (ask.CountMembers key) = (called ≡ name.ZCard) × AreParts words (Word key ∷ [])
-ZSetSpells called words (ask.CountScores key min max) = (called ≡ name.ZCount) × AreParts words (Word key ∷ bound_parts Ascending min max)
-ZSetSpells called words (ask.GetScore key member) = (called ≡ name.ZScore) × AreParts words (Word key ∷ Word member ∷ [])
-ZSetSpells called words (ask.GetScores key members) = (called ≡ name.ZMScore) × AreParts words (Word key ∷ map Word members)
+ZSetSpells called words (ask.ZIncrBy key by member) = (called ≡ name.ZIncrBy) × AreParts words (Word key ∷ Score by ∷ Word member ∷ [])
+ZSetSpells called words (ask.ZRem key members) = (called ≡ name.ZRem) × AreParts words (Word key ∷ map Word members)
+ZSetSpells called words (ask.ZCard key) = (called ≡ name.ZCard) × AreParts words (Word key ∷ [])
+ZSetSpells called words (ask.ZCount key min max) = (called ≡ name.ZCount) × AreParts words (Word key ∷ bound_parts Ascending min max)
+ZSetSpells called words (ask.ZScore key member) = (called ≡ name.ZScore) × AreParts words (Word key ∷ Word member ∷ [])
+ZSetSpells called words (ask.ZMScore key members) = (called ≡ name.ZMScore) × AreParts words (Word key ∷ map Word members)
 ZSetSpells called words (ask.GetRank key member order) = (called ≡ rank_name order) × AreParts words (Word key ∷ Word member ∷ [])
 ZSetSpells called words (ask.RangeByRank key first last order reply) =
     ((called ≡ name.ZRange) × AreWithOptions words (Word key ∷ Number first ∷ Number last ∷ []) (order_option order ++ scores_option reply))
@@ -48,5 +48,5 @@ ZSetSpells called words (ask.RangeByScore key min max order limit reply) =
     ((called ≡ name.ZRange) × AreWithOptions words (Word key ∷ bound_parts order min max) (range_word_option range.ByScore ++ order_option order ++ limit_option limit ++ scores_option reply))
     ⊎ ((called ≡ score_range_name order) × AreWithOptions words (Word key ∷ bound_parts order min max) (limit_option limit ++ scores_option reply))
 ZSetSpells called words (ask.TakePairs key order count) = (called ≡ pop_name order) × AreParts words (Word key ∷ count_part count)
-ZSetSpells called words (ask.RemoveRanks key first last) = (called ≡ name.ZRemRangeByRank) × AreParts words (Word key ∷ Number first ∷ Number last ∷ [])
-ZSetSpells called words (ask.RemoveScores key min max) = (called ≡ name.ZRemRangeByScore) × AreParts words (Word key ∷ bound_parts Ascending min max)
+ZSetSpells called words (ask.ZRemRangeByRank key first last) = (called ≡ name.ZRemRangeByRank) × AreParts words (Word key ∷ Number first ∷ Number last ∷ [])
+ZSetSpells called words (ask.ZRemRangeByScore key min max) = (called ≡ name.ZRemRangeByScore) × AreParts words (Word key ∷ bound_parts Ascending min max)

@@ -18,12 +18,12 @@ use Rattle.mr_cmd_zset.specs.Scores.{Scores, number, score_reply}
 
 -- ---- ZCARD, ZCOUNT
 
-abbrev pub count_members_turn : Option Entry → Turn
-count_members_turn = telling sorted_sets (λ scores. number (len scores))
+abbrev pub zcard_answer : Option Entry → Turn
+zcard_answer = telling sorted_sets (λ scores. number (len scores))
 
 -- how many scores are within two bounds
-abbrev pub count_scores_turn : Bound → Bound → Option Entry → Turn
-count_scores_turn min max = telling sorted_sets (λ scores. number (length (range_of min max scores)))
+abbrev pub zcount_answer : Bound → Bound → Option Entry → Turn
+zcount_answer min max = telling sorted_sets (λ scores. number (length (range_of min max scores)))
 
 -- ---- ZSCORE, ZMSCORE
 
@@ -35,14 +35,14 @@ score_or_nil (Some score) = score_reply score
 abbrev pub found_score : Scores → Bytes → Tree
 found_score scores member = score_or_nil (get scores member)
 
-abbrev pub score_turn : Bytes → Option Entry → Turn
-score_turn member = telling sorted_sets (λ scores. found_score scores member)
+abbrev pub zscore_answer : Bytes → Option Entry → Turn
+zscore_answer member = telling sorted_sets (λ scores. found_score scores member)
 
 abbrev pub found_scores : List Bytes → Scores → Tree
 found_scores members scores = reply.array (trees_of (map (found_score scores) members))
 
-abbrev pub scores_turn : List Bytes → Option Entry → Turn
-scores_turn members = telling sorted_sets (found_scores members)
+abbrev pub zmscore_answer : List Bytes → Option Entry → Turn
+zmscore_answer members = telling sorted_sets (found_scores members)
 
 -- ---- ZRANK, ZREVRANK
 
@@ -60,5 +60,5 @@ abbrev pub place_reply : Option ℕ → Tree
 place_reply None = reply.null_bulk
 place_reply (Some place) = number place
 
-abbrev pub rank_turn : Order → Bytes → Option Entry → Turn
-rank_turn order member = telling sorted_sets (λ scores. place_reply (place_of order member scores))
+abbrev pub rank_answer : Order → Bytes → Option Entry → Turn
+rank_answer order member = telling sorted_sets (λ scores. place_reply (place_of order member scores))

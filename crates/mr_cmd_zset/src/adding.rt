@@ -7,7 +7,7 @@ ghost use Rattle.mr_entries.specs.Steps.{sorted_sets};
 ghost use Rattle.mr_planning.specs.Turns.{Takes};
 ghost use Rattle.mr_planning.specs.Collections.{changing};
 ghost use Rattle.mr_cmd_zset.specs.Scores.{over, Makes};
-ghost use Rattle.mr_cmd_zset.specs.Adding.{is_counted, score_after, with_pair, with_pairs, count_pairs, add_scores, score_or_0, increase_score};
+ghost use Rattle.mr_cmd_zset.specs.Adding.{is_counted, score_after, with_pair, with_pairs, count_pairs, zadd, score_or_0, zincrby};
 
 use crate::grouping::{push_changed, push_changed_alone};
 use crate::replies::{out_of_range, score_bulk, set_at};
@@ -22,7 +22,7 @@ use mr_zset_options::ScoredMembers;
 use std::alloc::{AllocError, Global};
 
 /// `ZADD`
-pub fn add_scores(
+pub fn zadd(
     alloc: Global,
     key: &Argument<'_>,
     rules: Rules,
@@ -30,7 +30,7 @@ pub fn add_scores(
     seen: Option<&Entry>,
     effects: &mut Effects,
 ) -> Result<Reply, AllocError>
-    ensures { IfOk result (λ r. Takes (changing sorted_sets (add_scores rules.condition rules.comparison key.now rules.reply pairs.now) (option_copied seen.entry)) (view r) effects.old effects.new) }
+    ensures { IfOk result (λ r. Takes (changing sorted_sets (zadd rules.condition rules.comparison key.now rules.reply pairs.now) (option_copied seen.entry)) (view r) effects.old effects.new) }
 {
     let empty = ZSet::new(alloc);
     let Some(set) = set_at(seen, &empty) else {
@@ -48,7 +48,7 @@ fn add_to(
     set: &ZSet,
     effects: &mut Effects,
 ) -> Result<Reply, AllocError>
-    ensures { IfOk result (λ r. Makes (add_scores rules.condition rules.comparison key.now rules.reply pairs.now set.now) (view r) effects.old effects.new) }
+    ensures { IfOk result (λ r. Makes (zadd rules.condition rules.comparison key.now rules.reply pairs.now set.now) (view r) effects.old effects.new) }
 {
     if let Some((score, member)) = only_pair(pairs) {
         let reply = add_one(alloc, key, rules, score, member, set, effects)?;
@@ -80,7 +80,7 @@ fn add_one(
     set: &ZSet,
     effects: &mut Effects,
 ) -> Result<Reply, AllocError>
-    ensures { IfOk result (λ r. Makes (add_scores rules.condition rules.comparison key.now rules.reply ((score, member.now) ∷ []) set.now) (view r) effects.old effects.new) }
+    ensures { IfOk result (λ r. Makes (zadd rules.condition rules.comparison key.now rules.reply ((score, member.now) ∷ []) set.now) (view r) effects.old effects.new) }
 {
     let before = set.score(member);
     let after = rules.score_after(before, score);
@@ -138,7 +138,7 @@ fn score_so_far(scores: &SliceMap<'_, i64>, set: &ZSet, member: &[u8]) -> Option
 }
 
 /// `ZINCRBY`
-pub fn increase_score(
+pub fn zincrby(
     alloc: Global,
     key: &Argument<'_>,
     by: i64,
@@ -146,7 +146,7 @@ pub fn increase_score(
     seen: Option<&Entry>,
     effects: &mut Effects,
 ) -> Result<Reply, AllocError>
-    ensures { IfOk result (λ r. Takes (changing sorted_sets (increase_score key.now by member.now) (option_copied seen.entry)) (view r) effects.old effects.new) }
+    ensures { IfOk result (λ r. Takes (changing sorted_sets (zincrby key.now by member.now) (option_copied seen.entry)) (view r) effects.old effects.new) }
 {
     let empty = ZSet::new(alloc);
     let Some(set) = set_at(seen, &empty) else {
@@ -164,7 +164,7 @@ fn increase_in(
     set: &ZSet,
     effects: &mut Effects,
 ) -> Result<Reply, AllocError>
-    ensures { IfOk result (λ r. Makes (increase_score key.now by member.now set.now) (view r) effects.old effects.new) }
+    ensures { IfOk result (λ r. Makes (zincrby key.now by member.now set.now) (view r) effects.old effects.new) }
 {
     let before = set.score(member);
     let Some(score) = increased(before, by) else {

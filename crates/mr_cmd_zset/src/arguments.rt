@@ -34,7 +34,7 @@ fn add_scores<'a, 't>(key: &'a CowSlice<'t, u8>, words: Arguments<'a, 't>) -> Re
 {
     let (options, pairs) = cut_options(words);
     let options = AddOptions::read(options)?;
-    Ok(ZSetAsk::AddScores {
+    Ok(ZSetAsk::ZAdd {
         key: Argument::of(key),
         condition: options.condition,
         comparison: options.comparison,
@@ -63,7 +63,7 @@ pub fn zincrby<'a, 't>(arguments: Arguments<'a, 't>) -> Reading<'a, 't>
     ensures { result ≡ zincrby (map cow_slice_items arguments.now) }
 {
     match arguments {
-        [key, by, member] => Ok(ZSetAsk::IncreaseScore {
+        [key, by, member] => Ok(ZSetAsk::ZIncrBy {
             key: Argument::of(key),
             by: score(by)?,
             member: Argument::of(member),
@@ -82,7 +82,7 @@ pub fn zrem<'a, 't>(arguments: Arguments<'a, 't>) -> Reading<'a, 't>
 {
     match arguments {
         [] | [_] => Err(AskFault::Arity(Name::ZRem)),
-        [key, members @ ..] => Ok(ZSetAsk::RemoveMembers {
+        [key, members @ ..] => Ok(ZSetAsk::ZRem {
             key: Argument::of(key),
             members: Words::new(members),
         }),
@@ -98,7 +98,7 @@ pub fn zcard<'a, 't>(arguments: Arguments<'a, 't>) -> Reading<'a, 't>
     ensures { result ≡ zcard (map cow_slice_items arguments.now) }
 {
     match arguments {
-        [key] => Ok(ZSetAsk::CountMembers {
+        [key] => Ok(ZSetAsk::ZCard {
             key: Argument::of(key),
         }),
         _ => Err(AskFault::Arity(Name::ZCard)),
@@ -116,7 +116,7 @@ pub fn zcount<'a, 't>(arguments: Arguments<'a, 't>) -> Reading<'a, 't>
     match arguments {
         [key, min, max] => {
             let (min, max) = bounds(Order::Ascending, min, max)?;
-            Ok(ZSetAsk::CountScores {
+            Ok(ZSetAsk::ZCount {
                 key: Argument::of(key),
                 min,
                 max,
@@ -135,7 +135,7 @@ pub fn zscore<'a, 't>(arguments: Arguments<'a, 't>) -> Reading<'a, 't>
     ensures { result ≡ zscore (map cow_slice_items arguments.now) }
 {
     match arguments {
-        [key, member] => Ok(ZSetAsk::GetScore {
+        [key, member] => Ok(ZSetAsk::ZScore {
             key: Argument::of(key),
             member: Argument::of(member),
         }),
@@ -153,7 +153,7 @@ pub fn zmscore<'a, 't>(arguments: Arguments<'a, 't>) -> Reading<'a, 't>
 {
     match arguments {
         [] | [_] => Err(AskFault::Arity(Name::ZMScore)),
-        [key, members @ ..] => Ok(ZSetAsk::GetScores {
+        [key, members @ ..] => Ok(ZSetAsk::ZMScore {
             key: Argument::of(key),
             members: Words::new(members),
         }),
@@ -328,7 +328,7 @@ pub fn zremrangebyrank<'a, 't>(arguments: Arguments<'a, 't>) -> Reading<'a, 't>
     ensures { result ≡ zremrangebyrank (map cow_slice_items arguments.now) }
 {
     match arguments {
-        [key, first, last] => Ok(ZSetAsk::RemoveRanks {
+        [key, first, last] => Ok(ZSetAsk::ZRemRangeByRank {
             key: Argument::of(key),
             first: integer(first)?,
             last: integer(last)?,
@@ -348,7 +348,7 @@ pub fn zremrangebyscore<'a, 't>(arguments: Arguments<'a, 't>) -> Reading<'a, 't>
     match arguments {
         [key, min, max] => {
             let (min, max) = bounds(Order::Ascending, min, max)?;
-            Ok(ZSetAsk::RemoveScores {
+            Ok(ZSetAsk::ZRemRangeByScore {
                 key: Argument::of(key),
                 min,
                 max,

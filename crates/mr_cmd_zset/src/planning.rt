@@ -41,7 +41,7 @@ pub fn plan(
 fn scores_are_limited(ask: &ZSetAsk<'_, '_>)
     ensures { HasScores ask.now }
 {
-    if let ZSetAsk::AddScores { pairs, .. } = ask {
+    if let ZSetAsk::ZAdd { pairs, .. } = ask {
         let _scores = pairs.iter();
     }
 }
@@ -66,19 +66,19 @@ fn key_of<'c, 'a>(ask: &'c ZSetAsk<'a, '_>) -> &'c Argument<'a>
     ensures { result.now ≡ key_of ask.now }
 {
     match ask {
-        ZSetAsk::AddScores { key, .. } => key,
-        ZSetAsk::IncreaseScore { key, .. } => key,
-        ZSetAsk::RemoveMembers { key, .. } => key,
-        ZSetAsk::CountMembers { key } => key,
-        ZSetAsk::CountScores { key, .. } => key,
-        ZSetAsk::GetScore { key, .. } => key,
-        ZSetAsk::GetScores { key, .. } => key,
+        ZSetAsk::ZAdd { key, .. } => key,
+        ZSetAsk::ZIncrBy { key, .. } => key,
+        ZSetAsk::ZRem { key, .. } => key,
+        ZSetAsk::ZCard { key } => key,
+        ZSetAsk::ZCount { key, .. } => key,
+        ZSetAsk::ZScore { key, .. } => key,
+        ZSetAsk::ZMScore { key, .. } => key,
         ZSetAsk::GetRank { key, .. } => key,
         ZSetAsk::RangeByRank { key, .. } => key,
         ZSetAsk::RangeByScore { key, .. } => key,
         ZSetAsk::TakePairs { key, .. } => key,
-        ZSetAsk::RemoveRanks { key, .. } => key,
-        ZSetAsk::RemoveScores { key, .. } => key,
+        ZSetAsk::ZRemRangeByRank { key, .. } => key,
+        ZSetAsk::ZRemRangeByScore { key, .. } => key,
     }
 }
 
@@ -92,7 +92,7 @@ fn turn(
     ensures { IfOk result (λ r. Takes (turn ask.now (option_copied seen.entry)) (view r) effects.old effects.new) }
 {
     match ask {
-        ZSetAsk::AddScores {
+        ZSetAsk::ZAdd {
             key,
             condition,
             comparison,
@@ -104,29 +104,29 @@ fn turn(
                 comparison: *comparison,
                 reply: *reply,
             };
-            adding::add_scores(alloc, key, rules, pairs, seen, effects)
+            adding::zadd(alloc, key, rules, pairs, seen, effects)
         }
-        ZSetAsk::IncreaseScore { key, by, member } => {
-            adding::increase_score(alloc, key, *by, member, seen, effects)
+        ZSetAsk::ZIncrBy { key, by, member } => {
+            adding::zincrby(alloc, key, *by, member, seen, effects)
         }
-        ZSetAsk::RemoveMembers { key, members } => {
-            removing::remove_members(alloc, key, members, seen, effects)
+        ZSetAsk::ZRem { key, members } => {
+            removing::zrem(alloc, key, members, seen, effects)
         }
         ZSetAsk::TakePairs { key, order, count } => {
             removing::take_pairs(alloc, key, *order, *count, seen, effects)
         }
-        ZSetAsk::RemoveRanks { key, first, last } => {
-            removing::remove_ranks(alloc, key, *first, *last, seen, effects)
+        ZSetAsk::ZRemRangeByRank { key, first, last } => {
+            removing::zremrangebyrank(alloc, key, *first, *last, seen, effects)
         }
-        ZSetAsk::RemoveScores { key, min, max } => {
-            removing::remove_scores(alloc, key, *min, *max, seen, effects)
+        ZSetAsk::ZRemRangeByScore { key, min, max } => {
+            removing::zremrangebyscore(alloc, key, *min, *max, seen, effects)
         }
-        ZSetAsk::CountMembers { key: _ } => Ok(telling::count_members(alloc, seen)),
-        ZSetAsk::CountScores { key: _, min, max } => {
-            Ok(telling::count_scores(alloc, *min, *max, seen))
+        ZSetAsk::ZCard { key: _ } => Ok(telling::zcard(alloc, seen)),
+        ZSetAsk::ZCount { key: _, min, max } => {
+            Ok(telling::zcount(alloc, *min, *max, seen))
         }
-        ZSetAsk::GetScore { key: _, member } => telling::score(alloc, member, seen),
-        ZSetAsk::GetScores { key: _, members } => telling::scores(alloc, members, seen),
+        ZSetAsk::ZScore { key: _, member } => telling::zscore(alloc, member, seen),
+        ZSetAsk::ZMScore { key: _, members } => telling::zmscore(alloc, members, seen),
         ZSetAsk::GetRank {
             key: _,
             member,

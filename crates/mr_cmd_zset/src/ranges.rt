@@ -4,7 +4,7 @@ ghost use Rattle.std.specs.List.{flat_map};
 ghost use Rattle.mr_map.specs.Bytes.{Bytes};
 ghost use Rattle.mr_resp.specs.ReplyView.{view};
 ghost use Rattle.mr_zset.specs.Pairs.{shown};
-ghost use Rattle.mr_cmd_zset.specs.Ranges.{by_rank_turn, by_score_turn, limited, ordered, pair_replies, pairs_reply};
+ghost use Rattle.mr_cmd_zset.specs.Ranges.{by_rank_answer, by_score_answer, limited, ordered, pair_replies, pairs_reply};
 
 use crate::replies::{score_bulk, set_at};
 use mr_data::Entry;
@@ -24,7 +24,7 @@ pub fn by_rank(
     shape: RangeReply,
     seen: Option<&Entry>,
 ) -> Result<Reply, AllocError>
-    ensures { IfOk result (λ r. view r ≡ (by_rank_turn first last order shape (option_copied seen.entry)).reply) }
+    ensures { IfOk result (λ r. view r ≡ (by_rank_answer first last order shape (option_copied seen.entry)).reply) }
 {
     let empty = ZSet::new(alloc);
     let Some(set) = set_at(seen, &empty) else {
@@ -49,7 +49,7 @@ pub fn by_score(
     shape: RangeReply,
     seen: Option<&Entry>,
 ) -> Result<Reply, AllocError>
-    ensures { IfOk result (λ r. view r ≡ (by_score_turn min max order limit shape (option_copied seen.entry)).reply) }
+    ensures { IfOk result (λ r. view r ≡ (by_score_answer min max order limit shape (option_copied seen.entry)).reply) }
 {
     let empty = ZSet::new(alloc);
     let Some(set) = set_at(seen, &empty) else {

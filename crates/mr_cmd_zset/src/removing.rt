@@ -12,7 +12,7 @@ ghost use Rattle.mr_entries.specs.Cuts.{cut};
 ghost use Rattle.mr_planning.specs.Turns.{Takes};
 ghost use Rattle.mr_planning.specs.Collections.{changing};
 ghost use Rattle.mr_cmd_zset.specs.Scores.{number, pairs_in, lost, Makes};
-ghost use Rattle.mr_cmd_zset.specs.Removing.{members_of, remove_members, remove_ranks, remove_scores, as_set, take_pairs};
+ghost use Rattle.mr_cmd_zset.specs.Removing.{members_of, zrem, zremrangebyrank, zremrangebyscore, as_set, take_pairs};
 
 use crate::grouping::push_lost;
 use crate::ranges::forward;
@@ -28,14 +28,14 @@ use mr_zset_options::{Order, RangeReply};
 use std::alloc::{AllocError, Global};
 
 /// `ZREM`
-pub fn remove_members(
+pub fn zrem(
     alloc: Global,
     key: &Argument<'_>,
     members: &Words<'_, '_>,
     seen: Option<&Entry>,
     effects: &mut Effects,
 ) -> Result<Reply, AllocError>
-    ensures { IfOk result (λ r. Takes (changing sorted_sets (remove_members key.now members.now) (option_copied seen.entry)) (view r) effects.old effects.new) }
+    ensures { IfOk result (λ r. Takes (changing sorted_sets (zrem key.now members.now) (option_copied seen.entry)) (view r) effects.old effects.new) }
 {
     let empty = ZSet::new(alloc);
     let Some(set) = set_at(seen, &empty) else {
@@ -52,7 +52,7 @@ fn remove_named(
     set: &ZSet,
     effects: &mut Effects,
 ) -> Result<Reply, AllocError>
-    ensures { IfOk result (λ r. Makes (remove_members key.now members.now set.now) (view r) effects.old effects.new) }
+    ensures { IfOk result (λ r. Makes (zrem key.now members.now set.now) (view r) effects.old effects.new) }
 {
     let lost = named_there(alloc, members, set)?;
     push_lost(alloc, key, &lost, effects)?;
@@ -78,7 +78,7 @@ fn named_there<'a>(
 }
 
 /// `ZREMRANGEBYRANK`
-pub fn remove_ranks(
+pub fn zremrangebyrank(
     alloc: Global,
     key: &Argument<'_>,
     first: i64,
@@ -86,7 +86,7 @@ pub fn remove_ranks(
     seen: Option<&Entry>,
     effects: &mut Effects,
 ) -> Result<Reply, AllocError>
-    ensures { IfOk result (λ r. Takes (changing sorted_sets (remove_ranks key.now first last) (option_copied seen.entry)) (view r) effects.old effects.new) }
+    ensures { IfOk result (λ r. Takes (changing sorted_sets (zremrangebyrank key.now first last) (option_copied seen.entry)) (view r) effects.old effects.new) }
 {
     let empty = ZSet::new(alloc);
     let Some(set) = set_at(seen, &empty) else {
@@ -108,7 +108,7 @@ fn pairs_at(alloc: Global, set: &ZSet, first: i64, last: i64) -> Result<Vec<Pair
 }
 
 /// `ZREMRANGEBYSCORE`
-pub fn remove_scores(
+pub fn zremrangebyscore(
     alloc: Global,
     key: &Argument<'_>,
     min: Bound,
@@ -116,7 +116,7 @@ pub fn remove_scores(
     seen: Option<&Entry>,
     effects: &mut Effects,
 ) -> Result<Reply, AllocError>
-    ensures { IfOk result (λ r. Takes (changing sorted_sets (remove_scores key.now min max) (option_copied seen.entry)) (view r) effects.old effects.new) }
+    ensures { IfOk result (λ r. Takes (changing sorted_sets (zremrangebyscore key.now min max) (option_copied seen.entry)) (view r) effects.old effects.new) }
 {
     let empty = ZSet::new(alloc);
     let Some(set) = set_at(seen, &empty) else {

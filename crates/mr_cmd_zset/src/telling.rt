@@ -1,7 +1,7 @@
 // Commands that tell of the members of a sorted set.
 ghost use Rattle.std.specs.Prelude.{◌≡◌, ◌<◌, IfOk, option_copied};
 ghost use Rattle.mr_resp.specs.ReplyView.{view};
-ghost use Rattle.mr_cmd_zset.specs.Telling.{count_members_turn, count_scores_turn, counted_from, found_scores, rank_turn, score_or_nil, score_turn, scores_turn};
+ghost use Rattle.mr_cmd_zset.specs.Telling.{zcard_answer, zcount_answer, counted_from, found_scores, rank_answer, score_or_nil, zscore_answer, zmscore_answer};
 
 use crate::replies::{score_bulk, set_at};
 use mr_data::Entry;
@@ -13,8 +13,8 @@ use mr_zset_options::Order;
 use std::alloc::{AllocError, Global};
 
 /// `ZCARD`
-pub fn count_members(alloc: Global, seen: Option<&Entry>) -> Reply
-    ensures { view result ≡ (count_members_turn (option_copied seen.entry)).reply }
+pub fn zcard(alloc: Global, seen: Option<&Entry>) -> Reply
+    ensures { view result ≡ (zcard_answer (option_copied seen.entry)).reply }
 {
     let empty = ZSet::new(alloc);
     match set_at(seen, &empty) {
@@ -24,8 +24,8 @@ pub fn count_members(alloc: Global, seen: Option<&Entry>) -> Reply
 }
 
 /// `ZCOUNT`
-pub fn count_scores(alloc: Global, min: Bound, max: Bound, seen: Option<&Entry>) -> Reply
-    ensures { view result ≡ (count_scores_turn min max (option_copied seen.entry)).reply }
+pub fn zcount(alloc: Global, min: Bound, max: Bound, seen: Option<&Entry>) -> Reply
+    ensures { view result ≡ (zcount_answer min max (option_copied seen.entry)).reply }
 {
     let empty = ZSet::new(alloc);
     match set_at(seen, &empty) {
@@ -35,12 +35,12 @@ pub fn count_scores(alloc: Global, min: Bound, max: Bound, seen: Option<&Entry>)
 }
 
 /// `ZSCORE`
-pub fn score(
+pub fn zscore(
     alloc: Global,
     member: &Argument<'_>,
     seen: Option<&Entry>,
 ) -> Result<Reply, AllocError>
-    ensures { IfOk result (λ r. view r ≡ (score_turn member.now (option_copied seen.entry)).reply) }
+    ensures { IfOk result (λ r. view r ≡ (zscore_answer member.now (option_copied seen.entry)).reply) }
 {
     let empty = ZSet::new(alloc);
     match set_at(seen, &empty) {
@@ -50,12 +50,12 @@ pub fn score(
 }
 
 /// `ZMSCORE`
-pub fn scores(
+pub fn zmscore(
     alloc: Global,
     members: &Words<'_, '_>,
     seen: Option<&Entry>,
 ) -> Result<Reply, AllocError>
-    ensures { IfOk result (λ r. view r ≡ (scores_turn members.now (option_copied seen.entry)).reply) }
+    ensures { IfOk result (λ r. view r ≡ (zmscore_answer members.now (option_copied seen.entry)).reply) }
 {
     let empty = ZSet::new(alloc);
     match set_at(seen, &empty) {
@@ -86,7 +86,7 @@ fn score_or_nil(alloc: Global, score: Option<i64>) -> Result<Reply, AllocError>
 
 /// `ZRANK`, `ZREVRANK`
 pub fn rank(alloc: Global, order: Order, member: &Argument<'_>, seen: Option<&Entry>) -> Reply
-    ensures { view result ≡ (rank_turn order member.now (option_copied seen.entry)).reply }
+    ensures { view result ≡ (rank_answer order member.now (option_copied seen.entry)).reply }
 {
     let empty = ZSet::new(alloc);
     let Some(set) = set_at(seen, &empty) else {

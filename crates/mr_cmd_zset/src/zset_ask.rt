@@ -9,7 +9,7 @@ use mr_zset_options::{
 #[derive(Drop)]
 pub enum ZSetAsk<'a, 't> {
     /// `ZADD key [NX|XX] [GT|LT] [CH] score member [score member ..]`
-    AddScores {
+    ZAdd {
         key: Argument<'a>,
         condition: Option<ScoreCondition>,
         comparison: Option<Comparison>,
@@ -17,33 +17,33 @@ pub enum ZSetAsk<'a, 't> {
         pairs: ScoredMembers<'a, 't>,
     },
     /// `ZINCRBY key by member`
-    IncreaseScore {
+    ZIncrBy {
         key: Argument<'a>,
         by: i64,
         member: Argument<'a>,
     },
     /// `ZREM key member [member ..]`
-    RemoveMembers {
+    ZRem {
         key: Argument<'a>,
         members: Words<'a, 't>,
     },
     /// `ZCARD key`
-    CountMembers {
+    ZCard {
         key: Argument<'a>,
     },
     /// `ZCOUNT key min max`
-    CountScores {
+    ZCount {
         key: Argument<'a>,
         min: Bound,
         max: Bound,
     },
     /// `ZSCORE key member`
-    GetScore {
+    ZScore {
         key: Argument<'a>,
         member: Argument<'a>,
     },
     /// `ZMSCORE key member [member ..]`
-    GetScores {
+    ZMScore {
         key: Argument<'a>,
         members: Words<'a, 't>,
     },
@@ -79,13 +79,13 @@ pub enum ZSetAsk<'a, 't> {
         count: Option<usize>,
     },
     /// `ZREMRANGEBYRANK key first last`
-    RemoveRanks {
+    ZRemRangeByRank {
         key: Argument<'a>,
         first: i64,
         last: i64,
     },
     /// `ZREMRANGEBYSCORE key min max`
-    RemoveScores {
+    ZRemRangeByScore {
         key: Argument<'a>,
         min: Bound,
         max: Bound,

@@ -176,7 +176,7 @@ change_keeps (effect.RemoveMembers k members) m n old spelled fit h = at_key_kee
 change_keeps (effect.MoveMember from to member) m n old spelled fit h =
     let both = first (fits from && fits to) (fits member) fit in
     move_member_keeps from to member m n old (first (fits from) (fits to) both) (second (fits from) (fits to) both) (second (fits from && fits to) (fits member) fit) h
-change_keeps (effect.SetAll pairs) m n old spelled fit h = let same : with_texts pairs m ≡ n = cc in subst IsDataset same (with_texts_keeps pairs m fit old)
+change_keeps (effect.MSet pairs) m n old spelled fit h = let same : with_texts pairs m ≡ n = cc in subst IsDataset same (with_texts_keeps pairs m fit old)
 change_keeps (effect.Append k more) m n old spelled fit h = at_key_keeps (append_step more) (append_keeps more) k m n old (first (fits k) (fits more) fit) h
 change_keeps (effect.SetRange k offset part) m n old spelled fit h = at_key_keeps (set_range_step offset part) (set_range_keeps offset part) k m n old (first (fits k) (fits part) fit) h
 change_keeps (effect.Increase k by) m n old spelled fit h = at_key_keeps (increase_step by) (increase_keeps by) k m n old fit h

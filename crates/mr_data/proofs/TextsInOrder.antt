@@ -25,9 +25,9 @@ each_set (p ∷ ps) m fit =
     ap (option_and_then (apply_all (map (λ q. effect.Set q.0 q.1) ps))) (one_set p.0 p.1 m (first (pair_fits p) (list_all pair_fits ps) fit))
     ∙ each_set ps (insert m p.0 (without_deadline (value.Text p.1))) (second (pair_fits p) (list_all pair_fits ps) fit)
 
-all_set : (ps : List (Bytes × Bytes)) (m : Dataset) → IsTrue (is_some_of ps) → IsTrue (list_all pair_fits ps) → apply (effect.SetAll ps) m ≡ Some (with_texts ps m)
+all_set : (ps : List (Bytes × Bytes)) (m : Dataset) → IsTrue (is_some_of ps) → IsTrue (list_all pair_fits ps) → apply (effect.MSet ps) m ≡ Some (with_texts ps m)
 unfolding apply change
 all_set ps m some fit = rw (some, fit) refl
 
-pub set_in_order : (ps : List (Bytes × Bytes)) (m : Dataset) → IsTrue (has_spelling (effect.SetAll ps)) → IsTrue (words_fit (effect.SetAll ps)) → apply (effect.SetAll ps) m ≡ apply_all (map (λ p. effect.Set p.0 p.1) ps) m
+pub set_in_order : (ps : List (Bytes × Bytes)) (m : Dataset) → IsTrue (has_spelling (effect.MSet ps)) → IsTrue (words_fit (effect.MSet ps)) → apply (effect.MSet ps) m ≡ apply_all (map (λ p. effect.Set p.0 p.1) ps) m
 set_in_order ps m some fit = all_set ps m some fit ∙ sym (each_set ps m fit)

@@ -25,7 +25,7 @@ pub fn seen_is_what_is_not_past()
 
 /// Texts that are set together are set one after another.
 pub fn texts_are_set_in_order()
-    ensures { (pairs : List (Bytes × Bytes)) (m : Dataset) → IsTrue (has_spelling (effect.SetAll pairs)) → IsTrue (words_fit (effect.SetAll pairs)) → apply (effect.SetAll pairs) m ≡ apply_all (map (λ p. effect.Set p.0 p.1) pairs) m }
+    ensures { (pairs : List (Bytes × Bytes)) (m : Dataset) → IsTrue (has_spelling (effect.MSet pairs)) → IsTrue (words_fit (effect.MSet pairs)) → apply (effect.MSet pairs) m ≡ apply_all (map (λ p. effect.Set p.0 p.1) pairs) m }
 {}
 
 /// A key that is renamed to itself stays as it is.

@@ -83,8 +83,8 @@ unfolding reading
 reading-arguments (effect.Set k text) h = refl
 reading-arguments (effect.SetUntil k text d) h = ap (option_map (effect.SetUntil k text)) (deadline_read d h)
 reading-arguments (effect.SetKeeping k text) h = refl
-reading-arguments (effect.SetAll []) h = cc
-reading-arguments (effect.SetAll (p ∷ ps)) h = ap (option_map effect.SetAll) (pairs_read (p ∷ ps))
+reading-arguments (effect.MSet []) h = cc
+reading-arguments (effect.MSet (p ∷ ps)) h = ap (option_map effect.MSet) (pairs_read (p ∷ ps))
 reading-arguments (effect.Append k text) h = refl
 reading-arguments (effect.SetRange k i text) h = ap (option_map (λ j. effect.SetRange k j text)) (place_read i h)
 reading-arguments (effect.Increase k n) h = ap (option_map (effect.Increase k)) (number_of-signed_decimal n h)
@@ -256,12 +256,12 @@ set_sound (k ∷ text ∷ v ∷ w ∷ []) e h = when v (codes "PXAT") (option_ma
     is _ (effect.SetUntil k text d) e spelled.1 (ap (λ (x : Bytes). codes "SET" ∷ k ∷ text ∷ x ∷ signed_decimal d ∷ []) (sym same_option) ∙ ap (λ (x : Bytes). codes "SET" ∷ k ∷ text ∷ v ∷ x ∷ []) (sym spelled.0)) same))
 set_sound (k ∷ text ∷ v ∷ w ∷ x ∷ ws) e h = cc
 
-set_all_sound : (ws : List Bytes) → Sound name.MSet ws
+mset_sound : (ws : List Bytes) → Sound name.MSet ws
 unfolding reading words
-set_all_sound [] e h = cc
-set_all_sound (k ∷ ws) e h = mapped effect.SetAll (pairs_of (k ∷ ws)) e h (λ ps found same.
+mset_sound [] e h = cc
+mset_sound (k ∷ ws) e h = mapped effect.MSet (pairs_of (k ∷ ws)) e h (λ ps found same.
     let spelled = pairs_sound (k ∷ ws) ps found in
-    is _ (effect.SetAll ps) e (some_pairs k ws ps spelled) (ap (λ (x : List Bytes). codes "MSET" ∷ x) spelled) same)
+    is _ (effect.MSet ps) e (some_pairs k ws ps spelled) (ap (λ (x : List Bytes). codes "MSET" ∷ x) spelled) same)
 
 append_sound : (ws : List Bytes) → Sound name.Append ws
 unfolding reading words
@@ -458,7 +458,7 @@ remove_scores_sound (k ∷ m ∷ ws) e h = is _ (effect.RemoveScores k (m ∷ ws
 
 reading_sound : (n : EffectName) (ws : List Bytes) → Sound n ws
 reading_sound name.Set = set_sound
-reading_sound name.MSet = set_all_sound
+reading_sound name.MSet = mset_sound
 reading_sound name.Append = append_sound
 reading_sound name.SetRange = set_range_sound
 reading_sound name.IncrBy = increase_sound

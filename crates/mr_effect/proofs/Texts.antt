@@ -124,7 +124,7 @@ arguments_short : (e : Effect) → IsTrue (has_spelling e) → IsTrue (words_fit
 arguments_short (effect.Set k v) s h = (short k (first (fits k) _ h), (short v (second (fits k) _ h), tt))
 arguments_short (effect.SetUntil k v d) s h = (short k (first (fits k) _ h), (short v (second (fits k) _ h), (omega arith, (short_number d (deadline_fits d s), tt))))
 arguments_short (effect.SetKeeping k v) s h = (short k (first (fits k) _ h), (short v (second (fits k) _ h), (omega arith, tt)))
-arguments_short (effect.SetAll pairs) s h = short_pairs pairs h
+arguments_short (effect.MSet pairs) s h = short_pairs pairs h
 arguments_short (effect.Append k v) s h = (short k (first (fits k) _ h), (short v (second (fits k) _ h), tt))
 arguments_short (effect.SetRange k i v) s h = (short k (first (fits k) _ h), (short_number i (first (is_i64 i) _ s), (short v (second (fits k) _ h), tt)))
 arguments_short (effect.Increase k n) s h = (short k h, (short_number n s, tt))

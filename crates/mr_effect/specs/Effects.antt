@@ -19,7 +19,7 @@ abbrev pub words_fit : Effect → Bool
 words_fit (effect.Set k text) = fits k && fits text
 words_fit (effect.SetUntil k text deadline) = fits k && fits text
 words_fit (effect.SetKeeping k text) = fits k && fits text
-words_fit (effect.SetAll pairs) = list_all pair_fits pairs
+words_fit (effect.MSet pairs) = list_all pair_fits pairs
 words_fit (effect.Append k text) = fits k && fits text
 words_fit (effect.SetRange k offset text) = fits k && fits text
 words_fit (effect.Increase k by) = fits k
@@ -64,7 +64,7 @@ abbrev pub has_spelling : Effect → Bool
 has_spelling (effect.Set k text) = true
 has_spelling (effect.SetUntil k text deadline) = is_deadline deadline
 has_spelling (effect.SetKeeping k text) = true
-has_spelling (effect.SetAll pairs) = is_some_of pairs
+has_spelling (effect.MSet pairs) = is_some_of pairs
 has_spelling (effect.Append k text) = true
 has_spelling (effect.SetRange k offset text) = is_place offset
 has_spelling (effect.Increase k by) = is_i64 by

@@ -66,9 +66,9 @@ set_of (k ∷ text ∷ option ∷ []) = set_keeping_of k text option
 set_of (k ∷ text ∷ option ∷ deadline ∷ []) = set_until_of k text option deadline
 set_of _ = None
 
-abbrev pub set_all_of : List Bytes → Option Effect
-set_all_of (k ∷ ws) = option_map effect.SetAll (pairs_of (k ∷ ws))
-set_all_of _ = None
+abbrev pub mset_of : List Bytes → Option Effect
+mset_of (k ∷ ws) = option_map effect.MSet (pairs_of (k ∷ ws))
+mset_of _ = None
 
 abbrev pub append_of : List Bytes → Option Effect
 append_of (k ∷ text ∷ []) = Some (effect.Append k text)
@@ -165,7 +165,7 @@ remove_scores_of _ = None
 -- the effect of this name with these arguments
 unfoldable pub reading : EffectName → List Bytes → Option Effect
 reading name.Set = set_of
-reading name.MSet = set_all_of
+reading name.MSet = mset_of
 reading name.Append = append_of
 reading name.SetRange = set_range_of
 reading name.IncrBy = increase_of

@@ -37,7 +37,7 @@ abbrev pub name_of : Effect → EffectName
 name_of (effect.Set k text) = name.Set
 name_of (effect.SetUntil k text deadline) = name.Set
 name_of (effect.SetKeeping k text) = name.Set
-name_of (effect.SetAll pairs) = name.MSet
+name_of (effect.MSet pairs) = name.MSet
 name_of (effect.Append k text) = name.Append
 name_of (effect.SetRange k offset text) = name.SetRange
 name_of (effect.Increase k by) = name.IncrBy
@@ -75,7 +75,7 @@ abbrev pub arguments : Effect → List Bytes
 arguments (effect.Set k text) = k ∷ text ∷ []
 arguments (effect.SetUntil k text deadline) = k ∷ text ∷ codes "PXAT" ∷ signed_decimal deadline ∷ []
 arguments (effect.SetKeeping k text) = k ∷ text ∷ codes "KEEPTTL" ∷ []
-arguments (effect.SetAll pairs) = flat_map pair_words pairs
+arguments (effect.MSet pairs) = flat_map pair_words pairs
 arguments (effect.Append k text) = k ∷ text ∷ []
 arguments (effect.SetRange k offset text) = k ∷ signed_decimal offset ∷ text ∷ []
 arguments (effect.Increase k by) = k ∷ signed_decimal by ∷ []

@@ -22,7 +22,7 @@ fn read_as<'a>(
 {
     match name {
         EffectName::Set => Ok(reading::set_of(words)),
-        EffectName::MSet => reading::set_all_of(alloc, words),
+        EffectName::MSet => reading::mset_of(alloc, words),
         EffectName::Append => Ok(reading::append_of(words)),
         EffectName::SetRange => Ok(reading::set_range_of(words)),
         EffectName::IncrBy => Ok(reading::increase_of(words)),

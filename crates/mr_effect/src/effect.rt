@@ -27,7 +27,7 @@ pub enum Effect<'a> {
         value: Word<'a>,
     },
     /// Keys get these texts, one after another, as `Set` does it.
-    SetAll {
+    MSet {
         pairs: Pairs<'a>,
     },
     /// A text is put behind a key's text. A key that isn't there has an empty one.
@@ -160,7 +160,7 @@ impl Effect<'_> {
             Effect::Set { key, value } => fits(key.as_slice()) && fits(value.as_slice()),
             Effect::SetUntil { key, value, .. } => fits(key.as_slice()) && fits(value.as_slice()),
             Effect::SetKeeping { key, value } => fits(key.as_slice()) && fits(value.as_slice()),
-            Effect::SetAll { pairs } => pairs.fit(),
+            Effect::MSet { pairs } => pairs.fit(),
             Effect::Append { key, value } => fits(key.as_slice()) && fits(value.as_slice()),
             Effect::SetRange {
                 key,
@@ -212,7 +212,7 @@ impl Effect<'_> {
         ensures { result ≡ has_spelling self.now }
     {
         match self {
-            Effect::SetAll { pairs } => !pairs.is_empty(),
+            Effect::MSet { pairs } => !pairs.is_empty(),
             Effect::SetRange { offset, .. } => *offset >= 0,
             Effect::SetFields { pairs, .. } => !pairs.is_empty(),
             Effect::RemoveFields { fields, .. } => !fields.is_empty(),

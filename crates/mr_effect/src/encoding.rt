@@ -316,7 +316,7 @@ fn push_effect(effect: &Effect<'_>, out: &mut Vec<u8>) -> Result<(), AllocError>
             b"KEEPTTL",
             out,
         ),
-        Effect::SetAll { pairs } => push_keys(pairs, out),
+        Effect::MSet { pairs } => push_keys(pairs, out),
         Effect::Append { key, value } => {
             push_three(b"APPEND", key.as_slice(), value.as_slice(), out)
         }

@@ -1,7 +1,7 @@
 // Effects from their arguments, one function for each.
 ghost use Rattle.std.specs.Prelude.{◌≡◌, map, IfOk};
 ghost use Rattle.std.specs.Cow.{cow_slice_items};
-ghost use Rattle.mr_effect.specs.Reading.{end_of, side_of, place_of, deadline_of, score_of, pairs_of, scores_of, set_of, set_all_of, append_of, set_range_of, increase_of, del_of, expire_of, persist_of, rename_of, clear_of, ping_of, set_fields_of, remove_fields_of, push_of, pop_of, set_item_of, insert_item_of, remove_items_of, trim_of, move_item_of, add_members_of, remove_members_of, move_member_of, set_scores_of, remove_scores_of};
+ghost use Rattle.mr_effect.specs.Reading.{end_of, side_of, place_of, deadline_of, score_of, pairs_of, scores_of, set_of, mset_of, append_of, set_range_of, increase_of, del_of, expire_of, persist_of, rename_of, clear_of, ping_of, set_fields_of, remove_fields_of, push_of, pop_of, set_item_of, insert_item_of, remove_items_of, trim_of, move_item_of, add_members_of, remove_members_of, move_member_of, set_scores_of, remove_scores_of};
 
 use crate::deadline::is_deadline;
 use crate::effect::Effect;
@@ -135,11 +135,11 @@ pub(crate) fn set_of<'a>(words: &'a [CowSlice<'_, u8>]) -> Option<Effect<'a>>
     }
 }
 
-pub(crate) fn set_all_of<'a>(
+pub(crate) fn mset_of<'a>(
     alloc: Global,
     words: &'a [CowSlice<'_, u8>],
 ) -> Result<Option<Effect<'a>>, AllocError>
-    ensures { IfOk result (λ found. found ≡ set_all_of (map cow_slice_items words.now)) }
+    ensures { IfOk result (λ found. found ≡ mset_of (map cow_slice_items words.now)) }
 {
     if words.is_empty() {
         return Ok(None);
@@ -147,7 +147,7 @@ pub(crate) fn set_all_of<'a>(
     let Some(pairs) = pairs_of(alloc, words)? else {
         return Ok(None);
     };
-    Ok(Some(Effect::SetAll { pairs }))
+    Ok(Some(Effect::MSet { pairs }))
 }
 
 pub(crate) fn append_of<'a>(words: &'a [CowSlice<'_, u8>]) -> Option<Effect<'a>>

@@ -52,7 +52,7 @@ with_fits (Err e) a A m n p same f h = tt
 
 -- a rewriting leaves the dataset
 pub left_by_rewriting : (replica : Bool) (a : Ask) (given : Given) (m : Dataset) → is_rewriting a ≡ true → m ≡ left_by (Ok a) replica given m
-left_by_rewriting false (ask.Server server.Rewrite) given m is = refl
+left_by_rewriting false (ask.Server server.BgRewriteAof) given m is = refl
 left_by_rewriting true a given m is = refl
 left_by_rewriting false _ given m is = absurd (cc)
 

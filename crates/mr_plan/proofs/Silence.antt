@@ -43,16 +43,16 @@ silent_list absent answer (Some e) = silent_told lists answer (held lists (Some 
 
 texts : (command : TextAsk) (given : Given) (m : Dataset) → text_writes command ≡ false → own_effects (command_of (ask.Texts command) given) given.now m ≡ []
 texts (text.Get k) given m is = refl
-texts (text.TextLength k) given m is = refl
+texts (text.StrLen k) given m is = refl
 texts (text.GetRange k first last) given m is = refl
-texts (text.GetAll ks) given m is = refl
+texts (text.MGet ks) given m is = refl
 texts _ given m is = never is
 
 keys : (command : KeyAsk) (given : Given) (m : Dataset) → key_writes command ≡ false → own_effects (command_of (ask.Keys command) given) given.now m ≡ []
 keys (key.Del ks) given m is = never is
 keys (key.Unlink ks) given m is = never is
 keys (key.Rename from to) given m is = never is
-keys (key.RenameNew from to) given m is = never is
+keys (key.RenameNx from to) given m is = never is
 keys (key.Clear databases timing) given m is = never is
 keys (key.Expire k expiry condition) given m is = never is
 keys (key.Persist k) given m is = never is
@@ -62,42 +62,42 @@ of_hash : (command : HashAsk) → ((h : Hash) → (hash_commands.change command 
 of_hash command silent given m = silent_changed hashes (hash_commands.change command) silent _ _
 
 in_hashes : (command : HashAsk) (given : Given) (m : Dataset) → hash_writes command ≡ false → own_effects (command_of (ask.Hashes command) given) given.now m ≡ []
-in_hashes (hash.SetFields k pairs reply) given m is = never is
-in_hashes (hash.SetNewField k field value) given m is = never is
-in_hashes (hash.RemoveFields k fields) given m is = never is
-in_hashes (hash.IncreaseField k field by) given m is = never is
-in_hashes (hash.GetField k f) given m is = of_hash (hash.GetField k f) (λ h. refl) given m
-in_hashes (hash.GetFields k fs) given m is = of_hash (hash.GetFields k fs) (λ h. refl) given m
+in_hashes (hash.HSet k pairs reply) given m is = never is
+in_hashes (hash.HSetNx k field value) given m is = never is
+in_hashes (hash.HDel k fields) given m is = never is
+in_hashes (hash.HIncrBy k field by) given m is = never is
+in_hashes (hash.HGet k f) given m is = of_hash (hash.HGet k f) (λ h. refl) given m
+in_hashes (hash.HMGet k fs) given m is = of_hash (hash.HMGet k fs) (λ h. refl) given m
 in_hashes (hash.ListHash k part) given m is = of_hash (hash.ListHash k part) (λ h. refl) given m
-in_hashes (hash.HasField k f) given m is = of_hash (hash.HasField k f) (λ h. refl) given m
-in_hashes (hash.CountFields k) given m is = of_hash (hash.CountFields k) (λ h. refl) given m
-in_hashes (hash.FieldLength k f) given m is = of_hash (hash.FieldLength k f) (λ h. refl) given m
+in_hashes (hash.HExists k f) given m is = of_hash (hash.HExists k f) (λ h. refl) given m
+in_hashes (hash.HLen k) given m is = of_hash (hash.HLen k) (λ h. refl) given m
+in_hashes (hash.HStrLen k f) given m is = of_hash (hash.HStrLen k f) (λ h. refl) given m
 
 in_lists : (command : ListAsk) (given : Given) (m : Dataset) → list_writes command ≡ false → own_effects (command_of (ask.Lists command) given) given.now m ≡ []
-in_lists (list.CountItems k) given m is = silent_list _ _ _
-in_lists (list.Range k first last) given m is = silent_list _ _ _
-in_lists (list.GetItem k index) given m is = silent_list _ _ _
+in_lists (list.LLen k) given m is = silent_list _ _ _
+in_lists (list.LRange k first last) given m is = silent_list _ _ _
+in_lists (list.LIndex k index) given m is = silent_list _ _ _
 in_lists _ given m is = never is
 
 in_sets : (command : SetAsk) (given : Given) (m : Dataset) → set_writes command ≡ false → own_effects (command_of (ask.Sets command) given) given.now m ≡ []
-in_sets (set.AddMembers k xs) given m is = never is
-in_sets (set.RemoveMembers k xs) given m is = never is
-in_sets (set.TakeMembers k count) given m is = never is
-in_sets (set.MoveMember from to x) given m is = never is
-in_sets (set.HasMember k x) given m is = silent_told sets _ _ _
-in_sets (set.HaveMembers k xs) given m is = silent_told sets _ _ _
-in_sets (set.ListMembers k) given m is = silent_told sets _ _ _
-in_sets (set.CountMembers k) given m is = silent_told sets _ _ _
-in_sets (set.DrawMembers k count) given m is = silent_told sets _ _ _
+in_sets (set.SAdd k xs) given m is = never is
+in_sets (set.SRem k xs) given m is = never is
+in_sets (set.SPop k count) given m is = never is
+in_sets (set.SMove from to x) given m is = never is
+in_sets (set.SIsMember k x) given m is = silent_told sets _ _ _
+in_sets (set.SMIsMember k xs) given m is = silent_told sets _ _ _
+in_sets (set.SMembers k) given m is = silent_told sets _ _ _
+in_sets (set.SCard k) given m is = silent_told sets _ _ _
+in_sets (set.SRandMember k count) given m is = silent_told sets _ _ _
 in_sets (set.Combine operation ks) given m is = refl
 
 in_sorted_sets : (command : ZSetAsk) (given : Given) (m : Dataset) → zset_writes command ≡ false → own_effects (command_of (ask.SortedSets command) given) given.now m ≡ []
-in_sorted_sets (zset.AddScores k condition comparison reply pairs) given m is = never is
-in_sorted_sets (zset.IncreaseScore k by x) given m is = never is
-in_sorted_sets (zset.RemoveMembers k xs) given m is = never is
+in_sorted_sets (zset.ZAdd k condition comparison reply pairs) given m is = never is
+in_sorted_sets (zset.ZIncrBy k by x) given m is = never is
+in_sorted_sets (zset.ZRem k xs) given m is = never is
 in_sorted_sets (zset.TakePairs k order count) given m is = never is
-in_sorted_sets (zset.RemoveRanks k first last) given m is = never is
-in_sorted_sets (zset.RemoveScores k min max) given m is = never is
+in_sorted_sets (zset.ZRemRangeByRank k first last) given m is = never is
+in_sorted_sets (zset.ZRemRangeByScore k min max) given m is = never is
 in_sorted_sets _ given m is = silent_told sorted_sets _ _ _
 
 pub others_are_silent : OthersHaveNoEffects

@@ -65,7 +65,7 @@ quits words = closes (asked words)
 
 -- BGREWRITEAOF
 abbrev pub is_rewriting : Ask → Bool
-is_rewriting (ask.Server server.Rewrite) = true
+is_rewriting (ask.Server server.BgRewriteAof) = true
 is_rewriting _ = false
 
 abbrev pub rewriting_by : Result Ask AskFault → Bool

@@ -22,9 +22,9 @@ use Rattle.mr_plan.specs.PlannedCommands.{command_of}
 -- on strings: all but GET, STRLEN, GETRANGE and MGET
 abbrev pub text_writes : TextAsk → Bool
 text_writes (text.Get k) = false
-text_writes (text.TextLength k) = false
+text_writes (text.StrLen k) = false
 text_writes (text.GetRange k first last) = false
-text_writes (text.GetAll ks) = false
+text_writes (text.MGet ks) = false
 text_writes _ = true
 
 -- on keys: DEL, UNLINK, RENAME, RENAMENX, FLUSHALL, FLUSHDB, EXPIRE and its like, PERSIST
@@ -32,7 +32,7 @@ abbrev pub key_writes : KeyAsk → Bool
 key_writes (key.Del ks) = true
 key_writes (key.Unlink ks) = true
 key_writes (key.Rename from to) = true
-key_writes (key.RenameNew from to) = true
+key_writes (key.RenameNx from to) = true
 key_writes (key.Clear databases timing) = true
 key_writes (key.Expire k expiry condition) = true
 key_writes (key.Persist k) = true
@@ -40,35 +40,35 @@ key_writes _ = false
 
 -- on hashes: HSET, HMSET, HSETNX, HDEL, HINCRBY
 abbrev pub hash_writes : HashAsk → Bool
-hash_writes (hash.SetFields k pairs reply) = true
-hash_writes (hash.SetNewField k field value) = true
-hash_writes (hash.RemoveFields k fields) = true
-hash_writes (hash.IncreaseField k field by) = true
+hash_writes (hash.HSet k pairs reply) = true
+hash_writes (hash.HSetNx k field value) = true
+hash_writes (hash.HDel k fields) = true
+hash_writes (hash.HIncrBy k field by) = true
 hash_writes _ = false
 
 -- on lists: all but LLEN, LRANGE and LINDEX
 abbrev pub list_writes : ListAsk → Bool
-list_writes (list.CountItems k) = false
-list_writes (list.Range k first last) = false
-list_writes (list.GetItem k index) = false
+list_writes (list.LLen k) = false
+list_writes (list.LRange k first last) = false
+list_writes (list.LIndex k index) = false
 list_writes _ = true
 
 -- on sets: SADD, SREM, SPOP, SMOVE
 abbrev pub set_writes : SetAsk → Bool
-set_writes (set.AddMembers k members) = true
-set_writes (set.RemoveMembers k members) = true
-set_writes (set.TakeMembers k count) = true
-set_writes (set.MoveMember from to member) = true
+set_writes (set.SAdd k members) = true
+set_writes (set.SRem k members) = true
+set_writes (set.SPop k count) = true
+set_writes (set.SMove from to member) = true
 set_writes _ = false
 
 -- on sorted sets: ZADD, ZINCRBY, ZREM, ZPOPMIN, ZPOPMAX, ZREMRANGEBYRANK, ZREMRANGEBYSCORE
 abbrev pub zset_writes : ZSetAsk → Bool
-zset_writes (zset.AddScores k condition comparison reply pairs) = true
-zset_writes (zset.IncreaseScore k by member) = true
-zset_writes (zset.RemoveMembers k members) = true
+zset_writes (zset.ZAdd k condition comparison reply pairs) = true
+zset_writes (zset.ZIncrBy k by member) = true
+zset_writes (zset.ZRem k members) = true
 zset_writes (zset.TakePairs k order count) = true
-zset_writes (zset.RemoveRanks k first last) = true
-zset_writes (zset.RemoveScores k min max) = true
+zset_writes (zset.ZRemRangeByRank k first last) = true
+zset_writes (zset.ZRemRangeByScore k min max) = true
 zset_writes _ = false
 
 -- by its kind; no command to the server itself is one

@@ -142,7 +142,7 @@ fn rewrites(ask: &Ask<'_, '_>) -> bool
     ensures { result ≡ is_rewriting ask.now }
 {
     match ask {
-        Ask::Server(ServerAsk::Rewrite) => true,
+        Ask::Server(ServerAsk::BgRewriteAof) => true,
         _ => false,
     }
 }

@@ -30,9 +30,9 @@ fn text_writes(ask: &TextAsk<'_, '_>) -> bool
 {
     match ask {
         TextAsk::Get { .. }
-        | TextAsk::TextLength { .. }
+        | TextAsk::StrLen { .. }
         | TextAsk::GetRange { .. }
-        | TextAsk::GetAll { .. } => false,
+        | TextAsk::MGet { .. } => false,
         _ => true,
     }
 }
@@ -44,7 +44,7 @@ fn key_writes(ask: &KeyAsk<'_, '_>) -> bool
         KeyAsk::Del { .. }
         | KeyAsk::Unlink { .. }
         | KeyAsk::Rename { .. }
-        | KeyAsk::RenameNew { .. }
+        | KeyAsk::RenameNx { .. }
         | KeyAsk::Clear { .. }
         | KeyAsk::Expire { .. }
         | KeyAsk::Persist { .. } => true,
@@ -56,10 +56,10 @@ fn hash_writes(ask: &HashAsk<'_, '_>) -> bool
     ensures { result ≡ hash_writes ask.now }
 {
     match ask {
-        HashAsk::SetFields { .. }
-        | HashAsk::SetNewField { .. }
-        | HashAsk::RemoveFields { .. }
-        | HashAsk::IncreaseField { .. } => true,
+        HashAsk::HSet { .. }
+        | HashAsk::HSetNx { .. }
+        | HashAsk::HDel { .. }
+        | HashAsk::HIncrBy { .. } => true,
         _ => false,
     }
 }
@@ -68,7 +68,7 @@ fn list_writes(ask: &ListAsk<'_, '_>) -> bool
     ensures { result ≡ list_writes ask.now }
 {
     match ask {
-        ListAsk::CountItems { .. } | ListAsk::Range { .. } | ListAsk::GetItem { .. } => false,
+        ListAsk::LLen { .. } | ListAsk::LRange { .. } | ListAsk::LIndex { .. } => false,
         _ => true,
     }
 }
@@ -77,10 +77,10 @@ fn set_writes(ask: &SetAsk<'_, '_>) -> bool
     ensures { result ≡ set_writes ask.now }
 {
     match ask {
-        SetAsk::AddMembers { .. }
-        | SetAsk::RemoveMembers { .. }
-        | SetAsk::TakeMembers { .. }
-        | SetAsk::MoveMember { .. } => true,
+        SetAsk::SAdd { .. }
+        | SetAsk::SRem { .. }
+        | SetAsk::SPop { .. }
+        | SetAsk::SMove { .. } => true,
         _ => false,
     }
 }
@@ -89,12 +89,12 @@ fn zset_writes(ask: &ZSetAsk<'_, '_>) -> bool
     ensures { result ≡ zset_writes ask.now }
 {
     match ask {
-        ZSetAsk::AddScores { .. }
-        | ZSetAsk::IncreaseScore { .. }
-        | ZSetAsk::RemoveMembers { .. }
+        ZSetAsk::ZAdd { .. }
+        | ZSetAsk::ZIncrBy { .. }
+        | ZSetAsk::ZRem { .. }
         | ZSetAsk::TakePairs { .. }
-        | ZSetAsk::RemoveRanks { .. }
-        | ZSetAsk::RemoveScores { .. } => true,
+        | ZSetAsk::ZRemRangeByRank { .. }
+        | ZSetAsk::ZRemRangeByScore { .. } => true,
         _ => false,
     }
 }

@@ -81,7 +81,7 @@ fn set_no_texts(
     out: &mut Vec<u8>,
 ) -> Result<(), RehearsalFault> {
     let pairs = Pairs::new(alloc);
-    apply(held, Effect::SetAll { pairs }, out)
+    apply(held, Effect::MSet { pairs }, out)
 }
 
 fn add_no_members(

@@ -58,7 +58,7 @@ impl Entries {
             Effect::MoveMember { from, to, member } => {
                 self.move_member(from.as_slice(), to, member)
             }
-            Effect::SetAll { pairs } => self.set_all(pairs),
+            Effect::MSet { pairs } => self.mset(pairs),
             Effect::Append { key, value } => self.append(key, value),
             Effect::SetRange { key, offset, value } => {
                 self.set_range(key, offset, value.as_slice())
@@ -127,7 +127,7 @@ impl Entries {
             Effect::MoveMember { from, to, member } => {
                 self.move_member(from.as_slice(), same(to), same(member))
             }
-            Effect::SetAll { pairs } => self.copy_all(pairs),
+            Effect::MSet { pairs } => self.copy_all(pairs),
             Effect::Append { key, value } => self.append(same(key), same(value)),
             Effect::SetRange { key, offset, value } => {
                 self.set_range(same(key), *offset, value.as_slice())

@@ -13,7 +13,7 @@ use mr_value::Word;
 
 impl Entries {
     /// Sets keys to texts, one after another.
-    pub(super) fn set_all(&mut self, pairs: Pairs<'_>) -> Result<(), ApplyFault>
+    pub(super) fn mset(&mut self, pairs: Pairs<'_>) -> Result<(), ApplyFault>
         ensures { Applies (Some (with_texts pairs.entry self.old)) self.old result self.new }
     {
         for (key, text) in pairs.into_vec() {

@@ -3,7 +3,7 @@ use Rattle.std.proofs.lemmas.Int.{to_z-of_z}
 use Rattle.mr_resp.specs.Replies as reply
 use Rattle.mr_resp.specs.ReplyView.{view}
 use Rattle.mr_planning.proofs.PlanLemmas.{key_plan, told}
-use Rattle.mr_cmd_key.specs.Expiring.{deadline_turn, told_in}
+use Rattle.mr_cmd_key.specs.Expiring.{deadline_answer, told_in}
 use Rattle.mr_cmd_key.proofs.Deadlines.{live_lifetime}
 use Rattle.mr_cmd_key.proofs.planning.deadline.Goals as goal
 
@@ -15,4 +15,4 @@ returns c =
     let number_fits : FitsSigned w64 c.told_in-number.result = search rules in
     let number : c.told_in-number.result ≡ told_in c.args.form c.args.given.now (option_copied c.in_ok-seen.seen) = c.told_in-number.ensures in
     let reply = ap view c.into_plan.ensures.reply ∙ c.integer.ensures ∙ ap reply.int (to_z-of_z w64 _ number_fits ∙ number) in
-    key_plan c.args.key.now (deadline_turn c.args.form c.args.given.now) c.args.given.now c.args.held.now _ _ _ _ _ _ c.in_ok-seen.ensures.seen c.new-effects.ensures c.in_ok-seen.ensures.past c.into_plan.ensures.effects (told _ _ refl reply)
+    key_plan c.args.key.now (deadline_answer c.args.form c.args.given.now) c.args.given.now c.args.held.now _ _ _ _ _ _ c.in_ok-seen.ensures.seen c.new-effects.ensures c.in_ok-seen.ensures.past c.into_plan.ensures.effects (told _ _ refl reply)

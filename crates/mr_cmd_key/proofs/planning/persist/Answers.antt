@@ -1,6 +1,6 @@
 use Rattle.mr_planning.proofs.PlanLemmas.{key_plan}
-use Rattle.mr_cmd_key.specs.Expiring.{persist_turn}
+use Rattle.mr_cmd_key.specs.Expiring.{persist_answer}
 use Rattle.mr_cmd_key.proofs.planning.persist.Goals as goal
 
 pub returns : goal.returns
-returns c = rw c.into_plan.ensures.reply (key_plan c.args.key.now (persist_turn c.args.key.now) c.args.given.now c.args.held.now _ _ _ _ _ _ c.in_ok-seen.ensures.seen c.new-effects.ensures c.in_ok-seen.ensures.past c.into_plan.ensures.effects c.in_ok-reply.ensures)
+returns c = rw c.into_plan.ensures.reply (key_plan c.args.key.now (persist_answer c.args.key.now) c.args.given.now c.args.held.now _ _ _ _ _ _ c.in_ok-seen.ensures.seen c.new-effects.ensures c.in_ok-seen.ensures.past c.into_plan.ensures.effects c.in_ok-reply.ensures)

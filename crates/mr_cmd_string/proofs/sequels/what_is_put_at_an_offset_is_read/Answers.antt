@@ -1,5 +1,5 @@
-use Rattle.mr_cmd_string.proofs.LeftAndTold.{set_range_read}
+use Rattle.mr_cmd_string.proofs.LeftAndTold.{setrange_read}
 use Rattle.mr_cmd_string.proofs.sequels.what_is_put_at_an_offset_is_read.Goals as goal
 
 pub returns : goal.returns
-returns c = set_range_read
+returns c = setrange_read

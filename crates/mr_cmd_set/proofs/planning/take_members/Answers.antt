@@ -1,6 +1,0 @@
-use Rattle.mr_planning.proofs.PlanLemmas.{key_plan}
-use Rattle.mr_cmd_set.specs.Turns.{take_members_turn}
-use Rattle.mr_cmd_set.proofs.planning.take_members.Goals as goal
-
-pub returns-clause-plan : goal.returns-clause-plan
-returns-clause-plan c = rw (c.into_plan.ensures.reply, ← c.word.ensures) (key_plan c.args.key.now (take_members_turn c.args.key.now c.args.count c.word.result) c.args.given.now c.args.held.now _ _ _ _ _ _ c.in_ok-seen.ensures.seen c.new-effects.ensures c.in_ok-seen.ensures.past c.into_plan.ensures.effects c.in_ok-reply.ensures)

@@ -1,6 +1,0 @@
-use Rattle.mr_planning.proofs.PlanLemmas.{key_plan}
-use Rattle.mr_cmd_string.specs.Setting.{set_new_turn}
-use Rattle.mr_cmd_string.proofs.planning.set_new.Goals as goal
-
-pub returns : goal.returns
-returns c = rw c.into_plan.ensures.reply (key_plan c.args.key.now (set_new_turn c.args.key.now c.args.value.now) c.args.given.now c.args.held.now _ _ _ _ _ _ c.in_ok-seen.ensures.seen c.new-effects.ensures c.in_ok-seen.ensures.past c.into_plan.ensures.effects c.in_ok-reply.ensures)

@@ -1,8 +1,0 @@
-use Rattle.std.proofs.Common.{◌∙◌, ap, refl}
-use Rattle.mr_resp.specs.ReplyView.{view}
-use Rattle.mr_planning.proofs.PlanLemmas.{key_plan, told}
-use Rattle.mr_cmd_string.specs.Texts.{length_turn}
-use Rattle.mr_cmd_string.proofs.planning.text_length.Goals as goal
-
-pub returns : goal.returns
-returns c = key_plan c.args.key.now length_turn c.args.given.now c.args.held.now _ _ _ _ _ _ c.in_ok-seen.ensures.seen c.new-effects.ensures c.in_ok-seen.ensures.past c.into_plan.ensures.effects (told _ _ refl (ap view c.into_plan.ensures.reply ∙ c.text_length-reply.ensures))
