@@ -5,5 +5,5 @@ pub mod Single
 pub mod Fields
 pub mod Gone
 pub mod Laws
-pub mod TurnLemmas
+pub mod AnswerLemmas
 pub mod LeftAndTold

@@ -7,7 +7,7 @@ use Rattle.mr_entries.specs.Steps.{hashes}
 use Rattle.mr_entries.specs.declared.value.Entry.{Entry}
 use Rattle.mr_cmd_hash.specs.declared.hash_ask.HashAsk.{HashAsk}
 use Rattle.mr_cmd_hash.specs.declared.hash_ask.HashAsk.TheVariants as ask
-use Rattle.mr_planning.specs.Turns.{Turn}
+use Rattle.mr_planning.specs.Answered.{Answered}
 use Rattle.mr_planning.specs.Collections.{Change, changing}
 use Rattle.mr_planning.specs.Commands.{Command, on_key}
 use Rattle.mr_cmd_hash.specs.Hashes.{Hash, hset, hsetnx, hget, hmget, list_hash, hdel, hexists, hlen, hstrlen, hincrby}
@@ -39,11 +39,11 @@ change (ask.HStrLen k f) = hstrlen f
 change (ask.HIncrBy k f by) = hincrby k f by
 
 -- a key of another kind is left alone
-abbrev pub turn : HashAsk → Option Entry → Turn
-turn command = changing hashes (change command)
+abbrev pub answer_of : HashAsk → Option Entry → Answered
+answer_of command = changing hashes (change command)
 
 abbrev pub command : HashAsk → Command
-command asked = on_key (key_of asked) (turn asked)
+command asked = on_key (key_of asked) (answer_of asked)
 
 -- the reply is the change's, and its effects were put behind those that were there
 pub record Makes (change : Change Hash) (reply : Tree) (old new : List Effect) : Type 0 where

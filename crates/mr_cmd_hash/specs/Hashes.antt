@@ -17,7 +17,7 @@ use Rattle.mr_cmd_hash.specs.declared.hash_ask.FieldsReply.TheVariants as answer
 use Rattle.mr_cmd_hash.specs.declared.hash_ask.HashPart.{HashPart}
 use Rattle.mr_cmd_hash.specs.declared.hash_ask.HashPart.TheVariants as part
 use Rattle.mr_entries.specs.Cuts.{cut}
-use Rattle.mr_planning.specs.Turns.{done}
+use Rattle.mr_planning.specs.Answered.{done}
 use Rattle.mr_planning.specs.Collections.{Change}
 
 abbrev pub Hash : Type 0

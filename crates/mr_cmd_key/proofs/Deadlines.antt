@@ -16,7 +16,7 @@ use Rattle.mr_entries.specs.Steps.{expire_step, persist_step}
 use Rattle.mr_entries.specs.declared.value.Entry.{Entry}
 use Rattle.mr_data.specs.Dataset.{IsDataset, IsLifetime, live, is_past}
 use Rattle.mr_data.specs.Meaning.{apply, apply_all}
-use Rattle.mr_planning.proofs.Laws.{IsFaithfulTurn, if_faithful, kept_faithful, one_short}
+use Rattle.mr_planning.proofs.Laws.{IsFaithfulAnswer, if_faithful, kept_faithful, one_short}
 use Rattle.mr_cmd_key.specs.declared.key_ask.ExpireCondition.{ExpireCondition}
 use Rattle.mr_cmd_key.specs.Expiring.{allows, with_deadline, is_until, lasting, ended, expire_answer, endless, persist_answer, CanBeNamed}
 
@@ -46,7 +46,7 @@ of_some e f h = cc
 
 -- ---- the law
 module _ (k : Bytes) (m : Dataset) (fit : fits k ≡ true) (e : Entry) (is : get m k ≡ Some e) where
-  ended_faithful : IsFaithfulTurn (ended k) k m
+  ended_faithful : IsFaithfulAnswer (ended k) k m
   unfolding apply change
   ended_faithful = record {
     leads = ap (λ b. option_and_then (apply_all []) (if b then Some (put_at m k None) else None)) fit;
@@ -61,8 +61,8 @@ module _ (k : Bytes) (m : Dataset) (fit : fits k ≡ true) (e : Entry) (is : get
       ap (λ b. option_and_then (apply_all []) (if b then option_map (put_at m k) (expire_step d (get m k)) else None)) (both _ _ named fit)
       ∙ ap (λ o. option_and_then (apply_all []) (option_map (put_at m k) (expire_step d o))) is
 
-  lasting_faithful : (d : ℤ) → IsTrue (is_deadline d) → IsFaithfulTurn (lasting k d e) k m
-  lasting_faithful d named = elim (is_until d e.deadline) as (λ b. is_until d e.deadline ≡ b → IsFaithfulTurn (record { reply = (lasting k d e).reply; entry = Some (with_deadline (Some d) e); effects = if b then [] else effect.Expire k d ∷ [] }) k m) [
+  lasting_faithful : (d : ℤ) → IsTrue (is_deadline d) → IsFaithfulAnswer (lasting k d e) k m
+  lasting_faithful d named = elim (is_until d e.deadline) as (λ b. is_until d e.deadline ≡ b → IsFaithfulAnswer (record { reply = (lasting k d e).reply; entry = Some (with_deadline (Some d) e); effects = if b then [] else effect.Expire k d ∷ [] }) k m) [
     | true ↦ λ t. kept_faithful _ k m (ap Some (until_same d e t) ∙ sym is) refl
     | false ↦ λ t. record {
       leads = lasting_does d named;
@@ -78,7 +78,7 @@ module _ (k : Bytes) (m : Dataset) (fit : fits k ≡ true) (e : Entry) (is : get
       ap (λ b. option_and_then (apply_all []) (if b then option_map (put_at m k) (persist_step (get m k)) else None)) fit
       ∙ ap (λ o. option_and_then (apply_all []) (option_map (put_at m k) (persist_step o))) is
 
-  endless_faithful : is_some e.deadline ≡ true → IsFaithfulTurn (endless k e) k m
+  endless_faithful : is_some e.deadline ≡ true → IsFaithfulAnswer (endless k e) k m
   endless_faithful some = record {
     leads = endless_does;
     short = one_short (effect.Persist k) (short_effect (effect.Persist k) (omega arith));
@@ -86,21 +86,21 @@ module _ (k : Bytes) (m : Dataset) (fit : fits k ≡ true) (e : Entry) (is : get
     some = λ n. absurd (let wrong : false ≡ true = ap (λ (x : Entry). is_some x.deadline) (of_some _ _ (n ∙ is)) ∙ some in cc);
   }
 
-pub expire_faithful : (k : Bytes) (when : Option ExpireCondition) (now d : ℤ) (m : Dataset) → fits k ≡ true → CanBeNamed now d → IsFaithfulTurn (expire_answer k when now d (get m k)) k m
-expire_faithful k when now d m fit named = elim (get m k) as (λ o. get m k ≡ o → IsFaithfulTurn (expire_answer k when now d o) k m) [
+pub expire_faithful : (k : Bytes) (when : Option ExpireCondition) (now d : ℤ) (m : Dataset) → fits k ≡ true → CanBeNamed now d → IsFaithfulAnswer (expire_answer k when now d (get m k)) k m
+expire_faithful k when now d m fit named = elim (get m k) as (λ o. get m k ≡ o → IsFaithfulAnswer (expire_answer k when now d o) k m) [
   | None ↦ λ is. kept_faithful _ k m (sym is) refl
   | Some e ↦ λ is. if_faithful (allows when e.deadline d) _ _ k m
-      (elim (int_le d now) as (λ b. int_le d now ≡ b → IsFaithfulTurn (if b then ended k else lasting k d e) k m) [
+      (elim (int_le d now) as (λ b. int_le d now ≡ b → IsFaithfulAnswer (if b then ended k else lasting k d e) k m) [
         | true ↦ λ t. ended_faithful k m fit e is
         | false ↦ λ t. lasting_faithful k m fit e is d (named t)
       ] refl)
       (kept_faithful _ k m (sym is) refl)
 ] refl
 
-pub persist_faithful : (k : Bytes) (m : Dataset) → fits k ≡ true → IsFaithfulTurn (persist_answer k (get m k)) k m
-persist_faithful k m fit = elim (get m k) as (λ o. get m k ≡ o → IsFaithfulTurn (persist_answer k o) k m) [
+pub persist_faithful : (k : Bytes) (m : Dataset) → fits k ≡ true → IsFaithfulAnswer (persist_answer k (get m k)) k m
+persist_faithful k m fit = elim (get m k) as (λ o. get m k ≡ o → IsFaithfulAnswer (persist_answer k o) k m) [
   | None ↦ λ is. kept_faithful _ k m (sym is) refl
-  | Some e ↦ λ is. elim (is_some e.deadline) as (λ b. is_some e.deadline ≡ b → IsFaithfulTurn (if b then endless k e else record { reply = (persist_answer k None).reply; entry = Some e; effects = [] }) k m) [
+  | Some e ↦ λ is. elim (is_some e.deadline) as (λ b. is_some e.deadline ≡ b → IsFaithfulAnswer (if b then endless k e else record { reply = (persist_answer k None).reply; entry = Some e; effects = [] }) k m) [
     | true ↦ λ t. endless_faithful k m fit e is t
     | false ↦ λ t. kept_faithful _ k m (sym is) refl
   ] refl

@@ -23,7 +23,7 @@ use Rattle.mr_effect.specs.declared.effect.Effect.{Effect}
 use Rattle.mr_effect.specs.declared.effect.Effect.TheVariants as effect
 use Rattle.mr_planning.specs.Taken.{is_key, has}
 use Rattle.mr_planning.specs.Keys.{past, purged, dels, is_stored}
-use Rattle.mr_planning.specs.Turns.{done}
+use Rattle.mr_planning.specs.Answered.{done}
 use Rattle.mr_planning.specs.Outcomes.{Outcome, answered}
 use Rattle.mr_planning.specs.Commands.{Command, on_keys, on_none, before, IsPlan}
 use Rattle.mr_entries.proofs.Maps.{same_key}

@@ -4,7 +4,7 @@ use Rattle.mr_planning.specs.Commands.{Command, on_key, on_keys, on_none}
 use Rattle.mr_expiry.specs.Expiry.{deadline_at}
 use Rattle.mr_cmd_key.specs.declared.key_ask.KeyAsk.{KeyAsk}
 use Rattle.mr_cmd_key.specs.declared.key_ask.KeyAsk.TheVariants as ask
-use Rattle.mr_cmd_key.specs.Turns.{type_answer}
+use Rattle.mr_cmd_key.specs.Kinds.{type_answer}
 use Rattle.mr_cmd_key.specs.Outcomes.{deleted, counted}
 use Rattle.mr_cmd_key.specs.Renaming.{renamed, renamed_nx, cleared}
 use Rattle.mr_cmd_key.specs.Listing.{matching, scanned, sized}

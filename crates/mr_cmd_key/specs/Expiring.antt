@@ -7,7 +7,7 @@ use Rattle.mr_resp.specs.Replies as reply
 use Rattle.mr_effect.specs.Effects.{is_deadline}
 use Rattle.mr_effect.specs.declared.effect.Effect.TheVariants as effect
 use Rattle.mr_entries.specs.declared.value.Entry.{Entry}
-use Rattle.mr_planning.specs.Turns.{Turn, kept}
+use Rattle.mr_planning.specs.Answered.{Answered, kept}
 use Rattle.mr_cmd_key.specs.declared.key_ask.ExpireCondition.{ExpireCondition}
 use Rattle.mr_cmd_key.specs.declared.key_ask.ExpireCondition.TheVariants as condition
 use Rattle.mr_cmd_key.specs.declared.expiring.DeadlineForm.{DeadlineForm}
@@ -35,7 +35,7 @@ is_until d None = false
 is_until d (Some h) = int_eq h d
 
 -- the key is past from a moment on that lies ahead
-abbrev pub lasting : Bytes → ℤ → Entry → Turn
+abbrev pub lasting : Bytes → ℤ → Entry → Answered
 lasting k d e = record {
   reply = reply.int (pos 1);
   entry = Some (with_deadline (Some d) e);
@@ -43,10 +43,10 @@ lasting k d e = record {
 }
 
 -- the key is past by now, so it goes
-abbrev pub ended : Bytes → Turn
+abbrev pub ended : Bytes → Answered
 ended k = record { reply = reply.int (pos 1); entry = None; effects = effect.Del k ∷ [] }
 
-abbrev pub expire_answer : Bytes → Option ExpireCondition → ℤ → ℤ → Option Entry → Turn
+abbrev pub expire_answer : Bytes → Option ExpireCondition → ℤ → ℤ → Option Entry → Answered
 expire_answer k when now d None = kept (reply.int (pos 0)) None
 expire_answer k when now d (Some e) =
     if allows when e.deadline d then (if int_le d now then ended k else lasting k d e) else kept (reply.int (pos 0)) (Some e)
@@ -56,10 +56,10 @@ abbrev pub CanBeNamed : ℤ → ℤ → Type 0
 CanBeNamed now d = int_le d now ≡ false → IsTrue (is_deadline d)
 
 -- ---- PERSIST key: whether a deadline was taken off
-abbrev pub endless : Bytes → Entry → Turn
+abbrev pub endless : Bytes → Entry → Answered
 endless k e = record { reply = reply.int (pos 1); entry = Some (with_deadline None e); effects = effect.Persist k ∷ [] }
 
-abbrev pub persist_answer : Bytes → Option Entry → Turn
+abbrev pub persist_answer : Bytes → Option Entry → Answered
 persist_answer k None = kept (reply.int (pos 0)) None
 persist_answer k (Some e) = if is_some e.deadline then endless k e else kept (reply.int (pos 0)) (Some e)
 
@@ -86,5 +86,5 @@ abbrev pub told_in : DeadlineForm → ℤ → Option Entry → ℤ
 told_in form now None = negsuc 1
 told_in form now (Some e) = lifetime_in form now e.deadline
 
-abbrev pub deadline_answer : DeadlineForm → ℤ → Option Entry → Turn
+abbrev pub deadline_answer : DeadlineForm → ℤ → Option Entry → Answered
 deadline_answer form now before = kept (reply.int (told_in form now before)) before

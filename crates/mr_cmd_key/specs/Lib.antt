@@ -6,7 +6,7 @@ pub mod Called
 pub mod Spelled
 pub mod Askable
 pub mod ArgumentFaults
-pub mod Turns
+pub mod Kinds
 pub mod Outcomes
 pub mod Renaming
 pub mod Listing

@@ -1,7 +1,7 @@
 // The kinds of values.
 ghost use Rattle.std.specs.Prelude.{◌≡◌, option_copied};
 ghost use Rattle.mr_resp.specs.ReplyView.{view};
-ghost use Rattle.mr_cmd_key.specs.Turns.{kind_name, type_reply};
+ghost use Rattle.mr_cmd_key.specs.Kinds.{kind_name, type_reply};
 ghost use Rattle.mr_cmd_key.specs.Listing.{has_kind, is_of_kind};
 
 use crate::key_ask::KindName;

@@ -7,7 +7,7 @@ ghost use Rattle.mr_cmd_key.specs.Carried.{key_words};
 ghost use Rattle.mr_expiry.specs.Expiry.{deadline_at};
 ghost use Rattle.mr_planning.specs.Commands.{IsPlan, IsFaithful, HasCommandTexts, on_key, on_keys, on_none};
 ghost use Rattle.mr_cmd_key.specs.Commands.{command, HasDeadline};
-ghost use Rattle.mr_cmd_key.specs.Turns.{type_answer};
+ghost use Rattle.mr_cmd_key.specs.Kinds.{type_answer};
 ghost use Rattle.mr_cmd_key.specs.Expiring.{expire_answer, persist_answer, deadline_answer};
 ghost use Rattle.mr_cmd_key.specs.Outcomes.{deleted, counted};
 ghost use Rattle.mr_cmd_key.specs.Renaming.{cleared};

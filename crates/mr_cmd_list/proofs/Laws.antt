@@ -22,18 +22,18 @@ use Rattle.mr_cmd_list.specs.declared.list_ask.PushTo.{PushTo}
 use Rattle.mr_cmd_list.specs.declared.list_ask.PushTo.TheVariants.{AnyKey, ExistingKey}
 use Rattle.mr_planning.specs.Taken.{has}
 use Rattle.mr_planning.specs.Keys.{purged}
-use Rattle.mr_planning.specs.Turns.{Turn}
+use Rattle.mr_planning.specs.Answered.{Answered}
 use Rattle.mr_planning.specs.Outcomes.{at_key}
 use Rattle.mr_planning.specs.Commands.{on_key}
 use Rattle.mr_planning.proofs.KeyLists.{get_purged}
 use Rattle.mr_planning.proofs.PlanLemmas.{purged_at}
-use Rattle.mr_planning.proofs.Laws.{faithful, IsFaithfulAt, IsFaithfulTurn, at_key_faithful, IsLawful}
+use Rattle.mr_planning.proofs.Laws.{faithful, IsFaithfulAt, IsFaithfulAnswer, at_key_faithful, IsLawful}
 use Rattle.mr_data.proofs.KindLaws.{lists_kept}
 use Rattle.mr_cmd_list.specs.Numbers.{HasFewItems, IsShort, IsShortFor, IsNumberFor, HasNumbersIn}
 use Rattle.mr_cmd_list.specs.Pushes.{push_change, push_answer}
 use Rattle.mr_cmd_list.specs.Pops.{pop_answer}
 use Rattle.mr_cmd_list.specs.Moves.{rotate_answer, carry, carried, moving}
-use Rattle.mr_cmd_list.specs.Commands.{turn, command}
+use Rattle.mr_cmd_list.specs.Commands.{answer_of, command}
 use Rattle.mr_cmd_list.proofs.Sizes.{both}
 use Rattle.mr_cmd_list.proofs.OneEffect.{of_list_faithful, changing_list, on_list_faithful}
 use Rattle.mr_cmd_list.proofs.PushLaws.{push_faithful}
@@ -66,15 +66,15 @@ kept_purged now ks m kept = record { entries = λ q e is. kept.entries q e (was 
     was q e false h = h
 
 -- ---- commands on one key
-pushes : (k : Bytes) (end : End) (to : PushTo) (items : List Bytes) (m : Dataset) → IsDataset m → IsTrue (fits k) → IsTrue (list_all fits items) → IsFaithfulTurn (push_answer k end to items (get m k)) k m
+pushes : (k : Bytes) (end : End) (to : PushTo) (items : List Bytes) (m : Dataset) → IsDataset m → IsTrue (fits k) → IsTrue (list_all fits items) → IsFaithfulAnswer (push_answer k end to items (get m k)) k m
 pushes k end AnyKey items m kept named fit = changing_list (push_change k end items) k m kept (λ xs there. push_faithful k end items xs (get m k) named fit there)
 pushes k end ExistingKey items m kept named fit = on_list_faithful (push_change k end items) k m kept _ (λ e is xs there. push_faithful k end items xs (get m k) named fit there)
 
-pops : (k : Bytes) (end : End) (count : Option ℕ) (m : Dataset) → IsDataset m → IsTrue (fits k) → IsShortFor count (get m k) → IsFaithfulTurn (pop_answer k end count (get m k)) k m
+pops : (k : Bytes) (end : End) (count : Option ℕ) (m : Dataset) → IsDataset m → IsTrue (fits k) → IsShortFor count (get m k) → IsFaithfulAnswer (pop_answer k end count (get m k)) k m
 pops k end None m kept named short = on_list_faithful _ k m kept _ (λ e is xs there. pop_one_faithful k end xs (get m k) named there)
 pops k end (Some most) m kept named short = on_list_faithful _ k m kept _ (λ e is xs there. pop_some_faithful k end xs (get m k) named there (min most (length xs)) (min-le_right most (length xs)) (is_short (get m k) xs short there))
 
-turned_in_place : (k : Bytes) (taken put : End) (m : Dataset) → IsDataset m → IsTrue (fits k) → IsFaithfulTurn (rotate_answer k taken put (get m k)) k m
+turned_in_place : (k : Bytes) (taken put : End) (m : Dataset) → IsDataset m → IsTrue (fits k) → IsFaithfulAnswer (rotate_answer k taken put (get m k)) k m
 turned_in_place k taken put m kept named = on_list_faithful _ k m kept _ (λ e is xs there. turn_faithful k xs (get m k) named there taken put)
 
 left : (a b : Bool) → a && b ≡ true → a ≡ true
@@ -92,7 +92,7 @@ one_fits : (k : Bytes) → IsTrue (fits k) → IsTrue (list_all fits (k ∷ []))
 one_fits k h = both (fits k) true h refl
 
 -- by what is left once past keys are gone
-at_one : (k : Bytes) (t : Option Entry → Turn) (now : ℤ) (m : Dataset) → IsTrue (fits k) → ((n : Dataset) → get n k ≡ live now (get m k) → IsDataset n → IsFaithfulTurn (t (get n k)) k n) → IsDataset m → IsLawful (on_key k t) now m
+at_one : (k : Bytes) (t : Option Entry → Answered) (now : ℤ) (m : Dataset) → IsTrue (fits k) → ((n : Dataset) → get n k ≡ live now (get m k) → IsDataset n → IsFaithfulAnswer (t (get n k)) k n) → IsDataset m → IsLawful (on_key k t) now m
 at_one k t now m named f kept =
     let n = purged now (k ∷ []) m in
     faithful (on_key k t) now m (one_fits k named) (at_key_faithful k t n (f n (purged_at now k m) (kept_purged now (k ∷ []) m kept)))
@@ -112,25 +112,25 @@ moves s d taken put now m kept fit =
 pub lists_faithful : (a : ListAsk) (now : ℤ) (m : Dataset) → IsDataset m → HasNumbersIn a now m → IsTrue (list_all fits (list_words a)) → IsLawful (command a) now m
 lists_faithful (ask.Push k end to items) now m kept numbers fit =
     let words = all_words k items fit in
-    at_one k (turn (ask.Push k end to items)) now m words.0 (λ n is is_kept. pushes k end to items n is_kept words.0 words.1) kept
+    at_one k (answer_of (ask.Push k end to items)) now m words.0 (λ n is is_kept. pushes k end to items n is_kept words.0 words.1) kept
 lists_faithful (ask.Pop k end count) now m kept numbers fit =
     let named = (all_words k [] fit).0 in
-    at_one k (turn (ask.Pop k end count)) now m named (λ n is is_kept. pops k end count n is_kept named (subst (IsShortFor count) (sym is) numbers)) kept
-lists_faithful (ask.LLen k) now m kept numbers fit = at_one k (turn (ask.LLen k)) now m (all_words k [] fit).0 (λ n is is_kept. of_list_faithful _ _ k n) kept
-lists_faithful (ask.LRange k first last) now m kept numbers fit = at_one k (turn (ask.LRange k first last)) now m (all_words k [] fit).0 (λ n is is_kept. of_list_faithful _ _ k n) kept
-lists_faithful (ask.LIndex k index) now m kept numbers fit = at_one k (turn (ask.LIndex k index)) now m (all_words k [] fit).0 (λ n is is_kept. of_list_faithful _ _ k n) kept
+    at_one k (answer_of (ask.Pop k end count)) now m named (λ n is is_kept. pops k end count n is_kept named (subst (IsShortFor count) (sym is) numbers)) kept
+lists_faithful (ask.LLen k) now m kept numbers fit = at_one k (answer_of (ask.LLen k)) now m (all_words k [] fit).0 (λ n is is_kept. of_list_faithful _ _ k n) kept
+lists_faithful (ask.LRange k first last) now m kept numbers fit = at_one k (answer_of (ask.LRange k first last)) now m (all_words k [] fit).0 (λ n is is_kept. of_list_faithful _ _ k n) kept
+lists_faithful (ask.LIndex k index) now m kept numbers fit = at_one k (answer_of (ask.LIndex k index)) now m (all_words k [] fit).0 (λ n is is_kept. of_list_faithful _ _ k n) kept
 lists_faithful (ask.LSet k index item) now m kept numbers fit =
     let words = all_words k (item ∷ []) fit in
-    at_one k (turn (ask.LSet k index item)) now m words.0 (λ n is is_kept. on_list_faithful _ k n is_kept _ (λ e here xs there. set_faithful k xs (get n k) words.0 there index item (all_words item [] words.1).0 (is_short (get n k) xs (subst IsShort (sym is) numbers) there))) kept
+    at_one k (answer_of (ask.LSet k index item)) now m words.0 (λ n is is_kept. on_list_faithful _ k n is_kept _ (λ e here xs there. set_faithful k xs (get n k) words.0 there index item (all_words item [] words.1).0 (is_short (get n k) xs (subst IsShort (sym is) numbers) there))) kept
 lists_faithful (ask.LInsert k side pivot item) now m kept numbers fit =
     let words = all_words k (pivot ∷ item ∷ []) fit in
     let others = all_words pivot (item ∷ []) words.1 in
-    at_one k (turn (ask.LInsert k side pivot item)) now m words.0 (λ n is is_kept. on_list_faithful _ k n is_kept _ (λ e here xs there. insert_faithful k xs (get n k) words.0 there side pivot item others.0 (all_words item [] others.1).0)) kept
+    at_one k (answer_of (ask.LInsert k side pivot item)) now m words.0 (λ n is is_kept. on_list_faithful _ k n is_kept _ (λ e here xs there. insert_faithful k xs (get n k) words.0 there side pivot item others.0 (all_words item [] others.1).0)) kept
 lists_faithful (ask.LRem k count item) now m kept numbers fit =
     let words = all_words k (item ∷ []) fit in
-    at_one k (turn (ask.LRem k count item)) now m words.0 (λ n is is_kept. on_list_faithful _ k n is_kept _ (λ e here xs there. remove_faithful k xs (get n k) words.0 there count item (all_words item [] words.1).0 (subst (IsNumberFor count) (sym is ∙ here) numbers))) kept
+    at_one k (answer_of (ask.LRem k count item)) now m words.0 (λ n is is_kept. on_list_faithful _ k n is_kept _ (λ e here xs there. remove_faithful k xs (get n k) words.0 there count item (all_words item [] words.1).0 (subst (IsNumberFor count) (sym is ∙ here) numbers))) kept
 lists_faithful (ask.LTrim k first last) now m kept numbers fit =
     let named = (all_words k [] fit).0 in
-    at_one k (turn (ask.LTrim k first last)) now m named (λ n is is_kept. on_list_faithful _ k n is_kept _ (λ e here xs there. trim_faithful k xs (get n k) named there first last (is_short (get n k) xs (subst IsShort (sym is) numbers) there) (lists_kept n k is_kept e here xs (sym (ap (held lists) here) ∙ there)))) kept
+    at_one k (answer_of (ask.LTrim k first last)) now m named (λ n is is_kept. on_list_faithful _ k n is_kept _ (λ e here xs there. trim_faithful k xs (get n k) named there first last (is_short (get n k) xs (subst IsShort (sym is) numbers) there) (lists_kept n k is_kept e here xs (sym (ap (held lists) here) ∙ there)))) kept
 lists_faithful (ask.LMove from to taken put) now m kept numbers fit = moves from to taken put now m kept fit
 lists_faithful (ask.RPopLPush from to) now m kept numbers fit = moves from to Right Left now m kept fit

@@ -24,7 +24,7 @@ use Rattle.mr_entries.proofs.Puts.{get_put}
 use Rattle.mr_cmd_list.specs.declared.list_ask.PushTo.TheVariants.{AnyKey, ExistingKey}
 use Rattle.mr_planning.specs.Collections.{told, changed}
 use Rattle.mr_planning.specs.Outcomes.{at_key}
-use Rattle.mr_planning.specs.Turns.{wrong_kind}
+use Rattle.mr_planning.specs.Answered.{wrong_kind}
 use Rattle.mr_cmd_list.specs.Laws.{PushAnswersLength, PushIsRead, PopTakesTheEnd, MoveTakesTheEnd, MovePutsAtTheEnd, with_pushed, end_index}
 use Rattle.mr_cmd_list.specs.Lists.{of_list, item_reply, items_reply}
 use Rattle.mr_cmd_list.specs.Moves.{rotate_answer, with_rotated, carry, carry_from, carry_to, carry_item, carried}

@@ -11,27 +11,27 @@ use Rattle.mr_entries.specs.Steps.{Step, lists, held, entry_of, deadline_of, on}
 use Rattle.mr_entries.specs.declared.value.Entry.{Entry}
 use Rattle.mr_effect.specs.declared.effect.Effect.{Effect}
 use Rattle.mr_planning.specs.Collections.{Change, telling, changing}
-use Rattle.mr_planning.proofs.Laws.{IsFaithfulTurn, kept_faithful}
+use Rattle.mr_planning.proofs.Laws.{IsFaithfulAnswer, kept_faithful}
 use Rattle.mr_data.proofs.Running.{AreSteps, IsStep, run}
 use Rattle.mr_data.proofs.KindLaws.{lists_are, lists_kept}
 use Rattle.mr_planning.proofs.Changing.{IsFaithfulChange, changing_faithful, telling_faithful}
 use Rattle.mr_cmd_list.specs.Lists.{of_list, on_list, unless}
 
 -- ---- a list, or an absent key
-pub of_list_faithful : (absent : Tree) (answer : List Bytes → Tree) (k : Bytes) (m : Dataset) → IsFaithfulTurn (of_list absent answer (get m k)) k m
-of_list_faithful absent answer k m = elim (get m k) as (λ o. get m k ≡ o → IsFaithfulTurn (of_list absent answer o) k m) [
+pub of_list_faithful : (absent : Tree) (answer : List Bytes → Tree) (k : Bytes) (m : Dataset) → IsFaithfulAnswer (of_list absent answer (get m k)) k m
+of_list_faithful absent answer k m = elim (get m k) as (λ o. get m k ≡ o → IsFaithfulAnswer (of_list absent answer o) k m) [
   | None ↦ λ is. kept_faithful _ k m (sym is) refl
-  | Some e ↦ λ is. subst (λ o. IsFaithfulTurn (telling lists answer o) k m) is (telling_faithful lists answer k m)
+  | Some e ↦ λ is. subst (λ o. IsFaithfulAnswer (telling lists answer o) k m) is (telling_faithful lists answer k m)
 ] refl
 
 module _ (change : List Bytes → Change (List Bytes)) (k : Bytes) (m : Dataset) (kept : IsDataset m) where
-  pub changing_list : ((xs : List Bytes) → held lists (get m k) ≡ Some xs → IsFaithfulChange lists (change xs) xs k (get m k)) → IsFaithfulTurn (changing lists change (get m k)) k m
+  pub changing_list : ((xs : List Bytes) → held lists (get m k) ≡ Some xs → IsFaithfulChange lists (change xs) xs k (get m k)) → IsFaithfulAnswer (changing lists change (get m k)) k m
   changing_list f = changing_faithful lists lists_are change k m (lists_kept m k kept) f
 
-  pub on_list_faithful : (absent : Tree) → ((e : Entry) → get m k ≡ Some e → (xs : List Bytes) → held lists (get m k) ≡ Some xs → IsFaithfulChange lists (change xs) xs k (get m k)) → IsFaithfulTurn (on_list absent change (get m k)) k m
-  on_list_faithful absent f = elim (get m k) as (λ o. get m k ≡ o → IsFaithfulTurn (on_list absent change o) k m) [
+  pub on_list_faithful : (absent : Tree) → ((e : Entry) → get m k ≡ Some e → (xs : List Bytes) → held lists (get m k) ≡ Some xs → IsFaithfulChange lists (change xs) xs k (get m k)) → IsFaithfulAnswer (on_list absent change (get m k)) k m
+  on_list_faithful absent f = elim (get m k) as (λ o. get m k ≡ o → IsFaithfulAnswer (on_list absent change o) k m) [
     | None ↦ λ is. kept_faithful _ k m (sym is) refl
-    | Some e ↦ λ is. subst (λ o. IsFaithfulTurn (changing lists change o) k m) is (changing_list (f e is))
+    | Some e ↦ λ is. subst (λ o. IsFaithfulAnswer (changing lists change o) k m) is (changing_list (f e is))
   ] refl
 
 -- ---- no effect, or one

@@ -4,7 +4,7 @@ use Rattle.mr_value.specs.declared.ends.End.TheVariants.{Left, Right}
 use Rattle.mr_entries.specs.declared.value.Entry.{Entry}
 use Rattle.mr_cmd_list.specs.declared.list_ask.ListAsk.{ListAsk}
 use Rattle.mr_cmd_list.specs.declared.list_ask.ListAsk.TheVariants as ask
-use Rattle.mr_planning.specs.Turns.{Turn}
+use Rattle.mr_planning.specs.Answered.{Answered}
 use Rattle.mr_planning.specs.Commands.{Command, on_key}
 use Rattle.mr_cmd_list.specs.Telling.{llen_answer, lrange_answer, lindex_answer}
 use Rattle.mr_cmd_list.specs.Pushes.{push_answer}
@@ -13,28 +13,28 @@ use Rattle.mr_cmd_list.specs.Edits.{lset_answer, linsert_answer, lrem_answer, lt
 use Rattle.mr_cmd_list.specs.Moves.{rotate_answer, moving}
 
 -- what a command does at a key, where it names no other
-abbrev pub turn : ListAsk → Option Entry → Turn
-turn (ask.Push k end to items) = push_answer k end to items
-turn (ask.Pop k end count) = pop_answer k end count
-turn (ask.LLen k) = llen_answer
-turn (ask.LRange k first last) = lrange_answer first last
-turn (ask.LIndex k index) = lindex_answer index
-turn (ask.LSet k index item) = lset_answer k index item
-turn (ask.LInsert k side pivot item) = linsert_answer k side pivot item
-turn (ask.LRem k count item) = lrem_answer k count item
-turn (ask.LTrim k first last) = ltrim_answer k first last
-turn (ask.LMove from to taken put) = rotate_answer from taken put
-turn (ask.RPopLPush from to) = rotate_answer from Right Left
+abbrev pub answer_of : ListAsk → Option Entry → Answered
+answer_of (ask.Push k end to items) = push_answer k end to items
+answer_of (ask.Pop k end count) = pop_answer k end count
+answer_of (ask.LLen k) = llen_answer
+answer_of (ask.LRange k first last) = lrange_answer first last
+answer_of (ask.LIndex k index) = lindex_answer index
+answer_of (ask.LSet k index item) = lset_answer k index item
+answer_of (ask.LInsert k side pivot item) = linsert_answer k side pivot item
+answer_of (ask.LRem k count item) = lrem_answer k count item
+answer_of (ask.LTrim k first last) = ltrim_answer k first last
+answer_of (ask.LMove from to taken put) = rotate_answer from taken put
+answer_of (ask.RPopLPush from to) = rotate_answer from Right Left
 
 abbrev pub command : ListAsk → Command
-command (ask.Push k end to items) = on_key k (turn (ask.Push k end to items))
-command (ask.Pop k end count) = on_key k (turn (ask.Pop k end count))
-command (ask.LLen k) = on_key k (turn (ask.LLen k))
-command (ask.LRange k first last) = on_key k (turn (ask.LRange k first last))
-command (ask.LIndex k index) = on_key k (turn (ask.LIndex k index))
-command (ask.LSet k index item) = on_key k (turn (ask.LSet k index item))
-command (ask.LInsert k side pivot item) = on_key k (turn (ask.LInsert k side pivot item))
-command (ask.LRem k count item) = on_key k (turn (ask.LRem k count item))
-command (ask.LTrim k first last) = on_key k (turn (ask.LTrim k first last))
+command (ask.Push k end to items) = on_key k (answer_of (ask.Push k end to items))
+command (ask.Pop k end count) = on_key k (answer_of (ask.Pop k end count))
+command (ask.LLen k) = on_key k (answer_of (ask.LLen k))
+command (ask.LRange k first last) = on_key k (answer_of (ask.LRange k first last))
+command (ask.LIndex k index) = on_key k (answer_of (ask.LIndex k index))
+command (ask.LSet k index item) = on_key k (answer_of (ask.LSet k index item))
+command (ask.LInsert k side pivot item) = on_key k (answer_of (ask.LInsert k side pivot item))
+command (ask.LRem k count item) = on_key k (answer_of (ask.LRem k count item))
+command (ask.LTrim k first last) = on_key k (answer_of (ask.LTrim k first last))
 command (ask.LMove from to taken put) = moving from to taken put
 command (ask.RPopLPush from to) = moving from to Right Left

@@ -9,7 +9,7 @@ use Rattle.mr_value.specs.declared.ends.Side.{Side}
 use Rattle.mr_entries.specs.Collections.{place_beside}
 use Rattle.mr_entries.specs.declared.value.Entry.{Entry}
 use Rattle.mr_effect.specs.declared.effect.Effect.TheVariants as effect
-use Rattle.mr_planning.specs.Turns.{Turn, done}
+use Rattle.mr_planning.specs.Answered.{Answered, done}
 use Rattle.mr_planning.specs.Collections.{Change}
 use Rattle.mr_cmd_list.specs.Lists.{on_list, unchanged, unless, no_such_key, out_of_range}
 
@@ -27,7 +27,7 @@ with_item k item (Some place) xs = record {
   effects = unless (is_item item (slice_get xs place)) (effect.SetItem k (pos place) item);
 }
 
-abbrev pub lset_answer : Bytes → ℤ → Bytes → Option Entry → Turn
+abbrev pub lset_answer : Bytes → ℤ → Bytes → Option Entry → Answered
 lset_answer k index item = on_list no_such_key (λ xs. with_item k item (named_place index (length xs)) xs)
 
 -- ---- LINSERT key BEFORE|AFTER pivot item: the new length, -1 without a pivot, 0 where the key is absent
@@ -40,7 +40,7 @@ with_inserted k side pivot item (Some place) xs = record {
   effects = effect.InsertItem k side pivot item ∷ [];
 }
 
-abbrev pub linsert_answer : Bytes → Side → Bytes → Bytes → Option Entry → Turn
+abbrev pub linsert_answer : Bytes → Side → Bytes → Bytes → Option Entry → Answered
 linsert_answer k side pivot item = on_list (reply.int (pos 0)) (λ xs. with_inserted k side pivot item (place_beside side pivot xs) xs)
 
 -- ---- LREM key count item: how many are removed
@@ -52,7 +52,7 @@ without_equal k count item removed xs = record {
   effects = unless (removed == 0) (effect.RemoveItems k count item);
 }
 
-abbrev pub lrem_answer : Bytes → ℤ → Bytes → Option Entry → Turn
+abbrev pub lrem_answer : Bytes → ℤ → Bytes → Option Entry → Answered
 lrem_answer k count item = on_list (reply.int (pos 0)) (λ xs. without_equal k count item (removed_count count (count_of item xs)) xs)
 
 -- ---- LTRIM key first last: OK
@@ -70,5 +70,5 @@ trimmed k (Some w) xs = record {
   effects = unless (is_whole w (length xs)) (effect.Trim k (pos w.0) (pos w.1));
 }
 
-abbrev pub ltrim_answer : Bytes → ℤ → ℤ → Option Entry → Turn
+abbrev pub ltrim_answer : Bytes → ℤ → ℤ → Option Entry → Answered
 ltrim_answer k first last = on_list done (λ xs. trimmed k (window_of first last (length xs)) xs)

@@ -11,7 +11,7 @@ use Rattle.mr_entries.specs.Steps.{lists, held}
 use Rattle.mr_entries.specs.declared.value.Entry.{Entry}
 use Rattle.mr_cmd_list.specs.declared.list_ask.PushTo.{PushTo}
 use Rattle.mr_cmd_list.specs.declared.list_ask.PushTo.TheVariants.{AnyKey}
-use Rattle.mr_planning.specs.Turns.{wrong_kind}
+use Rattle.mr_planning.specs.Answered.{wrong_kind}
 use Rattle.mr_cmd_list.specs.Lists.{items_reply}
 use Rattle.mr_cmd_list.specs.Telling.{llen_answer, lrange_answer, lindex_answer}
 use Rattle.mr_cmd_list.specs.Pushes.{push_answer}

@@ -7,16 +7,16 @@ use Rattle.mr_resp.specs.ReplyView.{trees_of}
 use Rattle.mr_entries.specs.Steps.{lists}
 use Rattle.mr_entries.specs.declared.value.Entry.{Entry}
 use Rattle.mr_effect.specs.declared.effect.Effect.{Effect}
-use Rattle.mr_planning.specs.Turns.{Turn, kept}
+use Rattle.mr_planning.specs.Answered.{Answered, kept}
 use Rattle.mr_planning.specs.Collections.{Change, telling, changing}
 
 -- a command that only tells of the list
-abbrev pub of_list : Tree → (List Bytes → Tree) → Option Entry → Turn
+abbrev pub of_list : Tree → (List Bytes → Tree) → Option Entry → Answered
 of_list absent answer None = kept absent None
 of_list absent answer (Some e) = telling lists answer (Some e)
 
 -- a command that changes the list, and leaves an absent key absent
-abbrev pub on_list : Tree → (List Bytes → Change (List Bytes)) → Option Entry → Turn
+abbrev pub on_list : Tree → (List Bytes → Change (List Bytes)) → Option Entry → Answered
 on_list absent change None = kept absent None
 on_list absent change (Some e) = changing lists change (Some e)
 

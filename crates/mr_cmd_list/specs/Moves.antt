@@ -14,7 +14,7 @@ use Rattle.mr_entries.specs.Steps.{lists, held, entry_of, deadline_of}
 use Rattle.mr_entries.specs.declared.value.Entry.{Entry}
 use Rattle.mr_effect.specs.declared.effect.Effect.{Effect}
 use Rattle.mr_effect.specs.declared.effect.Effect.TheVariants as effect
-use Rattle.mr_planning.specs.Turns.{Turn, wrong_kind}
+use Rattle.mr_planning.specs.Answered.{Answered, wrong_kind}
 use Rattle.mr_planning.specs.Outcomes.{Outcome, at_key}
 use Rattle.mr_planning.specs.Commands.{Command}
 use Rattle.mr_planning.specs.Collections.{Change}
@@ -36,7 +36,7 @@ with_rotated k taken put (Some item) xs = record {
   effects = unless (is_same_end taken put || are_equal xs) (effect.MoveItem k k taken put);
 }
 
-abbrev pub rotate_answer : Bytes → End → End → Option Entry → Turn
+abbrev pub rotate_answer : Bytes → End → End → Option Entry → Answered
 rotate_answer k taken put = on_list reply.null_bulk (λ xs. with_rotated k taken put (end_item taken xs) xs)
 
 -- ---- from one key to another

@@ -7,7 +7,7 @@ use Rattle.mr_value.specs.declared.ends.End.TheVariants.{Left, Right}
 use Rattle.mr_entries.specs.Collections.{end_item, popped}
 use Rattle.mr_entries.specs.declared.value.Entry.{Entry}
 use Rattle.mr_effect.specs.declared.effect.Effect.TheVariants as effect
-use Rattle.mr_planning.specs.Turns.{Turn}
+use Rattle.mr_planning.specs.Answered.{Answered}
 use Rattle.mr_planning.specs.Collections.{Change}
 use Rattle.mr_cmd_list.specs.Lists.{on_list, unchanged, unless, items_reply}
 
@@ -29,6 +29,6 @@ without_items k end n xs = record {
 
 -- LPOP key, RPOP key: the item, nil where the key is absent. LPOP key most, RPOP key most: the items, of which there may be fewer,
 -- and a null array where the key is absent.
-abbrev pub pop_answer : Bytes → End → Option ℕ → Option Entry → Turn
+abbrev pub pop_answer : Bytes → End → Option ℕ → Option Entry → Answered
 pop_answer k end None = on_list reply.null_bulk (λ xs. without_item k end (end_item end xs) xs)
 pop_answer k end (Some most) = on_list reply.null_array (λ xs. without_items k end (min most (length xs)) xs)

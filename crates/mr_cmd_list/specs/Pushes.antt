@@ -10,7 +10,7 @@ use Rattle.mr_effect.specs.declared.effect.Effect.{Effect}
 use Rattle.mr_effect.specs.declared.effect.Effect.TheVariants as effect
 use Rattle.mr_cmd_list.specs.declared.list_ask.PushTo.{PushTo}
 use Rattle.mr_cmd_list.specs.declared.list_ask.PushTo.TheVariants.{AnyKey, ExistingKey}
-use Rattle.mr_planning.specs.Turns.{Turn}
+use Rattle.mr_planning.specs.Answered.{Answered}
 use Rattle.mr_entries.specs.Cuts.{cut}
 use Rattle.mr_planning.specs.Collections.{Change, changing}
 use Rattle.mr_cmd_list.specs.Lists.{on_list}
@@ -27,6 +27,6 @@ push_change k end items xs = record {
 }
 
 -- LPUSH key item [item ..], RPUSH: the new length. LPUSHX, RPUSHX: 0 where the key is absent.
-abbrev pub push_answer : Bytes → End → PushTo → List Bytes → Option Entry → Turn
+abbrev pub push_answer : Bytes → End → PushTo → List Bytes → Option Entry → Answered
 push_answer k end AnyKey items = changing lists (push_change k end items)
 push_answer k end ExistingKey items = on_list (reply.int (pos 0)) (push_change k end items)

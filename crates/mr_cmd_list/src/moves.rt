@@ -4,7 +4,7 @@ ghost use Rattle.std.specs.Str.{bytes_eq};
 ghost use Rattle.mr_resp.specs.ReplyView.{view};
 ghost use Rattle.mr_data.specs.Dataset.{IsDataset};
 ghost use Rattle.mr_entries.specs.Steps.{lists, held};
-ghost use Rattle.mr_planning.specs.Turns.{Takes};
+ghost use Rattle.mr_planning.specs.Answered.{Takes};
 ghost use Rattle.mr_planning.specs.Commands.{IsPlan};
 ghost use Rattle.mr_cmd_list.specs.Moves.{rotate_answer, carry, moving};
 

@@ -6,10 +6,10 @@ ghost use Rattle.mr_value.specs.Words.{fits};
 ghost use Rattle.mr_resp.specs.ReplyView.{view};
 ghost use Rattle.mr_data.specs.Dataset.{IsDataset, live};
 ghost use Rattle.mr_cmd_list.specs.Carried.{list_words};
-ghost use Rattle.mr_planning.specs.Turns.{Takes};
+ghost use Rattle.mr_planning.specs.Answered.{Takes};
 ghost use Rattle.mr_planning.specs.Commands.{on_key, IsPlan, IsFaithful, HasCommandTexts};
 ghost use Rattle.mr_cmd_list.specs.Numbers.{HasNumbers, HasNumbersIn};
-ghost use Rattle.mr_cmd_list.specs.Commands.{turn, command};
+ghost use Rattle.mr_cmd_list.specs.Commands.{answer_of, command};
 
 use crate::list_ask::ListAsk;
 use crate::{edits, moves, pops, pushes, telling};
@@ -79,25 +79,25 @@ fn at_key(
     ask: &ListAsk<'_, '_>,
     given: Given,
 ) -> Result<Plan, AllocError>
-    ensures plan { IfOk result (λ p. IsPlan (on_key key.now (turn ask.now)) given.now held.now (view p.reply) p.effects.items) }
+    ensures plan { IfOk result (λ p. IsPlan (on_key key.now (answer_of ask.now)) given.now held.now (view p.reply) p.effects.items) }
     ensures kept { IsDataset held.now }
     ensures numbers { HasNumbers ask.now (live given.now (get held.now key.now)) }
 {
     let mut effects = Effects::new(alloc);
     let seen = look(alloc, held, key, given, &mut effects)?;
-    let reply = turn(alloc, ask, seen, &mut effects)?;
+    let reply = answer_of(alloc, ask, seen, &mut effects)?;
     Ok(effects.into_plan(reply))
 }
 
 // What a command does at a key, where it names no other.
-fn turn(
+fn answer_of(
     alloc: Global,
     ask: &ListAsk<'_, '_>,
     seen: Option<&Entry>,
     effects: &mut Effects,
 ) -> Result<Reply, AllocError>
     ensures numbers { HasNumbers ask.now (option_copied seen.entry) }
-    ensures takes { IfOk result (λ r. Takes (turn ask.now (option_copied seen.entry)) (view r) effects.old effects.new) }
+    ensures takes { IfOk result (λ r. Takes (answer_of ask.now (option_copied seen.entry)) (view r) effects.old effects.new) }
 {
     match ask {
         ListAsk::Push {

@@ -1,7 +1,7 @@
 // Items taken from an end of a list.
 ghost use Rattle.std.specs.Prelude.{◌≡◌, ◌≤◌, min, length, map, IfOk, option_copied};
 ghost use Rattle.mr_resp.specs.ReplyView.{view};
-ghost use Rattle.mr_planning.specs.Turns.{Takes};
+ghost use Rattle.mr_planning.specs.Answered.{Takes};
 ghost use Rattle.mr_cmd_list.specs.Lists.{items_reply};
 ghost use Rattle.mr_cmd_list.specs.Numbers.{IsShort, IsShortFor};
 ghost use Rattle.mr_cmd_list.specs.Pops.{pop_answer, taken_items};

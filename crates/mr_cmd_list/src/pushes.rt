@@ -4,7 +4,7 @@ ghost use Rattle.std.specs.Cow.{cow_slice_items};
 ghost use Rattle.mr_resp.specs.Replies.{int};
 ghost use Rattle.mr_resp.specs.ReplyView.{view};
 ghost use Rattle.mr_entries.specs.Cuts.{cut};
-ghost use Rattle.mr_planning.specs.Turns.{Takes};
+ghost use Rattle.mr_planning.specs.Answered.{Takes};
 ghost use Rattle.mr_cmd_list.specs.Pushes.{push_answer, push_effects};
 
 use crate::list_ask::PushTo;

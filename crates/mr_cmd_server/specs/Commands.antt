@@ -2,7 +2,7 @@
 use Rattle.std.specs.Prelude.{List, ℕ, codes, Option, Some, None}
 use Rattle.mr_resp.specs.Replies as reply
 use Rattle.mr_resp.specs.Replies.{Tree}
-use Rattle.mr_planning.specs.Turns.{done}
+use Rattle.mr_planning.specs.Answered.{done}
 use Rattle.mr_cmd_server.specs.declared.server_ask.ServerAsk.{ServerAsk}
 use Rattle.mr_cmd_server.specs.declared.server_ask.ServerAsk.TheVariants as ask
 use Rattle.mr_planning.specs.Outcomes.{answered}

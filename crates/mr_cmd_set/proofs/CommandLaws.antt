@@ -12,7 +12,7 @@ use Rattle.mr_planning.specs.Commands.{before}
 use Rattle.mr_planning.proofs.Laws.{faithful, answered_faithful, IsLawful}
 use Rattle.mr_cmd_set.specs.declared.grouping.Write.TheVariants as write
 use Rattle.mr_cmd_set.specs.Members.{as_set}
-use Rattle.mr_cmd_set.specs.Turns.{added, adding, removed, removing, taken, taking, drawn_reply, flag, flags, bulks, number}
+use Rattle.mr_cmd_set.specs.Sets.{added, adding, removed, removing, taken, taking, drawn_reply, flag, flags, bulks, number}
 use Rattle.mr_cmd_set.specs.SetCommands.{command, RestsOn}
 use Rattle.mr_cmd_set.proofs.Groups.{group_change}
 use Rattle.mr_cmd_set.proofs.Faithful.{first, second, both, held_fits, taken_there, with_added, added_none, added_fit, without_removed, removed_none, removed_fit, without_set, set_none, set_fits, changing_set}

@@ -23,7 +23,7 @@ use Rattle.mr_planning.proofs.Laws.{faithful, at_key_faithful, IsLawful}
 use Rattle.mr_data.proofs.KindLaws.{sets_are, sets_kept}
 use Rattle.mr_planning.proofs.Changing.{IsFaithfulChange, changing_faithful}
 use Rattle.mr_cmd_set.specs.Members.{Members, as_set, from_place}
-use Rattle.mr_cmd_set.specs.Turns.{added, removed, taken, count_or_one}
+use Rattle.mr_cmd_set.specs.Sets.{added, removed, taken, count_or_one}
 use Rattle.mr_cmd_set.proofs.Sets.{same_set, contains_empty, contains_with, contains_without, contains_retain, contains_as_set, has_keys}
 
 pub first : (a b : Bool) → a && b ≡ true → a ≡ true

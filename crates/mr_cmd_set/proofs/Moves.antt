@@ -32,7 +32,7 @@ use Rattle.mr_planning.proofs.Laws.{faithful, IsFaithfulAt, IsLawful, answered_f
 use Rattle.mr_data.proofs.Running.{held_entry}
 use Rattle.mr_data.proofs.KindLaws.{sets_are}
 use Rattle.mr_cmd_set.specs.Members.{Members}
-use Rattle.mr_cmd_set.specs.Turns.{number}
+use Rattle.mr_cmd_set.specs.Sets.{number}
 use Rattle.mr_cmd_set.specs.Moving.{carried, moved, moving, smove, Gives}
 use Rattle.mr_cmd_set.proofs.Sets.{contains_remove}
 use Rattle.mr_effect.proofs.Texts.{short_effect}

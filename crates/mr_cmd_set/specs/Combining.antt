@@ -8,10 +8,10 @@ use Rattle.mr_cmd_set.specs.declared.set_ask.SetOperation.{SetOperation}
 use Rattle.mr_cmd_set.specs.declared.set_ask.SetOperation.TheVariants as operation
 use Rattle.mr_entries.specs.Dataset.{Dataset}
 use Rattle.mr_entries.specs.Steps.{sets, held}
-use Rattle.mr_planning.specs.Turns.{wrong_kind}
+use Rattle.mr_planning.specs.Answered.{wrong_kind}
 use Rattle.mr_planning.specs.Outcomes.{Outcome, answered}
 use Rattle.mr_cmd_set.specs.Members.{Members, common, minus, joined}
-use Rattle.mr_cmd_set.specs.Turns.{bulks}
+use Rattle.mr_cmd_set.specs.Sets.{bulks}
 
 -- the sets at these keys, unless one of them holds another kind
 abbrev pub sets_at : List Bytes → Dataset → Option (List Members)

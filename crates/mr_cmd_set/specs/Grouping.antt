@@ -10,7 +10,7 @@ use Rattle.mr_entries.specs.Cuts.{cut}
 use Rattle.mr_cmd_set.specs.declared.grouping.Write.{Write}
 use Rattle.mr_cmd_set.specs.declared.grouping.Write.TheVariants as write
 use Rattle.mr_cmd_set.specs.Members.{Members}
-use Rattle.mr_cmd_set.specs.Turns.{added, removed}
+use Rattle.mr_cmd_set.specs.Sets.{added, removed}
 
 -- the words that change the set
 abbrev pub changed_by : Write → List Bytes → Members → Members

@@ -5,7 +5,7 @@ use Rattle.mr_cmd_set.specs.declared.set_ask.SetAsk.TheVariants as ask
 use Rattle.mr_entries.specs.Dataset.{Dataset}
 use Rattle.mr_data.specs.Dataset.{IsDataset}
 use Rattle.mr_planning.specs.Commands.{Command, on_key}
-use Rattle.mr_cmd_set.specs.Turns.{sismember_answer, smismember_answer, smembers_answer, scard_answer, sadd_answer, srem_answer, spop_answer, srandmember_answer}
+use Rattle.mr_cmd_set.specs.Sets.{sismember_answer, smismember_answer, smembers_answer, scard_answer, sadd_answer, srem_answer, spop_answer, srandmember_answer}
 use Rattle.mr_cmd_set.specs.Moving.{smove}
 use Rattle.mr_cmd_set.specs.Combining.{combine}
 

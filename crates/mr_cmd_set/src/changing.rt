@@ -1,8 +1,8 @@
 // Commands that put named members to a set, or take them out.
 ghost use Rattle.std.specs.Prelude.{IfOk, option_copied};
 ghost use Rattle.mr_resp.specs.ReplyView.{view};
-ghost use Rattle.mr_planning.specs.Turns.{Takes};
-ghost use Rattle.mr_cmd_set.specs.Turns.{sadd_answer, srem_answer};
+ghost use Rattle.mr_planning.specs.Answered.{Takes};
+ghost use Rattle.mr_cmd_set.specs.Sets.{sadd_answer, srem_answer};
 
 use crate::grouping::{Write, push_changes};
 use crate::replies::set_at;

@@ -10,7 +10,7 @@ ghost use Rattle.mr_cmd_set.specs.Combining.{sets_at, combined, of_all};
 ghost use Rattle.mr_cmd_set.specs.Finding.{HasFound};
 ghost use Rattle.mr_cmd_set.specs.Members.{joined};
 ghost use Rattle.mr_cmd_set.specs.Grouping.{members_of, agrees, is_wanted};
-ghost use Rattle.mr_cmd_set.specs.Turns.{bulks};
+ghost use Rattle.mr_cmd_set.specs.Sets.{bulks};
 
 use crate::replies::set_at;
 use crate::set_ask::SetOperation;

@@ -2,11 +2,11 @@
 ghost use Rattle.std.specs.Prelude.{◌≡◌, ◌++◌, ◌%◌, ◌<◌, [], ◌∷◌, take, IfOk, OnOk, IfSome, IfNone, option_copied};
 ghost use Rattle.std.specs.FinMap as map;
 ghost use Rattle.mr_resp.specs.ReplyView.{view};
-ghost use Rattle.mr_planning.specs.Turns.{Takes};
+ghost use Rattle.mr_planning.specs.Answered.{Takes};
 ghost use Rattle.mr_cmd_set.specs.Members.{drawn, as_set};
 ghost use Rattle.mr_cmd_set.specs.Grouping.{texts, group_effects};
 ghost use Rattle.mr_cmd_set.specs.declared.grouping.Write.TheVariants as write;
-ghost use Rattle.mr_cmd_set.specs.Turns.{srandmember_answer, spop_answer, first_bulk, one_bulk, bulks};
+ghost use Rattle.mr_cmd_set.specs.Sets.{srandmember_answer, spop_answer, first_bulk, one_bulk, bulks};
 
 use crate::grouping::{Write, push_groups, push_member};
 use crate::replies::set_at;

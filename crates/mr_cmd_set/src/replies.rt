@@ -3,7 +3,7 @@ ghost use Rattle.std.specs.Prelude.{◌≡◌, IfOk, option_copied};
 ghost use Rattle.std.specs.FinMap as map;
 ghost use Rattle.mr_resp.specs.ReplyView.{view};
 ghost use Rattle.mr_entries.specs.Steps.{sets, held};
-ghost use Rattle.mr_cmd_set.specs.Turns.{flag, bulks};
+ghost use Rattle.mr_cmd_set.specs.Sets.{flag, bulks};
 
 use mr_data::{Entry, Value};
 use mr_planning::bulk;

@@ -1,7 +1,7 @@
 // Commands that tell of one set.
 ghost use Rattle.std.specs.Prelude.{◌≡◌, IfOk, option_copied};
 ghost use Rattle.mr_resp.specs.ReplyView.{view};
-ghost use Rattle.mr_cmd_set.specs.Turns.{sismember_answer, smismember_answer, smembers_answer, scard_answer, flags};
+ghost use Rattle.mr_cmd_set.specs.Sets.{sismember_answer, smismember_answer, smembers_answer, scard_answer, flags};
 
 use crate::replies::{bulks_of, flag, set_at};
 use mr_data::Entry;

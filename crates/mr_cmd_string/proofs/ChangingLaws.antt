@@ -24,7 +24,7 @@ use Rattle.mr_entries.specs.declared.value.Value.TheVariants as value
 use Rattle.mr_entries.specs.declared.value.Entry.{Entry}
 use Rattle.mr_entries.proofs.Puts.{put_same}
 use Rattle.mr_data.proofs.Running.{one_step}
-use Rattle.mr_planning.proofs.Laws.{IsFaithfulTurn, stays_faithful, none_short, one_short}
+use Rattle.mr_planning.proofs.Laws.{IsFaithfulAnswer, stays_faithful, none_short, one_short}
 use Rattle.mr_cmd_string.specs.Changing.{holds, rewritten, length_of, too_long, lengthened, appended, append_answer, put_over, setrange_answer, overflow, increase_from, increase_text, increase_answer}
 use Rattle.mr_cmd_string.proofs.SameTexts.{is_this_text, bytes_itself, both}
 use Rattle.mr_effect.proofs.Texts.{short_effect}
@@ -41,7 +41,7 @@ holds_is text (Some e) h = ap (λ v. let f : Entry = record { value = v; deadlin
 is_holds : (text : Bytes) (o : Option Entry) → with_text text o ≡ o → holds text o ≡ true
 is_holds text o h = ap (holds text) (sym h) ∙ bytes_itself text
 
-rewritten_faithful : (text : Bytes) (made : Effect) (answer : Tree) (k : Bytes) (m : Dataset) → IsShort made → apply made m ≡ Some (put_at m k (with_text text (get m k))) → IsFaithfulTurn (rewritten text made answer (get m k)) k m
+rewritten_faithful : (text : Bytes) (made : Effect) (answer : Tree) (k : Bytes) (m : Dataset) → IsShort made → apply made m ≡ Some (put_at m k (with_text text (get m k))) → IsFaithfulAnswer (rewritten text made answer (get m k)) k m
 rewritten_faithful text made answer k m few does = record {
   leads = elim (holds text (get m k)) as (λ b. holds text (get m k) ≡ b → apply_all (if b then [] else made ∷ []) m ≡ Some (put_at m k (with_text text (get m k)))) [
     | true ↦ λ t. ap Some (sym (put_same m k _ (sym (holds_is text (get m k) t))))
@@ -58,8 +58,8 @@ rewritten_faithful text made answer k m few does = record {
   some = λ h. ap (λ b. let none : List Effect = [] in if b then none else made ∷ []) (is_holds text (get m k) h);
 }
 
-lengthened_faithful : (text : Bytes) (made : Effect) (k : Bytes) (m : Dataset) → IsShort made → (fits text ≡ true → apply made m ≡ Some (put_at m k (with_text text (get m k)))) → IsFaithfulTurn (lengthened text made (get m k)) k m
-lengthened_faithful text made k m few does = elim (fits text) as (λ b. fits text ≡ b → IsFaithfulTurn (if b then rewritten text made (length_of text) (get m k) else record { reply = too_long; entry = get m k; effects = [] }) k m) [
+lengthened_faithful : (text : Bytes) (made : Effect) (k : Bytes) (m : Dataset) → IsShort made → (fits text ≡ true → apply made m ≡ Some (put_at m k (with_text text (get m k)))) → IsFaithfulAnswer (lengthened text made (get m k)) k m
+lengthened_faithful text made k m few does = elim (fits text) as (λ b. fits text ≡ b → IsFaithfulAnswer (if b then rewritten text made (length_of text) (get m k) else record { reply = too_long; entry = get m k; effects = [] }) k m) [
   | true ↦ λ t. rewritten_faithful text made (length_of text) k m few (does t)
   | false ↦ λ t. stays_faithful too_long k m
 ] refl
@@ -72,8 +72,8 @@ append_does k more text m fit is within =
     ∙ ap (λ h. option_map (put_at m k) (option_and_then (λ x. option_map (entry_of (strings []) (deadline_of (get m k))) (fitting (x ++ more))) h)) is
     ∙ ap (λ b. option_map (put_at m k) (option_map (entry_of (strings []) (deadline_of (get m k))) (if b then Some (text ++ more) else None))) within
 
-pub append_faithful : (k more : Bytes) (m : Dataset) → fits k && fits more ≡ true → IsFaithfulTurn (append_answer k more (get m k)) k m
-append_faithful k more m fit = elim (held (strings []) (get m k)) as (λ h. held (strings []) (get m k) ≡ h → IsFaithfulTurn (appended k more h (get m k)) k m) [
+pub append_faithful : (k more : Bytes) (m : Dataset) → fits k && fits more ≡ true → IsFaithfulAnswer (append_answer k more (get m k)) k m
+append_faithful k more m fit = elim (held (strings []) (get m k)) as (λ h. held (strings []) (get m k) ≡ h → IsFaithfulAnswer (appended k more h (get m k)) k m) [
   | None ↦ λ is. stays_faithful _ k m
   | Some text ↦ λ is. lengthened_faithful (text ++ more) (effect.Append k more) k m (short_effect (effect.Append k more) (omega arith)) (append_does k more text m fit is)
 ] refl
@@ -92,10 +92,10 @@ put_over_does k offset part text m fit is some within =
     ∙ ap (λ h. option_map (put_at m k) (option_and_then (λ x. option_map (entry_of (strings []) (deadline_of (get m k))) (fitting (overwritten offset part x))) h)) is
     ∙ ap (λ b. option_map (put_at m k) (option_map (entry_of (strings []) (deadline_of (get m k))) (if b then Some (overwritten offset part text) else None))) within
 
-pub setrange_faithful : (k : Bytes) (offset : ℕ) (part : Bytes) (m : Dataset) → fits k && fits part ≡ true → IsFaithfulTurn (setrange_answer k offset part (get m k)) k m
-setrange_faithful k offset part m fit = elim (held (strings []) (get m k)) as (λ h. held (strings []) (get m k) ≡ h → IsFaithfulTurn (put_over k offset part h (get m k)) k m) [
+pub setrange_faithful : (k : Bytes) (offset : ℕ) (part : Bytes) (m : Dataset) → fits k && fits part ≡ true → IsFaithfulAnswer (setrange_answer k offset part (get m k)) k m
+setrange_faithful k offset part m fit = elim (held (strings []) (get m k)) as (λ h. held (strings []) (get m k) ≡ h → IsFaithfulAnswer (put_over k offset part h (get m k)) k m) [
   | None ↦ λ is. stays_faithful _ k m
-  | Some text ↦ λ is. elim (length part == 0) as (λ b. (length part == 0) ≡ b → IsFaithfulTurn (if b then record { reply = length_of text; entry = get m k; effects = [] } else lengthened (overwritten offset part text) (effect.SetRange k (pos offset) part) (get m k)) k m) [
+  | Some text ↦ λ is. elim (length part == 0) as (λ b. (length part == 0) ≡ b → IsFaithfulAnswer (if b then record { reply = length_of text; entry = get m k; effects = [] } else lengthened (overwritten offset part text) (effect.SetRange k (pos offset) part) (get m k)) k m) [
     | true ↦ λ t. stays_faithful _ k m
     | false ↦ λ t. lengthened_faithful (overwritten offset part text) (effect.SetRange k (pos offset) part) k m (short_effect (effect.SetRange k (pos offset) part) (omega arith)) (put_over_does k offset part text m fit is t)
   ] refl
@@ -111,12 +111,12 @@ increase_does k by text n m fit number is spelled within =
     ∙ ap (λ a. put (option_map signed_decimal (option_and_then (λ b. if is_i64 (b +ℤ by) then Some (b +ℤ by) else None) a))) spelled
     ∙ ap (λ b. put (option_map signed_decimal (if b then Some (n +ℤ by) else None))) within
 
-pub increase_faithful : (k : Bytes) (by : ℤ) (m : Dataset) → fits k ≡ true → is_i64 by ≡ true → IsFaithfulTurn (increase_answer k by (get m k)) k m
-increase_faithful k by m fit number = elim (held (strings (codes "0")) (get m k)) as (λ h. held (strings (codes "0")) (get m k) ≡ h → IsFaithfulTurn (increase_text k by h (get m k)) k m) [
+pub increase_faithful : (k : Bytes) (by : ℤ) (m : Dataset) → fits k ≡ true → is_i64 by ≡ true → IsFaithfulAnswer (increase_answer k by (get m k)) k m
+increase_faithful k by m fit number = elim (held (strings (codes "0")) (get m k)) as (λ h. held (strings (codes "0")) (get m k) ≡ h → IsFaithfulAnswer (increase_text k by h (get m k)) k m) [
   | None ↦ λ is. stays_faithful _ k m
-  | Some text ↦ λ is. elim (number_of text) as (λ a. number_of text ≡ a → IsFaithfulTurn (increase_from k by a (get m k)) k m) [
+  | Some text ↦ λ is. elim (number_of text) as (λ a. number_of text ≡ a → IsFaithfulAnswer (increase_from k by a (get m k)) k m) [
     | None ↦ λ none. stays_faithful _ k m
-    | Some n ↦ λ spelled. elim (is_i64 (n +ℤ by)) as (λ b. is_i64 (n +ℤ by) ≡ b → IsFaithfulTurn (if b then rewritten (signed_decimal (n +ℤ by)) (effect.Increase k by) (reply.int (n +ℤ by)) (get m k) else record { reply = overflow; entry = get m k; effects = [] }) k m) [
+    | Some n ↦ λ spelled. elim (is_i64 (n +ℤ by)) as (λ b. is_i64 (n +ℤ by) ≡ b → IsFaithfulAnswer (if b then rewritten (signed_decimal (n +ℤ by)) (effect.Increase k by) (reply.int (n +ℤ by)) (get m k) else record { reply = overflow; entry = get m k; effects = [] }) k m) [
       | true ↦ λ t. rewritten_faithful _ (effect.Increase k by) _ k m (short_effect (effect.Increase k by) (omega arith)) (increase_does k by text n m fit number is spelled t)
       | false ↦ λ t. stays_faithful _ k m
     ] refl

@@ -33,10 +33,10 @@ use Rattle.mr_cmd_string.specs.declared.text_ask.TextAsk.TheVariants as ask
 use Rattle.mr_cmd_string.specs.declared.text_ask.SetCondition.{SetCondition}
 use Rattle.mr_cmd_string.specs.declared.text_ask.SetReply.{SetReply}
 use Rattle.mr_cmd_string.specs.declared.text_ask.SetReply.TheVariants as asked
-use Rattle.mr_planning.specs.Turns.{Turn, done}
+use Rattle.mr_planning.specs.Answered.{Answered, done}
 use Rattle.mr_planning.specs.Commands.{IsFaithful, on_key, HasCommandTexts}
 use Rattle.mr_entries.proofs.Puts.{put_same}
-use Rattle.mr_planning.proofs.Laws.{IsFaithfulTurn, kept_faithful, stays_faithful, if_faithful, by_turn, by_telling, keys_told, IsLawful, none_short, one_short}
+use Rattle.mr_planning.proofs.Laws.{IsFaithfulAnswer, kept_faithful, stays_faithful, if_faithful, by_answer, by_telling, keys_told, IsLawful, none_short, one_short}
 use Rattle.mr_cmd_string.specs.Texts.{get_reply, strlen_reply, getrange_reply, found}
 use Rattle.mr_cmd_string.specs.Setting.{said_at, until, set_effect, text_until, holds_until, put, plain, allows, holds_other, set_answer, set_for_answer, setnx_answer, getset_answer, taken, getdel_answer}
 use Rattle.mr_cmd_string.specs.declared.deadlines.NewDeadline.{NewDeadline}
@@ -104,17 +104,17 @@ module _ (k text : Bytes) (new : NewDeadline) (m : Dataset) where
   put_some : Some (text_until text wanted) ≡ get m k → made (holds_until text wanted (get m k)) ≡ []
   put_some h = ap made (ap (holds_until text wanted) (sym h) ∙ until_itself text wanted)
 
-  put_faithful : (answer : Tree) → IsNamed new → fits k && fits text ≡ true → IsFaithfulTurn (put k text new answer (get m k)) k m
+  put_faithful : (answer : Tree) → IsNamed new → fits k && fits text ≡ true → IsFaithfulAnswer (put k text new answer (get m k)) k m
   put_faithful answer named h = record { leads = put_leads named h; short = put_short (holds_until text wanted (get m k)); none = put_none; some = put_some }
 
-set_faithful : (k text : Bytes) (when : Option SetCondition) (reply : SetReply) (new : NewDeadline) (m : Dataset) → IsNamed new → fits k && fits text ≡ true → IsFaithfulTurn (set_answer k text when reply new (get m k)) k m
+set_faithful : (k text : Bytes) (when : Option SetCondition) (reply : SetReply) (new : NewDeadline) (m : Dataset) → IsNamed new → fits k && fits text ≡ true → IsFaithfulAnswer (set_answer k text when reply new (get m k)) k m
 set_faithful k text when asked.Done new m named h = if_faithful (allows when (get m k)) _ _ k m (put_faithful k text new m done named h) (stays_faithful _ k m)
 set_faithful k text when asked.Before new m named h = if_faithful (holds_other (get m k)) _ _ k m (stays_faithful _ k m) (if_faithful (allows when (get m k)) _ _ k m (put_faithful k text new m _ named h) (stays_faithful _ k m))
 
-setnx_faithful : (k text : Bytes) (m : Dataset) → fits k && fits text ≡ true → IsFaithfulTurn (setnx_answer k text (get m k)) k m
+setnx_faithful : (k text : Bytes) (m : Dataset) → fits k && fits text ≡ true → IsFaithfulAnswer (setnx_answer k text (get m k)) k m
 setnx_faithful k text m h = if_faithful (is_none (get m k)) _ _ k m (put_faithful k text deadline.Endless m _ tt h) (stays_faithful _ k m)
 
-getset_faithful : (k text : Bytes) (m : Dataset) → fits k && fits text ≡ true → IsFaithfulTurn (getset_answer k text (get m k)) k m
+getset_faithful : (k text : Bytes) (m : Dataset) → fits k && fits text ≡ true → IsFaithfulAnswer (getset_answer k text (get m k)) k m
 getset_faithful k text m h = if_faithful (holds_other (get m k)) _ _ k m (stays_faithful _ k m) (put_faithful k text deadline.Endless m _ tt h)
 
 -- ---- a lifetime that is within the limits, from a moment on, ends at a deadline
@@ -139,11 +139,11 @@ lifetime_named k text when reply Kept now moment least most = tt
 lifetime_named k text when reply (Until e) now moment least most = expiry_named now e moment least most
 
 -- a command that sets a text
-by_setting : (k text : Bytes) (turn : Option Entry → Turn) (now : ℤ) (m : Dataset) → IsTrue (list_all fits (k ∷ text ∷ [])) → ((n : Dataset) → fits k && fits text ≡ true → IsFaithfulTurn (turn (get n k)) k n) → IsLawful (on_key k turn) now m
-by_setting k text turn now m h f = by_turn k turn now m (ap (λ b. b && true) (first _ _ h)) (λ n. f n (of_two _ _ h))
+by_setting : (k text : Bytes) (answers : Option Entry → Answered) (now : ℤ) (m : Dataset) → IsTrue (list_all fits (k ∷ text ∷ [])) → ((n : Dataset) → fits k && fits text ≡ true → IsFaithfulAnswer (answers (get n k)) k n) → IsLawful (on_key k answers) now m
+by_setting k text answers now m h f = by_answer k answers now m (ap (λ b. b && true) (first _ _ h)) (λ n. f n (of_two _ _ h))
 
 -- ---- a text is taken away
-gone_faithful : (k text : Bytes) (e : Entry) (m : Dataset) → fits k ≡ true → get m k ≡ Some e → IsFaithfulTurn (taken k (value.Text text) e) k m
+gone_faithful : (k text : Bytes) (e : Entry) (m : Dataset) → fits k ≡ true → get m k ≡ Some e → IsFaithfulAnswer (taken k (value.Text text) e) k m
 unfolding apply change
 gone_faithful k text e m h is = record {
   leads = ap (λ b. option_and_then (apply_all []) (if b then Some (put_at m k None) else None)) h;
@@ -152,15 +152,15 @@ gone_faithful k text e m h is = record {
   some = λ n. cc;
 }
 
-taken_faithful : (k : Bytes) (v : Value) (e : Entry) (m : Dataset) → fits k ≡ true → get m k ≡ Some e → IsFaithfulTurn (taken k v e) k m
+taken_faithful : (k : Bytes) (v : Value) (e : Entry) (m : Dataset) → fits k ≡ true → get m k ≡ Some e → IsFaithfulAnswer (taken k v e) k m
 taken_faithful k (value.Text text) e m h is = gone_faithful k text e m h is
 taken_faithful k (value.Hash t) e m h is = kept_faithful _ k m (sym is) refl
 taken_faithful k (value.List t) e m h is = kept_faithful _ k m (sym is) refl
 taken_faithful k (value.Set t) e m h is = kept_faithful _ k m (sym is) refl
 taken_faithful k (value.SortedSet t) e m h is = kept_faithful _ k m (sym is) refl
 
-getdel_faithful : (k : Bytes) (m : Dataset) → fits k ≡ true → IsFaithfulTurn (getdel_answer k (get m k)) k m
-getdel_faithful k m h = elim (get m k) as (λ o. get m k ≡ o → IsFaithfulTurn (getdel_answer k o) k m) [
+getdel_faithful : (k : Bytes) (m : Dataset) → fits k ≡ true → IsFaithfulAnswer (getdel_answer k (get m k)) k m
+getdel_faithful k m h = elim (get m k) as (λ o. get m k ≡ o → IsFaithfulAnswer (getdel_answer k o) k m) [
   | None ↦ λ is. kept_faithful _ k m (sym is) refl
   | Some e ↦ λ is. taken_faithful k e.value e m h is
 ] refl
@@ -188,9 +188,9 @@ texts_faithful (ask.GetRange k a b) now m h moment timed limit number = one_text
 texts_faithful (ask.MGet ks) now m h moment timed limit number = one_text (ask.MGet ks) now m (keys_told ks (λ n. reply.array (trees_of (map (λ k. found (get n k)) ks))) now m h)
 texts_faithful (ask.SetNx k text) now m h moment timed limit number = one_text (ask.SetNx k text) now m (by_setting k text (setnx_answer k text) now m h (setnx_faithful k text))
 texts_faithful (ask.GetSet k text) now m h moment timed limit number = one_text (ask.GetSet k text) now m (by_setting k text (getset_answer k text) now m h (getset_faithful k text))
-texts_faithful (ask.GetDel k) now m h moment timed limit number = one_text (ask.GetDel k) now m (by_turn k (getdel_answer k) now m h (λ n. getdel_faithful k n (first _ _ h)))
+texts_faithful (ask.GetDel k) now m h moment timed limit number = one_text (ask.GetDel k) now m (by_answer k (getdel_answer k) now m h (λ n. getdel_faithful k n (first _ _ h)))
 texts_faithful (ask.MSet ps) now m h moment timed limit number = record { faithful = mset_faithful ps now m h; texts = mset_texts ps now m h }
 texts_faithful (ask.MSetNx ps) now m h moment timed limit number = record { faithful = msetnx_faithful ps now m h; texts = msetnx_texts ps now m h }
 texts_faithful (ask.Append k more) now m h moment timed limit number = one_text (ask.Append k more) now m (by_setting k more (append_answer k more) now m h (append_faithful k more))
 texts_faithful (ask.SetRange k offset part) now m h moment timed limit number = one_text (ask.SetRange k offset part) now m (by_setting k part (setrange_answer k offset part) now m h (setrange_faithful k offset part))
-texts_faithful (ask.Increase k by) now m h moment timed limit number = one_text (ask.Increase k by) now m (by_turn k (increase_answer k (amount_number by)) now m h (λ n. increase_faithful k (amount_number by) n (first _ _ h) number))
+texts_faithful (ask.Increase k by) now m h moment timed limit number = one_text (ask.Increase k by) now m (by_answer k (increase_answer k (amount_number by)) now m h (λ n. increase_faithful k (amount_number by) n (first _ _ h) number))

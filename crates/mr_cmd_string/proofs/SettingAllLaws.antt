@@ -25,7 +25,7 @@ use Rattle.mr_data.proofs.Fitting.{no_fields, with_fields_fit}
 use Rattle.mr_entries.proofs.Maps.{insert_same, same_key}
 use Rattle.mr_words.specs.Pairing.{unpaired}
 use Rattle.mr_planning.specs.Taken.{is_key}
-use Rattle.mr_planning.specs.Turns.{done}
+use Rattle.mr_planning.specs.Answered.{done}
 use Rattle.mr_planning.specs.Outcomes.{answered}
 use Rattle.mr_planning.specs.Commands.{Command, on_keys, before, IsFaithful, HasCommandTexts}
 use Rattle.mr_entries.proofs.Puts.{is_key_itself, is_key_symm}

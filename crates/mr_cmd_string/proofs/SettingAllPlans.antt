@@ -15,7 +15,7 @@ use Rattle.mr_entries.specs.declared.value.Entry.{Entry}
 use Rattle.mr_data.proofs.Seeing.{get-seen}
 use Rattle.mr_planning.specs.Taken.{is_key, has}
 use Rattle.mr_planning.specs.Keys.{chosen, dels, is_stored, past, purged}
-use Rattle.mr_planning.specs.Turns.{done}
+use Rattle.mr_planning.specs.Answered.{done}
 use Rattle.mr_planning.specs.Outcomes.{answered}
 use Rattle.mr_planning.specs.Commands.{IsPlan, on_keys}
 use Rattle.mr_entries.proofs.Maps.{same_key}

@@ -22,7 +22,7 @@ use Rattle.mr_entries.specs.Steps.{texts as strings, held, text_of}
 use Rattle.mr_entries.specs.declared.value.Value.{Value}
 use Rattle.mr_entries.specs.declared.value.Value.TheVariants as value
 use Rattle.mr_entries.specs.declared.value.Entry.{Entry}
-use Rattle.mr_planning.specs.Turns.{Takes}
+use Rattle.mr_planning.specs.Answered.{Takes}
 use Rattle.mr_planning.proofs.PlanLemmas.{told}
 use Rattle.mr_cmd_string.specs.Setting.{is_text}
 use Rattle.mr_cmd_string.specs.Changing.{holds, rewritten, length_of, too_long, lengthened, put_over, setrange_answer, overflow, increase_from, increase_text, increase_answer}

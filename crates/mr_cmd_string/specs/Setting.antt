@@ -9,7 +9,7 @@ use Rattle.mr_entries.specs.Steps.{deadline_of}
 use Rattle.mr_entries.specs.declared.value.Value.{Value}
 use Rattle.mr_entries.specs.declared.value.Value.TheVariants as value
 use Rattle.mr_entries.specs.declared.value.Entry.{Entry}
-use Rattle.mr_planning.specs.Turns.{Turn, kept, wrong_kind, done}
+use Rattle.mr_planning.specs.Answered.{Answered, kept, wrong_kind, done}
 use Rattle.mr_effect.specs.declared.effect.Effect.{Effect}
 use Rattle.mr_effect.specs.declared.effect.Effect.TheVariants as effect
 use Rattle.mr_expiry.specs.Expiry.{deadline_at}
@@ -62,7 +62,7 @@ abbrev pub holds_until : Bytes → Option ℤ → Option Entry → Bool
 holds_until text d None = false
 holds_until text d (Some e) = is_same e.deadline d && is_text text e.value
 
-abbrev pub put : Bytes → Bytes → NewDeadline → Tree → Option Entry → Turn
+abbrev pub put : Bytes → Bytes → NewDeadline → Tree → Option Entry → Answered
 put k text new answer before = record {
   reply = answer;
   entry = Some (text_until text (until new before));
@@ -92,29 +92,29 @@ holds_other None = false
 holds_other (Some e) = is_other e.value
 
 -- With GET the text before is answered in every case, and a value of another kind stays.
-abbrev pub set_answer : Bytes → Bytes → Option SetCondition → SetReply → NewDeadline → Option Entry → Turn
+abbrev pub set_answer : Bytes → Bytes → Option SetCondition → SetReply → NewDeadline → Option Entry → Answered
 set_answer k text when asked.Done new before = if allows when before then put k text new done before else kept reply.null_bulk before
 set_answer k text when asked.Before new before =
     if holds_other before then kept wrong_kind before
     else (if allows when before then put k text new (get_reply before) before else kept (get_reply before) before)
 
 -- SETEX key seconds value, PSETEX key milliseconds value: as SET with this option alone
-abbrev pub set_for_answer : Bytes → Bytes → NewDeadline → Option Entry → Turn
+abbrev pub set_for_answer : Bytes → Bytes → NewDeadline → Option Entry → Answered
 set_for_answer k text new before = set_answer k text None asked.Done new before
 
 -- SETNX key value: whether it was set
-abbrev pub setnx_answer : Bytes → Bytes → Option Entry → Turn
+abbrev pub setnx_answer : Bytes → Bytes → Option Entry → Answered
 setnx_answer k text before = if is_none before then put k text deadline.Endless (reply.int (pos 1)) before else kept (reply.int (pos 0)) before
 
 -- GETSET key value: the text before
-abbrev pub getset_answer : Bytes → Bytes → Option Entry → Turn
+abbrev pub getset_answer : Bytes → Bytes → Option Entry → Answered
 getset_answer k text before = if holds_other before then kept wrong_kind before else put k text deadline.Endless (get_reply before) before
 
 -- ---- GETDEL key: the text, and the key goes
-abbrev pub taken : Bytes → Value → Entry → Turn
+abbrev pub taken : Bytes → Value → Entry → Answered
 taken k (value.Text text) e = record { reply = reply.bytes text; entry = None; effects = effect.Del k ∷ [] }
 taken k _ e = kept wrong_kind (Some e)
 
-abbrev pub getdel_answer : Bytes → Option Entry → Turn
+abbrev pub getdel_answer : Bytes → Option Entry → Answered
 getdel_answer k None = kept reply.null_bulk None
 getdel_answer k (Some e) = taken k e.value e

@@ -11,7 +11,7 @@ use Rattle.mr_data.specs.Dataset.{live}
 use Rattle.mr_entries.specs.declared.value.Value.{Value}
 use Rattle.mr_entries.specs.declared.value.Value.TheVariants as value
 use Rattle.mr_entries.specs.declared.value.Entry.{Entry}
-use Rattle.mr_planning.specs.Turns.{Turn, kept, wrong_kind}
+use Rattle.mr_planning.specs.Answered.{Answered, kept, wrong_kind}
 use Rattle.mr_planning.specs.Outcomes.{Outcome, answered}
 
 -- ---- What a command tells of the text at a key. A value of another kind is refused.
@@ -27,14 +27,14 @@ of_text absent answer (Some e) = of_value answer e.value
 abbrev pub get_reply : Option Entry → Tree
 get_reply = of_text reply.null_bulk reply.bytes
 
-abbrev pub get_answer : Option Entry → Turn
+abbrev pub get_answer : Option Entry → Answered
 get_answer before = kept (get_reply before) before
 
 -- STRLEN key: how many bytes it has
 abbrev pub strlen_reply : Option Entry → Tree
 strlen_reply = of_text (reply.int (pos 0)) (λ text. reply.int (pos (length text)))
 
-abbrev pub strlen_answer : Option Entry → Turn
+abbrev pub strlen_answer : Option Entry → Answered
 strlen_answer before = kept (strlen_reply before) before
 
 -- GETRANGE key first last: its bytes from one place to another
@@ -44,7 +44,7 @@ part first last text = windowed (window_of first last (length text)) text
 abbrev pub getrange_reply : ℤ → ℤ → Option Entry → Tree
 getrange_reply first last = of_text (reply.bytes []) (λ text. reply.bytes (part first last text))
 
-abbrev pub getrange_answer : ℤ → ℤ → Option Entry → Turn
+abbrev pub getrange_answer : ℤ → ℤ → Option Entry → Answered
 getrange_answer first last before = kept (getrange_reply first last before) before
 
 -- ---- MGET key [key ..]: the text of each. A key of another kind is answered as an absent one.

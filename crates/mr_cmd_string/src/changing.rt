@@ -5,7 +5,7 @@ ghost use Rattle.std.specs.Str.{bytes_eq};
 ghost use Rattle.mr_resp.specs.ReplyView.{view};
 ghost use Rattle.mr_value.specs.Texts.{overwritten};
 ghost use Rattle.mr_entries.specs.Steps.{texts as strings, held};
-ghost use Rattle.mr_planning.specs.Turns.{Takes};
+ghost use Rattle.mr_planning.specs.Answered.{Takes};
 ghost use Rattle.mr_cmd_string.specs.Changing.{append_answer, setrange_answer, increase_answer};
 
 use crate::replies::{no_integer, overflow, too_long};

@@ -3,7 +3,7 @@ ghost use Rattle.std.specs.Prelude.{◌≡◌, [], ◌∷◌, ◌++◌, IfOk, On
 ghost use Rattle.mr_resp.specs.Replies.{bytes};
 ghost use Rattle.mr_resp.specs.ReplyView.{view};
 ghost use Rattle.mr_effect.specs.declared.effect.Effect.TheVariants as effect;
-ghost use Rattle.mr_planning.specs.Turns.{Takes};
+ghost use Rattle.mr_planning.specs.Answered.{Takes};
 ghost use Rattle.mr_cmd_string.specs.declared.text_ask.SetReply.TheVariants as asked;
 ghost use Rattle.mr_cmd_string.specs.Setting.{put, set_answer, setnx_answer, getset_answer, getdel_answer, allows, is_text, is_plain, holds_until, is_other, holds_other};
 

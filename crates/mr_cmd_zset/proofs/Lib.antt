@@ -9,7 +9,7 @@ pub mod Maps
 pub mod Differences
 pub mod GroupLemmas
 pub mod Pushing
-pub mod TurnLemmas
+pub mod AnswerLemmas
 pub mod Adds
 pub mod Removals
 pub mod Firsts

@@ -13,7 +13,7 @@ use Rattle.mr_zset.specs.declared.pair.Pair.{Pair}
 use Rattle.mr_zset.specs.Pairs.{pairs_of, shown}
 use Rattle.mr_entries.specs.Steps.{sorted_sets, held}
 use Rattle.mr_entries.specs.declared.value.Entry.{Entry}
-use Rattle.mr_planning.specs.Turns.{wrong_kind}
+use Rattle.mr_planning.specs.Answered.{wrong_kind}
 use Rattle.mr_planning.specs.Collections.{telling, told}
 use Rattle.mr_zset_options.specs.declared.choices.Order.{Order}
 use Rattle.mr_zset_options.specs.declared.choices.Order.TheVariants.{Ascending, Descending}

@@ -7,7 +7,7 @@ use Rattle.mr_entries.specs.declared.value.Entry.{Entry}
 use Rattle.mr_zset_options.specs.Scored.{is_scored}
 use Rattle.mr_cmd_zset.specs.declared.zset_ask.ZSetAsk.{ZSetAsk}
 use Rattle.mr_cmd_zset.specs.declared.zset_ask.ZSetAsk.TheVariants as ask
-use Rattle.mr_planning.specs.Turns.{Turn}
+use Rattle.mr_planning.specs.Answered.{Answered}
 use Rattle.mr_planning.specs.Collections.{changing}
 use Rattle.mr_planning.specs.Commands.{Command, on_key}
 use Rattle.mr_cmd_zset.specs.Adding.{zadd, zincrby}
@@ -32,23 +32,23 @@ key_of (ask.ZRemRangeByRank k first last) = k
 key_of (ask.ZRemRangeByScore k min max) = k
 
 -- what it does there; a key of another kind is left alone
-abbrev pub turn : ZSetAsk → Option Entry → Turn
-turn (ask.ZAdd k only than reply pairs) = changing sorted_sets (zadd only than k reply pairs)
-turn (ask.ZIncrBy k by x) = changing sorted_sets (zincrby k by x)
-turn (ask.ZRem k xs) = changing sorted_sets (zrem k xs)
-turn (ask.ZCard k) = zcard_answer
-turn (ask.ZCount k min max) = zcount_answer min max
-turn (ask.ZScore k x) = zscore_answer x
-turn (ask.ZMScore k xs) = zmscore_answer xs
-turn (ask.GetRank k x order) = rank_answer order x
-turn (ask.RangeByRank k first last order reply) = by_rank_answer first last order reply
-turn (ask.RangeByScore k min max order limit reply) = by_score_answer min max order limit reply
-turn (ask.TakePairs k order count) = changing sorted_sets (take_pairs k order count)
-turn (ask.ZRemRangeByRank k first last) = changing sorted_sets (zremrangebyrank k first last)
-turn (ask.ZRemRangeByScore k min max) = changing sorted_sets (zremrangebyscore k min max)
+abbrev pub answer_of : ZSetAsk → Option Entry → Answered
+answer_of (ask.ZAdd k only than reply pairs) = changing sorted_sets (zadd only than k reply pairs)
+answer_of (ask.ZIncrBy k by x) = changing sorted_sets (zincrby k by x)
+answer_of (ask.ZRem k xs) = changing sorted_sets (zrem k xs)
+answer_of (ask.ZCard k) = zcard_answer
+answer_of (ask.ZCount k min max) = zcount_answer min max
+answer_of (ask.ZScore k x) = zscore_answer x
+answer_of (ask.ZMScore k xs) = zmscore_answer xs
+answer_of (ask.GetRank k x order) = rank_answer order x
+answer_of (ask.RangeByRank k first last order reply) = by_rank_answer first last order reply
+answer_of (ask.RangeByScore k min max order limit reply) = by_score_answer min max order limit reply
+answer_of (ask.TakePairs k order count) = changing sorted_sets (take_pairs k order count)
+answer_of (ask.ZRemRangeByRank k first last) = changing sorted_sets (zremrangebyrank k first last)
+answer_of (ask.ZRemRangeByScore k min max) = changing sorted_sets (zremrangebyscore k min max)
 
 abbrev pub command : ZSetAsk → Command
-command asked = on_key (key_of asked) (turn asked)
+command asked = on_key (key_of asked) (answer_of asked)
 
 -- the numbers that a command sets are scores
 abbrev pub HasScores : ZSetAsk → Type 0

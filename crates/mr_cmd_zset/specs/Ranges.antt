@@ -11,7 +11,7 @@ use Rattle.mr_zset.specs.declared.bound.Bound.{Bound}
 use Rattle.mr_zset.specs.Pairs.{range_of}
 use Rattle.mr_entries.specs.Steps.{sorted_sets}
 use Rattle.mr_entries.specs.declared.value.Entry.{Entry}
-use Rattle.mr_planning.specs.Turns.{Turn}
+use Rattle.mr_planning.specs.Answered.{Answered}
 use Rattle.mr_planning.specs.Collections.{telling}
 use Rattle.mr_zset_options.specs.declared.choices.Order.{Order}
 use Rattle.mr_zset_options.specs.declared.choices.Order.TheVariants.{Ascending, Descending}
@@ -39,7 +39,7 @@ pairs_reply shape pairs = reply.array (trees_of (flat_map (pair_replies shape) p
 abbrev pub ranked : ℤ → ℤ → Order → Scores → List (Bytes × ℤ)
 ranked first last order scores = windowed (window_of first last (len scores)) (pairs_in order scores)
 
-abbrev pub by_rank_answer : ℤ → ℤ → Order → RangeReply → Option Entry → Turn
+abbrev pub by_rank_answer : ℤ → ℤ → Order → RangeReply → Option Entry → Answered
 by_rank_answer first last order shape = telling sorted_sets (λ scores. pairs_reply shape (ranked first last order scores))
 
 -- ---- ZRANGE BYSCORE, ZRANGEBYSCORE, ZREVRANGEBYSCORE: the pairs within the bounds, put in the order, and of these what the limit leaves
@@ -61,5 +61,5 @@ limited (Some limit) xs = at_most limit.count (passed limit.offset xs)
 abbrev pub scored : Bound → Bound → Order → Option Limit → Scores → List (Bytes × ℤ)
 scored min max order limit scores = limited limit (ordered order (range_of min max scores))
 
-abbrev pub by_score_answer : Bound → Bound → Order → Option Limit → RangeReply → Option Entry → Turn
+abbrev pub by_score_answer : Bound → Bound → Order → Option Limit → RangeReply → Option Entry → Answered
 by_score_answer min max order limit shape = telling sorted_sets (λ scores. pairs_reply shape (scored min max order limit scores))

@@ -10,7 +10,7 @@ use Rattle.mr_zset.specs.declared.bound.Bound.{Bound}
 use Rattle.mr_zset.specs.Pairs.{range_of, rank_of}
 use Rattle.mr_entries.specs.Steps.{sorted_sets}
 use Rattle.mr_entries.specs.declared.value.Entry.{Entry}
-use Rattle.mr_planning.specs.Turns.{Turn}
+use Rattle.mr_planning.specs.Answered.{Answered}
 use Rattle.mr_planning.specs.Collections.{telling}
 use Rattle.mr_zset_options.specs.declared.choices.Order.{Order}
 use Rattle.mr_zset_options.specs.declared.choices.Order.TheVariants.{Ascending, Descending}
@@ -18,11 +18,11 @@ use Rattle.mr_cmd_zset.specs.Scores.{Scores, number, score_reply}
 
 -- ---- ZCARD, ZCOUNT
 
-abbrev pub zcard_answer : Option Entry → Turn
+abbrev pub zcard_answer : Option Entry → Answered
 zcard_answer = telling sorted_sets (λ scores. number (len scores))
 
 -- how many scores are within two bounds
-abbrev pub zcount_answer : Bound → Bound → Option Entry → Turn
+abbrev pub zcount_answer : Bound → Bound → Option Entry → Answered
 zcount_answer min max = telling sorted_sets (λ scores. number (length (range_of min max scores)))
 
 -- ---- ZSCORE, ZMSCORE
@@ -35,13 +35,13 @@ score_or_nil (Some score) = score_reply score
 abbrev pub found_score : Scores → Bytes → Tree
 found_score scores member = score_or_nil (get scores member)
 
-abbrev pub zscore_answer : Bytes → Option Entry → Turn
+abbrev pub zscore_answer : Bytes → Option Entry → Answered
 zscore_answer member = telling sorted_sets (λ scores. found_score scores member)
 
 abbrev pub found_scores : List Bytes → Scores → Tree
 found_scores members scores = reply.array (trees_of (map (found_score scores) members))
 
-abbrev pub zmscore_answer : List Bytes → Option Entry → Turn
+abbrev pub zmscore_answer : List Bytes → Option Entry → Answered
 zmscore_answer members = telling sorted_sets (found_scores members)
 
 -- ---- ZRANK, ZREVRANK
@@ -60,5 +60,5 @@ abbrev pub place_reply : Option ℕ → Tree
 place_reply None = reply.null_bulk
 place_reply (Some place) = number place
 
-abbrev pub rank_answer : Order → Bytes → Option Entry → Turn
+abbrev pub rank_answer : Order → Bytes → Option Entry → Answered
 rank_answer order member = telling sorted_sets (λ scores. place_reply (place_of order member scores))

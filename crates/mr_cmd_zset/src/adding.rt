@@ -4,7 +4,7 @@ ghost use Rattle.std.specs.FinMap.{get};
 ghost use Rattle.mr_resp.specs.ReplyView.{view};
 ghost use Rattle.mr_zset.specs.Texts.{within_limit};
 ghost use Rattle.mr_entries.specs.Steps.{sorted_sets};
-ghost use Rattle.mr_planning.specs.Turns.{Takes};
+ghost use Rattle.mr_planning.specs.Answered.{Takes};
 ghost use Rattle.mr_planning.specs.Collections.{changing};
 ghost use Rattle.mr_cmd_zset.specs.Scores.{over, Makes};
 ghost use Rattle.mr_cmd_zset.specs.Adding.{is_counted, score_after, with_pair, with_pairs, count_pairs, zadd, score_or_0, zincrby};

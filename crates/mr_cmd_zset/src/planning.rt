@@ -5,9 +5,9 @@ ghost use Rattle.mr_value.specs.Words.{fits};
 ghost use Rattle.mr_resp.specs.ReplyView.{view};
 ghost use Rattle.mr_data.specs.Dataset.{IsDataset};
 ghost use Rattle.mr_cmd_zset.specs.Carried.{zset_words};
-ghost use Rattle.mr_planning.specs.Turns.{Takes};
+ghost use Rattle.mr_planning.specs.Answered.{Takes};
 ghost use Rattle.mr_planning.specs.Commands.{IsPlan, IsFaithful, HasCommandTexts};
-ghost use Rattle.mr_cmd_zset.specs.Commands.{key_of, turn, command, HasScores};
+ghost use Rattle.mr_cmd_zset.specs.Commands.{key_of, answer_of, command, HasScores};
 
 use crate::rules::Rules;
 use crate::zset_ask::ZSetAsk;
@@ -58,7 +58,7 @@ fn planned(
 {
     let mut effects = Effects::new(alloc);
     let seen = look(alloc, held, key_of(ask), given, &mut effects)?;
-    let reply = turn(alloc, ask, seen, &mut effects)?;
+    let reply = answer_of(alloc, ask, seen, &mut effects)?;
     Ok(effects.into_plan(reply))
 }
 
@@ -83,13 +83,13 @@ fn key_of<'c, 'a>(ask: &'c ZSetAsk<'a, '_>) -> &'c Argument<'a>
 }
 
 // What a command does at its key.
-fn turn(
+fn answer_of(
     alloc: Global,
     ask: &ZSetAsk<'_, '_>,
     seen: Option<&Entry>,
     effects: &mut Effects,
 ) -> Result<Reply, AllocError>
-    ensures { IfOk result (λ r. Takes (turn ask.now (option_copied seen.entry)) (view r) effects.old effects.new) }
+    ensures { IfOk result (λ r. Takes (answer_of ask.now (option_copied seen.entry)) (view r) effects.old effects.new) }
 {
     match ask {
         ZSetAsk::ZAdd {

@@ -9,7 +9,7 @@ ghost use Rattle.mr_entries.specs.Collections.{without_scores};
 ghost use Rattle.mr_entries.specs.Steps.{sorted_sets};
 ghost use Rattle.mr_effect.specs.declared.effect.Effect.TheVariants as made;
 ghost use Rattle.mr_entries.specs.Cuts.{cut};
-ghost use Rattle.mr_planning.specs.Turns.{Takes};
+ghost use Rattle.mr_planning.specs.Answered.{Takes};
 ghost use Rattle.mr_planning.specs.Collections.{changing};
 ghost use Rattle.mr_cmd_zset.specs.Scores.{number, pairs_in, lost, Makes};
 ghost use Rattle.mr_cmd_zset.specs.Removing.{members_of, zrem, zremrangebyrank, zremrangebyscore, as_set, take_pairs};

@@ -14,7 +14,7 @@ use Rattle.mr_node.specs.Outs.{no_outs, no_output, growth, outs_with}
 use Rattle.mr_node.specs.Requests.{IsDoomedBy}
 use Rattle.mr_resp.specs.Replies.{error, reply_text}
 use Rattle.mr_resp.specs.Faults.{fault_text}
-use Rattle.mr_planning.specs.Turns.{done}
+use Rattle.mr_planning.specs.Answered.{done}
 use Rattle.mr_effect.specs.Spelling.{texts, IsShort}
 use Rattle.mr_data.specs.Meaning.{apply_all}
 use Rattle.mr_data.specs.Rebuilding.{rebuilding}

@@ -7,7 +7,7 @@ use Rattle.mr_resp.specs.declared.fault.Fault.{Fault}
 use Rattle.mr_entries.specs.Dataset.{Dataset}
 use Rattle.mr_effect.specs.declared.effect.Effect.{Effect}
 use Rattle.mr_data.specs.declared.given.Given.{Given}
-use Rattle.mr_planning.specs.Turns.{done}
+use Rattle.mr_planning.specs.Answered.{done}
 use Rattle.mr_plan.specs.Requests.{halts as is_halting, quits}
 use Rattle.mr_node.specs.State.{NodeState, Agrees, IsShut, OthersStay, full, spent_as}
 use Rattle.mr_node.specs.Outs.{OutsState, Output, no_outs, outs_with}

@@ -5,7 +5,7 @@ ghost use Rattle.mr_resp.specs.Faults.{fault_text};
 ghost use Rattle.mr_resp.specs.Replies.{error, reply_text};
 ghost use Rattle.mr_resp.specs.ReplyView.{view};
 ghost use Rattle.mr_effect.specs.Spelling.{texts};
-ghost use Rattle.mr_planning.specs.Turns.{done};
+ghost use Rattle.mr_planning.specs.Answered.{done};
 ghost use Rattle.mr_data.specs.Meaning.{apply_all};
 ghost use Rattle.mr_node.specs.State.{NodeState, Core, EndState, end_of, put_end, Agrees, IsShut, OthersStay, Opens, started, stopped_as, shown, room_of, IsTooMuch};
 ghost use Rattle.mr_node.specs.Outs.{no_outs, growth, outs_with};

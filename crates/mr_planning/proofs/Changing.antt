@@ -12,7 +12,7 @@ use Rattle.mr_entries.specs.declared.value.Entry.{Entry}
 use Rattle.mr_effect.specs.declared.effect.Effect.{Effect}
 use Rattle.mr_planning.specs.Collections.{Change, told, telling, changed, changing}
 use Rattle.mr_entries.proofs.Puts.{put_same}
-use Rattle.mr_planning.proofs.Laws.{IsFaithfulTurn, kept_faithful}
+use Rattle.mr_planning.proofs.Laws.{IsFaithfulAnswer, kept_faithful}
 use Rattle.mr_data.proofs.Running.{AreSteps, steps_short, run, run_leads, IsKind, IsKept, same_entry, same_collection}
 
 -- The effects are steps that lead to the new collection, and are there exactly where it is another.
@@ -24,8 +24,8 @@ pub record IsFaithfulChange {X : Type 0} (kind : Kind X) (change : Change X) (x 
   pub some : change.value ≡ x → change.effects ≡ []
 
 module _ {X : Type 0} (kind : Kind X) where
-  pub telling_faithful : (answer : X → Tree) (k : Bytes) (m : Dataset) → IsFaithfulTurn (telling kind answer (get m k)) k m
-  telling_faithful answer k m = elim (held kind (get m k)) as (λ h. IsFaithfulTurn (told kind answer h (get m k)) k m) [
+  pub telling_faithful : (answer : X → Tree) (k : Bytes) (m : Dataset) → IsFaithfulAnswer (telling kind answer (get m k)) k m
+  telling_faithful answer k m = elim (held kind (get m k)) as (λ h. IsFaithfulAnswer (told kind answer h (get m k)) k m) [
     | None ↦ kept_faithful _ k m refl refl
     | Some x ↦ kept_faithful _ k m refl refl
   ]
@@ -39,8 +39,8 @@ module _ {X : Type 0} (kind : Kind X) (laws : IsKind kind) where
       run_leads k c.effects f.steps m f.are
       ∙ ap (option_map (put_at m k)) (f.runs (λ n. let wrong : y ∷ ys ≡ [] = sym e ∙ n in cc))
 
-  pub changing_faithful : (change : X → Change X) (k : Bytes) (m : Dataset) → IsKept kind (get m k) → ((x : X) → held kind (get m k) ≡ Some x → IsFaithfulChange kind (change x) x k (get m k)) → IsFaithfulTurn (changing kind change (get m k)) k m
-  changing_faithful change k m kept f = elim (held kind (get m k)) as (λ h. held kind (get m k) ≡ h → IsFaithfulTurn (changed kind change h (get m k)) k m) [
+  pub changing_faithful : (change : X → Change X) (k : Bytes) (m : Dataset) → IsKept kind (get m k) → ((x : X) → held kind (get m k) ≡ Some x → IsFaithfulChange kind (change x) x k (get m k)) → IsFaithfulAnswer (changing kind change (get m k)) k m
+  changing_faithful change k m kept f = elim (held kind (get m k)) as (λ h. held kind (get m k) ≡ h → IsFaithfulAnswer (changed kind change h (get m k)) k m) [
     | None ↦ λ is. kept_faithful _ k m refl refl
     | Some x ↦ λ is. record {
       leads = leads (change x) x k m (change x).effects refl kept is (f x is);

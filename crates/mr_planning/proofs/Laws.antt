@@ -20,7 +20,7 @@ use Rattle.mr_effect.specs.declared.effect.Effect.{Effect}
 use Rattle.mr_effect.specs.declared.effect.Effect.TheVariants as effect
 use Rattle.mr_effect.proofs.Texts.{command_text, short_effect}
 use Rattle.mr_planning.specs.Keys.{past, dels, is_stored}
-use Rattle.mr_planning.specs.Turns.{Turn, kept}
+use Rattle.mr_planning.specs.Answered.{Answered, kept}
 use Rattle.mr_planning.specs.Outcomes.{Outcome, answered, at_key}
 use Rattle.mr_planning.specs.Commands.{Command, on_key, on_keys, on_none, before, after, effects, own_effects, IsFaithful, HasCommandTexts}
 use Rattle.mr_entries.proofs.Puts.{get_put, put_same}
@@ -108,26 +108,26 @@ faithful command now m h f =
     let law = leading command now m h (leading_at (command.outcome (before command now m)) (before command now m) f) in
     record { faithful = law; texts = sent command now m law f.short }
 
--- ---- a turn at one key
-pub record IsFaithfulTurn (turn : Turn) (k : Bytes) (m : Dataset) : Type 0 where
-  pub leads : apply_all turn.effects m ≡ Some (put_at m k turn.entry)
-  pub short : All IsShort turn.effects
-  pub none : turn.effects ≡ [] → turn.entry ≡ get m k
-  pub some : turn.entry ≡ get m k → turn.effects ≡ []
+-- ---- an answer at one key
+pub record IsFaithfulAnswer (answer : Answered) (k : Bytes) (m : Dataset) : Type 0 where
+  pub leads : apply_all answer.effects m ≡ Some (put_at m k answer.entry)
+  pub short : All IsShort answer.effects
+  pub none : answer.effects ≡ [] → answer.entry ≡ get m k
+  pub some : answer.entry ≡ get m k → answer.effects ≡ []
 
-pub at_key_faithful : (k : Bytes) (turn : Option Entry → Turn) (m : Dataset) → IsFaithfulTurn (turn (get m k)) k m → IsFaithfulAt (at_key k turn m) m
-at_key_faithful k turn m f = record {
+pub at_key_faithful : (k : Bytes) (answers : Option Entry → Answered) (m : Dataset) → IsFaithfulAnswer (answers (get m k)) k m → IsFaithfulAt (at_key k answers m) m
+at_key_faithful k answers m f = record {
   leads = f.leads;
   short = f.short;
   none = λ e. ap (put_at m k) (f.none e) ∙ put_same m k (get m k) refl;
-  some = λ e. f.some (sym (get_put m k (turn (get m k)).entry) ∙ ap (λ (x : Dataset). get x k) e);
+  some = λ e. f.some (sym (get_put m k (answers (get m k)).entry) ∙ ap (λ (x : Dataset). get x k) e);
 }
 
 -- nothing changes
-pub kept_faithful : (turn : Turn) (k : Bytes) (m : Dataset) → turn.entry ≡ get m k → turn.effects ≡ [] → IsFaithfulTurn turn k m
-kept_faithful turn k m e f = record {
-  leads = ap (λ (xs : List Effect). apply_all xs m) f ∙ ap Some (sym (put_same m k turn.entry (sym e)));
-  short = none_short turn.effects f;
+pub kept_faithful : (answer : Answered) (k : Bytes) (m : Dataset) → answer.entry ≡ get m k → answer.effects ≡ [] → IsFaithfulAnswer answer k m
+kept_faithful answer k m e f = record {
+  leads = ap (λ (xs : List Effect). apply_all xs m) f ∙ ap Some (sym (put_same m k answer.entry (sym e)));
+  short = none_short answer.effects f;
   none = λ _. e;
   some = λ _. f;
 }
@@ -140,24 +140,24 @@ answered_faithful outcome m e f = record {
   some = λ _. f;
 }
 
--- ---- turns
+-- ---- answers
 -- one of two
-pub if_faithful : (b : Bool) (t u : Turn) (k : Bytes) (m : Dataset) → IsFaithfulTurn t k m → IsFaithfulTurn u k m → IsFaithfulTurn (if b then t else u) k m
+pub if_faithful : (b : Bool) (t u : Answered) (k : Bytes) (m : Dataset) → IsFaithfulAnswer t k m → IsFaithfulAnswer u k m → IsFaithfulAnswer (if b then t else u) k m
 if_faithful true t u k m p q = p
 if_faithful false t u k m p q = q
 
 -- one that only tells
-pub stays_faithful : (answer : Tree) (k : Bytes) (m : Dataset) → IsFaithfulTurn (kept answer (get m k)) k m
+pub stays_faithful : (answer : Tree) (k : Bytes) (m : Dataset) → IsFaithfulAnswer (kept answer (get m k)) k m
 stays_faithful answer k m = kept_faithful (kept answer (get m k)) k m refl refl
 
 -- ---- commands
 -- on one key
-pub by_turn : (k : Bytes) (turn : Option Entry → Turn) (now : ℤ) (m : Dataset) → IsTrue (list_all fits (k ∷ [])) → ((n : Dataset) → IsFaithfulTurn (turn (get n k)) k n) → IsLawful (on_key k turn) now m
-by_turn k turn now m h f = let n = before (on_key k turn) now m in faithful (on_key k turn) now m h (at_key_faithful k turn n (f n))
+pub by_answer : (k : Bytes) (answers : Option Entry → Answered) (now : ℤ) (m : Dataset) → IsTrue (list_all fits (k ∷ [])) → ((n : Dataset) → IsFaithfulAnswer (answers (get n k)) k n) → IsLawful (on_key k answers) now m
+by_answer k answers now m h f = let n = before (on_key k answers) now m in faithful (on_key k answers) now m h (at_key_faithful k answers n (f n))
 
 -- .. that only tells
 pub by_telling : (k : Bytes) (answer : Option Entry → Tree) (now : ℤ) (m : Dataset) → IsTrue (list_all fits (k ∷ [])) → IsLawful (on_key k (λ o. kept (answer o) o)) now m
-by_telling k answer now m h = by_turn k (λ o. kept (answer o) o) now m h (λ n. stays_faithful (answer (get n k)) k n)
+by_telling k answer now m h = by_answer k (λ o. kept (answer o) o) now m h (λ n. stays_faithful (answer (get n k)) k n)
 
 -- on several keys, which only tells
 pub keys_told : (ks : List Bytes) (answer : Dataset → Tree) (now : ℤ) (m : Dataset) → IsTrue (list_all fits ks) → IsLawful (on_keys ks (λ n. answered (answer n) n)) now m

@@ -8,12 +8,12 @@ use Rattle.mr_entries.proofs.Puts.{get_put}
 use Rattle.mr_data.specs.Dataset.{live}
 use Rattle.mr_data.proofs.Seeing.{get-seen}
 use Rattle.mr_planning.specs.Keys.{purged}
-use Rattle.mr_planning.specs.Turns.{Turn}
+use Rattle.mr_planning.specs.Answered.{Answered}
 use Rattle.mr_planning.specs.Commands.{after, answer, on_key}
 use Rattle.mr_planning.proofs.PlanLemmas.{purged_at}
 
-pub next_sees : (k : Bytes) (turn next : Option Entry → Turn) (now : ℤ) (m : Dataset) → answer (on_key k next) now (after (on_key k turn) now m) ≡ (next (live now (turn (live now (get m k))).entry)).reply
-next_sees k turn next now m =
+pub next_sees : (k : Bytes) (answers next : Option Entry → Answered) (now : ℤ) (m : Dataset) → answer (on_key k next) now (after (on_key k answers) now m) ≡ (next (live now (answers (live now (get m k))).entry)).reply
+next_sees k answers next now m =
     let left : Dataset = purged now (k ∷ []) m in
-    ap (λ o. (next o).reply) (get-seen now (put_at left k (turn (get left k)).entry) k
-    ∙ ap (live now) (get_put left k (turn (get left k)).entry ∙ ap (λ o. (turn o).entry) (purged_at now k m)))
+    ap (λ o. (next o).reply) (get-seen now (put_at left k (answers (get left k)).entry) k
+    ∙ ap (live now) (get_put left k (answers (get left k)).entry ∙ ap (λ o. (answers o).entry) (purged_at now k m)))

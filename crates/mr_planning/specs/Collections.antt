@@ -4,7 +4,7 @@ use Rattle.mr_resp.specs.Replies.{Tree}
 use Rattle.mr_entries.specs.Steps.{Kind, held, entry_of, deadline_of}
 use Rattle.mr_entries.specs.declared.value.Entry.{Entry}
 use Rattle.mr_effect.specs.declared.effect.Effect.{Effect}
-use Rattle.mr_planning.specs.Turns.{Turn, kept, wrong_kind}
+use Rattle.mr_planning.specs.Answered.{Answered, kept, wrong_kind}
 
 -- the answer, what becomes of the collection, and the effects
 pub record Change (X : Type 0) : Type 0 where
@@ -14,15 +14,15 @@ pub record Change (X : Type 0) : Type 0 where
 
 module _ {X : Type 0} (kind : Kind X) where
   -- the collection stays as it is
-  abbrev pub told : (X → Tree) → Option X → Option Entry → Turn
+  abbrev pub told : (X → Tree) → Option X → Option Entry → Answered
   told answer None before = kept wrong_kind before
   told answer (Some x) before = kept (answer x) before
 
   -- A command that only tells of the collection at a key. An absent key has one without elements.
-  abbrev pub telling : (X → Tree) → Option Entry → Turn
+  abbrev pub telling : (X → Tree) → Option Entry → Answered
   telling answer before = told answer (held kind before) before
 
-  abbrev pub changed : (X → Change X) → Option X → Option Entry → Turn
+  abbrev pub changed : (X → Change X) → Option X → Option Entry → Answered
   changed change None before = kept wrong_kind before
   changed change (Some x) before = record {
     reply = (change x).reply;
@@ -31,5 +31,5 @@ module _ {X : Type 0} (kind : Kind X) where
   }
 
   -- A command that changes the collection at a key. The deadline stays; a collection without elements goes.
-  abbrev pub changing : (X → Change X) → Option Entry → Turn
+  abbrev pub changing : (X → Change X) → Option Entry → Answered
   changing change before = changed change (held kind before) before

@@ -11,7 +11,7 @@ use Rattle.mr_entries.specs.declared.value.Entry.{Entry}
 use Rattle.mr_effect.specs.Spelling.{text}
 use Rattle.mr_effect.specs.declared.effect.Effect.{Effect}
 use Rattle.mr_planning.specs.Keys.{past, purged, dels}
-use Rattle.mr_planning.specs.Turns.{Turn}
+use Rattle.mr_planning.specs.Answered.{Answered}
 use Rattle.mr_planning.specs.Outcomes.{Outcome, at_key}
 
 -- A command is the keys that it names, and what it does to a dataset in which none of them is past.
@@ -20,8 +20,8 @@ pub record Command : Type 0 where
   pub outcome : Dataset → Outcome
 
 -- a command on one key
-abbrev pub on_key : Bytes → (Option Entry → Turn) → Command
-on_key k turn = record { keys = k ∷ []; outcome = at_key k turn }
+abbrev pub on_key : Bytes → (Option Entry → Answered) → Command
+on_key k answers = record { keys = k ∷ []; outcome = at_key k answers }
 
 -- a command on several keys
 abbrev pub on_keys : List Bytes → (Dataset → Outcome) → Command

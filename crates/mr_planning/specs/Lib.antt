@@ -1,6 +1,6 @@
 pub mod Taken
 pub mod Keys
-pub mod Turns
+pub mod Answered
 pub mod Outcomes
 pub mod Commands
 pub mod Collections

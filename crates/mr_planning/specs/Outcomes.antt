@@ -6,7 +6,7 @@ use Rattle.mr_resp.specs.Replies.{Tree}
 use Rattle.mr_entries.specs.Dataset.{Dataset, put_at}
 use Rattle.mr_entries.specs.declared.value.Entry.{Entry}
 use Rattle.mr_effect.specs.declared.effect.Effect.{Effect}
-use Rattle.mr_planning.specs.Turns.{Turn}
+use Rattle.mr_planning.specs.Answered.{Answered}
 
 pub record Outcome : Type 0 where
   pub reply : Tree
@@ -17,10 +17,10 @@ pub record Outcome : Type 0 where
 abbrev pub answered : Tree → Dataset → Outcome
 answered answer m = record { reply = answer; after = m; effects = [] }
 
--- a command on one key, by its turn
-abbrev pub at_key : Bytes → (Option Entry → Turn) → Dataset → Outcome
-at_key k turn m = record {
-  reply = (turn (get m k)).reply;
-  after = put_at m k (turn (get m k)).entry;
-  effects = (turn (get m k)).effects;
+-- a command on one key, by what it is answered and makes of the entry
+abbrev pub at_key : Bytes → (Option Entry → Answered) → Dataset → Outcome
+at_key k answers m = record {
+  reply = (answers (get m k)).reply;
+  after = put_at m k (answers (get m k)).entry;
+  effects = (answers (get m k)).effects;
 }

@@ -2,7 +2,7 @@
 ghost use Rattle.std.specs.Prelude.{◌≡◌, ◌<◌, ◌^◌, pos, IfOk};
 ghost use Rattle.mr_resp.specs.Replies as replies;
 ghost use Rattle.mr_resp.specs.ReplyView.{view};
-ghost use Rattle.mr_planning.specs.Turns.{done, wrong_kind};
+ghost use Rattle.mr_planning.specs.Answered.{done, wrong_kind};
 
 use mr_resp::Reply;
 use std::alloc::{AllocError, Global};

@@ -1,7 +1,7 @@
 use Rattle.std.proofs.Common.{◌∙◌, ap, refl}
 use Rattle.mr_resp.specs.ReplyView.{view}
 use Rattle.mr_planning.proofs.PlanLemmas.{key_plan, told}
-use Rattle.mr_cmd_key.specs.Turns.{type_answer}
+use Rattle.mr_cmd_key.specs.Kinds.{type_answer}
 use Rattle.mr_cmd_key.proofs.planning.key_type.Goals as goal
 
 pub returns : goal.returns

@@ -1,13 +1,13 @@
 use Rattle.std.proofs.Common.{◌∙◌, ap}
 use Rattle.mr_resp.specs.ReplyView.{view}
 use Rattle.mr_planning.proofs.PlanLemmas.{key_plan}
-use Rattle.mr_cmd_list.specs.Commands.{turn}
+use Rattle.mr_cmd_list.specs.Commands.{answer_of}
 use Rattle.mr_cmd_list.proofs.NumberLemmas.{nothing_seen}
 use Rattle.mr_cmd_list.proofs.planning.at_key.Goals as goal
 
 pub returns-clause-plan : goal.returns-clause-plan
 returns-clause-plan c =
-    key_plan _ (turn c.args.ask.now) _ _ _ _ _ _ _ _ c.in_ok-seen.ensures.seen c.new-effects.ensures c.in_ok-seen.ensures.past c.into_plan.ensures.effects
+    key_plan _ (answer_of c.args.ask.now) _ _ _ _ _ _ _ _ c.in_ok-seen.ensures.seen c.new-effects.ensures c.in_ok-seen.ensures.past c.into_plan.ensures.effects
     (record { reply_is = ap view c.into_plan.ensures.reply ∙ c.in_ok-reply.ensures.takes.reply_is; effects_are = c.in_ok-reply.ensures.takes.effects_are })
 
 pub returns-in_err-seen-clause-numbers : goal.returns-in_err-seen-clause-numbers

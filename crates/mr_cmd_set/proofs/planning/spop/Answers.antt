@@ -1,5 +1,5 @@
 use Rattle.mr_planning.proofs.PlanLemmas.{key_plan}
-use Rattle.mr_cmd_set.specs.Turns.{spop_answer}
+use Rattle.mr_cmd_set.specs.Sets.{spop_answer}
 use Rattle.mr_cmd_set.proofs.planning.spop.Goals as goal
 
 pub returns-clause-plan : goal.returns-clause-plan

@@ -3,7 +3,7 @@ use Rattle.std.specs.FinMap.{get}
 use Rattle.mr_data.specs.Dataset.{live}
 use Rattle.mr_planning.specs.Keys.{dels, past}
 use Rattle.mr_planning.proofs.PlanLemmas.{key_plan}
-use Rattle.mr_cmd_zset.specs.Commands.{key_of, turn}
+use Rattle.mr_cmd_zset.specs.Commands.{key_of, answer_of}
 use Rattle.mr_cmd_zset.proofs.planning.planned.Goals as goal
 
 pub returns-clause-plan : goal.returns-clause-plan
@@ -11,4 +11,4 @@ returns-clause-plan c =
     let k = key_of c.args.ask.now in
     let seen : option_copied c.in_ok-seen.seen ≡ live c.args.given.now (get c.args.held.now k) = rw c.key_of.ensures at c.in_ok-seen.ensures.seen in
     let past : c.look.new.effects ≡ c.new-effects.result ++ dels (past c.args.given.now (k ∷ []) c.args.held.now) = rw c.key_of.ensures at c.in_ok-seen.ensures.past in
-    rw c.into_plan.ensures.reply (key_plan k (turn c.args.ask.now) _ _ (option_copied c.in_ok-seen.seen) _ _ _ _ _ seen c.new-effects.ensures past c.into_plan.ensures.effects c.in_ok-reply.ensures)
+    rw c.into_plan.ensures.reply (key_plan k (answer_of c.args.ask.now) _ _ (option_copied c.in_ok-seen.seen) _ _ _ _ _ seen c.new-effects.ensures past c.into_plan.ensures.effects c.in_ok-reply.ensures)

@@ -6,7 +6,7 @@ use Rattle.mr_zset.specs.Pairs.{pairs_of, shown}
 use Rattle.mr_entries.specs.Steps.{sorted_sets, held}
 use Rattle.mr_cmd_zset.specs.Removing.{zremrangebyrank}
 use Rattle.mr_cmd_zset.proofs.Removals.{pairs_made, windowed_in, pairs_are_in}
-use Rattle.mr_cmd_zset.proofs.TurnLemmas.{takes_made}
+use Rattle.mr_cmd_zset.proofs.AnswerLemmas.{takes_made}
 use Rattle.mr_cmd_zset.proofs.removing.zremrangebyrank.Goals as goal
 
 pub returns : goal.returns

@@ -3,7 +3,7 @@ use Rattle.mr_zset.specs.Pairs.{range_of, shown}
 use Rattle.mr_entries.specs.Steps.{sorted_sets, held}
 use Rattle.mr_cmd_zset.specs.Removing.{zremrangebyscore}
 use Rattle.mr_cmd_zset.proofs.Removals.{pairs_made, range_in}
-use Rattle.mr_cmd_zset.proofs.TurnLemmas.{takes_made}
+use Rattle.mr_cmd_zset.proofs.AnswerLemmas.{takes_made}
 use Rattle.mr_cmd_zset.proofs.removing.zremrangebyscore.Goals as goal
 
 pub returns : goal.returns

@@ -5,7 +5,7 @@ use Rattle.mr_resp.specs.Replies.{Tree}
 use Rattle.mr_entries.specs.declared.value.Value.{Value}
 use Rattle.mr_entries.specs.declared.value.Value.TheVariants as value
 use Rattle.mr_entries.specs.declared.value.Entry.{Entry}
-use Rattle.mr_planning.specs.Turns.{Turn, kept}
+use Rattle.mr_planning.specs.Answered.{Answered, kept}
 
 -- TYPE key: the kind of its value
 abbrev pub kind_name : Value → Tree
@@ -19,5 +19,5 @@ abbrev pub type_reply : Option Entry → Tree
 type_reply None = reply.simple (codes "none")
 type_reply (Some e) = kind_name e.value
 
-abbrev pub type_answer : Option Entry → Turn
+abbrev pub type_answer : Option Entry → Answered
 type_answer before = kept (type_reply before) before

@@ -9,7 +9,7 @@ use Rattle.mr_entries.specs.Collections.{with_members, without_members}
 use Rattle.mr_entries.specs.Steps.{sets}
 use Rattle.mr_entries.specs.declared.value.Entry.{Entry}
 use Rattle.mr_effect.specs.declared.effect.Effect.TheVariants as effect
-use Rattle.mr_planning.specs.Turns.{Turn}
+use Rattle.mr_planning.specs.Answered.{Answered}
 use Rattle.mr_planning.specs.Collections.{Change, telling, changing}
 use Rattle.mr_entries.specs.Cuts.{cut}
 use Rattle.mr_cmd_set.specs.Members.{Members, as_set, common, minus, drawn}
@@ -27,19 +27,19 @@ bulks xs = reply.array (trees_of (map reply.bytes xs))
 
 -- ---- SISMEMBER, SMISMEMBER, SMEMBERS, SCARD
 
-abbrev pub sismember_answer : Bytes → Option Entry → Turn
+abbrev pub sismember_answer : Bytes → Option Entry → Answered
 sismember_answer x = telling sets (λ s. flag (contains_key s x))
 
 abbrev pub flags : List Bytes → Members → Tree
 flags xs s = reply.array (trees_of (map (λ x. flag (contains_key s x)) xs))
 
-abbrev pub smismember_answer : List Bytes → Option Entry → Turn
+abbrev pub smismember_answer : List Bytes → Option Entry → Answered
 smismember_answer xs = telling sets (flags xs)
 
-abbrev pub smembers_answer : Option Entry → Turn
+abbrev pub smembers_answer : Option Entry → Answered
 smembers_answer = telling sets (λ s. bulks (keys s))
 
-abbrev pub scard_answer : Option Entry → Turn
+abbrev pub scard_answer : Option Entry → Answered
 scard_answer = telling sets (λ s. number (len s))
 
 -- ---- SADD: how many of the words are no members yet, each counted once
@@ -53,7 +53,7 @@ adding k xs s = record {
   effects = map (effect.AddMembers k) (cut (keys (added xs s)));
 }
 
-abbrev pub sadd_answer : Bytes → List Bytes → Option Entry → Turn
+abbrev pub sadd_answer : Bytes → List Bytes → Option Entry → Answered
 sadd_answer k xs = changing sets (adding k xs)
 
 -- ---- SREM: how many of the words are members, each counted once
@@ -67,7 +67,7 @@ removing k xs s = record {
   effects = map (effect.RemoveMembers k) (cut (keys (removed xs s)));
 }
 
-abbrev pub srem_answer : Bytes → List Bytes → Option Entry → Turn
+abbrev pub srem_answer : Bytes → List Bytes → Option Entry → Answered
 srem_answer k xs = changing sets (removing k xs)
 
 -- ---- SPOP, SRANDMEMBER: without a count one member, or nil where there is none; else an array
@@ -91,7 +91,7 @@ drawn_reply (Some n) xs = bulks xs
 abbrev pub taken : Option ℕ → ℕ → Members → List Bytes
 taken count word s = drawn word (count_or_one count) (keys s)
 
-abbrev pub srandmember_answer : Option ℕ → ℕ → Option Entry → Turn
+abbrev pub srandmember_answer : Option ℕ → ℕ → Option Entry → Answered
 srandmember_answer count word = telling sets (λ s. drawn_reply count (taken count word s))
 
 -- the effects name them in byte order
@@ -102,5 +102,5 @@ taking k count word s = record {
   effects = map (effect.RemoveMembers k) (cut (keys (as_set (taken count word s))));
 }
 
-abbrev pub spop_answer : Bytes → Option ℕ → ℕ → Option Entry → Turn
+abbrev pub spop_answer : Bytes → Option ℕ → ℕ → Option Entry → Answered
 spop_answer k count word = changing sets (taking k count word)

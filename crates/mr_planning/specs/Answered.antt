@@ -5,13 +5,13 @@ use Rattle.mr_resp.specs.Replies.{Tree}
 use Rattle.mr_entries.specs.declared.value.Entry.{Entry}
 use Rattle.mr_effect.specs.declared.effect.Effect.{Effect}
 
-pub record Turn : Type 0 where
+pub record Answered : Type 0 where
   pub reply : Tree
   pub entry : Option Entry
   pub effects : List Effect
 
 -- nothing changes
-abbrev pub kept : Tree → Option Entry → Turn
+abbrev pub kept : Tree → Option Entry → Answered
 kept answer before = record { reply = answer; entry = before; effects = [] }
 
 -- a value of another kind than the command is for
@@ -21,7 +21,7 @@ wrong_kind = reply.error (codes "WRONGTYPE Operation against a key holding the w
 abbrev pub done : Tree
 done = reply.simple (codes "OK")
 
--- the reply is the turn's, and its effects were put behind those that were there
-pub record Takes (turn : Turn) (reply : Tree) (old new : List Effect) : Type 0 where
-  pub reply_is : reply ≡ turn.reply
-  pub effects_are : new ≡ old ++ turn.effects
+-- the reply is the answer's, and its effects were put behind those that were there
+pub record Takes (answer : Answered) (reply : Tree) (old new : List Effect) : Type 0 where
+  pub reply_is : reply ≡ answer.reply
+  pub effects_are : new ≡ old ++ answer.effects
