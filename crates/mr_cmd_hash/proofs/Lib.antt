@@ -6,4 +6,4 @@ pub mod Fields
 pub mod Gone
 pub mod Laws
 pub mod AnswerLemmas
-pub mod LeftAndTold
+pub mod AfterAndReply

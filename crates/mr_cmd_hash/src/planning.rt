@@ -48,9 +48,9 @@ fn planned(
     ensures kept { IsDataset held.now }
 {
     let mut effects = Effects::new(alloc);
-    let seen = look(alloc, held, key_of(ask), given, &mut effects)?;
+    let live_entry = look(alloc, held, key_of(ask), given, &mut effects)?;
     let none = Hash::new(alloc);
-    let Some(hash) = hash_at(&none, seen) else {
+    let Some(hash) = hash_at(&none, live_entry) else {
         return Ok(effects.into_plan(wrong_kind()));
     };
     let reply = change(alloc, ask, hash, &mut effects)?;
@@ -75,11 +75,11 @@ fn key_of<'c, 'a>(ask: &'c HashAsk<'a, '_>) -> &'c Argument<'a>
 }
 
 // The hash that an entry is: the empty one where there is no entry.
-fn hash_at<'h>(none: &'h Hash, seen: Option<&'h Entry>) -> Option<&'h Hash>
+fn hash_at<'h>(none: &'h Hash, live_entry: Option<&'h Entry>) -> Option<&'h Hash>
     requires { none.now ≡ empty }
-    ensures { option_copied result ≡ held hashes (option_copied seen.entry) }
+    ensures { option_copied result ≡ held hashes (option_copied live_entry.entry) }
 {
-    match seen {
+    match live_entry {
         None => Some(none),
         Some(entry) => match &entry.value {
             Value::Hash(hash) => Some(hash),

@@ -19,13 +19,13 @@ pub fn expire(
     key: &Argument<'_>,
     condition: Option<ExpireCondition>,
     deadline: i64,
-    seen: Option<&Entry>,
+    live_entry: Option<&Entry>,
     given: Given,
     effects: &mut Effects,
 ) -> Result<Reply, AllocError>
-    ensures { IfOk result (λ r. Takes (expire_answer key.now condition given.now deadline (option_copied seen.entry)) (view r) effects.old effects.new) }
+    ensures { IfOk result (λ r. Takes (expire_answer key.now condition given.now deadline (option_copied live_entry.entry)) (view r) effects.old effects.new) }
 {
-    let Some(entry) = seen else {
+    let Some(entry) = live_entry else {
         return Ok(count(0));
     };
     if !allows(condition, entry.deadline, deadline) {
@@ -77,12 +77,12 @@ fn is_until(deadline: i64, held: Option<i64>) -> bool
 pub fn persist(
     alloc: Global,
     key: &Argument<'_>,
-    seen: Option<&Entry>,
+    live_entry: Option<&Entry>,
     effects: &mut Effects,
 ) -> Result<Reply, AllocError>
-    ensures { IfOk result (λ r. Takes (persist_answer key.now (option_copied seen.entry)) (view r) effects.old effects.new) }
+    ensures { IfOk result (λ r. Takes (persist_answer key.now (option_copied live_entry.entry)) (view r) effects.old effects.new) }
 {
-    let Some(entry) = seen else {
+    let Some(entry) = live_entry else {
         return Ok(count(0));
     };
     if entry.deadline.is_none() {
@@ -108,11 +108,11 @@ pub enum DeadlineForm {
 }
 
 /// What is told of the deadline of a key: -2 where there is no key, and -1 where it has none.
-pub fn told_in(form: DeadlineForm, given: Given, seen: Option<&Entry>) -> i64
-    requires { IfSome (option_copied seen) (λ e. IsLifetime e.deadline) }
-    ensures { result ≡ told_in form given.now (option_copied seen.entry) }
+pub fn told_in(form: DeadlineForm, given: Given, live_entry: Option<&Entry>) -> i64
+    requires { IfSome (option_copied live_entry) (λ e. IsLifetime e.deadline) }
+    ensures { result ≡ told_in form given.now (option_copied live_entry.entry) }
 {
-    match seen {
+    match live_entry {
         None => -2,
         Some(entry) => lifetime_in(form, given, entry.deadline),
     }

@@ -10,10 +10,10 @@ use mr_resp::Reply;
 use std::borrow::CowSlice;
 
 /// `TYPE`
-pub fn key_type(seen: Option<&Entry>) -> Reply
-    ensures { view result ≡ type_reply (option_copied seen.entry) }
+pub fn key_type(live_entry: Option<&Entry>) -> Reply
+    ensures { view result ≡ type_reply (option_copied live_entry.entry) }
 {
-    match seen {
+    match live_entry {
         None => Reply::Simple(CowSlice::Borrowed(b"none")),
         Some(entry) => kind_name(&entry.value),
     }
@@ -32,10 +32,10 @@ fn kind_name(value: &Value) -> Reply
 }
 
 /// Whether there is a value, of this kind if one is asked for.
-pub fn is_of_kind(kind: Option<KindName>, seen: Option<&Entry>) -> bool
-    ensures { result ≡ is_of_kind kind (option_copied seen.entry) }
+pub fn is_of_kind(kind: Option<KindName>, live_entry: Option<&Entry>) -> bool
+    ensures { result ≡ is_of_kind kind (option_copied live_entry.entry) }
 {
-    let Some(entry) = seen else {
+    let Some(entry) = live_entry else {
         return false;
     };
     match kind {

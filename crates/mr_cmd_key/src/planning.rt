@@ -131,8 +131,8 @@ fn key_type(
     ensures { IfOk result (λ p. IsPlan (on_key key.now type_answer) given.now held.now (view p.reply) p.effects.items) }
 {
     let mut effects = Effects::new(alloc);
-    let seen = look(alloc, held, key, given, &mut effects)?;
-    let reply = kinds::key_type(seen);
+    let live_entry = look(alloc, held, key, given, &mut effects)?;
+    let reply = kinds::key_type(live_entry);
     Ok(effects.into_plan(reply))
 }
 
@@ -199,9 +199,9 @@ fn expire(
     ensures { IfOk result (λ p. IsPlan (on_key key.now (expire_answer key.now condition given.now (deadline_at given.now expiry))) given.now held.now (view p.reply) p.effects.items) }
 {
     let mut effects = Effects::new(alloc);
-    let seen = look(alloc, held, key, given, &mut effects)?;
+    let live_entry = look(alloc, held, key, given, &mut effects)?;
     let deadline = expiry.deadline(given.now());
-    let reply = expiring::expire(alloc, key, condition, deadline, seen, given, &mut effects)?;
+    let reply = expiring::expire(alloc, key, condition, deadline, live_entry, given, &mut effects)?;
     Ok(effects.into_plan(reply))
 }
 
@@ -214,8 +214,8 @@ fn persist(
     ensures { IfOk result (λ p. IsPlan (on_key key.now (persist_answer key.now)) given.now held.now (view p.reply) p.effects.items) }
 {
     let mut effects = Effects::new(alloc);
-    let seen = look(alloc, held, key, given, &mut effects)?;
-    let reply = expiring::persist(alloc, key, seen, &mut effects)?;
+    let live_entry = look(alloc, held, key, given, &mut effects)?;
+    let reply = expiring::persist(alloc, key, live_entry, &mut effects)?;
     Ok(effects.into_plan(reply))
 }
 
@@ -229,7 +229,7 @@ fn deadline(
     ensures { IfOk result (λ p. IsPlan (on_key key.now (deadline_answer form given.now)) given.now held.now (view p.reply) p.effects.items) }
 {
     let mut effects = Effects::new(alloc);
-    let seen = look(alloc, held, key, given, &mut effects)?;
-    let number = expiring::told_in(form, given, seen);
+    let live_entry = look(alloc, held, key, given, &mut effects)?;
+    let number = expiring::told_in(form, given, live_entry);
     Ok(effects.into_plan(integer(number)))
 }

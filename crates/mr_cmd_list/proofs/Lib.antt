@@ -11,4 +11,4 @@ pub mod PopLaws
 pub mod EditLaws
 pub mod MoveLaws
 pub mod Laws
-pub mod LeftAndTold
+pub mod AfterAndReply

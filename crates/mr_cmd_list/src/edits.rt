@@ -20,13 +20,13 @@ pub fn lset(
     key: &Argument<'_>,
     index: i64,
     item: &Argument<'_>,
-    seen: Option<&Entry>,
+    live_entry: Option<&Entry>,
     effects: &mut Effects,
 ) -> Result<Reply, AllocError>
-    ensures takes { IfOk result (λ r. Takes (lset_answer key.now index item.now (option_copied seen.entry)) (view r) effects.old effects.new) }
-    ensures short { IsShort (option_copied seen.entry) }
+    ensures takes { IfOk result (λ r. Takes (lset_answer key.now index item.now (option_copied live_entry.entry)) (view r) effects.old effects.new) }
+    ensures short { IsShort (option_copied live_entry.entry) }
 {
-    let Some(entry) = seen else {
+    let Some(entry) = live_entry else {
         return Ok(no_such_key());
     };
     let Value::List(list) = &entry.value else {
@@ -62,12 +62,12 @@ pub fn linsert(
     side: Side,
     pivot: &Argument<'_>,
     item: &Argument<'_>,
-    seen: Option<&Entry>,
+    live_entry: Option<&Entry>,
     effects: &mut Effects,
 ) -> Result<Reply, AllocError>
-    ensures { IfOk result (λ r. Takes (linsert_answer key.now side pivot.now item.now (option_copied seen.entry)) (view r) effects.old effects.new) }
+    ensures { IfOk result (λ r. Takes (linsert_answer key.now side pivot.now item.now (option_copied live_entry.entry)) (view r) effects.old effects.new) }
 {
-    let Some(entry) = seen else {
+    let Some(entry) = live_entry else {
         return Ok(integer(0));
     };
     let Value::List(list) = &entry.value else {
@@ -91,13 +91,13 @@ pub fn lrem(
     key: &Argument<'_>,
     count: i64,
     item: &Argument<'_>,
-    seen: Option<&Entry>,
+    live_entry: Option<&Entry>,
     effects: &mut Effects,
 ) -> Result<Reply, AllocError>
-    ensures number { IsNumberFor count (option_copied seen.entry) }
-    ensures takes { IfOk result (λ r. Takes (lrem_answer key.now count item.now (option_copied seen.entry)) (view r) effects.old effects.new) }
+    ensures number { IsNumberFor count (option_copied live_entry.entry) }
+    ensures takes { IfOk result (λ r. Takes (lrem_answer key.now count item.now (option_copied live_entry.entry)) (view r) effects.old effects.new) }
 {
-    let Some(entry) = seen else {
+    let Some(entry) = live_entry else {
         return Ok(integer(0));
     };
     let Value::List(list) = &entry.value else {
@@ -131,13 +131,13 @@ pub fn ltrim(
     key: &Argument<'_>,
     first: i64,
     last: i64,
-    seen: Option<&Entry>,
+    live_entry: Option<&Entry>,
     effects: &mut Effects,
 ) -> Result<Reply, AllocError>
-    ensures takes { IfOk result (λ r. Takes (ltrim_answer key.now first last (option_copied seen.entry)) (view r) effects.old effects.new) }
-    ensures short { IsShort (option_copied seen.entry) }
+    ensures takes { IfOk result (λ r. Takes (ltrim_answer key.now first last (option_copied live_entry.entry)) (view r) effects.old effects.new) }
+    ensures short { IsShort (option_copied live_entry.entry) }
 {
-    let Some(entry) = seen else {
+    let Some(entry) = live_entry else {
         return Ok(done());
     };
     let Value::List(list) = &entry.value else {

@@ -52,12 +52,12 @@ pub fn rotate(
     key: &Argument<'_>,
     taken: End,
     put: End,
-    seen: Option<&Entry>,
+    live_entry: Option<&Entry>,
     effects: &mut Effects,
 ) -> Result<Reply, AllocError>
-    ensures { IfOk result (λ r. Takes (rotate_answer key.now taken put (option_copied seen.entry)) (view r) effects.old effects.new) }
+    ensures { IfOk result (λ r. Takes (rotate_answer key.now taken put (option_copied live_entry.entry)) (view r) effects.old effects.new) }
 {
-    let Some(entry) = seen else {
+    let Some(entry) = live_entry else {
         return Ok(Reply::NullBulk);
     };
     let Value::List(list) = &entry.value else {

@@ -84,8 +84,8 @@ fn at_key(
     ensures numbers { HasNumbers ask.now (live given.now (get held.now key.now)) }
 {
     let mut effects = Effects::new(alloc);
-    let seen = look(alloc, held, key, given, &mut effects)?;
-    let reply = answer_of(alloc, ask, seen, &mut effects)?;
+    let live_entry = look(alloc, held, key, given, &mut effects)?;
+    let reply = answer_of(alloc, ask, live_entry, &mut effects)?;
     Ok(effects.into_plan(reply))
 }
 
@@ -93,11 +93,11 @@ fn at_key(
 fn answer_of(
     alloc: Global,
     ask: &ListAsk<'_, '_>,
-    seen: Option<&Entry>,
+    live_entry: Option<&Entry>,
     effects: &mut Effects,
 ) -> Result<Reply, AllocError>
-    ensures numbers { HasNumbers ask.now (option_copied seen.entry) }
-    ensures takes { IfOk result (λ r. Takes (answer_of ask.now (option_copied seen.entry)) (view r) effects.old effects.new) }
+    ensures numbers { HasNumbers ask.now (option_copied live_entry.entry) }
+    ensures takes { IfOk result (λ r. Takes (answer_of ask.now (option_copied live_entry.entry)) (view r) effects.old effects.new) }
 {
     match ask {
         ListAsk::Push {
@@ -105,38 +105,38 @@ fn answer_of(
             end,
             to,
             items,
-        } => pushes::push(alloc, key, *end, *to, items, seen, effects),
-        ListAsk::Pop { key, end, count } => pops::pop(alloc, key, *end, *count, seen, effects),
-        ListAsk::LLen { .. } => Ok(telling::llen(seen)),
+        } => pushes::push(alloc, key, *end, *to, items, live_entry, effects),
+        ListAsk::Pop { key, end, count } => pops::pop(alloc, key, *end, *count, live_entry, effects),
+        ListAsk::LLen { .. } => Ok(telling::llen(live_entry)),
         ListAsk::LRange {
             key: _,
             first,
             last,
-        } => telling::lrange(alloc, *first, *last, seen),
-        ListAsk::LIndex { key: _, index } => telling::lindex(alloc, *index, seen),
+        } => telling::lrange(alloc, *first, *last, live_entry),
+        ListAsk::LIndex { key: _, index } => telling::lindex(alloc, *index, live_entry),
         ListAsk::LSet { key, index, item } => {
-            edits::lset(alloc, key, *index, item, seen, effects)
+            edits::lset(alloc, key, *index, item, live_entry, effects)
         }
         ListAsk::LInsert {
             key,
             side,
             pivot,
             item,
-        } => edits::linsert(alloc, key, *side, pivot, item, seen, effects),
+        } => edits::linsert(alloc, key, *side, pivot, item, live_entry, effects),
         ListAsk::LRem { key, count, item } => {
-            edits::lrem(alloc, key, *count, item, seen, effects)
+            edits::lrem(alloc, key, *count, item, live_entry, effects)
         }
         ListAsk::LTrim { key, first, last } => {
-            edits::ltrim(alloc, key, *first, *last, seen, effects)
+            edits::ltrim(alloc, key, *first, *last, live_entry, effects)
         }
         ListAsk::LMove {
             from,
             to: _,
             taken,
             put,
-        } => moves::rotate(alloc, from, *taken, *put, seen, effects),
+        } => moves::rotate(alloc, from, *taken, *put, live_entry, effects),
         ListAsk::RPopLPush { from, to: _ } => {
-            moves::rotate(alloc, from, End::Right, End::Left, seen, effects)
+            moves::rotate(alloc, from, End::Right, End::Left, live_entry, effects)
         }
     }
 }

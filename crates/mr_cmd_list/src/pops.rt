@@ -19,15 +19,15 @@ pub fn pop(
     key: &Argument<'_>,
     end: End,
     count: Option<usize>,
-    seen: Option<&Entry>,
+    live_entry: Option<&Entry>,
     effects: &mut Effects,
 ) -> Result<Reply, AllocError>
-    ensures takes { IfOk result (λ r. Takes (pop_answer key.now end count (option_copied seen.entry)) (view r) effects.old effects.new) }
-    ensures short { IsShortFor count (option_copied seen.entry) }
+    ensures takes { IfOk result (λ r. Takes (pop_answer key.now end count (option_copied live_entry.entry)) (view r) effects.old effects.new) }
+    ensures short { IsShortFor count (option_copied live_entry.entry) }
 {
     match count {
-        None => pop_one(alloc, key, end, seen, effects),
-        Some(most) => pop_some(alloc, key, end, most, seen, effects),
+        None => pop_one(alloc, key, end, live_entry, effects),
+        Some(most) => pop_some(alloc, key, end, most, live_entry, effects),
     }
 }
 
@@ -35,12 +35,12 @@ fn pop_one(
     alloc: Global,
     key: &Argument<'_>,
     end: End,
-    seen: Option<&Entry>,
+    live_entry: Option<&Entry>,
     effects: &mut Effects,
 ) -> Result<Reply, AllocError>
-    ensures { IfOk result (λ r. Takes (pop_answer key.now end None (option_copied seen.entry)) (view r) effects.old effects.new) }
+    ensures { IfOk result (λ r. Takes (pop_answer key.now end None (option_copied live_entry.entry)) (view r) effects.old effects.new) }
 {
-    let Some(entry) = seen else {
+    let Some(entry) = live_entry else {
         return Ok(Reply::NullBulk);
     };
     let Value::List(list) = &entry.value else {
@@ -63,13 +63,13 @@ fn pop_some(
     key: &Argument<'_>,
     end: End,
     most: usize,
-    seen: Option<&Entry>,
+    live_entry: Option<&Entry>,
     effects: &mut Effects,
 ) -> Result<Reply, AllocError>
-    ensures takes { IfOk result (λ r. Takes (pop_answer key.now end (Some most) (option_copied seen.entry)) (view r) effects.old effects.new) }
-    ensures short { IsShort (option_copied seen.entry) }
+    ensures takes { IfOk result (λ r. Takes (pop_answer key.now end (Some most) (option_copied live_entry.entry)) (view r) effects.old effects.new) }
+    ensures short { IsShort (option_copied live_entry.entry) }
 {
-    let Some(entry) = seen else {
+    let Some(entry) = live_entry else {
         return Ok(Reply::NullArray);
     };
     let Value::List(list) = &entry.value else {

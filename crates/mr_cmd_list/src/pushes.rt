@@ -22,12 +22,12 @@ pub fn push(
     end: End,
     to: PushTo,
     items: &Words<'_, '_>,
-    seen: Option<&Entry>,
+    live_entry: Option<&Entry>,
     effects: &mut Effects,
 ) -> Result<Reply, AllocError>
-    ensures { IfOk result (λ r. Takes (push_answer key.now end to items.now (option_copied seen.entry)) (view r) effects.old effects.new) }
+    ensures { IfOk result (λ r. Takes (push_answer key.now end to items.now (option_copied live_entry.entry)) (view r) effects.old effects.new) }
 {
-    let before = match seen {
+    let before = match live_entry {
         None => match to {
             PushTo::AnyKey => 0,
             PushTo::ExistingKey => return Ok(integer(0)),

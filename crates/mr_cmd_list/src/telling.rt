@@ -11,10 +11,10 @@ use mr_value::{place, window};
 use std::alloc::{AllocError, Global};
 
 /// How many items there are.
-pub fn llen(seen: Option<&Entry>) -> Reply
-    ensures { view result ≡ (llen_answer (option_copied seen.entry)).reply }
+pub fn llen(live_entry: Option<&Entry>) -> Reply
+    ensures { view result ≡ (llen_answer (option_copied live_entry.entry)).reply }
 {
-    let Some(entry) = seen else {
+    let Some(entry) = live_entry else {
         return integer(0);
     };
     let Value::List(list) = &entry.value else {
@@ -28,11 +28,11 @@ pub fn lrange(
     alloc: Global,
     first: i64,
     last: i64,
-    seen: Option<&Entry>,
+    live_entry: Option<&Entry>,
 ) -> Result<Reply, AllocError>
-    ensures { IfOk result (λ r. view r ≡ (lrange_answer first last (option_copied seen.entry)).reply) }
+    ensures { IfOk result (λ r. view r ≡ (lrange_answer first last (option_copied live_entry.entry)).reply) }
 {
-    let Some(entry) = seen else {
+    let Some(entry) = live_entry else {
         return Ok(none_listed(alloc));
     };
     let Value::List(list) = &entry.value else {
@@ -45,10 +45,10 @@ pub fn lrange(
 }
 
 /// The item that an index names.
-pub fn lindex(alloc: Global, index: i64, seen: Option<&Entry>) -> Result<Reply, AllocError>
-    ensures { IfOk result (λ r. view r ≡ (lindex_answer index (option_copied seen.entry)).reply) }
+pub fn lindex(alloc: Global, index: i64, live_entry: Option<&Entry>) -> Result<Reply, AllocError>
+    ensures { IfOk result (λ r. view r ≡ (lindex_answer index (option_copied live_entry.entry)).reply) }
 {
-    let Some(entry) = seen else {
+    let Some(entry) = live_entry else {
         return Ok(Reply::NullBulk);
     };
     let Value::List(list) = &entry.value else {

@@ -18,13 +18,13 @@ pub fn sadd(
     alloc: Global,
     key: &Argument<'_>,
     members: &Words<'_, '_>,
-    seen: Option<&Entry>,
+    live_entry: Option<&Entry>,
     effects: &mut Effects,
 ) -> Result<Reply, AllocError>
-    ensures { IfOk result (λ r. Takes (sadd_answer key.now members.now (option_copied seen.entry)) (view r) effects.old effects.new) }
+    ensures { IfOk result (λ r. Takes (sadd_answer key.now members.now (option_copied live_entry.entry)) (view r) effects.old effects.new) }
 {
     let empty = SetValue::new(alloc);
-    let Some(set) = set_at(seen, &empty) else {
+    let Some(set) = set_at(live_entry, &empty) else {
         return Ok(wrong_kind());
     };
     let added = push_changes(alloc, Write::Add, key, members, set, effects)?;
@@ -36,13 +36,13 @@ pub fn srem(
     alloc: Global,
     key: &Argument<'_>,
     members: &Words<'_, '_>,
-    seen: Option<&Entry>,
+    live_entry: Option<&Entry>,
     effects: &mut Effects,
 ) -> Result<Reply, AllocError>
-    ensures { IfOk result (λ r. Takes (srem_answer key.now members.now (option_copied seen.entry)) (view r) effects.old effects.new) }
+    ensures { IfOk result (λ r. Takes (srem_answer key.now members.now (option_copied live_entry.entry)) (view r) effects.old effects.new) }
 {
     let empty = SetValue::new(alloc);
-    let Some(set) = set_at(seen, &empty) else {
+    let Some(set) = set_at(live_entry, &empty) else {
         return Ok(wrong_kind());
     };
     let removed = push_changes(alloc, Write::Remove, key, members, set, effects)?;

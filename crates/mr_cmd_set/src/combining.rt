@@ -76,9 +76,9 @@ fn find_all<'d>(
         past: false,
     };
     for word in words {
-        let (seen, past) = see(held, word.as_slice(), given);
+        let (live_entry, past) = see(held, word.as_slice(), given);
         found.past |= past;
-        match set_at(seen, empty) {
+        match set_at(live_entry, empty) {
             Some(set) => found.sets.push(set)?,
             None => found.other = true,
         }

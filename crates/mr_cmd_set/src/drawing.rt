@@ -107,12 +107,12 @@ pub fn srandmember(
     alloc: Global,
     count: Option<usize>,
     word: u64,
-    seen: Option<&Entry>,
+    live_entry: Option<&Entry>,
 ) -> Result<Reply, AllocError>
-    ensures { IfOk result (λ r. view r ≡ (srandmember_answer count word (option_copied seen.entry)).reply) }
+    ensures { IfOk result (λ r. view r ≡ (srandmember_answer count word (option_copied live_entry.entry)).reply) }
 {
     let empty = SetValue::new(alloc);
-    let Some(set) = set_at(seen, &empty) else {
+    let Some(set) = set_at(live_entry, &empty) else {
         return Ok(wrong_kind());
     };
     let Some(count) = count else {
@@ -138,13 +138,13 @@ pub fn spop(
     key: &Argument<'_>,
     count: Option<usize>,
     word: u64,
-    seen: Option<&Entry>,
+    live_entry: Option<&Entry>,
     effects: &mut Effects,
 ) -> Result<Reply, AllocError>
-    ensures { IfOk result (λ r. Takes (spop_answer key.now count word (option_copied seen.entry)) (view r) effects.old effects.new) }
+    ensures { IfOk result (λ r. Takes (spop_answer key.now count word (option_copied live_entry.entry)) (view r) effects.old effects.new) }
 {
     let empty = SetValue::new(alloc);
-    let Some(set) = set_at(seen, &empty) else {
+    let Some(set) = set_at(live_entry, &empty) else {
         return Ok(wrong_kind());
     };
     match count {

@@ -73,8 +73,8 @@ fn sadd(
     ensures kept { IsDataset held.now }
 {
     let mut effects = Effects::new(alloc);
-    let seen = look(alloc, held, key, given, &mut effects)?;
-    let reply = changing::sadd(alloc, key, members, seen, &mut effects)?;
+    let live_entry = look(alloc, held, key, given, &mut effects)?;
+    let reply = changing::sadd(alloc, key, members, live_entry, &mut effects)?;
     Ok(effects.into_plan(reply))
 }
 
@@ -89,8 +89,8 @@ fn srem(
     ensures kept { IsDataset held.now }
 {
     let mut effects = Effects::new(alloc);
-    let seen = look(alloc, held, key, given, &mut effects)?;
-    let reply = changing::srem(alloc, key, members, seen, &mut effects)?;
+    let live_entry = look(alloc, held, key, given, &mut effects)?;
+    let reply = changing::srem(alloc, key, members, live_entry, &mut effects)?;
     Ok(effects.into_plan(reply))
 }
 
@@ -105,8 +105,8 @@ fn sismember(
     ensures kept { IsDataset held.now }
 {
     let mut effects = Effects::new(alloc);
-    let seen = look(alloc, held, key, given, &mut effects)?;
-    let reply = telling::sismember(alloc, member, seen);
+    let live_entry = look(alloc, held, key, given, &mut effects)?;
+    let reply = telling::sismember(alloc, member, live_entry);
     Ok(effects.into_plan(reply))
 }
 
@@ -121,8 +121,8 @@ fn smismember(
     ensures kept { IsDataset held.now }
 {
     let mut effects = Effects::new(alloc);
-    let seen = look(alloc, held, key, given, &mut effects)?;
-    let reply = telling::smismember(alloc, members, seen)?;
+    let live_entry = look(alloc, held, key, given, &mut effects)?;
+    let reply = telling::smismember(alloc, members, live_entry)?;
     Ok(effects.into_plan(reply))
 }
 
@@ -136,8 +136,8 @@ fn smembers(
     ensures kept { IsDataset held.now }
 {
     let mut effects = Effects::new(alloc);
-    let seen = look(alloc, held, key, given, &mut effects)?;
-    let reply = telling::smembers(alloc, seen)?;
+    let live_entry = look(alloc, held, key, given, &mut effects)?;
+    let reply = telling::smembers(alloc, live_entry)?;
     Ok(effects.into_plan(reply))
 }
 
@@ -151,8 +151,8 @@ fn scard(
     ensures kept { IsDataset held.now }
 {
     let mut effects = Effects::new(alloc);
-    let seen = look(alloc, held, key, given, &mut effects)?;
-    let reply = telling::scard(alloc, seen);
+    let live_entry = look(alloc, held, key, given, &mut effects)?;
+    let reply = telling::scard(alloc, live_entry);
     Ok(effects.into_plan(reply))
 }
 
@@ -167,8 +167,8 @@ fn spop(
     ensures kept { IsDataset held.now }
 {
     let mut effects = Effects::new(alloc);
-    let seen = look(alloc, held, key, given, &mut effects)?;
-    let reply = drawing::spop(alloc, key, count, given.word(), seen, &mut effects)?;
+    let live_entry = look(alloc, held, key, given, &mut effects)?;
+    let reply = drawing::spop(alloc, key, count, given.word(), live_entry, &mut effects)?;
     Ok(effects.into_plan(reply))
 }
 
@@ -183,8 +183,8 @@ fn srandmember(
     ensures kept { IsDataset held.now }
 {
     let mut effects = Effects::new(alloc);
-    let seen = look(alloc, held, key, given, &mut effects)?;
-    let reply = drawing::srandmember(alloc, count, given.word(), seen)?;
+    let live_entry = look(alloc, held, key, given, &mut effects)?;
+    let reply = drawing::srandmember(alloc, count, given.word(), live_entry)?;
     Ok(effects.into_plan(reply))
 }
 

@@ -12,11 +12,11 @@ use mr_value::SetValue;
 use std::alloc::{AllocError, Global};
 
 /// The set at a key: an empty one where the key is absent, and none where it holds another kind.
-pub fn set_at<'d>(seen: Option<&'d Entry>, empty: &'d SetValue) -> Option<&'d SetValue>
+pub fn set_at<'d>(live_entry: Option<&'d Entry>, empty: &'d SetValue) -> Option<&'d SetValue>
     requires { empty.now ≡ map.empty }
-    ensures { option_copied result ≡ held sets (option_copied seen.entry) }
+    ensures { option_copied result ≡ held sets (option_copied live_entry.entry) }
 {
-    let Some(entry) = seen else {
+    let Some(entry) = live_entry else {
         return Some(empty);
     };
     match &entry.value {

@@ -12,11 +12,11 @@ use mr_words::{Argument, Words};
 use std::alloc::{AllocError, Global};
 
 /// `SISMEMBER`
-pub fn sismember(alloc: Global, member: &Argument<'_>, seen: Option<&Entry>) -> Reply
-    ensures { view result ≡ (sismember_answer member.now (option_copied seen.entry)).reply }
+pub fn sismember(alloc: Global, member: &Argument<'_>, live_entry: Option<&Entry>) -> Reply
+    ensures { view result ≡ (sismember_answer member.now (option_copied live_entry.entry)).reply }
 {
     let empty = SetValue::new(alloc);
-    match set_at(seen, &empty) {
+    match set_at(live_entry, &empty) {
         Some(set) => flag(set.contains(member.as_slice())),
         None => wrong_kind(),
     }
@@ -26,12 +26,12 @@ pub fn sismember(alloc: Global, member: &Argument<'_>, seen: Option<&Entry>) -> 
 pub fn smismember(
     alloc: Global,
     members: &Words<'_, '_>,
-    seen: Option<&Entry>,
+    live_entry: Option<&Entry>,
 ) -> Result<Reply, AllocError>
-    ensures { IfOk result (λ r. view r ≡ (smismember_answer members.now (option_copied seen.entry)).reply) }
+    ensures { IfOk result (λ r. view r ≡ (smismember_answer members.now (option_copied live_entry.entry)).reply) }
 {
     let empty = SetValue::new(alloc);
-    match set_at(seen, &empty) {
+    match set_at(live_entry, &empty) {
         Some(set) => flags_of(alloc, members, set),
         None => Ok(wrong_kind()),
     }
@@ -49,22 +49,22 @@ fn flags_of(alloc: Global, members: &Words<'_, '_>, set: &SetValue) -> Result<Re
 }
 
 /// `SMEMBERS`
-pub fn smembers(alloc: Global, seen: Option<&Entry>) -> Result<Reply, AllocError>
-    ensures { IfOk result (λ r. view r ≡ (smembers_answer (option_copied seen.entry)).reply) }
+pub fn smembers(alloc: Global, live_entry: Option<&Entry>) -> Result<Reply, AllocError>
+    ensures { IfOk result (λ r. view r ≡ (smembers_answer (option_copied live_entry.entry)).reply) }
 {
     let empty = SetValue::new(alloc);
-    match set_at(seen, &empty) {
+    match set_at(live_entry, &empty) {
         Some(set) => bulks_of(alloc, set),
         None => Ok(wrong_kind()),
     }
 }
 
 /// `SCARD`
-pub fn scard(alloc: Global, seen: Option<&Entry>) -> Reply
-    ensures { view result ≡ (scard_answer (option_copied seen.entry)).reply }
+pub fn scard(alloc: Global, live_entry: Option<&Entry>) -> Reply
+    ensures { view result ≡ (scard_answer (option_copied live_entry.entry)).reply }
 {
     let empty = SetValue::new(alloc);
-    match set_at(seen, &empty) {
+    match set_at(live_entry, &empty) {
         Some(set) => count(set.len()),
         None => wrong_kind(),
     }

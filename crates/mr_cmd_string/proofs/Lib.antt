@@ -13,4 +13,4 @@ pub mod Laws
 pub mod SettingAllPlans
 pub mod WritingOver
 pub mod PlanLemmas
-pub mod LeftAndTold
+pub mod AfterAndReply

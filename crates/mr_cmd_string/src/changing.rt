@@ -17,10 +17,10 @@ use mr_words::Argument;
 use std::alloc::{AllocError, Global};
 
 // The text at a key: this one where nothing is there.
-fn text_at<'t>(none: &'t Bytes, seen: Option<&'t Entry>) -> Option<&'t Bytes>
-    ensures { option_copied result ≡ held (strings none.now) (option_copied seen.entry) }
+fn text_at<'t>(none: &'t Bytes, live_entry: Option<&'t Entry>) -> Option<&'t Bytes>
+    ensures { option_copied result ≡ held (strings none.now) (option_copied live_entry.entry) }
 {
-    match seen {
+    match live_entry {
         None => Some(none),
         Some(entry) => match &entry.value {
             Value::Text(text) => Some(text),
@@ -34,19 +34,19 @@ pub fn append(
     alloc: Global,
     key: &Argument<'_>,
     more: &Argument<'_>,
-    seen: Option<&Entry>,
+    live_entry: Option<&Entry>,
     effects: &mut Effects,
 ) -> Result<Reply, AllocError>
-    ensures { IfOk result (λ r. Takes (append_answer key.now more.now (option_copied seen.entry)) (view r) effects.old effects.new) }
+    ensures { IfOk result (λ r. Takes (append_answer key.now more.now (option_copied live_entry.entry)) (view r) effects.old effects.new) }
 {
     let none = Bytes::from_vec(Vec::new(alloc));
-    let Some(text) = text_at(&none, seen) else {
+    let Some(text) = text_at(&none, live_entry) else {
         return Ok(wrong_kind());
     };
     if !text.fits_with(more.as_slice()) {
         return Ok(too_long());
     }
-    if is_same(more.as_slice(), seen) {
+    if is_same(more.as_slice(), live_entry) {
         return Ok(count(text.as_slice().len()));
     }
     effects.push(Effect::Append {
@@ -57,10 +57,10 @@ pub fn append(
 }
 
 // Whether a key has the same text once this is put behind it: it is there, and nothing is put.
-fn is_same(more: &[u8], seen: Option<&Entry>) -> bool
-    ensures { result ≡ is_some (option_copied seen.entry) && (length more.now == 0) }
+fn is_same(more: &[u8], live_entry: Option<&Entry>) -> bool
+    ensures { result ≡ is_some (option_copied live_entry.entry) && (length more.now == 0) }
 {
-    seen.is_some() && more.is_empty()
+    live_entry.is_some() && more.is_empty()
 }
 
 /// `SETRANGE`. The text that is there is not copied.
@@ -69,13 +69,13 @@ pub fn setrange(
     key: &Argument<'_>,
     offset: usize,
     part: &Argument<'_>,
-    seen: Option<&Entry>,
+    live_entry: Option<&Entry>,
     effects: &mut Effects,
 ) -> Result<Reply, AllocError>
-    ensures { IfOk result (λ r. Takes (setrange_answer key.now offset part.now (option_copied seen.entry)) (view r) effects.old effects.new) }
+    ensures { IfOk result (λ r. Takes (setrange_answer key.now offset part.now (option_copied live_entry.entry)) (view r) effects.old effects.new) }
 {
     let none = Bytes::from_vec(Vec::new(alloc));
-    let Some(text) = text_at(&none, seen) else {
+    let Some(text) = text_at(&none, live_entry) else {
         return Ok(wrong_kind());
     };
     if part.as_slice().is_empty() {
@@ -122,10 +122,10 @@ fn overwritten_len(text: &[u8], offset: usize, part: &[u8]) -> usize
 }
 
 // The text at a key that is to be a number: that of 0 where nothing is there.
-fn number_text<'t>(seen: Option<&'t Entry>) -> Option<&'t [u8]>
-    ensures { option_copied result ≡ held (strings (codes "0")) (option_copied seen.entry) }
+fn number_text<'t>(live_entry: Option<&'t Entry>) -> Option<&'t [u8]>
+    ensures { option_copied result ≡ held (strings (codes "0")) (option_copied live_entry.entry) }
 {
-    match seen {
+    match live_entry {
         None => Some(b"0"),
         Some(entry) => match &entry.value {
             Value::Text(text) => Some(text.as_slice()),
@@ -139,12 +139,12 @@ pub fn increase(
     alloc: Global,
     key: &Argument<'_>,
     by: i64,
-    seen: Option<&Entry>,
+    live_entry: Option<&Entry>,
     effects: &mut Effects,
 ) -> Result<Reply, AllocError>
-    ensures { IfOk result (λ r. Takes (increase_answer key.now by (option_copied seen.entry)) (view r) effects.old effects.new) }
+    ensures { IfOk result (λ r. Takes (increase_answer key.now by (option_copied live_entry.entry)) (view r) effects.old effects.new) }
 {
-    let Some(text) = number_text(seen) else {
+    let Some(text) = number_text(live_entry) else {
         return Ok(wrong_kind());
     };
     let Some(number) = read_i64(text) else {
@@ -153,7 +153,7 @@ pub fn increase(
     let Some(sum) = number.checked_add(by) else {
         return Ok(overflow());
     };
-    if adds_nothing(by, seen) {
+    if adds_nothing(by, live_entry) {
         return Ok(integer(sum));
     }
     effects.push(Effect::Increase {
@@ -164,8 +164,8 @@ pub fn increase(
 }
 
 // Whether a key has the same number once this is added: it is there, and 0 is added.
-fn adds_nothing(by: i64, seen: Option<&Entry>) -> bool
-    ensures { result ≡ is_some (option_copied seen.entry) && int_eq by (pos 0) }
+fn adds_nothing(by: i64, live_entry: Option<&Entry>) -> bool
+    ensures { result ≡ is_some (option_copied live_entry.entry) && int_eq by (pos 0) }
 {
-    seen.is_some() && by == 0
+    live_entry.is_some() && by == 0
 }

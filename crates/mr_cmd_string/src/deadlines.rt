@@ -33,12 +33,12 @@ impl NewDeadline {
     }
 
     /// The deadline that a key gets.
-    pub fn until(self, seen: Option<&Entry>) -> Option<i64>
-        ensures { result ≡ until self (option_copied seen.entry) }
+    pub fn until(self, live_entry: Option<&Entry>) -> Option<i64>
+        ensures { result ≡ until self (option_copied live_entry.entry) }
     {
         match self {
             NewDeadline::Endless => None,
-            NewDeadline::Kept => deadline_of(seen),
+            NewDeadline::Kept => deadline_of(live_entry),
             NewDeadline::At(deadline) => Some(deadline),
         }
     }
@@ -67,10 +67,10 @@ impl NewDeadline {
 }
 
 // The deadline of a key.
-fn deadline_of(seen: Option<&Entry>) -> Option<i64>
-    ensures { result ≡ deadline_of (option_copied seen.entry) }
+fn deadline_of(live_entry: Option<&Entry>) -> Option<i64>
+    ensures { result ≡ deadline_of (option_copied live_entry.entry) }
 {
-    match seen {
+    match live_entry {
         None => None,
         Some(entry) => entry.deadline,
     }

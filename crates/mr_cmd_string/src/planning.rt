@@ -133,8 +133,8 @@ fn get(alloc: Global, held: &Dataset, key: &Argument<'_>, given: Given) -> Resul
     ensures { IfOk result (λ p. IsPlan (on_key key.now get_answer) given.now held.now (view p.reply) p.effects.items) }
 {
     let mut effects = Effects::new(alloc);
-    let seen = look(alloc, held, key, given, &mut effects)?;
-    let reply = texts::get(alloc, seen)?;
+    let live_entry = look(alloc, held, key, given, &mut effects)?;
+    let reply = texts::get(alloc, live_entry)?;
     Ok(effects.into_plan(reply))
 }
 
@@ -147,8 +147,8 @@ fn strlen(
     ensures { IfOk result (λ p. IsPlan (on_key key.now strlen_answer) given.now held.now (view p.reply) p.effects.items) }
 {
     let mut effects = Effects::new(alloc);
-    let seen = look(alloc, held, key, given, &mut effects)?;
-    let reply = texts::strlen(seen);
+    let live_entry = look(alloc, held, key, given, &mut effects)?;
+    let reply = texts::strlen(live_entry);
     Ok(effects.into_plan(reply))
 }
 
@@ -163,8 +163,8 @@ fn getrange(
     ensures { IfOk result (λ p. IsPlan (on_key key.now (getrange_answer first last)) given.now held.now (view p.reply) p.effects.items) }
 {
     let mut effects = Effects::new(alloc);
-    let seen = look(alloc, held, key, given, &mut effects)?;
-    let reply = texts::getrange(alloc, first, last, seen)?;
+    let live_entry = look(alloc, held, key, given, &mut effects)?;
+    let reply = texts::getrange(alloc, first, last, live_entry)?;
     Ok(effects.into_plan(reply))
 }
 
@@ -193,8 +193,8 @@ fn set(
     ensures { IfOk result (λ p. IsPlan (on_key key.now (set_answer key.now value.now rules.condition rules.reply rules.deadline)) given.now held.now (view p.reply) p.effects.items) }
 {
     let mut effects = Effects::new(alloc);
-    let seen = look(alloc, held, key, given, &mut effects)?;
-    let reply = setting::set(alloc, key, value, rules, seen, &mut effects)?;
+    let live_entry = look(alloc, held, key, given, &mut effects)?;
+    let reply = setting::set(alloc, key, value, rules, live_entry, &mut effects)?;
     Ok(effects.into_plan(reply))
 }
 
@@ -227,8 +227,8 @@ fn setnx(
     ensures { IfOk result (λ p. IsPlan (on_key key.now (setnx_answer key.now value.now)) given.now held.now (view p.reply) p.effects.items) }
 {
     let mut effects = Effects::new(alloc);
-    let seen = look(alloc, held, key, given, &mut effects)?;
-    let reply = setting::setnx(alloc, key, value, seen, &mut effects)?;
+    let live_entry = look(alloc, held, key, given, &mut effects)?;
+    let reply = setting::setnx(alloc, key, value, live_entry, &mut effects)?;
     Ok(effects.into_plan(reply))
 }
 
@@ -242,8 +242,8 @@ fn getset(
     ensures { IfOk result (λ p. IsPlan (on_key key.now (getset_answer key.now value.now)) given.now held.now (view p.reply) p.effects.items) }
 {
     let mut effects = Effects::new(alloc);
-    let seen = look(alloc, held, key, given, &mut effects)?;
-    let reply = setting::getset(alloc, key, value, seen, &mut effects)?;
+    let live_entry = look(alloc, held, key, given, &mut effects)?;
+    let reply = setting::getset(alloc, key, value, live_entry, &mut effects)?;
     Ok(effects.into_plan(reply))
 }
 
@@ -256,8 +256,8 @@ fn getdel(
     ensures { IfOk result (λ p. IsPlan (on_key key.now (getdel_answer key.now)) given.now held.now (view p.reply) p.effects.items) }
 {
     let mut effects = Effects::new(alloc);
-    let seen = look(alloc, held, key, given, &mut effects)?;
-    let reply = setting::getdel(alloc, key, seen, &mut effects)?;
+    let live_entry = look(alloc, held, key, given, &mut effects)?;
+    let reply = setting::getdel(alloc, key, live_entry, &mut effects)?;
     Ok(effects.into_plan(reply))
 }
 
@@ -271,8 +271,8 @@ fn append(
     ensures { IfOk result (λ p. IsPlan (on_key key.now (append_answer key.now more.now)) given.now held.now (view p.reply) p.effects.items) }
 {
     let mut effects = Effects::new(alloc);
-    let seen = look(alloc, held, key, given, &mut effects)?;
-    let reply = changing::append(alloc, key, more, seen, &mut effects)?;
+    let live_entry = look(alloc, held, key, given, &mut effects)?;
+    let reply = changing::append(alloc, key, more, live_entry, &mut effects)?;
     Ok(effects.into_plan(reply))
 }
 
@@ -287,8 +287,8 @@ fn setrange(
     ensures { IfOk result (λ p. IsPlan (on_key key.now (setrange_answer key.now offset part.now)) given.now held.now (view p.reply) p.effects.items) }
 {
     let mut effects = Effects::new(alloc);
-    let seen = look(alloc, held, key, given, &mut effects)?;
-    let reply = changing::setrange(alloc, key, offset, part, seen, &mut effects)?;
+    let live_entry = look(alloc, held, key, given, &mut effects)?;
+    let reply = changing::setrange(alloc, key, offset, part, live_entry, &mut effects)?;
     Ok(effects.into_plan(reply))
 }
 
@@ -303,7 +303,7 @@ fn increase(
     ensures plan { IfOk result (λ p. IsPlan (on_key key.now (increase_answer key.now by)) given.now held.now (view p.reply) p.effects.items) }
 {
     let mut effects = Effects::new(alloc);
-    let seen = look(alloc, held, key, given, &mut effects)?;
-    let reply = changing::increase(alloc, key, by, seen, &mut effects)?;
+    let live_entry = look(alloc, held, key, given, &mut effects)?;
+    let reply = changing::increase(alloc, key, by, live_entry, &mut effects)?;
     Ok(effects.into_plan(reply))
 }

@@ -31,14 +31,14 @@ pub fn set(
     key: &Argument<'_>,
     text: &Argument<'_>,
     rules: SetRules,
-    seen: Option<&Entry>,
+    live_entry: Option<&Entry>,
     effects: &mut Effects,
 ) -> Result<Reply, AllocError>
-    ensures { IfOk result (λ r. Takes (set_answer key.now text.now rules.condition rules.reply rules.deadline (option_copied seen.entry)) (view r) effects.old effects.new) }
+    ensures { IfOk result (λ r. Takes (set_answer key.now text.now rules.condition rules.reply rules.deadline (option_copied live_entry.entry)) (view r) effects.old effects.new) }
 {
     match rules.reply {
-        SetReply::Done => set_and_say(alloc, key, text, rules, seen, effects),
-        SetReply::Before => set_and_get(alloc, key, text, rules, seen, effects),
+        SetReply::Done => set_and_say(alloc, key, text, rules, live_entry, effects),
+        SetReply::Before => set_and_get(alloc, key, text, rules, live_entry, effects),
     }
 }
 
@@ -48,15 +48,15 @@ fn set_and_say(
     key: &Argument<'_>,
     text: &Argument<'_>,
     rules: SetRules,
-    seen: Option<&Entry>,
+    live_entry: Option<&Entry>,
     effects: &mut Effects,
 ) -> Result<Reply, AllocError>
-    ensures { IfOk result (λ r. Takes (set_answer key.now text.now rules.condition asked.Done rules.deadline (option_copied seen.entry)) (view r) effects.old effects.new) }
+    ensures { IfOk result (λ r. Takes (set_answer key.now text.now rules.condition asked.Done rules.deadline (option_copied live_entry.entry)) (view r) effects.old effects.new) }
 {
-    if !allows(rules.condition, seen) {
+    if !allows(rules.condition, live_entry) {
         return Ok(Reply::NullBulk);
     }
-    put(alloc, key, text, rules.deadline, done(), seen, effects)
+    put(alloc, key, text, rules.deadline, done(), live_entry, effects)
 }
 
 // SET with GET.
@@ -65,19 +65,19 @@ fn set_and_get(
     key: &Argument<'_>,
     text: &Argument<'_>,
     rules: SetRules,
-    seen: Option<&Entry>,
+    live_entry: Option<&Entry>,
     effects: &mut Effects,
 ) -> Result<Reply, AllocError>
-    ensures { IfOk result (λ r. Takes (set_answer key.now text.now rules.condition asked.Before rules.deadline (option_copied seen.entry)) (view r) effects.old effects.new) }
+    ensures { IfOk result (λ r. Takes (set_answer key.now text.now rules.condition asked.Before rules.deadline (option_copied live_entry.entry)) (view r) effects.old effects.new) }
 {
-    if holds_other(seen) {
+    if holds_other(live_entry) {
         return Ok(wrong_kind());
     }
-    let before = get(alloc, seen)?;
-    if !allows(rules.condition, seen) {
+    let before = get(alloc, live_entry)?;
+    if !allows(rules.condition, live_entry) {
         return Ok(before);
     }
-    put(alloc, key, text, rules.deadline, before, seen, effects)
+    put(alloc, key, text, rules.deadline, before, live_entry, effects)
 }
 
 /// `SETNX`
@@ -85,12 +85,12 @@ pub fn setnx(
     alloc: Global,
     key: &Argument<'_>,
     text: &Argument<'_>,
-    seen: Option<&Entry>,
+    live_entry: Option<&Entry>,
     effects: &mut Effects,
 ) -> Result<Reply, AllocError>
-    ensures { IfOk result (λ r. Takes (setnx_answer key.now text.now (option_copied seen.entry)) (view r) effects.old effects.new) }
+    ensures { IfOk result (λ r. Takes (setnx_answer key.now text.now (option_copied live_entry.entry)) (view r) effects.old effects.new) }
 {
-    if seen.is_some() {
+    if live_entry.is_some() {
         return Ok(count(0));
     }
     put(
@@ -99,7 +99,7 @@ pub fn setnx(
         text,
         NewDeadline::Endless,
         count(1),
-        seen,
+        live_entry,
         effects,
     )
 }
@@ -109,29 +109,29 @@ pub fn getset(
     alloc: Global,
     key: &Argument<'_>,
     text: &Argument<'_>,
-    seen: Option<&Entry>,
+    live_entry: Option<&Entry>,
     effects: &mut Effects,
 ) -> Result<Reply, AllocError>
-    ensures { IfOk result (λ r. Takes (getset_answer key.now text.now (option_copied seen.entry)) (view r) effects.old effects.new) }
+    ensures { IfOk result (λ r. Takes (getset_answer key.now text.now (option_copied live_entry.entry)) (view r) effects.old effects.new) }
 {
     let rules = SetRules {
         condition: None,
         reply: SetReply::Before,
         deadline: NewDeadline::Endless,
     };
-    set_and_get(alloc, key, text, rules, seen, effects)
+    set_and_get(alloc, key, text, rules, live_entry, effects)
 }
 
 /// `GETDEL`
 pub fn getdel(
     alloc: Global,
     key: &Argument<'_>,
-    seen: Option<&Entry>,
+    live_entry: Option<&Entry>,
     effects: &mut Effects,
 ) -> Result<Reply, AllocError>
-    ensures { IfOk result (λ r. Takes (getdel_answer key.now (option_copied seen.entry)) (view r) effects.old effects.new) }
+    ensures { IfOk result (λ r. Takes (getdel_answer key.now (option_copied live_entry.entry)) (view r) effects.old effects.new) }
 {
-    let Some(entry) = seen else {
+    let Some(entry) = live_entry else {
         return Ok(Reply::NullBulk);
     };
     match &entry.value {
@@ -164,33 +164,33 @@ fn put(
     text: &Argument<'_>,
     deadline: NewDeadline,
     reply: Reply,
-    seen: Option<&Entry>,
+    live_entry: Option<&Entry>,
     effects: &mut Effects,
 ) -> Result<Reply, AllocError>
-    ensures { IfOk result (λ r. Takes (put key.now text.now deadline (view reply) (option_copied seen.entry)) (view r) effects.old effects.new) }
+    ensures { IfOk result (λ r. Takes (put key.now text.now deadline (view reply) (option_copied live_entry.entry)) (view r) effects.old effects.new) }
 {
-    if !holds_until(text.as_slice(), deadline.until(seen), seen) {
+    if !holds_until(text.as_slice(), deadline.until(live_entry), live_entry) {
         effects.push(deadline.effect(alloc, key, text)?)?;
     }
     Ok(reply)
 }
 
 // Whether the condition lets the key be set.
-fn allows(condition: Option<SetCondition>, seen: Option<&Entry>) -> bool
-    ensures { result ≡ allows condition (option_copied seen.entry) }
+fn allows(condition: Option<SetCondition>, live_entry: Option<&Entry>) -> bool
+    ensures { result ≡ allows condition (option_copied live_entry.entry) }
 {
     match condition {
         None => true,
-        Some(SetCondition::Absent) => seen.is_none(),
-        Some(SetCondition::Present) => seen.is_some(),
+        Some(SetCondition::Absent) => live_entry.is_none(),
+        Some(SetCondition::Present) => live_entry.is_some(),
     }
 }
 
 // Whether the key holds another kind of value.
-fn holds_other(seen: Option<&Entry>) -> bool
-    ensures { result ≡ holds_other (option_copied seen.entry) }
+fn holds_other(live_entry: Option<&Entry>) -> bool
+    ensures { result ≡ holds_other (option_copied live_entry.entry) }
 {
-    match seen {
+    match live_entry {
         None => false,
         Some(entry) => is_other(&entry.value),
     }
@@ -206,17 +206,17 @@ fn is_other(value: &Value) -> bool
 }
 
 /// Whether the entry is this text already, without a deadline.
-pub fn is_plain(text: &[u8], seen: Option<&Entry>) -> bool
-    ensures { result ≡ is_plain text.now (option_copied seen.entry) }
+pub fn is_plain(text: &[u8], live_entry: Option<&Entry>) -> bool
+    ensures { result ≡ is_plain text.now (option_copied live_entry.entry) }
 {
-    holds_until(text, None, seen)
+    holds_until(text, None, live_entry)
 }
 
 // Whether the entry is this text already, with this deadline.
-fn holds_until(text: &[u8], deadline: Option<i64>, seen: Option<&Entry>) -> bool
-    ensures { result ≡ holds_until text.now deadline (option_copied seen.entry) }
+fn holds_until(text: &[u8], deadline: Option<i64>, live_entry: Option<&Entry>) -> bool
+    ensures { result ≡ holds_until text.now deadline (option_copied live_entry.entry) }
 {
-    let Some(entry) = seen else {
+    let Some(entry) = live_entry else {
         return false;
     };
     is_same(entry.deadline, deadline) && is_text(text, &entry.value)

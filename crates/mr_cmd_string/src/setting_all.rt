@@ -93,9 +93,9 @@ fn find_changed(
         past: false,
     };
     for (key, text) in values.iter() {
-        let (seen, past) = see(held, key, given);
+        let (live_entry, past) = see(held, key, given);
         changed.past |= past;
-        if !is_plain(text.as_slice(), seen) {
+        if !is_plain(text.as_slice(), live_entry) {
             changed.texts.push(
                 Word::copied(alloc, key)?,
                 Word::copied(alloc, text.as_slice())?,
@@ -113,8 +113,8 @@ fn find_any(held: &Dataset, pairs: &Pairs<'_, '_>, given: Given) -> (bool, bool)
     let mut any_there = false;
     let mut any_past = false;
     for (key, _) in pairs.iter() {
-        let (seen, past) = see(held, key, given);
-        any_there |= seen.is_some();
+        let (live_entry, past) = see(held, key, given);
+        any_there |= live_entry.is_some();
         any_past |= past;
     }
     (any_there, any_past)

@@ -14,10 +14,10 @@ use mr_words::Words;
 use std::alloc::{AllocError, Global};
 
 /// `GET`
-pub fn get(alloc: Global, seen: Option<&Entry>) -> Result<Reply, AllocError>
-    ensures { IfOk result (λ r. view r ≡ get_reply (option_copied seen.entry)) }
+pub fn get(alloc: Global, live_entry: Option<&Entry>) -> Result<Reply, AllocError>
+    ensures { IfOk result (λ r. view r ≡ get_reply (option_copied live_entry.entry)) }
 {
-    let Some(entry) = seen else {
+    let Some(entry) = live_entry else {
         return Ok(Reply::NullBulk);
     };
     match &entry.value {
@@ -27,10 +27,10 @@ pub fn get(alloc: Global, seen: Option<&Entry>) -> Result<Reply, AllocError>
 }
 
 /// `STRLEN`
-pub fn strlen(seen: Option<&Entry>) -> Reply
-    ensures { view result ≡ strlen_reply (option_copied seen.entry) }
+pub fn strlen(live_entry: Option<&Entry>) -> Reply
+    ensures { view result ≡ strlen_reply (option_copied live_entry.entry) }
 {
-    let Some(entry) = seen else {
+    let Some(entry) = live_entry else {
         return count(0);
     };
     match &entry.value {
@@ -44,11 +44,11 @@ pub fn getrange(
     alloc: Global,
     first: i64,
     last: i64,
-    seen: Option<&Entry>,
+    live_entry: Option<&Entry>,
 ) -> Result<Reply, AllocError>
-    ensures { IfOk result (λ r. view r ≡ getrange_reply first last (option_copied seen.entry)) }
+    ensures { IfOk result (λ r. view r ≡ getrange_reply first last (option_copied live_entry.entry)) }
 {
-    let Some(entry) = seen else {
+    let Some(entry) = live_entry else {
         return Ok(Reply::Bulk(Vec::new(alloc)));
     };
     let Value::Text(text) = &entry.value else {
@@ -84,10 +84,10 @@ pub fn mget(
     Ok(Reply::Array(replies))
 }
 
-fn found(alloc: Global, seen: Option<&Entry>) -> Result<Reply, AllocError>
-    ensures { IfOk result (λ r. view r ≡ found (option_copied seen.entry)) }
+fn found(alloc: Global, live_entry: Option<&Entry>) -> Result<Reply, AllocError>
+    ensures { IfOk result (λ r. view r ≡ found (option_copied live_entry.entry)) }
 {
-    match seen {
+    match live_entry {
         None => Ok(Reply::NullBulk),
         Some(entry) => text_or_null(alloc, &entry.value),
     }

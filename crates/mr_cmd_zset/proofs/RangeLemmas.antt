@@ -90,11 +90,11 @@ some_limited limit l (negsuc o) count pairs n s m found from many long up start 
 
 -- what a command that only tells of the set at a key answers
 
-pub told_of : (answer : Scores → Tree) (seen : Option Entry) (scores : Scores) → Some scores ≡ held sorted_sets seen → answer scores ≡ (telling sorted_sets answer seen).reply
-told_of answer seen scores e = ap (λ (o : Option Scores). (told sorted_sets answer o seen).reply) e
+pub told_of : (answer : Scores → Tree) (live_entry : Option Entry) (scores : Scores) → Some scores ≡ held sorted_sets live_entry → answer scores ≡ (telling sorted_sets answer live_entry).reply
+told_of answer live_entry scores e = ap (λ (o : Option Scores). (told sorted_sets answer o live_entry).reply) e
 
-pub no_set : (answer : Scores → Tree) (seen : Option Entry) → None ≡ held sorted_sets seen → wrong_kind ≡ (telling sorted_sets answer seen).reply
-no_set answer seen e = ap (λ (o : Option Scores). (told sorted_sets answer o seen).reply) e
+pub no_set : (answer : Scores → Tree) (live_entry : Option Entry) → None ≡ held sorted_sets live_entry → wrong_kind ≡ (telling sorted_sets answer live_entry).reply
+no_set answer live_entry e = ap (λ (o : Option Scores). (told sorted_sets answer o live_entry).reply) e
 
 pairs_ordered : (order : Order) (scores : Scores) → ordered order (pairs_of scores) ≡ pairs_in order scores
 pairs_ordered Ascending scores = refl

@@ -27,13 +27,13 @@ pub fn zadd(
     key: &Argument<'_>,
     rules: Rules,
     pairs: &ScoredMembers<'_, '_>,
-    seen: Option<&Entry>,
+    live_entry: Option<&Entry>,
     effects: &mut Effects,
 ) -> Result<Reply, AllocError>
-    ensures { IfOk result (λ r. Takes (changing sorted_sets (zadd rules.condition rules.comparison key.now rules.reply pairs.now) (option_copied seen.entry)) (view r) effects.old effects.new) }
+    ensures { IfOk result (λ r. Takes (changing sorted_sets (zadd rules.condition rules.comparison key.now rules.reply pairs.now) (option_copied live_entry.entry)) (view r) effects.old effects.new) }
 {
     let empty = ZSet::new(alloc);
-    let Some(set) = set_at(seen, &empty) else {
+    let Some(set) = set_at(live_entry, &empty) else {
         return Ok(wrong_kind());
     };
     let reply = add_to(alloc, key, rules, pairs, set, effects)?;
@@ -143,13 +143,13 @@ pub fn zincrby(
     key: &Argument<'_>,
     by: i64,
     member: &Argument<'_>,
-    seen: Option<&Entry>,
+    live_entry: Option<&Entry>,
     effects: &mut Effects,
 ) -> Result<Reply, AllocError>
-    ensures { IfOk result (λ r. Takes (changing sorted_sets (zincrby key.now by member.now) (option_copied seen.entry)) (view r) effects.old effects.new) }
+    ensures { IfOk result (λ r. Takes (changing sorted_sets (zincrby key.now by member.now) (option_copied live_entry.entry)) (view r) effects.old effects.new) }
 {
     let empty = ZSet::new(alloc);
-    let Some(set) = set_at(seen, &empty) else {
+    let Some(set) = set_at(live_entry, &empty) else {
         return Ok(wrong_kind());
     };
     let reply = increase_in(alloc, key, by, member.as_slice(), set, effects)?;

@@ -57,8 +57,8 @@ fn planned(
     ensures kept { IsDataset held.now }
 {
     let mut effects = Effects::new(alloc);
-    let seen = look(alloc, held, key_of(ask), given, &mut effects)?;
-    let reply = answer_of(alloc, ask, seen, &mut effects)?;
+    let live_entry = look(alloc, held, key_of(ask), given, &mut effects)?;
+    let reply = answer_of(alloc, ask, live_entry, &mut effects)?;
     Ok(effects.into_plan(reply))
 }
 
@@ -86,10 +86,10 @@ fn key_of<'c, 'a>(ask: &'c ZSetAsk<'a, '_>) -> &'c Argument<'a>
 fn answer_of(
     alloc: Global,
     ask: &ZSetAsk<'_, '_>,
-    seen: Option<&Entry>,
+    live_entry: Option<&Entry>,
     effects: &mut Effects,
 ) -> Result<Reply, AllocError>
-    ensures { IfOk result (λ r. Takes (answer_of ask.now (option_copied seen.entry)) (view r) effects.old effects.new) }
+    ensures { IfOk result (λ r. Takes (answer_of ask.now (option_copied live_entry.entry)) (view r) effects.old effects.new) }
 {
     match ask {
         ZSetAsk::ZAdd {
@@ -104,41 +104,41 @@ fn answer_of(
                 comparison: *comparison,
                 reply: *reply,
             };
-            adding::zadd(alloc, key, rules, pairs, seen, effects)
+            adding::zadd(alloc, key, rules, pairs, live_entry, effects)
         }
         ZSetAsk::ZIncrBy { key, by, member } => {
-            adding::zincrby(alloc, key, *by, member, seen, effects)
+            adding::zincrby(alloc, key, *by, member, live_entry, effects)
         }
         ZSetAsk::ZRem { key, members } => {
-            removing::zrem(alloc, key, members, seen, effects)
+            removing::zrem(alloc, key, members, live_entry, effects)
         }
         ZSetAsk::TakePairs { key, order, count } => {
-            removing::take_pairs(alloc, key, *order, *count, seen, effects)
+            removing::take_pairs(alloc, key, *order, *count, live_entry, effects)
         }
         ZSetAsk::ZRemRangeByRank { key, first, last } => {
-            removing::zremrangebyrank(alloc, key, *first, *last, seen, effects)
+            removing::zremrangebyrank(alloc, key, *first, *last, live_entry, effects)
         }
         ZSetAsk::ZRemRangeByScore { key, min, max } => {
-            removing::zremrangebyscore(alloc, key, *min, *max, seen, effects)
+            removing::zremrangebyscore(alloc, key, *min, *max, live_entry, effects)
         }
-        ZSetAsk::ZCard { key: _ } => Ok(telling::zcard(alloc, seen)),
+        ZSetAsk::ZCard { key: _ } => Ok(telling::zcard(alloc, live_entry)),
         ZSetAsk::ZCount { key: _, min, max } => {
-            Ok(telling::zcount(alloc, *min, *max, seen))
+            Ok(telling::zcount(alloc, *min, *max, live_entry))
         }
-        ZSetAsk::ZScore { key: _, member } => telling::zscore(alloc, member, seen),
-        ZSetAsk::ZMScore { key: _, members } => telling::zmscore(alloc, members, seen),
+        ZSetAsk::ZScore { key: _, member } => telling::zscore(alloc, member, live_entry),
+        ZSetAsk::ZMScore { key: _, members } => telling::zmscore(alloc, members, live_entry),
         ZSetAsk::GetRank {
             key: _,
             member,
             order,
-        } => Ok(telling::rank(alloc, *order, member, seen)),
+        } => Ok(telling::rank(alloc, *order, member, live_entry)),
         ZSetAsk::RangeByRank {
             key: _,
             first,
             last,
             order,
             reply,
-        } => ranges::by_rank(alloc, *first, *last, *order, *reply, seen),
+        } => ranges::by_rank(alloc, *first, *last, *order, *reply, live_entry),
         ZSetAsk::RangeByScore {
             key: _,
             min,
@@ -146,6 +146,6 @@ fn answer_of(
             order,
             limit,
             reply,
-        } => ranges::by_score(alloc, *min, *max, *order, *limit, *reply, seen),
+        } => ranges::by_score(alloc, *min, *max, *order, *limit, *reply, live_entry),
     }
 }

@@ -22,12 +22,12 @@ pub fn by_rank(
     last: i64,
     order: Order,
     shape: RangeReply,
-    seen: Option<&Entry>,
+    live_entry: Option<&Entry>,
 ) -> Result<Reply, AllocError>
-    ensures { IfOk result (λ r. view r ≡ (by_rank_answer first last order shape (option_copied seen.entry)).reply) }
+    ensures { IfOk result (λ r. view r ≡ (by_rank_answer first last order shape (option_copied live_entry.entry)).reply) }
 {
     let empty = ZSet::new(alloc);
-    let Some(set) = set_at(seen, &empty) else {
+    let Some(set) = set_at(live_entry, &empty) else {
         return Ok(wrong_kind());
     };
     let Some((first, last)) = window(first, last, set.len()) else {
@@ -47,12 +47,12 @@ pub fn by_score(
     order: Order,
     limit: Option<Limit>,
     shape: RangeReply,
-    seen: Option<&Entry>,
+    live_entry: Option<&Entry>,
 ) -> Result<Reply, AllocError>
-    ensures { IfOk result (λ r. view r ≡ (by_score_answer min max order limit shape (option_copied seen.entry)).reply) }
+    ensures { IfOk result (λ r. view r ≡ (by_score_answer min max order limit shape (option_copied live_entry.entry)).reply) }
 {
     let empty = ZSet::new(alloc);
-    let Some(set) = set_at(seen, &empty) else {
+    let Some(set) = set_at(live_entry, &empty) else {
         return Ok(wrong_kind());
     };
     let (first, past) = set.places(min, max);

@@ -32,13 +32,13 @@ pub fn zrem(
     alloc: Global,
     key: &Argument<'_>,
     members: &Words<'_, '_>,
-    seen: Option<&Entry>,
+    live_entry: Option<&Entry>,
     effects: &mut Effects,
 ) -> Result<Reply, AllocError>
-    ensures { IfOk result (λ r. Takes (changing sorted_sets (zrem key.now members.now) (option_copied seen.entry)) (view r) effects.old effects.new) }
+    ensures { IfOk result (λ r. Takes (changing sorted_sets (zrem key.now members.now) (option_copied live_entry.entry)) (view r) effects.old effects.new) }
 {
     let empty = ZSet::new(alloc);
-    let Some(set) = set_at(seen, &empty) else {
+    let Some(set) = set_at(live_entry, &empty) else {
         return Ok(wrong_kind());
     };
     let reply = remove_named(alloc, key, members, set, effects)?;
@@ -83,13 +83,13 @@ pub fn zremrangebyrank(
     key: &Argument<'_>,
     first: i64,
     last: i64,
-    seen: Option<&Entry>,
+    live_entry: Option<&Entry>,
     effects: &mut Effects,
 ) -> Result<Reply, AllocError>
-    ensures { IfOk result (λ r. Takes (changing sorted_sets (zremrangebyrank key.now first last) (option_copied seen.entry)) (view r) effects.old effects.new) }
+    ensures { IfOk result (λ r. Takes (changing sorted_sets (zremrangebyrank key.now first last) (option_copied live_entry.entry)) (view r) effects.old effects.new) }
 {
     let empty = ZSet::new(alloc);
-    let Some(set) = set_at(seen, &empty) else {
+    let Some(set) = set_at(live_entry, &empty) else {
         return Ok(wrong_kind());
     };
     let pairs = pairs_at(alloc, set, first, last)?;
@@ -113,13 +113,13 @@ pub fn zremrangebyscore(
     key: &Argument<'_>,
     min: Bound,
     max: Bound,
-    seen: Option<&Entry>,
+    live_entry: Option<&Entry>,
     effects: &mut Effects,
 ) -> Result<Reply, AllocError>
-    ensures { IfOk result (λ r. Takes (changing sorted_sets (zremrangebyscore key.now min max) (option_copied seen.entry)) (view r) effects.old effects.new) }
+    ensures { IfOk result (λ r. Takes (changing sorted_sets (zremrangebyscore key.now min max) (option_copied live_entry.entry)) (view r) effects.old effects.new) }
 {
     let empty = ZSet::new(alloc);
-    let Some(set) = set_at(seen, &empty) else {
+    let Some(set) = set_at(live_entry, &empty) else {
         return Ok(wrong_kind());
     };
     let pairs = set.by_score(min, max)?;
@@ -159,13 +159,13 @@ pub fn take_pairs(
     key: &Argument<'_>,
     order: Order,
     count: Option<usize>,
-    seen: Option<&Entry>,
+    live_entry: Option<&Entry>,
     effects: &mut Effects,
 ) -> Result<Reply, AllocError>
-    ensures { IfOk result (λ r. Takes (changing sorted_sets (take_pairs key.now order count) (option_copied seen.entry)) (view r) effects.old effects.new) }
+    ensures { IfOk result (λ r. Takes (changing sorted_sets (take_pairs key.now order count) (option_copied live_entry.entry)) (view r) effects.old effects.new) }
 {
     let empty = ZSet::new(alloc);
-    let Some(set) = set_at(seen, &empty) else {
+    let Some(set) = set_at(live_entry, &empty) else {
         return Ok(wrong_kind());
     };
     let reply = take_from(alloc, key, order, count.unwrap_or(1), set, effects)?;

@@ -15,11 +15,11 @@ use std::alloc::{AllocError, Global};
 use std::borrow::CowSlice;
 
 /// The sorted set at a key: an empty one where the key is absent, and none where it holds another kind.
-pub fn set_at<'d>(seen: Option<&'d Entry>, empty: &'d ZSet) -> Option<&'d ZSet>
+pub fn set_at<'d>(live_entry: Option<&'d Entry>, empty: &'d ZSet) -> Option<&'d ZSet>
     requires { empty.now ≡ map.empty }
-    ensures { option_copied result ≡ held sorted_sets (option_copied seen.entry) }
+    ensures { option_copied result ≡ held sorted_sets (option_copied live_entry.entry) }
 {
-    let Some(entry) = seen else {
+    let Some(entry) = live_entry else {
         return Some(empty);
     };
     match &entry.value {

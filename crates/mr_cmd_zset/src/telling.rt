@@ -13,22 +13,22 @@ use mr_zset_options::Order;
 use std::alloc::{AllocError, Global};
 
 /// `ZCARD`
-pub fn zcard(alloc: Global, seen: Option<&Entry>) -> Reply
-    ensures { view result ≡ (zcard_answer (option_copied seen.entry)).reply }
+pub fn zcard(alloc: Global, live_entry: Option<&Entry>) -> Reply
+    ensures { view result ≡ (zcard_answer (option_copied live_entry.entry)).reply }
 {
     let empty = ZSet::new(alloc);
-    match set_at(seen, &empty) {
+    match set_at(live_entry, &empty) {
         Some(set) => count(set.len()),
         None => wrong_kind(),
     }
 }
 
 /// `ZCOUNT`
-pub fn zcount(alloc: Global, min: Bound, max: Bound, seen: Option<&Entry>) -> Reply
-    ensures { view result ≡ (zcount_answer min max (option_copied seen.entry)).reply }
+pub fn zcount(alloc: Global, min: Bound, max: Bound, live_entry: Option<&Entry>) -> Reply
+    ensures { view result ≡ (zcount_answer min max (option_copied live_entry.entry)).reply }
 {
     let empty = ZSet::new(alloc);
-    match set_at(seen, &empty) {
+    match set_at(live_entry, &empty) {
         Some(set) => count(set.count(min, max)),
         None => wrong_kind(),
     }
@@ -38,12 +38,12 @@ pub fn zcount(alloc: Global, min: Bound, max: Bound, seen: Option<&Entry>) -> Re
 pub fn zscore(
     alloc: Global,
     member: &Argument<'_>,
-    seen: Option<&Entry>,
+    live_entry: Option<&Entry>,
 ) -> Result<Reply, AllocError>
-    ensures { IfOk result (λ r. view r ≡ (zscore_answer member.now (option_copied seen.entry)).reply) }
+    ensures { IfOk result (λ r. view r ≡ (zscore_answer member.now (option_copied live_entry.entry)).reply) }
 {
     let empty = ZSet::new(alloc);
-    match set_at(seen, &empty) {
+    match set_at(live_entry, &empty) {
         Some(set) => score_or_nil(alloc, set.score(member.as_slice())),
         None => Ok(wrong_kind()),
     }
@@ -53,12 +53,12 @@ pub fn zscore(
 pub fn zmscore(
     alloc: Global,
     members: &Words<'_, '_>,
-    seen: Option<&Entry>,
+    live_entry: Option<&Entry>,
 ) -> Result<Reply, AllocError>
-    ensures { IfOk result (λ r. view r ≡ (zmscore_answer members.now (option_copied seen.entry)).reply) }
+    ensures { IfOk result (λ r. view r ≡ (zmscore_answer members.now (option_copied live_entry.entry)).reply) }
 {
     let empty = ZSet::new(alloc);
-    match set_at(seen, &empty) {
+    match set_at(live_entry, &empty) {
         Some(set) => scores_in(alloc, members, set),
         None => Ok(wrong_kind()),
     }
@@ -85,11 +85,11 @@ fn score_or_nil(alloc: Global, score: Option<i64>) -> Result<Reply, AllocError>
 }
 
 /// `ZRANK`, `ZREVRANK`
-pub fn rank(alloc: Global, order: Order, member: &Argument<'_>, seen: Option<&Entry>) -> Reply
-    ensures { view result ≡ (rank_answer order member.now (option_copied seen.entry)).reply }
+pub fn rank(alloc: Global, order: Order, member: &Argument<'_>, live_entry: Option<&Entry>) -> Reply
+    ensures { view result ≡ (rank_answer order member.now (option_copied live_entry.entry)).reply }
 {
     let empty = ZSet::new(alloc);
-    let Some(set) = set_at(seen, &empty) else {
+    let Some(set) = set_at(live_entry, &empty) else {
         return wrong_kind();
     };
     match set.rank(member.as_slice()) {

@@ -3,5 +3,5 @@ pub mod TakenLemmas
 pub mod Laws
 pub mod Changing
 pub mod PlanLemmas
-pub mod LeftAndTold
+pub mod AfterAndReply
 pub mod OnceLemmas

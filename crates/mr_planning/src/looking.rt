@@ -23,7 +23,7 @@ fn is_past(now: i64, deadline: Option<i64>) -> bool
 
 /// What is seen at a key, and whether the key is past. It takes no memory.
 pub fn see<'d>(held: &'d Dataset, key: &[u8], given: Given) -> (Option<&'d Entry>, bool)
-    ensures seen { option_copied result.0 ≡ live given.now (map.get held.now key.now) }
+    ensures live_entry { option_copied result.0 ≡ live given.now (map.get held.now key.now) }
     ensures past { result.1 ≡ is_stored given.now true (map.get held.now key.now) }
 {
     match held.entry(key) {
@@ -41,7 +41,7 @@ pub fn look<'d>(
     given: Given,
     effects: &mut Effects,
 ) -> Result<Option<&'d Entry>, AllocError>
-    ensures seen { IfOk result (λ e. option_copied e ≡ live given.now (map.get held.now key.now)) }
+    ensures live_entry { IfOk result (λ e. option_copied e ≡ live given.now (map.get held.now key.now)) }
     ensures past { IfOk result (λ _. effects.new ≡ effects.old ++ dels (past given.now (key.now ∷ []) held.now)) }
     ensures err { OnErr result (live given.now (map.get held.now key.now) ≡ None) }
     ensures kept { IsDataset held.now }

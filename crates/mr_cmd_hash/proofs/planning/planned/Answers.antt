@@ -12,17 +12,17 @@ use Rattle.mr_cmd_hash.proofs.planning.planned.Goals as goal
 pub returns-in_default-clause-plan : goal.returns-in_default-clause-plan
 returns-in_default-clause-plan c =
     let k = key_of c.args.ask.now in
-    let seen : option_copied c.in_ok-seen.seen ≡ live c.args.given.now (get c.args.held.now k) = rw c.key_of.ensures at c.in_ok-seen.ensures.seen in
-    let past : c.look.new.effects ≡ c.new-effects.result ++ dels (past c.args.given.now (k ∷ []) c.args.held.now) = rw c.key_of.ensures at c.in_ok-seen.ensures.past in
-    let none : held hashes (option_copied c.in_ok-seen.seen) ≡ None = search rules in
-    key_plan k (answer_of c.args.ask.now) _ _ (option_copied c.in_ok-seen.seen) _ _ _ _ _ seen c.new-effects.ensures past c.into_plan.ensures.effects
+    let live_entry : option_copied c.in_ok-live_entry.live_entry ≡ live c.args.given.now (get c.args.held.now k) = rw c.key_of.ensures at c.in_ok-live_entry.ensures.live_entry in
+    let past : c.look.new.effects ≡ c.new-effects.result ++ dels (past c.args.given.now (k ∷ []) c.args.held.now) = rw c.key_of.ensures at c.in_ok-live_entry.ensures.past in
+    let none : held hashes (option_copied c.in_ok-live_entry.live_entry) ≡ None = search rules in
+    key_plan k (answer_of c.args.ask.now) _ _ (option_copied c.in_ok-live_entry.live_entry) _ _ _ _ _ live_entry c.new-effects.ensures past c.into_plan.ensures.effects
     (takes_wrong c.args.ask.now _ _ _ none (ap view c.into_plan.ensures.reply ∙ c.wrong_kind.ensures))
 
 pub returns-clause-plan : goal.returns-clause-plan
 returns-clause-plan c =
     let k = key_of c.args.ask.now in
-    let seen : option_copied c.in_ok-seen.seen ≡ live c.args.given.now (get c.args.held.now k) = rw c.key_of.ensures at c.in_ok-seen.ensures.seen in
-    let past : c.look.new.effects ≡ c.new-effects.result ++ dels (past c.args.given.now (k ∷ []) c.args.held.now) = rw c.key_of.ensures at c.in_ok-seen.ensures.past in
-    let some : held hashes (option_copied c.in_ok-seen.seen) ≡ Some c.in-Some.hash.now = search rules in
-    key_plan k (answer_of c.args.ask.now) _ _ (option_copied c.in_ok-seen.seen) _ _ _ _ _ seen c.new-effects.ensures past c.into_plan-2.ensures.effects
+    let live_entry : option_copied c.in_ok-live_entry.live_entry ≡ live c.args.given.now (get c.args.held.now k) = rw c.key_of.ensures at c.in_ok-live_entry.ensures.live_entry in
+    let past : c.look.new.effects ≡ c.new-effects.result ++ dels (past c.args.given.now (k ∷ []) c.args.held.now) = rw c.key_of.ensures at c.in_ok-live_entry.ensures.past in
+    let some : held hashes (option_copied c.in_ok-live_entry.live_entry) ≡ Some c.in-Some.hash.now = search rules in
+    key_plan k (answer_of c.args.ask.now) _ _ (option_copied c.in_ok-live_entry.live_entry) _ _ _ _ _ live_entry c.new-effects.ensures past c.into_plan-2.ensures.effects
     (takes_made c.args.ask.now _ c.in-Some.hash.now _ _ _ some (rw c.into_plan-2.ensures.reply c.in_ok-reply.ensures))

@@ -1,4 +1,4 @@
-use Rattle.mr_cmd_hash.proofs.LeftAndTold.{each_got}
+use Rattle.mr_cmd_hash.proofs.AfterAndReply.{each_got}
 use Rattle.mr_cmd_hash.proofs.sequels.hmget_is_hget_of_each.Goals as goal
 
 pub returns : goal.returns

@@ -1,4 +1,4 @@
-use Rattle.mr_cmd_hash.proofs.LeftAndTold.{set_counts, set_read}
+use Rattle.mr_cmd_hash.proofs.AfterAndReply.{set_counts, set_read}
 use Rattle.mr_cmd_hash.proofs.sequels.what_is_set_is_counted_and_read.Goals as goal
 
 pub returns-clause-count : goal.returns-clause-count

@@ -18,16 +18,16 @@ returns-clause-plan c =
       | then-same w ↦
           let equal : bytes_eq from to ≡ true = sym c.same.ensures ∙ w.if-same.true in
           move_plan from to c.args.member.now now m (option_copied c.in_ok-source.source) (option_copied c.if-same.target) _ _ c.if-same.effects _ _
-          c.in_ok-source.ensures.seen
-          (ap option_copied w.target-is ∙ c.in_ok-source.ensures.seen ∙ ap (λ (k : Bytes). live now (get m k)) (same_bytes from to equal))
+          c.in_ok-source.ensures.live_entry
+          (ap option_copied w.target-is ∙ c.in_ok-source.ensures.live_entry ∙ ap (λ (k : Bytes). live now (get m k)) (same_bytes from to equal))
           c.new-effects.ensures
           (w.effects-is ∙ looked_one from to c.args.member.now now m equal _ _ c.in_ok-source.ensures.past)
           c.into_plan.ensures.effects c.in_ok-reply.ensures
       | else-same+in_ok-target w ↦
           let differ : bytes_eq from to ≡ false = sym c.same.ensures ∙ w.if-same.false in
           move_plan from to c.args.member.now now m (option_copied c.in_ok-source.source) (option_copied c.if-same.target) _ _ c.if-same.effects _ _
-          c.in_ok-source.ensures.seen
-          (ap option_copied w.target-is ∙ w.in_ok-target.ensures.seen)
+          c.in_ok-source.ensures.live_entry
+          (ap option_copied w.target-is ∙ w.in_ok-target.ensures.live_entry)
           c.new-effects.ensures
           (w.effects-is ∙ looked_two from to c.args.member.now now m differ _ _ _ c.in_ok-source.ensures.past w.in_ok-target.ensures.past)
           c.into_plan.ensures.effects c.in_ok-reply.ensures

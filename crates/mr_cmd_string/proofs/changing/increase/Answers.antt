@@ -14,13 +14,13 @@ pub returns : goal.returns
 returns c =
     let n = c.in-Some-read_i64.number in
     let sum = c.in-Some-checked_add.sum in
-    let is : held (strings (codes "0")) (option_copied c.args.seen) ≡ Some c.in-Some.text.now = search rules in
+    let is : held (strings (codes "0")) (option_copied c.args.live_entry) ≡ Some c.in-Some.text.now = search rules in
     let spelled : number_of c.in-Some.text.now ≡ Some n = search rules in
     let number_fits : FitsSigned w64 n = search rules in
     let by_fits : FitsSigned w64 c.args.by = c.ranges.by in
     let sum_fits : FitsSigned w64 sum = search rules in
     let added : FitsSigned w64 (n +ℤ c.args.by) × (sum ≡ n +ℤ c.args.by) = simp to_z-of_z at c.in-Some-checked_add.ensures in
     let told : view c.integer-2.result ≡ reply.int sum = c.integer-2.ensures ∙ ap reply.int (to_z-of_z w64 sum sum_fits) in
-    let differs : (is_some (option_copied c.args.seen) && int_eq c.args.by (pos 0)) ≡ false = search (rules, to_z-of_z) in
+    let differs : (is_some (option_copied c.args.live_entry) && int_eq c.args.by (pos 0)) ≡ false = search (rules, to_z-of_z) in
     let put : c.push.new.self ≡ c.args.effects.now ++ effect.Increase c.args.key.now c.args.by ∷ [] = search (rules, to_z-of_z) in
     increased c.args.key.now c.in-Some.text.now c.args.by n _ is spelled (is_i64-fits _ added.0) sum _ _ _ differs added.1 told put

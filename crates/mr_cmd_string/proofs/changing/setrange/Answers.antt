@@ -19,7 +19,7 @@ holds_part-requires c =
 pub returns-then-holds_part : goal.returns-then-holds_part
 returns-then-holds_part c =
     let within : fits (overwritten c.args.offset c.args.part.now c.in-Some.text.now) ≡ true = search rules in
-    let is : held (strings []) (option_copied c.args.seen) ≡ Some c.in-Some.text.now = search rules in
+    let is : held (strings []) (option_copied c.args.live_entry) ≡ Some c.in-Some.text.now = search rules in
     let some : (length c.args.part.now == 0) ≡ false = search rules in
     let same : bytes_eq c.in-Some.text.now (overwritten c.args.offset c.args.part.now c.in-Some.text.now) ≡ true = search rules in
     let told : view c.count-then-holds_part.result ≡ reply.int (pos (length c.in-Some.text.now)) = search rules in
@@ -39,7 +39,7 @@ overwritten_len-len-requires c =
 pub returns : goal.returns
 returns c =
     let within : fits (overwritten c.args.offset c.args.part.now c.in-Some.text.now) ≡ true = search rules in
-    let is : held (strings []) (option_copied c.args.seen) ≡ Some c.in-Some.text.now = search rules in
+    let is : held (strings []) (option_copied c.args.live_entry) ≡ Some c.in-Some.text.now = search rules in
     let some : (length c.args.part.now == 0) ≡ false = search rules in
     let differs : bytes_eq c.in-Some.text.now (overwritten c.args.offset c.args.part.now c.in-Some.text.now) ≡ false = search rules in
     let told : view c.count-2.result ≡ reply.int (pos (length (overwritten c.args.offset c.args.part.now c.in-Some.text.now))) = search rules in

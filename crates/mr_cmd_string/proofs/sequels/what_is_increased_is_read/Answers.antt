@@ -1,4 +1,4 @@
-use Rattle.mr_cmd_string.proofs.LeftAndTold.{increase_read, increase_sum}
+use Rattle.mr_cmd_string.proofs.AfterAndReply.{increase_read, increase_sum}
 use Rattle.mr_cmd_string.proofs.sequels.what_is_increased_is_read.Goals as goal
 
 pub returns-clause-read : goal.returns-clause-read

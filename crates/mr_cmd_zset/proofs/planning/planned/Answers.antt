@@ -9,6 +9,6 @@ use Rattle.mr_cmd_zset.proofs.planning.planned.Goals as goal
 pub returns-clause-plan : goal.returns-clause-plan
 returns-clause-plan c =
     let k = key_of c.args.ask.now in
-    let seen : option_copied c.in_ok-seen.seen ≡ live c.args.given.now (get c.args.held.now k) = rw c.key_of.ensures at c.in_ok-seen.ensures.seen in
-    let past : c.look.new.effects ≡ c.new-effects.result ++ dels (past c.args.given.now (k ∷ []) c.args.held.now) = rw c.key_of.ensures at c.in_ok-seen.ensures.past in
-    rw c.into_plan.ensures.reply (key_plan k (answer_of c.args.ask.now) _ _ (option_copied c.in_ok-seen.seen) _ _ _ _ _ seen c.new-effects.ensures past c.into_plan.ensures.effects c.in_ok-reply.ensures)
+    let live_entry : option_copied c.in_ok-live_entry.live_entry ≡ live c.args.given.now (get c.args.held.now k) = rw c.key_of.ensures at c.in_ok-live_entry.ensures.live_entry in
+    let past : c.look.new.effects ≡ c.new-effects.result ++ dels (past c.args.given.now (k ∷ []) c.args.held.now) = rw c.key_of.ensures at c.in_ok-live_entry.ensures.past in
+    rw c.into_plan.ensures.reply (key_plan k (answer_of c.args.ask.now) _ _ (option_copied c.in_ok-live_entry.live_entry) _ _ _ _ _ live_entry c.new-effects.ensures past c.into_plan.ensures.effects c.in_ok-reply.ensures)

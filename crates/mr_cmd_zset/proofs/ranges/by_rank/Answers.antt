@@ -20,4 +20,4 @@ returns c =
     listed
     ∙ ap (λ ps. pairs_reply c.args.shape (ordered c.args.order ps)) (ap (map shown) c.as_slice.ensures.value ∙ c.in_ok-pairs.ensures ∙ ap (slice_range (pairs_of set) start) past)
     ∙ ap (pairs_reply c.args.shape) (ranked_part c.args.first c.args.last c.args.order set c.in-Some-window.first c.in-Some-window.last start end places (c.places_in-start.ensures.same (pairs_of set) (length-pairs_of set ∙ sym c.len-2.ensures.len)))
-    ∙ told_of (λ scores. pairs_reply c.args.shape (ranked c.args.first c.args.last c.args.order scores)) (option_copied c.args.seen) set c.in-Some.ensures) c.listed.ensures
+    ∙ told_of (λ scores. pairs_reply c.args.shape (ranked c.args.first c.args.last c.args.order scores)) (option_copied c.args.live_entry) set c.in-Some.ensures) c.listed.ensures

@@ -14,7 +14,7 @@ returns c =
     let s = c.in-Some.set.now in
     let a = c.args.first in
     let b = c.args.last in
-    let held : held sorted_sets (option_copied c.args.seen) ≡ Some s = search rules in
+    let held : held sorted_sets (option_copied c.args.live_entry) ≡ Some s = search rules in
     let window = ap (λ (x : ℤ). windowed (window_of x (to_z w64 (of_z w64 b)) (len s)) (pairs_of s)) (to_z-of_z w64 a c.ranges.first) ∙ ap (λ (x : ℤ). windowed (window_of a x (len s)) (pairs_of s)) (to_z-of_z w64 b c.ranges.last) in
     takes_made (zremrangebyrank c.args.key.now a b) _ s _ _ _ held
     (pairs_made c.args.key.now (windowed (window_of a b (len s)) (pairs_of s)) _ s _ _ _ (ap (map shown) c.deref.ensures.value ∙ c.in_ok-pairs.ensures ∙ window) (windowed_in s (window_of a b (len s)) (pairs_of s) (pairs_are_in s)) c.in_ok-reply.ensures.reply c.in_ok-reply.ensures.effects)

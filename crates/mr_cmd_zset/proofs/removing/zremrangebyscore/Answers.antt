@@ -9,6 +9,6 @@ use Rattle.mr_cmd_zset.proofs.removing.zremrangebyscore.Goals as goal
 pub returns : goal.returns
 returns c =
     let s = c.in-Some.set.now in
-    let held : held sorted_sets (option_copied c.args.seen) ≡ Some s = search rules in
+    let held : held sorted_sets (option_copied c.args.live_entry) ≡ Some s = search rules in
     takes_made (zremrangebyscore c.args.key.now c.args.min c.args.max) _ s _ _ _ held
     (pairs_made c.args.key.now (range_of c.args.min c.args.max s) _ s _ _ _ (ap (map shown) c.deref.ensures.value ∙ c.in_ok-pairs.ensures) (range_in s c.args.min c.args.max) c.in_ok-reply.ensures.reply c.in_ok-reply.ensures.effects)
