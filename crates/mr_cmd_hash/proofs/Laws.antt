@@ -15,7 +15,7 @@ use Rattle.mr_effect.specs.Effects.{pair_fits, is_some_of}
 use Rattle.mr_effect.specs.declared.effect.Effect.{Effect}
 use Rattle.mr_effect.specs.declared.effect.Effect.TheVariants as effect
 use Rattle.mr_entries.specs.Dataset.{Dataset}
-use Rattle.mr_data.specs.Dataset.{IsDataset, live, is_past}
+use Rattle.mr_data.specs.Dataset.{IsDataset, live, is_expired}
 use Rattle.mr_entries.specs.Collections.{with_fields, without_fields}
 use Rattle.mr_entries.specs.Steps.{hashes, held, entry_of, deadline_of, on}
 use Rattle.mr_entries.specs.Changes.{change as made}
@@ -167,7 +167,7 @@ change_faithful (ask.HIncrBy k f by) h o fit is = increase_faithful k f by h o (
 -- ---- what is seen of a hash has a field
 live_kept : (now : ℤ) (o : Option Entry) → IsKept hashes o → IsKept hashes (live now o)
 live_kept now None kept = kept
-live_kept now (Some e) kept = elim (is_past now e.deadline) as (λ b. IsKept hashes (if b then None else Some e)) [
+live_kept now (Some e) kept = elim (is_expired now e.deadline) as (λ b. IsKept hashes (if b then None else Some e)) [
   | true ↦ λ f is. absurd (no_entry f is)
   | false ↦ kept
 ]

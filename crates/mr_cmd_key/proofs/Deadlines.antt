@@ -14,7 +14,7 @@ use Rattle.mr_entries.specs.Dataset.{Dataset, put_at}
 use Rattle.mr_entries.specs.Changes.{change}
 use Rattle.mr_entries.specs.Steps.{expire_step, persist_step}
 use Rattle.mr_entries.specs.declared.value.Entry.{Entry}
-use Rattle.mr_data.specs.Dataset.{IsDataset, IsLifetime, live, is_past}
+use Rattle.mr_data.specs.Dataset.{IsDataset, IsLifetime, live, is_expired}
 use Rattle.mr_data.specs.Meaning.{apply, apply_all}
 use Rattle.mr_planning.proofs.Laws.{IsFaithfulAnswer, if_faithful, kept_faithful, one_short}
 use Rattle.mr_cmd_key.specs.declared.key_ask.ExpireCondition.{ExpireCondition}
@@ -110,5 +110,5 @@ persist_faithful k m fit = elim (get m k) as (λ o. get m k ≡ o → IsFaithful
 pub live_lifetime : (now : ℤ) (m : Dataset) (k : Bytes) (o : Option Entry) → IsDataset m → o ≡ live now (get m k) → IfSome o (λ e. IsLifetime e.deadline)
 live_lifetime now m k o kept is = rw is (elim (get m k) as (λ p. get m k ≡ p → IfSome (live now p) (λ e. IsLifetime e.deadline)) [
   | None ↦ λ _. tt
-  | Some e ↦ λ there. elim (is_past now e.deadline) as (λ b. IfSome (if b then None else Some e) (λ e. IsLifetime e.deadline)) [ true ↦ tt | false ↦ (kept.entries k e there).deadline ]
+  | Some e ↦ λ there. elim (is_expired now e.deadline) as (λ b. IfSome (if b then None else Some e) (λ e. IsLifetime e.deadline)) [ true ↦ tt | false ↦ (kept.entries k e there).deadline ]
 ] refl)

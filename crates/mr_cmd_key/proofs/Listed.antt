@@ -72,7 +72,7 @@ len_keys m = len-entries m ∙ sym (length-map (entries m) (λ e. e.0))
 pub len_seen : (now : ℤ) (m : Dataset) → len (seen now m) ≡ length (filter (λ k. is_some (live now (get m k))) (keys m))
 len_seen now m = len_keys (seen now m) ∙ ap length (keys_seen now m)
 
--- those that are there, and those that are past
+-- those that are there, and those that are expired
 pub len_parts : (now : ℤ) (m : Dataset) (left : List Bytes) → left ≡ keys m → len m ≡ length (filter (λ k. is_some (live now (get m k))) (keys m)) + length (filter (λ k. not (is_some (live now (get m k)))) left)
 len_parts now m left all =
     len_keys m

@@ -9,7 +9,7 @@ use Rattle.mr_entries.specs.Dataset.{Dataset}
 use Rattle.mr_data.specs.Dataset.{live, seen}
 use Rattle.mr_data.proofs.Seeing.{get-seen}
 use Rattle.mr_effect.specs.declared.effect.Effect.{Effect}
-use Rattle.mr_planning.specs.Keys.{chosen, dels, is_stored, past}
+use Rattle.mr_planning.specs.Keys.{chosen, dels, is_stored, expired}
 use Rattle.mr_planning.specs.Commands.{IsPlan, on_keys}
 use Rattle.mr_planning.proofs.KeyLists.{present_seen, present_purged, more_words}
 use Rattle.mr_planning.proofs.PlanLemmas.{keys_plan}
@@ -19,8 +19,8 @@ pub del_plan : (ks : List Bytes) (now : ℤ) (m : Dataset) (n : ℤ) (none first
 del_plan ks now m n none first second list start es count more all = record {
   reply_is = ap reply.int (count ∙ ap (λ (xs : List Bytes). pos (length xs)) (sym (present_seen now ks m)));
   effects_are = all ∙ more
-      ∙ ap (λ xs. xs ++ dels (chosen (is_stored now false) ks m)) (es ∙ ap (λ xs. xs ++ dels (past now ks m)) start)
-      ∙ ap (λ (xs : List Bytes). dels (past now ks m) ++ dels xs) (sym (present_seen now ks m) ∙ sym (present_purged now ks m));
+      ∙ ap (λ xs. xs ++ dels (chosen (is_stored now false) ks m)) (es ∙ ap (λ xs. xs ++ dels (expired now ks m)) start)
+      ∙ ap (λ (xs : List Bytes). dels (expired now ks m) ++ dels xs) (sym (present_seen now ks m) ∙ sym (present_purged now ks m));
 }
 
 seen_count : (now : ℤ) (m : Dataset) (ks : List Bytes) → present_at now m ks ≡ present (seen now m) ks
@@ -47,5 +47,5 @@ module _ {A : Type 0} (f : A → Bytes) (now : ℤ) (m : Dataset) (xs : List A) 
     few = elim b as (λ c. n + one_if c ≤ i + 1) [ true ↦ omega (arith, so_far.few) | false ↦ omega (arith, so_far.few) ];
   }
 
-pub exists_plan : (ks : List Bytes) (now : ℤ) (m : Dataset) (n : ℤ) (none first list : List Effect) → none ≡ [] → first ≡ none ++ dels (past now ks m) → n ≡ pos (present_at now m ks) → list ≡ first → IsPlan (on_keys ks (counted ks)) now m (reply.int n) list
+pub exists_plan : (ks : List Bytes) (now : ℤ) (m : Dataset) (n : ℤ) (none first list : List Effect) → none ≡ [] → first ≡ none ++ dels (expired now ks m) → n ≡ pos (present_at now m ks) → list ≡ first → IsPlan (on_keys ks (counted ks)) now m (reply.int n) list
 exists_plan ks now m n none first list start look count all = keys_plan ks (λ x. reply.int (pos (present x ks))) now m (reply.int n) none first list start look (ap reply.int (count ∙ ap pos (seen_count now m ks))) all

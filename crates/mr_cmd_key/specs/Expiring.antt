@@ -34,7 +34,7 @@ abbrev pub is_until : ℤ → Option ℤ → Bool
 is_until d None = false
 is_until d (Some h) = int_eq h d
 
--- the key is past from a moment on that lies ahead
+-- the key is expired from a moment on that lies ahead
 abbrev pub lasting : Bytes → ℤ → Entry → Answered
 lasting k d e = record {
   reply = reply.int (pos 1);
@@ -42,7 +42,7 @@ lasting k d e = record {
   effects = if is_until d e.deadline then [] else effect.Expire k d ∷ [];
 }
 
--- the key is past by now, so it goes
+-- the key is expired by now, so it goes
 abbrev pub ended : Bytes → Answered
 ended k = record { reply = reply.int (pos 1); entry = None; effects = effect.Del k ∷ [] }
 

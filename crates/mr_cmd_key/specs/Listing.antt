@@ -40,7 +40,7 @@ is_of_kind (Some k) (Some e) = has_kind k e.value
 abbrev pub listed : Option Bytes → Option KindName → Dataset → List Bytes
 listed pattern k m = filter (λ q. is_matched pattern q && is_of_kind k (get m q)) (keys m)
 
--- .. at a moment, past ones left out
+-- .. at a moment, expired ones left out
 abbrev pub is_listed_at : ℤ → Option Bytes → Option KindName → Dataset → Bytes → Bool
 is_listed_at now pattern k m q = is_matched pattern q && is_of_kind k (live now (get m q))
 

@@ -1,4 +1,4 @@
--- What commands on several keys do to a dataset in which none of them is past.
+-- What commands on several keys do to a dataset in which none of them is expired.
 use Rattle.std.specs.Prelude.{ℕ, ℤ, pos, ◌+◌, List, [], ◌∷◌, length, Bool, true, false, is_some}
 use Rattle.std.specs.FinMap.{get}
 use Rattle.mr_map.specs.Bytes.{Bytes}
@@ -26,7 +26,7 @@ abbrev pub present : Dataset → List Bytes → ℕ
 present m [] = 0
 present m (k ∷ ks) = one_if (is_some (get m k)) + present m ks
 
--- .. at a moment, past ones left out
+-- .. at a moment, expired ones left out
 abbrev pub present_at : ℤ → Dataset → List Bytes → ℕ
 present_at now m [] = 0
 present_at now m (k ∷ ks) = one_if (is_some (live now (get m k))) + present_at now m ks

@@ -1,4 +1,4 @@
--- What commands on whole entries do to a dataset in which no key that they name is past.
+-- What commands on whole entries do to a dataset in which no key that they name is expired.
 use Rattle.std.specs.Prelude.{◌≡◌, pos, List, [], ◌∷◌, ◌++◌, codes, ◌==◌, if◌then◌else◌, Option, Some, None, is_some}
 use Rattle.std.specs.FinMap.{empty, get, insert, len, remove}
 use Rattle.std.specs.Str.{bytes_eq}
@@ -34,7 +34,7 @@ module _ (from to : Bytes) where
       if is_some (get m from) then (if is_some (get m to) then answered (reply.int (pos 0)) m else carried_if (reply.int (pos 1)) (get m from) m)
       else answered no_key m
 
--- FLUSHALL, FLUSHDB: every key goes, past ones too
+-- FLUSHALL, FLUSHDB: every key goes, expired ones too
 abbrev pub cleared : Dataset → Outcome
 cleared m = record { reply = done; after = empty; effects = if len m == 0 then [] else effect.Clear ∷ [] }
 

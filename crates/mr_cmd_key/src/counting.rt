@@ -1,4 +1,4 @@
-// How many keys are there and not past.
+// How many keys are there and not expired.
 ghost use Rattle.std.specs.Prelude.{◌≡◌, ◌≤◌, ◌<◌, ◌^◌, length, map, filter, is_some};
 ghost use Rattle.std.specs.FinMap.{get, keys};
 ghost use Rattle.std.specs.Cow.{cow_slice_items};
@@ -9,14 +9,14 @@ use mr_data::{Dataset, Given};
 use mr_planning::see;
 use std::borrow::CowSlice;
 
-// Whether a key is there and not past.
+// Whether a key is there and not expired.
 fn is_present(held: &Dataset, key: &[u8], given: Given) -> bool
     ensures { result ≡ is_some (live given.now (get held.now key.now)) }
 {
     see(held, key, given).0.is_some()
 }
 
-/// How many of the keys are there and not past, one that is named twice counted twice.
+/// How many of the keys are there and not expired, one that is named twice counted twice.
 pub fn count_present(held: &Dataset, keys: &[CowSlice<'_, u8>], given: Given) -> usize
     ensures count { result ≡ present_at given.now held.now (map cow_slice_items keys.now) }
     ensures few { result ≤ length keys.now }
@@ -30,7 +30,7 @@ pub fn count_present(held: &Dataset, keys: &[CowSlice<'_, u8>], given: Given) ->
     count
 }
 
-/// How many keys are not past.
+/// How many keys are not expired.
 pub fn count_keys(held: &Dataset, given: Given) -> usize
     ensures count { result ≡ length (filter (λ k. is_some (live given.now (get held.now k))) (keys held.now)) }
     ensures small { result < 2 ^ 63 }

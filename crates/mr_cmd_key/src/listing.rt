@@ -1,4 +1,4 @@
-// Commands that go over all keys of a dataset. Past ones are passed over.
+// Commands that go over all keys of a dataset. Expired ones are passed over.
 ghost use Rattle.std.specs.Prelude.{◌≡◌, IfOk, option_copied};
 ghost use Rattle.mr_resp.specs.ReplyView.{view};
 ghost use Rattle.mr_cmd_key.specs.Listing.{is_matched, is_listed_at, listed_at, bulks, scan_reply, from_cursor};

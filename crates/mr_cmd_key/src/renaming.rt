@@ -5,7 +5,7 @@ ghost use Rattle.std.specs.Str.{bytes_eq};
 ghost use Rattle.mr_resp.specs.ReplyView.{view};
 ghost use Rattle.mr_data.specs.Dataset.{live};
 ghost use Rattle.mr_entries.specs.Dataset.{Dataset as Map};
-ghost use Rattle.mr_planning.specs.Keys.{dels, past};
+ghost use Rattle.mr_planning.specs.Keys.{dels, expired};
 ghost use Rattle.mr_planning.specs.Commands.{IsPlan, on_keys};
 ghost use Rattle.mr_cmd_key.specs.Renaming.{Gives, carried_if, no_key, renamed, renamed_nx};
 
@@ -49,7 +49,7 @@ pub fn renamenx(
     Ok(effects.into_plan(reply))
 }
 
-// What is seen at two keys, which may be one. Past ones get their DELs.
+// What is seen at two keys, which may be one. Expired ones get their DELs.
 fn look_at_both<'d>(
     alloc: Global,
     held: &'d Dataset,
@@ -60,7 +60,7 @@ fn look_at_both<'d>(
 ) -> Result<(Option<&'d Entry>, Option<&'d Entry>), AllocError>
     ensures source { IfOk result (λ r. option_copied r.0 ≡ live given.now (get held.now from.now)) }
     ensures target { IfOk result (λ r. option_copied r.1 ≡ live given.now (get held.now to.now)) }
-    ensures past { IfOk result (λ _. effects.new ≡ effects.old ++ dels (past given.now (from.now ∷ to.now ∷ []) held.now)) }
+    ensures expired { IfOk result (λ _. effects.new ≡ effects.old ++ dels (expired given.now (from.now ∷ to.now ∷ []) held.now)) }
 {
     let source = look(alloc, held, from, given, effects)?;
     let target = if same(from, to) {

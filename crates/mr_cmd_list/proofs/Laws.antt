@@ -10,7 +10,7 @@ use Rattle.mr_value.specs.Words.{fits}
 use Rattle.mr_value.specs.declared.ends.End.{End}
 use Rattle.mr_value.specs.declared.ends.End.TheVariants.{Left, Right}
 use Rattle.mr_entries.specs.Dataset.{Dataset}
-use Rattle.mr_data.specs.Dataset.{IsDataset, is_past, live}
+use Rattle.mr_data.specs.Dataset.{IsDataset, is_expired, live}
 use Rattle.mr_entries.specs.Steps.{lists, held, list_of}
 use Rattle.mr_entries.specs.declared.value.Value.{Value}
 use Rattle.mr_entries.specs.declared.value.Value.TheVariants as value
@@ -53,10 +53,10 @@ is_short : (o : Option Entry) (xs : List Bytes) → IsShort o → held lists o �
 is_short None xs h is = let none : [] ≡ xs = cc in subst (λ (zs : List Bytes). length zs < 2 ^ 63) none (omega arith)
 is_short (Some e) xs h is = few_items e.value xs h is
 
--- what is left once past keys are gone is a dataset
+-- what is left once expired keys are deleted is a dataset
 live_is : (now : ℤ) (o : Option Entry) (e : Entry) → live now o ≡ Some e → o ≡ Some e
 live_is now None e h = h
-live_is now (Some f) e h = elim (is_past now f.deadline) as (λ b. (if b then None else Some f) ≡ Some e → Some f ≡ Some e) [ true ↦ λ i. cc | false ↦ λ i. i ] h
+live_is now (Some f) e h = elim (is_expired now f.deadline) as (λ b. (if b then None else Some f) ≡ Some e → Some f ≡ Some e) [ true ↦ λ i. cc | false ↦ λ i. i ] h
 
 kept_purged : (now : ℤ) (ks : List Bytes) (m : Dataset) → IsDataset m → IsDataset (purged now ks m)
 kept_purged now ks m kept = record { entries = λ q e is. kept.entries q e (was q e (has ks q) (sym (get_purged now ks m q) ∙ is)) }
@@ -91,7 +91,7 @@ all_words k words h = (left (fits k) (list_all fits words) h, right (fits k) (li
 one_fits : (k : Bytes) → IsTrue (fits k) → IsTrue (list_all fits (k ∷ []))
 one_fits k h = both (fits k) true h refl
 
--- by what is left once past keys are gone
+-- by what is left once expired keys are deleted
 at_one : (k : Bytes) (t : Option Entry → Answered) (now : ℤ) (m : Dataset) → IsTrue (fits k) → ((n : Dataset) → get n k ≡ live now (get m k) → IsDataset n → IsFaithfulAnswer (t (get n k)) k n) → IsDataset m → IsLawful (on_key k t) now m
 at_one k t now m named f kept =
     let n = purged now (k ∷ []) m in

@@ -14,7 +14,7 @@ use Rattle.mr_entries.specs.declared.value.Entry.{Entry}
 use Rattle.mr_effect.specs.declared.effect.Effect.{Effect}
 use Rattle.mr_effect.specs.declared.effect.Effect.TheVariants as effect
 use Rattle.mr_planning.specs.Taken.{is_key}
-use Rattle.mr_planning.specs.Keys.{chosen, dels, past, purged, without, is_stored}
+use Rattle.mr_planning.specs.Keys.{chosen, dels, expired, purged, without, is_stored}
 use Rattle.mr_planning.specs.Outcomes.{Outcome, at_key}
 use Rattle.mr_planning.specs.Commands.{on_key, IsPlan}
 use Rattle.mr_entries.proofs.Maps.{same_key}
@@ -38,22 +38,22 @@ module _ (test : Option Entry → Bool) (k : Bytes) (m : Dataset) where
   twice : test None ≡ false → chosen test (k ∷ k ∷ []) m ≡ chosen test (k ∷ []) m
   twice none = twice_by (ap test (removed m k) ∙ none) (test (get m k)) refl
 
-past_twice : (now : ℤ) (k : Bytes) (m : Dataset) → past now (k ∷ k ∷ []) m ≡ past now (k ∷ []) m
-past_twice now k m = twice (is_stored now true) k m refl
+expired_twice : (now : ℤ) (k : Bytes) (m : Dataset) → expired now (k ∷ k ∷ []) m ≡ expired now (k ∷ []) m
+expired_twice now k m = twice (is_stored now true) k m refl
 
 module _ (s d : Bytes) (taken put : End) (same : bytes_eq s d ≡ true) where
   at_one : (m : Dataset) → moved s d taken put m ≡ at_key s (rotate_answer s taken put) m
   at_one m = ap (λ b. if b then at_key s (rotate_answer s taken put) m else carried s d (carry s d taken put (get m s) (get m d)) m) same
 
-  past_one : (now : ℤ) (m : Dataset) → past now (s ∷ d ∷ []) m ≡ past now (s ∷ []) m
-  past_one now m = ap (λ (q : Bytes). past now (s ∷ q ∷ []) m) (sym (same_bytes s d same)) ∙ past_twice now s m
+  expired_one : (now : ℤ) (m : Dataset) → expired now (s ∷ d ∷ []) m ≡ expired now (s ∷ []) m
+  expired_one now m = ap (λ (q : Bytes). expired now (s ∷ q ∷ []) m) (sym (same_bytes s d same)) ∙ expired_twice now s m
 
   pub turned_plan : (now : ℤ) (m : Dataset) (r : Tree) (list : List Effect) → IsPlan (on_key s (rotate_answer s taken put)) now m r list → IsPlan (moving s d taken put) now m r list
   turned_plan now m r list p = record {
     reply_is = p.reply_is ∙ sym (ap (λ (o : Outcome). o.reply) (at_one (seen now m)));
     effects_are = p.effects_are
-        ∙ ap (λ (ks : List Bytes). dels ks ++ (at_key s (rotate_answer s taken put) (without ks m)).effects) (sym (past_one now m))
-        ∙ ap (λ (o : Outcome). dels (past now (s ∷ d ∷ []) m) ++ o.effects) (sym (at_one (purged now (s ∷ d ∷ []) m)));
+        ∙ ap (λ (ks : List Bytes). dels ks ++ (at_key s (rotate_answer s taken put) (without ks m)).effects) (sym (expired_one now m))
+        ∙ ap (λ (o : Outcome). dels (expired now (s ∷ d ∷ []) m) ++ o.effects) (sym (at_one (purged now (s ∷ d ∷ []) m)));
   }
 
 -- ---- two keys
@@ -65,8 +65,8 @@ module _ (s d : Bytes) (apart : bytes_eq s d ≡ false) where
   two_by test m true = ap (λ o. s ∷ (if test o then d ∷ [] else [])) (other m)
   two_by test m false = refl
 
-  past_two : (now : ℤ) (m : Dataset) → past now (s ∷ d ∷ []) m ≡ past now (s ∷ []) m ++ past now (d ∷ []) m
-  past_two now m = two_by (is_stored now true) m (is_stored now true (get m s))
+  expired_two : (now : ℤ) (m : Dataset) → expired now (s ∷ d ∷ []) m ≡ expired now (s ∷ []) m ++ expired now (d ∷ []) m
+  expired_two now m = two_by (is_stored now true) m (is_stored now true (get m s))
 
 named : (b c : Bool) → b ≡ true → (b || c) ≡ true
 named b c h = ap (λ x. x || c) h
@@ -88,7 +88,7 @@ module _ (s d : Bytes) (taken put : End) (apart : bytes_eq s d ≡ false) where
 
   pub carried_plan : (now : ℤ) (m : Dataset) (o p : Option Entry) (r : Tree) (none first second list : List Effect)
       → o ≡ live now (get m s) → p ≡ live now (get m d)
-      → none ≡ [] → first ≡ none ++ dels (past now (s ∷ []) m) → second ≡ first ++ dels (past now (d ∷ []) m)
+      → none ≡ [] → first ≡ none ++ dels (expired now (s ∷ []) m) → second ≡ first ++ dels (expired now (d ∷ []) m)
       → r ≡ (carry s d taken put o p).reply → list ≡ second ++ (carry s d taken put o p).effects → IsPlan (moving s d taken put) now m r list
   carried_plan now m o p r none first second list source target start one two told all = record {
     reply_is = told
@@ -96,11 +96,11 @@ module _ (s d : Bytes) (taken put : End) (apart : bytes_eq s d ≡ false) where
         ∙ ap (λ (x : Option Entry). (carry s d taken put (get (seen now m) s) x).reply) (target ∙ sym (get-seen now m d))
         ∙ sym (ap (λ (x : Outcome). x.reply) (at_two (seen now m)));
     effects_are = all
-        ∙ ap (λ xs. xs ++ (carry s d taken put o p).effects) (two ∙ ap (λ xs. xs ++ dels (past now (d ∷ []) m)) (one ∙ ap (λ xs. xs ++ dels (past now (s ∷ []) m)) start) ∙ both)
-        ∙ ap (λ (x : Option Entry). dels (past now (s ∷ d ∷ []) m) ++ (carry s d taken put x p).effects) (source ∙ sym (at_source s d now m))
-        ∙ ap (λ (x : Option Entry). dels (past now (s ∷ d ∷ []) m) ++ (carry s d taken put (get (purged now (s ∷ d ∷ []) m) s) x).effects) (target ∙ sym (at_target s d now m))
-        ∙ sym (ap (λ (x : Outcome). dels (past now (s ∷ d ∷ []) m) ++ x.effects) (at_two (purged now (s ∷ d ∷ []) m)));
+        ∙ ap (λ xs. xs ++ (carry s d taken put o p).effects) (two ∙ ap (λ xs. xs ++ dels (expired now (d ∷ []) m)) (one ∙ ap (λ xs. xs ++ dels (expired now (s ∷ []) m)) start) ∙ both)
+        ∙ ap (λ (x : Option Entry). dels (expired now (s ∷ d ∷ []) m) ++ (carry s d taken put x p).effects) (source ∙ sym (at_source s d now m))
+        ∙ ap (λ (x : Option Entry). dels (expired now (s ∷ d ∷ []) m) ++ (carry s d taken put (get (purged now (s ∷ d ∷ []) m) s) x).effects) (target ∙ sym (at_target s d now m))
+        ∙ sym (ap (λ (x : Outcome). dels (expired now (s ∷ d ∷ []) m) ++ x.effects) (at_two (purged now (s ∷ d ∷ []) m)));
   }
     where
-      both : dels (past now (s ∷ []) m) ++ dels (past now (d ∷ []) m) ≡ dels (past now (s ∷ d ∷ []) m)
-      both = sym (ap dels (past_two s d apart now m) ∙ map-append effect.Del (past now (s ∷ []) m) (past now (d ∷ []) m))
+      both : dels (expired now (s ∷ []) m) ++ dels (expired now (d ∷ []) m) ≡ dels (expired now (s ∷ d ∷ []) m)
+      both = sym (ap dels (expired_two s d apart now m) ∙ map-append effect.Del (expired now (s ∷ []) m) (expired now (d ∷ []) m))

@@ -16,14 +16,14 @@ use Rattle.mr_data.specs.Dataset.{live, seen}
 use Rattle.mr_entries.specs.declared.value.Entry.{Entry}
 use Rattle.mr_data.proofs.Seeing.{get-seen}
 use Rattle.mr_effect.specs.declared.effect.Effect.{Effect}
-use Rattle.mr_planning.specs.Keys.{is_stored, past, dels}
+use Rattle.mr_planning.specs.Keys.{is_stored, expired, dels}
 use Rattle.mr_entries.specs.Steps.{sets, held}
 use Rattle.std.proofs.lemmas.List.{map-append}
 use Rattle.std.proofs.lemmas.List.Folds.{list_any-append}
 use Rattle.mr_planning.proofs.KeyLists.{more_words}
 use Rattle.mr_cmd_set.specs.Members.{Members, joined}
 use Rattle.mr_cmd_set.specs.Grouping.{members_of, agrees, is_wanted}
-use Rattle.mr_cmd_set.specs.Finding.{HasFound, is_any_past}
+use Rattle.mr_cmd_set.specs.Finding.{HasFound, is_any_expired}
 use Rattle.mr_cmd_set.specs.Combining.{sets_at, of_two, of_all}
 
 -- ---- the members of a set that pass a test
@@ -102,14 +102,14 @@ sets_at_push (x ∷ ks) k m =
     both (Some s) (Some ss) (Some t) = refl
 
 pub none_found : (now : ℤ) (m : Dataset) (found : List (Bor Members)) → found ≡ [] → HasFound now m [] found false false
-none_found now m found h = record { sets_are = ap (λ xs. Some (members_of xs)) h; past_is = refl }
+none_found now m found h = record { sets_are = ap (λ xs. Some (members_of xs)) h; expired_is = refl }
 
 or_swap : (a b : Bool) → (a || (b || false)) ≡ (a || b)
 or_swap true b = refl
 or_swap false true = refl
 or_swap false false = refl
 
-module _ {A : Type 0} (f : A → Bytes) (xs : List A) (i : ℕ) (x : A) (here : i < length xs) (is : x ≡ get_or xs i x) (k : Bytes) (key : k ≡ f x) (now : ℤ) (m : Dataset) (found : List (Bor Members)) (other past : Bool) (before : HasFound now m (map f (take i xs)) found other past) (b c : Bool) (stored : b ≡ is_stored now true (get m k)) (joined_is : c ≡ (past || b)) (o : Option Entry) (live_is : o ≡ live now (get m k)) where
+module _ {A : Type 0} (f : A → Bytes) (xs : List A) (i : ℕ) (x : A) (here : i < length xs) (is : x ≡ get_or xs i x) (k : Bytes) (key : k ≡ f x) (now : ℤ) (m : Dataset) (found : List (Bor Members)) (other expired : Bool) (before : HasFound now m (map f (take i xs)) found other expired) (b c : Bool) (stored : b ≡ is_stored now true (get m k)) (joined_is : c ≡ (expired || b)) (o : Option Entry) (live_is : o ≡ live now (get m k)) where
   one_word : map f (take (i + 1) xs) ≡ map f (take i xs) ++ k ∷ []
   one_word = more_words f xs i x here is ∙ ap (λ y. map f (take i xs) ++ y ∷ []) (sym key)
 
@@ -119,12 +119,12 @@ module _ {A : Type 0} (f : A → Bytes) (xs : List A) (i : ℕ) (x : A) (here : 
       ∙ ap (λ (e : Option Entry). option_and_then (λ ss. option_map (λ s. ss ++ s ∷ []) (held sets e)) (sets_at (map f (take i xs)) (seen now m))) (get-seen now m k ∙ sym live_is)
       ∙ ap (option_and_then (λ ss. option_map (λ s. ss ++ s ∷ []) (held sets o))) (sym before.sets_are)
 
-  past_more : c ≡ is_any_past now (map f (take (i + 1) xs)) m
-  past_more =
-      joined_is ∙ ap (λ d. d || b) before.past_is ∙ ap (λ d. is_any_past now (map f (take i xs)) m || d) stored
-      ∙ sym (or_swap (is_any_past now (map f (take i xs)) m) (is_stored now true (get m k)))
+  expired_more : c ≡ is_any_expired now (map f (take (i + 1) xs)) m
+  expired_more =
+      joined_is ∙ ap (λ d. d || b) before.expired_is ∙ ap (λ d. is_any_expired now (map f (take i xs)) m || d) stored
+      ∙ sym (or_swap (is_any_expired now (map f (take i xs)) m) (is_stored now true (get m k)))
       ∙ sym (list_any-append (λ q. is_stored now true (get m q)) (map f (take i xs)) (k ∷ []))
-      ∙ ap (λ ks. is_any_past now ks m) (sym one_word)
+      ∙ ap (λ ks. is_any_expired now ks m) (sym one_word)
 
   -- a set is there
   pub set_found : (s : Bor Members) (more : List (Bor Members)) → Some s.now ≡ held sets o → more ≡ found ++ s ∷ [] → HasFound now m (map f (take (i + 1) xs)) more other c
@@ -133,7 +133,7 @@ module _ {A : Type 0} (f : A → Bytes) (xs : List A) (i : ℕ) (x : A) (here : 
         ∙ elim other as (λ d. (if d then None else Some (members_of (found ++ s ∷ []))) ≡ option_and_then (λ ss. option_map (λ t. ss ++ t ∷ []) (Some s.now)) (if d then None else Some (members_of found))) [ true ↦ refl | false ↦ ap Some (map-append (λ (y : Bor Members). y.now) found (s ∷ [])) ]
         ∙ ap (λ h. option_and_then (λ ss. option_map (λ t. ss ++ t ∷ []) h) (if other then None else Some (members_of found))) is_set
         ∙ sym sets_more;
-    past_is = past_more;
+    expired_is = expired_more;
   }
 
   -- another kind is there
@@ -142,15 +142,15 @@ module _ {A : Type 0} (f : A → Bytes) (xs : List A) (i : ℕ) (x : A) (here : 
     sets_are = elim other as (λ d. None ≡ option_and_then (λ ss. option_map (λ t. ss ++ t ∷ []) None) (if d then None else Some (members_of found))) [ true ↦ refl | false ↦ refl ]
         ∙ ap (λ h. option_and_then (λ ss. option_map (λ t. ss ++ t ∷ []) h) (if other then None else Some (members_of found))) no_set
         ∙ sym sets_more;
-    past_is = past_more;
+    expired_is = expired_more;
   }
 
--- ---- no key is past
-pub none_past : (now : ℤ) (ks : List Bytes) (m : Dataset) → is_any_past now ks m ≡ false → past now ks m ≡ []
-none_past now [] m h = refl
-none_past now (k ∷ ks) m h =
-    ap (λ b. if b then k ∷ past now ks (remove m k) else past now ks m) (left (is_stored now true (get m k)) (is_any_past now ks m) h)
-    ∙ none_past now ks m (right (is_stored now true (get m k)) (is_any_past now ks m) h)
+-- ---- no key is expired
+pub none_expired : (now : ℤ) (ks : List Bytes) (m : Dataset) → is_any_expired now ks m ≡ false → expired now ks m ≡ []
+none_expired now [] m h = refl
+none_expired now (k ∷ ks) m h =
+    ap (λ b. if b then k ∷ expired now ks (remove m k) else expired now ks m) (left (is_stored now true (get m k)) (is_any_expired now ks m) h)
+    ∙ none_expired now ks m (right (is_stored now true (get m k)) (is_any_expired now ks m) h)
   where
     left : (a b : Bool) → (a || b) ≡ false → a ≡ false
     left true b h = cc
@@ -164,5 +164,5 @@ append_none : (es : List Effect) → es ++ [] ≡ es
 append_none [] = refl
 append_none (e ∷ es) = ap (λ fs. e ∷ fs) (append_none es)
 
-pub no_dels : (now : ℤ) (ks : List Bytes) (m : Dataset) (es : List Effect) → is_any_past now ks m ≡ false → es ≡ es ++ dels (past now ks m)
-no_dels now ks m es h = sym (ap (λ xs. es ++ dels xs) (none_past now ks m h) ∙ append_none es)
+pub no_dels : (now : ℤ) (ks : List Bytes) (m : Dataset) (es : List Effect) → is_any_expired now ks m ≡ false → es ≡ es ++ dels (expired now ks m)
+no_dels now ks m es h = sym (ap (λ xs. es ++ dels xs) (none_expired now ks m h) ∙ append_none es)

@@ -6,7 +6,7 @@ use Rattle.std.specs.FinMap.{get, empty, keys, contains_key}
 use Rattle.mr_map.specs.Bytes.{Bytes}
 use Rattle.mr_value.specs.Words.{fits}
 use Rattle.mr_entries.specs.Dataset.{Dataset}
-use Rattle.mr_data.specs.Dataset.{IsDataset, IsValue, live, is_past}
+use Rattle.mr_data.specs.Dataset.{IsDataset, IsValue, live, is_expired}
 use Rattle.mr_entries.specs.Collections.{with_members, without_members}
 use Rattle.mr_entries.specs.Steps.{sets, held, set_of}
 use Rattle.mr_entries.specs.declared.value.Value.{Value}
@@ -38,10 +38,10 @@ pub both : (a b : Bool) → a ≡ true → b ≡ true → a && b ≡ true
 both true b p q = q
 both false b p q = cc
 
--- ---- what a dataset keeps, it keeps without past keys
+-- ---- what a dataset keeps, it keeps without expired keys
 live_is : (now : ℤ) (o : Option Entry) (e : Entry) → live now o ≡ Some e → o ≡ Some e
 live_is now None e h = h
-live_is now (Some f) e h = elim (is_past now f.deadline) as (λ b. (let none : Option Entry = None in cond b none (Some f)) ≡ Some e → Some f ≡ Some e) [ true ↦ λ i. cc | false ↦ λ i. i ] h
+live_is now (Some f) e h = elim (is_expired now f.deadline) as (λ b. (let none : Option Entry = None in cond b none (Some f)) ≡ Some e → Some f ≡ Some e) [ true ↦ λ i. cc | false ↦ λ i. i ] h
 
 pub purged_kept : (now : ℤ) (ks : List Bytes) (m : Dataset) → IsDataset m → IsDataset (purged now ks m)
 purged_kept now ks m h = record {

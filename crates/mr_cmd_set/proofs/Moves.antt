@@ -22,7 +22,7 @@ use Rattle.mr_data.proofs.Seeing.{get-seen}
 use Rattle.mr_effect.specs.declared.effect.Effect.{Effect}
 use Rattle.mr_effect.specs.declared.effect.Effect.TheVariants as effect
 use Rattle.mr_planning.specs.Taken.{is_key, has}
-use Rattle.mr_planning.specs.Keys.{past, purged, dels, is_stored}
+use Rattle.mr_planning.specs.Keys.{expired, purged, dels, is_stored}
 use Rattle.mr_planning.specs.Outcomes.{answered}
 use Rattle.mr_planning.specs.Commands.{Command, before, IsPlan}
 use Rattle.mr_entries.proofs.Maps.{same_key}
@@ -137,19 +137,19 @@ module _ (now : ℤ) (from to : Bytes) (m : Dataset) where
   abbrev go : Bool → List Bytes → List Bytes → List Bytes
   go b xs ys = if b then from ∷ xs else ys
 
-  past_two : bytes_eq from to ≡ false → past now (from ∷ to ∷ []) m ≡ past now (from ∷ []) m ++ past now (to ∷ []) m
-  past_two h =
-      ap (λ (o : Option Entry). go (is_stored now true (get m from)) (if is_stored now true o then to ∷ [] else []) (past now (to ∷ []) m)) (get_remove m from to ∙ ap (λ b. cond b None (get m to)) (apart to from (turned from to h)))
-      ∙ elim (is_stored now true (get m from)) as (λ b. go b (past now (to ∷ []) m) (past now (to ∷ []) m) ≡ go b [] [] ++ past now (to ∷ []) m) [ true ↦ refl | false ↦ refl ]
+  expired_two : bytes_eq from to ≡ false → expired now (from ∷ to ∷ []) m ≡ expired now (from ∷ []) m ++ expired now (to ∷ []) m
+  expired_two h =
+      ap (λ (o : Option Entry). go (is_stored now true (get m from)) (if is_stored now true o then to ∷ [] else []) (expired now (to ∷ []) m)) (get_remove m from to ∙ ap (λ b. cond b None (get m to)) (apart to from (turned from to h)))
+      ∙ elim (is_stored now true (get m from)) as (λ b. go b (expired now (to ∷ []) m) (expired now (to ∷ []) m) ≡ go b [] [] ++ expired now (to ∷ []) m) [ true ↦ refl | false ↦ refl ]
 
-  past_one : bytes_eq from to ≡ true → past now (from ∷ to ∷ []) m ≡ past now (from ∷ []) m
-  past_one h =
+  expired_one : bytes_eq from to ≡ true → expired now (from ∷ to ∷ []) m ≡ expired now (from ∷ []) m
+  expired_one h =
       let same : from ≡ to = same_bytes from to h in
       ap (λ (k : Bytes). go (is_stored now true (get m from)) (if is_stored now true (get (remove m from) k) then k ∷ [] else []) (if is_stored now true (get m k) then k ∷ [] else [])) (sym same)
-      ∙ ap (λ (o : Option Entry). go (is_stored now true (get m from)) (if is_stored now true o then from ∷ [] else []) (past now (from ∷ []) m)) (get_remove m from from ∙ ap (λ b. cond b None (get m from)) (is_key_itself from))
+      ∙ ap (λ (o : Option Entry). go (is_stored now true (get m from)) (if is_stored now true o then from ∷ [] else []) (expired now (from ∷ []) m)) (get_remove m from from ∙ ap (λ b. cond b None (get m from)) (is_key_itself from))
       ∙ elim (is_stored now true (get m from)) as (λ b. go b [] (if b then from ∷ [] else []) ≡ (if b then from ∷ [] else [])) [ true ↦ refl | false ↦ refl ]
 
-  -- what is seen at the two keys, once past ones are gone
+  -- what is seen at the two keys, once expired ones are deleted
   seen_first : get (purged now (from ∷ to ∷ []) m) from ≡ live now (get m from)
   seen_first = get_purged now (from ∷ to ∷ []) m from ∙ ap (λ b. cond (b || has (to ∷ []) from) (live now (get m from)) (get m from)) (is_key_itself from)
 
@@ -165,23 +165,23 @@ module _ (from to x : Bytes) (now : ℤ) (m : Dataset) where
   abbrev the_move : Command
   the_move = record { keys = from ∷ to ∷ []; outcome = smove from to x }
 
-  pub move_plan : (o p : Option Entry) (r : Tree) (none looked own list : List Effect) → o ≡ live now (get m from) → p ≡ live now (get m to) → none ≡ [] → looked ≡ none ++ dels (past now (from ∷ to ∷ []) m) → list ≡ own → ((n : Dataset) → get n from ≡ o → get n to ≡ p → Gives (smove from to x n) r looked own) → IsPlan the_move now m r list
+  pub move_plan : (o p : Option Entry) (r : Tree) (none looked own list : List Effect) → o ≡ live now (get m from) → p ≡ live now (get m to) → none ≡ [] → looked ≡ none ++ dels (expired now (from ∷ to ∷ []) m) → list ≡ own → ((n : Dataset) → get n from ≡ o → get n to ≡ p → Gives (smove from to x n) r looked own) → IsPlan the_move now m r list
   move_plan o p r none looked own list source target start look all gives =
       let shown = gives (seen now m) (get-seen now m from ∙ sym source) (get-seen now m to ∙ sym target) in
       let done = gives (purged now (from ∷ to ∷ []) m) (seen_first now from to m ∙ sym source) (seen_second now from to m ∙ sym target) in
       record {
         reply_is = shown.reply_is;
-        effects_are = all ∙ done.effects_are ∙ ap (λ es. es ++ (smove from to x (purged now (from ∷ to ∷ []) m)).effects) (look ∙ ap (λ es. es ++ dels (past now (from ∷ to ∷ []) m)) start);
+        effects_are = all ∙ done.effects_are ∙ ap (λ es. es ++ (smove from to x (purged now (from ∷ to ∷ []) m)).effects) (look ∙ ap (λ es. es ++ dels (expired now (from ∷ to ∷ []) m)) start);
       }
 
-  pub looked_two : bytes_eq from to ≡ false → (none first second : List Effect) → first ≡ none ++ dels (past now (from ∷ []) m) → second ≡ first ++ dels (past now (to ∷ []) m) → second ≡ none ++ dels (past now (from ∷ to ∷ []) m)
+  pub looked_two : bytes_eq from to ≡ false → (none first second : List Effect) → first ≡ none ++ dels (expired now (from ∷ []) m) → second ≡ first ++ dels (expired now (to ∷ []) m) → second ≡ none ++ dels (expired now (from ∷ to ∷ []) m)
   looked_two h none one two e f =
-      f ∙ ap (λ es. es ++ dels (past now (to ∷ []) m)) e
-      ∙ append_assoc none (dels (past now (from ∷ []) m)) (dels (past now (to ∷ []) m))
-      ∙ ap (λ es. none ++ es) (sym (map-append effect.Del (past now (from ∷ []) m) (past now (to ∷ []) m)) ∙ ap dels (sym (past_two now from to m h)))
+      f ∙ ap (λ es. es ++ dels (expired now (to ∷ []) m)) e
+      ∙ append_assoc none (dels (expired now (from ∷ []) m)) (dels (expired now (to ∷ []) m))
+      ∙ ap (λ es. none ++ es) (sym (map-append effect.Del (expired now (from ∷ []) m) (expired now (to ∷ []) m)) ∙ ap dels (sym (expired_two now from to m h)))
 
-  pub looked_one : bytes_eq from to ≡ true → (none first : List Effect) → first ≡ none ++ dels (past now (from ∷ []) m) → first ≡ none ++ dels (past now (from ∷ to ∷ []) m)
-  looked_one h none one e = e ∙ ap (λ ks. none ++ dels ks) (sym (past_one now from to m h))
+  pub looked_one : bytes_eq from to ≡ true → (none first : List Effect) → first ≡ none ++ dels (expired now (from ∷ []) m) → first ≡ none ++ dels (expired now (from ∷ to ∷ []) m)
+  looked_one h none one e = e ∙ ap (λ ks. none ++ dels ks) (sym (expired_one now from to m h))
 
   pub move_faithful : IsTrue (list_all fits (from ∷ to ∷ x ∷ [])) → IsLawful the_move now m
   move_faithful h = faithful the_move now m (two_fit (fits from) (fits to) (fits x) h) (move_at from to x (before the_move now m) (three_fit (fits from) (fits to) (fits x) h))

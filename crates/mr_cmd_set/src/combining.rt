@@ -5,7 +5,7 @@ ghost use Rattle.std.specs.FinMap as map;
 ghost use Rattle.mr_resp.specs.ReplyView.{view};
 ghost use Rattle.mr_data.specs.Dataset.{seen};
 ghost use Rattle.mr_cmd_set.specs.declared.set_ask.SetOperation.TheVariants as operation;
-ghost use Rattle.mr_planning.specs.Keys.{dels, past};
+ghost use Rattle.mr_planning.specs.Keys.{dels, expired};
 ghost use Rattle.mr_cmd_set.specs.Combining.{sets_at, combined, of_all};
 ghost use Rattle.mr_cmd_set.specs.Finding.{HasFound};
 ghost use Rattle.mr_cmd_set.specs.Members.{joined};
@@ -28,7 +28,7 @@ pub struct Sets<'d> {
     items: Vec<&'d SetValue>,
 }
 
-/// The sets at these keys, or none where one of them holds another kind. A past key gets its DEL.
+/// The sets at these keys, or none where one of them holds another kind. An expired key gets its DEL.
 pub fn look_at_all<'d>(
     alloc: Global,
     held: &'d Dataset,
@@ -39,10 +39,10 @@ pub fn look_at_all<'d>(
 ) -> Result<Option<Sets<'d>>, AllocError>
     requires { empty.now ≡ map.empty }
     ensures sets { IfOk result (λ r. option_map (λ s. members_of s.items.items) r ≡ sets_at keys.now (seen given.now held.now)) }
-    ensures past { IfOk result (λ _. effects.new ≡ effects.old ++ dels (past given.now keys.now held.now)) }
+    ensures expired { IfOk result (λ _. effects.new ≡ effects.old ++ dels (expired given.now keys.now held.now)) }
 {
     let found = find_all(alloc, held, keys, given, empty)?;
-    if found.past {
+    if found.expired {
         push_dels(alloc, held, keys, given, true, effects)?;
     }
     if found.other {
@@ -51,12 +51,12 @@ pub fn look_at_all<'d>(
     Ok(Some(Sets { items: found.sets }))
 }
 
-// The sets at some keys, whether one holds another kind, and whether one is past.
+// The sets at some keys, whether one holds another kind, and whether one is expired.
 #[derive(Drop)]
 struct Found<'d> {
     sets: Vec<&'d SetValue>,
     other: bool,
-    past: bool,
+    expired: bool,
 }
 
 fn find_all<'d>(
@@ -67,17 +67,17 @@ fn find_all<'d>(
     empty: &'d SetValue,
 ) -> Result<Found<'d>, AllocError>
     requires { empty.now ≡ map.empty }
-    ensures { IfOk result (λ f. HasFound given.now held.now keys.now f.sets.items f.other f.past) }
+    ensures { IfOk result (λ f. HasFound given.now held.now keys.now f.sets.items f.other f.expired) }
 {
     let words = keys.as_slice();
     let mut found = Found {
         sets: Vec::with_capacity(alloc, words.len())?,
         other: false,
-        past: false,
+        expired: false,
     };
     for word in words {
-        let (live_entry, past) = see(held, word.as_slice(), given);
-        found.past |= past;
+        let (live_entry, expired) = see(held, word.as_slice(), given);
+        found.expired |= expired;
         match set_at(live_entry, empty) {
             Some(set) => found.sets.push(set)?,
             None => found.other = true,

@@ -14,7 +14,7 @@ use Rattle.mr_entries.specs.Collections.{with_fields}
 use Rattle.mr_entries.specs.declared.value.Entry.{Entry}
 use Rattle.mr_data.proofs.Seeing.{get-seen}
 use Rattle.mr_planning.specs.Taken.{is_key, has}
-use Rattle.mr_planning.specs.Keys.{chosen, dels, is_stored, past, purged}
+use Rattle.mr_planning.specs.Keys.{chosen, dels, is_stored, expired, purged}
 use Rattle.mr_planning.specs.Answered.{done}
 use Rattle.mr_planning.specs.Outcomes.{answered}
 use Rattle.mr_planning.specs.Commands.{IsPlan, on_keys}
@@ -23,7 +23,7 @@ use Rattle.mr_entries.proofs.Puts.{is_key_itself}
 use Rattle.mr_planning.proofs.KeyLists.{chosen_alike, get_purged}
 use Rattle.mr_cmd_string.specs.Setting.{is_plain}
 use Rattle.mr_cmd_string.specs.SettingAll.{names, last_texts, changed, set_effects, put_all, mset, is_any_there, msetnx}
-use Rattle.mr_cmd_string.specs.Finding.{is_any_live, is_any_past, changed_at}
+use Rattle.mr_cmd_string.specs.Finding.{is_any_live, is_any_expired, changed_at}
 use Rattle.mr_cmd_string.proofs.SettingAllLaws.{all_map, own_entries}
 
 abbrev Pair : Type 0
@@ -70,50 +70,50 @@ absent (p ∷ ps) h q none =
     let here = not_there (is_key q p.0) p.1 (get h q) (sym (get-insert nat_list_cmp_total h p.0 p.1 q) ∙ later.0) in
     (here.1, neither _ _ here.0 later.1)
 
--- ---- no key is past
+-- ---- no key is expired
 never : (ks : List Bytes) (m : Dataset) → chosen (λ o. false) ks m ≡ []
 never [] m = refl
 never (k ∷ ks) m = never ks m
 
-none_past : (now : ℤ) (ks : List Bytes) (m : Dataset) → ((q : Bytes) → has ks q ≡ true → is_stored now true (get m q) ≡ false) → past now ks m ≡ []
-none_past now ks m h = chosen_alike (is_stored now true) (λ o. false) ks m m refl h ∙ never ks m
+none_expired : (now : ℤ) (ks : List Bytes) (m : Dataset) → ((q : Bytes) → has ks q ≡ true → is_stored now true (get m q) ≡ false) → expired now ks m ≡ []
+none_expired now ks m h = chosen_alike (is_stored now true) (λ o. false) ks m m refl h ∙ never ks m
 
 append_none : (es : List Effect) → es ++ [] ≡ es
 append_none [] = refl
 append_none (e ∷ es) = ap (λ fs. e ∷ fs) (append_none es)
 
-no_dels : (now : ℤ) (ks : List Bytes) (m : Dataset) (es : List Effect) → ((q : Bytes) → has ks q ≡ true → is_stored now true (get m q) ≡ false) → es ≡ es ++ dels (past now ks m)
-no_dels now ks m es h = sym (ap (λ xs. es ++ dels xs) (none_past now ks m h) ∙ append_none es)
+no_dels : (now : ℤ) (ks : List Bytes) (m : Dataset) (es : List Effect) → ((q : Bytes) → has ks q ≡ true → is_stored now true (get m q) ≡ false) → es ≡ es ++ dels (expired now ks m)
+no_dels now ks m es h = sym (ap (λ xs. es ++ dels xs) (none_expired now ks m h) ∙ append_none es)
 
 -- of the keys that pairs name
-named_not_past : (now : ℤ) (m : Dataset) (ps : List Pair) → is_any_past now ps m ≡ false → (q : Bytes) → has (names ps) q ≡ true → is_stored now true (get m q) ≡ false
-named_not_past now m [] h q is = cc
-named_not_past now m (p ∷ ps) h q is = elim (is_key q p.0) as (λ b. is_key q p.0 ≡ b → (b || has (names ps) q) ≡ true → is_stored now true (get m q) ≡ false) [
+named_not_expired : (now : ℤ) (m : Dataset) (ps : List Pair) → is_any_expired now ps m ≡ false → (q : Bytes) → has (names ps) q ≡ true → is_stored now true (get m q) ≡ false
+named_not_expired now m [] h q is = cc
+named_not_expired now m (p ∷ ps) h q is = elim (is_key q p.0) as (λ b. is_key q p.0 ≡ b → (b || has (names ps) q) ≡ true → is_stored now true (get m q) ≡ false) [
   | true ↦ λ t i. ap (λ k. is_stored now true (get m k)) (same_key q p.0 t) ∙ left _ _ h
-  | false ↦ λ t i. named_not_past now m ps (right (is_stored now true (get m p.0)) _ h) q i
+  | false ↦ λ t i. named_not_expired now m ps (right (is_stored now true (get m p.0)) _ h) q i
 ] refl is
 
-pub none_of_pairs : (now : ℤ) (m : Dataset) (ps : List Pair) (es : List Effect) → is_any_past now ps m ≡ false → es ≡ es ++ dels (past now (names ps) m)
-none_of_pairs now m ps es h = no_dels now (names ps) m es (named_not_past now m ps h)
+pub none_of_pairs : (now : ℤ) (m : Dataset) (ps : List Pair) (es : List Effect) → is_any_expired now ps m ≡ false → es ≡ es ++ dels (expired now (names ps) m)
+none_of_pairs now m ps es h = no_dels now (names ps) m es (named_not_expired now m ps h)
 
 -- .. and of those that have a last text
-found_not_past : (now : ℤ) (m : Dataset) (es : List Pair) (q v : Bytes) → find bytes_cmp q es ≡ Some v → is_any_past now es m ≡ false → is_stored now true (get m q) ≡ false
-found_not_past now m [] q v is h = cc
-found_not_past now m (e ∷ es) q v is h = elim (is_key q e.0) as (λ b. is_key q e.0 ≡ b → cond b (Some e.1) (find bytes_cmp q es) ≡ Some v → is_stored now true (get m q) ≡ false) [
+found_not_expired : (now : ℤ) (m : Dataset) (es : List Pair) (q v : Bytes) → find bytes_cmp q es ≡ Some v → is_any_expired now es m ≡ false → is_stored now true (get m q) ≡ false
+found_not_expired now m [] q v is h = cc
+found_not_expired now m (e ∷ es) q v is h = elim (is_key q e.0) as (λ b. is_key q e.0 ≡ b → cond b (Some e.1) (find bytes_cmp q es) ≡ Some v → is_stored now true (get m q) ≡ false) [
   | true ↦ λ t i. ap (λ k. is_stored now true (get m k)) (same_key q e.0 t) ∙ left _ _ h
-  | false ↦ λ t i. found_not_past now m es q v i (right (is_stored now true (get m e.0)) _ h)
+  | false ↦ λ t i. found_not_expired now m es q v i (right (is_stored now true (get m e.0)) _ h)
 ] refl is
 
-last_not_past : (now : ℤ) (m : Dataset) (ps : List Pair) → is_any_past now (entries (last_texts ps)) m ≡ false → (q : Bytes) → has (names ps) q ≡ true → is_stored now true (get m q) ≡ false
-last_not_past now m ps h q is = elim (get (last_texts ps) q) as (λ o. get (last_texts ps) q ≡ o → is_stored now true (get m q) ≡ false) [
+last_not_expired : (now : ℤ) (m : Dataset) (ps : List Pair) → is_any_expired now (entries (last_texts ps)) m ≡ false → (q : Bytes) → has (names ps) q ≡ true → is_stored now true (get m q) ≡ false
+last_not_expired now m ps h q is = elim (get (last_texts ps) q) as (λ o. get (last_texts ps) q ≡ o → is_stored now true (get m q) ≡ false) [
   | None ↦ λ none. let wrong : true ≡ false = sym is ∙ (absent ps empty q none).1 in cc
-  | Some v ↦ λ there. found_not_past now m (entries (last_texts ps)) q v (sym (get-entries (last_texts ps) q) ∙ there) h
+  | Some v ↦ λ there. found_not_expired now m (entries (last_texts ps)) q v (sym (get-entries (last_texts ps) q) ∙ there) h
 ] refl
 
-pub none_of_texts : (now : ℤ) (m : Dataset) (ps : List Pair) (es : List Effect) → is_any_past now (entries (last_texts ps)) m ≡ false → es ≡ es ++ dels (past now (names ps) m)
-none_of_texts now m ps es h = no_dels now (names ps) m es (last_not_past now m ps h)
+pub none_of_texts : (now : ℤ) (m : Dataset) (ps : List Pair) (es : List Effect) → is_any_expired now (entries (last_texts ps)) m ≡ false → es ≡ es ++ dels (expired now (names ps) m)
+none_of_texts now m ps es h = no_dels now (names ps) m es (last_not_expired now m ps h)
 
--- ---- what is there once past keys are gone
+-- ---- what is there once expired keys are deleted
 kept : (now : ℤ) (m : Dataset) (ks : List Bytes) (q : Bytes) → has ks q ≡ true → get (purged now ks m) q ≡ live now (get m q)
 kept now m ks q is = get_purged now ks m q ∙ ap (λ b. cond b (live now (get m q)) (get m q)) is
 
@@ -125,11 +125,11 @@ changed_purged : (now : ℤ) (m : Dataset) (ps : List Pair) → changed_at now (
 changed_purged now m ps = filter_alike _ _ (entries (last_texts ps)) (all_map _ _ (λ x is. ap (λ o. not (is_plain x.1 o)) (sym (kept now m (names ps) x.0 (named ps x.0 x.1 is)))) (entries (last_texts ps)) (own_entries (last_texts ps)))
 
 -- MSET
-pub mset_plan : (ps : List Pair) (now : ℤ) (m : Dataset) (r : Tree) (none looked list own : List Effect) → none ≡ [] → looked ≡ none ++ dels (past now (names ps) m) → r ≡ done → own ≡ looked ++ set_effects (changed_at now (entries (last_texts ps)) m) → list ≡ own → IsPlan (on_keys (names ps) (mset ps)) now m r list
+pub mset_plan : (ps : List Pair) (now : ℤ) (m : Dataset) (r : Tree) (none looked list own : List Effect) → none ≡ [] → looked ≡ none ++ dels (expired now (names ps) m) → r ≡ done → own ≡ looked ++ set_effects (changed_at now (entries (last_texts ps)) m) → list ≡ own → IsPlan (on_keys (names ps) (mset ps)) now m r list
 mset_plan ps now m r none looked list own start look told put all = record {
   reply_is = told;
-  effects_are = all ∙ put ∙ ap (λ es. es ++ set_effects (changed_at now (entries (last_texts ps)) m)) (look ∙ ap (λ es. es ++ dels (past now (names ps) m)) start)
-      ∙ ap (λ xs. dels (past now (names ps) m) ++ set_effects xs) (changed_purged now m ps);
+  effects_are = all ∙ put ∙ ap (λ es. es ++ set_effects (changed_at now (entries (last_texts ps)) m)) (look ∙ ap (λ es. es ++ dels (expired now (names ps) m)) start)
+      ∙ ap (λ xs. dels (expired now (names ps) m) ++ set_effects xs) (changed_purged now m ps);
 }
 
 -- ---- MSETNX
@@ -170,19 +170,19 @@ filter_whole p (x ∷ xs) a = ap (λ b. cond b (x ∷ filter p xs) (filter p xs)
 all_changed : (now : ℤ) (m : Dataset) (ps : List Pair) → is_any_live now ps m ≡ false → entries (last_texts ps) ≡ changed ps (purged now (names ps) m)
 all_changed now m ps h = sym (filter_whole _ (entries (last_texts ps)) (all_map _ _ (λ x is. let here = named ps x.0 x.1 is in ap (λ o. not (is_plain x.1 o)) (kept now m (names ps) x.0 here ∙ named_not_there now m ps h x.0 here)) (entries (last_texts ps)) (own_entries (last_texts ps))))
 
-module _ (ps : List Pair) (now : ℤ) (m : Dataset) (r : Tree) (none looked list : List Effect) (start : none ≡ []) (look : looked ≡ none ++ dels (past now (names ps) m)) where
+module _ (ps : List Pair) (now : ℤ) (m : Dataset) (r : Tree) (none looked list : List Effect) (start : none ≡ []) (look : looked ≡ none ++ dels (expired now (names ps) m)) where
   pub some_there : is_any_live now ps m ≡ true → r ≡ reply.int (pos 0) → list ≡ looked → IsPlan (on_keys (names ps) (msetnx ps)) now m r list
   some_there there told all = record {
     reply_is = told ∙ ap (λ b. (if b then answered (reply.int (pos 0)) (seen now m) else put_all (reply.int (pos 1)) ps (seen now m)).reply) (sym there ∙ live_seen now m ps);
-    effects_are = all ∙ look ∙ ap (λ es. es ++ dels (past now (names ps) m)) start ∙ sym (append_none _)
-        ∙ ap (λ b. dels (past now (names ps) m) ++ (if b then answered (reply.int (pos 0)) (purged now (names ps) m) else put_all (reply.int (pos 1)) ps (purged now (names ps) m)).effects) (sym there ∙ live_purged now m ps);
+    effects_are = all ∙ look ∙ ap (λ es. es ++ dels (expired now (names ps) m)) start ∙ sym (append_none _)
+        ∙ ap (λ b. dels (expired now (names ps) m) ++ (if b then answered (reply.int (pos 0)) (purged now (names ps) m) else put_all (reply.int (pos 1)) ps (purged now (names ps) m)).effects) (sym there ∙ live_purged now m ps);
   }
 
   pub none_there : (own : List Effect) → is_any_live now ps m ≡ false → r ≡ reply.int (pos 1) → own ≡ looked ++ set_effects (entries (last_texts ps)) → list ≡ own → IsPlan (on_keys (names ps) (msetnx ps)) now m r list
   none_there own there told put all = record {
     reply_is = told ∙ ap (λ b. (if b then answered (reply.int (pos 0)) (seen now m) else put_all (reply.int (pos 1)) ps (seen now m)).reply) (sym there ∙ live_seen now m ps);
     effects_are = all ∙ put
-        ∙ ap (λ es. es ++ set_effects (entries (last_texts ps))) (look ∙ ap (λ es. es ++ dels (past now (names ps) m)) start)
-        ∙ ap (λ xs. dels (past now (names ps) m) ++ set_effects xs) (all_changed now m ps there)
-        ∙ ap (λ b. dels (past now (names ps) m) ++ (if b then answered (reply.int (pos 0)) (purged now (names ps) m) else put_all (reply.int (pos 1)) ps (purged now (names ps) m)).effects) (sym there ∙ live_purged now m ps);
+        ∙ ap (λ es. es ++ set_effects (entries (last_texts ps))) (look ∙ ap (λ es. es ++ dels (expired now (names ps) m)) start)
+        ∙ ap (λ xs. dels (expired now (names ps) m) ++ set_effects xs) (all_changed now m ps there)
+        ∙ ap (λ b. dels (expired now (names ps) m) ++ (if b then answered (reply.int (pos 0)) (purged now (names ps) m) else put_all (reply.int (pos 1)) ps (purged now (names ps) m)).effects) (sym there ∙ live_purged now m ps);
   }

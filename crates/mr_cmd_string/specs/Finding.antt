@@ -8,13 +8,13 @@ use Rattle.mr_data.specs.Dataset.{live}
 use Rattle.mr_planning.specs.Keys.{is_stored}
 use Rattle.mr_cmd_string.specs.Setting.{is_plain}
 
--- one of them is there and not past
+-- one of them is there and not expired
 abbrev pub is_any_live : ℤ → List (Bytes × Bytes) → Dataset → Bool
 is_any_live now pairs m = list_any (λ p. is_some (live now (get m p.0))) pairs
 
--- one of them is past
-abbrev pub is_any_past : ℤ → List (Bytes × Bytes) → Dataset → Bool
-is_any_past now pairs m = list_any (λ p. is_stored now true (get m p.0)) pairs
+-- one of them is expired
+abbrev pub is_any_expired : ℤ → List (Bytes × Bytes) → Dataset → Bool
+is_any_expired now pairs m = list_any (λ p. is_stored now true (get m p.0)) pairs
 
 -- those that don't hold their text already, without a deadline
 abbrev pub changed_at : ℤ → List (Bytes × Bytes) → Dataset → List (Bytes × Bytes)

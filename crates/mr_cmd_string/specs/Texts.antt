@@ -59,6 +59,6 @@ found (Some e) = text_or_null e.value
 abbrev pub texts : List Bytes → Dataset → Outcome
 texts ks m = answered (reply.array (trees_of (map (λ k. found (get m k)) ks))) m
 
--- .. at a moment, past ones left out
+-- .. at a moment, expired ones left out
 abbrev pub texts_at : ℤ → List Bytes → Dataset → List Tree
 texts_at now ks m = map (λ k. found (live now (get m k))) ks

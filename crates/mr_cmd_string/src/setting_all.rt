@@ -2,10 +2,10 @@
 ghost use Rattle.std.specs.Prelude.{◌≡◌, ◌++◌, map, IfOk, OnOk};
 ghost use Rattle.std.specs.FinMap.{entries};
 ghost use Rattle.mr_resp.specs.ReplyView.{view};
-ghost use Rattle.mr_planning.specs.Keys.{dels, past};
+ghost use Rattle.mr_planning.specs.Keys.{dels, expired};
 ghost use Rattle.mr_planning.specs.Commands.{IsPlan, on_keys};
 ghost use Rattle.mr_cmd_string.specs.SettingAll.{names, last_texts, set_effects, mset, msetnx};
-ghost use Rattle.mr_cmd_string.specs.Finding.{is_any_live, is_any_past, changed_at};
+ghost use Rattle.mr_cmd_string.specs.Finding.{is_any_live, is_any_expired, changed_at};
 
 use crate::setting::is_plain;
 use mr_data::{Dataset, Effect, Given, Pairs as Texts, Plan};
@@ -28,8 +28,8 @@ pub fn mset(
     let values = last_texts(alloc, pairs)?;
     let changed = find_changed(alloc, held, &values, given)?;
     let mut effects = Effects::new(alloc);
-    if changed.past {
-        push_past(alloc, held, pairs, given, &mut effects)?;
+    if changed.expired {
+        push_expired(alloc, held, pairs, given, &mut effects)?;
     }
     push_texts(changed.texts, &mut effects)?;
     Ok(effects.into_plan(done()))
@@ -44,10 +44,10 @@ pub fn msetnx(
 ) -> Result<Plan, AllocError>
     ensures { IfOk result (λ p. IsPlan (on_keys (names pairs.now) (msetnx pairs.now)) given.now held.now (view p.reply) p.effects.items) }
 {
-    let (there, past) = find_any(held, pairs, given);
+    let (there, expired) = find_any(held, pairs, given);
     let mut effects = Effects::new(alloc);
-    if past {
-        push_past(alloc, held, pairs, given, &mut effects)?;
+    if expired {
+        push_expired(alloc, held, pairs, given, &mut effects)?;
     }
     if there {
         return Ok(effects.into_plan(count(0)));
@@ -72,11 +72,11 @@ fn last_texts<'a>(
     Ok(values)
 }
 
-// The texts that change what their keys hold, and whether one of the keys is past.
+// The texts that change what their keys hold, and whether one of the keys is expired.
 #[derive(Drop)]
 struct Changed {
     texts: Texts<'static>,
-    past: bool,
+    expired: bool,
 }
 
 fn find_changed(
@@ -86,15 +86,15 @@ fn find_changed(
     given: Given,
 ) -> Result<Changed, AllocError>
     ensures texts { IfOk result (λ c. c.texts ≡ changed_at given.now (entries values.now) held.now) }
-    ensures past { IfOk result (λ c. c.past ≡ is_any_past given.now (entries values.now) held.now) }
+    ensures expired { IfOk result (λ c. c.expired ≡ is_any_expired given.now (entries values.now) held.now) }
 {
     let mut changed = Changed {
         texts: Texts::new(alloc),
-        past: false,
+        expired: false,
     };
     for (key, text) in values.iter() {
-        let (live_entry, past) = see(held, key, given);
-        changed.past |= past;
+        let (live_entry, expired) = see(held, key, given);
+        changed.expired |= expired;
         if !is_plain(text.as_slice(), live_entry) {
             changed.texts.push(
                 Word::copied(alloc, key)?,
@@ -105,19 +105,19 @@ fn find_changed(
     Ok(changed)
 }
 
-// Whether one of the keys is there and not past, and whether one is past.
+// Whether one of the keys is there and not expired, and whether one is expired.
 fn find_any(held: &Dataset, pairs: &Pairs<'_, '_>, given: Given) -> (bool, bool)
     ensures there { result.0 ≡ is_any_live given.now pairs.now held.now }
-    ensures past { result.1 ≡ is_any_past given.now pairs.now held.now }
+    ensures expired { result.1 ≡ is_any_expired given.now pairs.now held.now }
 {
     let mut any_there = false;
-    let mut any_past = false;
+    let mut any_expired = false;
     for (key, _) in pairs.iter() {
-        let (live_entry, past) = see(held, key, given);
+        let (live_entry, expired) = see(held, key, given);
         any_there |= live_entry.is_some();
-        any_past |= past;
+        any_expired |= expired;
     }
-    (any_there, any_past)
+    (any_there, any_expired)
 }
 
 // All keys with their texts.
@@ -134,15 +134,15 @@ fn copied(alloc: Global, values: &SliceMap<'_, Argument<'_>>) -> Result<Texts<'s
     Ok(texts)
 }
 
-// A DEL for each of the keys that is past.
-fn push_past(
+// A DEL for each of the keys that is expired.
+fn push_expired(
     alloc: Global,
     held: &Dataset,
     pairs: &Pairs<'_, '_>,
     given: Given,
     effects: &mut Effects,
 ) -> Result<(), AllocError>
-    ensures { OnOk result (effects.new ≡ effects.old ++ dels (past given.now (names pairs.now) held.now)) }
+    ensures { OnOk result (effects.new ≡ effects.old ++ dels (expired given.now (names pairs.now) held.now)) }
 {
     let mut keys = Vec::new(alloc);
     for (key, _) in pairs.iter() {

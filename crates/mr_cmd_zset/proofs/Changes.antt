@@ -11,7 +11,7 @@ use Rattle.mr_effect.specs.Effects.{is_some_of}
 use Rattle.mr_effect.specs.declared.effect.Effect.{Effect}
 use Rattle.mr_effect.specs.declared.effect.Effect.TheVariants as effect
 use Rattle.mr_entries.specs.Dataset.{Dataset}
-use Rattle.mr_data.specs.Dataset.{IsDataset, IsValue, live, is_past}
+use Rattle.mr_data.specs.Dataset.{IsDataset, IsValue, live, is_expired}
 use Rattle.mr_entries.specs.Collections.{with_scores, without_scores}
 use Rattle.mr_entries.specs.Steps.{sorted_sets, held, sorted_set_of, entry_of, deadline_of, on}
 use Rattle.mr_entries.specs.Changes.{change}
@@ -120,10 +120,10 @@ unchanged_faithful reply s k o = record {
   some = λ e. refl;
 }
 
--- ---- what a dataset keeps, it keeps without past keys
+-- ---- what a dataset keeps, it keeps without expired keys
 live_is : (now : ℤ) (o : Option Entry) (e : Entry) → live now o ≡ Some e → o ≡ Some e
 live_is now None e h = h
-live_is now (Some f) e h = elim (is_past now f.deadline) as (λ b. (let none : Option Entry = None in cond b none (Some f)) ≡ Some e → Some f ≡ Some e) [ true ↦ λ i. cc | false ↦ λ i. i ] h
+live_is now (Some f) e h = elim (is_expired now f.deadline) as (λ b. (let none : Option Entry = None in cond b none (Some f)) ≡ Some e → Some f ≡ Some e) [ true ↦ λ i. cc | false ↦ λ i. i ] h
 
 purged_kept : (now : ℤ) (ks : List Bytes) (m : Dataset) → IsDataset m → IsDataset (purged now ks m)
 purged_kept now ks m h = record {

@@ -1,4 +1,4 @@
--- The past keys are the first of those that have a deadline.
+-- The expired keys are the first of those that have a deadline.
 use Rattle.std.proofs.Common.{◌≡◌, ℕ, zero, suc, ℤ, ◌≤◌, ◌+◌, length, List, [], ◌∷◌, ◌++◌, append_assoc, append-nil, map, take, Bool, true, false, cond, Option, Some, None, IsTrue, refl, sym, ◌∙◌, ap, subst, arith}
 use Rattle.std.specs.Prelude.{All, MatchOption, slice_get, filter, int_le, ◌<ℤ◌, ◌≤ℤ◌, IsPermutation}
 use Rattle.std.specs.declared.cmp.Ordering.{Ordering}
@@ -26,36 +26,36 @@ use Rattle.mr_entries.specs.declared.timed_key.TimedKey.{TimedKey}
 use Rattle.mr_entries.specs.declared.value.Entry.{Entry}
 use Rattle.mr_data.specs.Dataset.{IsDataset}
 use Rattle.mr_data.specs.declared.due.DueKey.{DueKey}
-use Rattle.mr_data.specs.Due.{deadline_at, if_past, due, shown, HasWord}
+use Rattle.mr_data.specs.Due.{deadline_at, if_expired, due, shown, HasWord}
 
 abbrev Pair : Type 0
 Pair = Bytes × ℤ
 
--- whether a pair's deadline is past
-abbrev pub past : ℤ → Pair → Bool
-past now p = int_le p.1 now
+-- whether a pair's deadline has passed
+abbrev pub expired : ℤ → Pair → Bool
+expired now p = int_le p.1 now
 
-one_key : (now : ℤ) (k : Bytes) (o : Option Entry) → if_past now k (option_and_then (λ e. e.deadline) o) ≡ filter (past now) (timed k (deadline_of o))
+one_key : (now : ℤ) (k : Bytes) (o : Option Entry) → if_expired now k (option_and_then (λ e. e.deadline) o) ≡ filter (expired now) (timed k (deadline_of o))
 one_key now k None = refl
-one_key now k (Some e) = elim e.deadline as (λ (d : Option ℤ). if_past now k d ≡ filter (past now) (timed k d)) [
+one_key now k (Some e) = elim e.deadline as (λ (d : Option ℤ). if_expired now k d ≡ filter (expired now) (timed k d)) [
   | None ↦ refl
   | Some d ↦ refl
 ]
 
-each_key : (now : ℤ) (m : Dataset) (ks : List Bytes) → flat_map (λ k. if_past now k (deadline_at m k)) ks ≡ filter (past now) (flat_map (λ k. timed k (deadline_of (get m k))) ks)
+each_key : (now : ℤ) (m : Dataset) (ks : List Bytes) → flat_map (λ k. if_expired now k (deadline_at m k)) ks ≡ filter (expired now) (flat_map (λ k. timed k (deadline_of (get m k))) ks)
 each_key now m [] = refl
 each_key now m (k ∷ ks) =
     (λ i. one_key now k (get m k) i ++ each_key now m ks i)
-    ∙ sym (filter-append (past now) (timed k (deadline_of (get m k))) (flat_map (λ k. timed k (deadline_of (get m k))) ks))
+    ∙ sym (filter-append (expired now) (timed k (deadline_of (get m k))) (flat_map (λ k. timed k (deadline_of (get m k))) ks))
 
--- the past keys are those of all timed keys whose deadline is past
-pub due_is : (now : ℤ) (m : Dataset) → due now m ≡ filter (past now) (timed_keys m)
+-- the expired keys are those of all timed keys whose deadline has passed
+pub due_is : (now : ℤ) (m : Dataset) → due now m ≡ filter (expired now) (timed_keys m)
 due_is now m =
     let all : List Pair = flat_map (λ k. timed k (deadline_of (get m k))) (keys m) in
     ap (in_order pair_cmp) (each_key now m (keys m))
-    ∙ sorted_filter pairs_total exact_pair all (in_order pair_cmp (filter (past now) all)) (past now) (Ascends-in_order pairs_total (filter (past now) all)) (IsPermutation-in_order pair_cmp (filter (past now) all))
+    ∙ sorted_filter pairs_total exact_pair all (in_order pair_cmp (filter (expired now) all)) (expired now) (Ascends-in_order pairs_total (filter (expired now) all)) (IsPermutation-in_order pair_cmp (filter (expired now) all))
 
--- what is behind a timed key that isn't past isn't past either
+-- what is behind a timed key that isn't expired isn't expired either
 
 not_more : (a b : ℤ) → is_gt (int_cmp a b) ≡ false → a ≤ℤ b
 not_more a b h = elim (int_cmp a b) as (λ (r : Ordering). r ≡ int_cmp a b → is_gt r ≡ false → a ≤ℤ b) [
@@ -69,17 +69,17 @@ deadline_first Less s h = refl
 deadline_first Equal s h = refl
 deadline_first Greater s h = h
 
-later : (x y : Pair) (now : ℤ) → is_gt (pair_cmp x y) ≡ false → past now x ≡ false → past now y ≡ false
+later : (x y : Pair) (now : ℤ) → is_gt (pair_cmp x y) ≡ false → expired now x ≡ false → expired now y ≡ false
 later x y now h out =
     let up : x.1 ≤ℤ y.1 = not_more x.1 y.1 (deadline_first _ _ h) in
-    elim (past now y) as (λ b. past now y ≡ b → b ≡ false) [
+    elim (expired now y) as (λ b. expired now y ≡ b → b ≡ false) [
       | true ↦ λ e. absurd (omega (arith, ints))
       | false ↦ λ e. refl
     ] refl
 
-none_later : (x : Pair) (ys : List Pair) (now : ℤ) → Above pair_cmp x ys → past now x ≡ false → filter (past now) ys ≡ []
+none_later : (x : Pair) (ys : List Pair) (now : ℤ) → Above pair_cmp x ys → expired now x ≡ false → filter (expired now) ys ≡ []
 none_later x [] now h out = refl
-none_later x (y ∷ ys) now h out = ap (λ b. cond b (y ∷ filter (past now) ys) (filter (past now) ys)) (later x y now h.0 out) ∙ none_later x ys now h.1 out
+none_later x (y ∷ ys) now h out = ap (λ b. cond b (y ∷ filter (expired now) ys) (filter (expired now) ys)) (later x y now h.0 out) ∙ none_later x ys now h.1 out
 
 Ascends-behind : (xs ys : List Pair) → Ascends pair_cmp (xs ++ ys) → Ascends pair_cmp ys
 Ascends-behind [] ys h = h
@@ -125,41 +125,41 @@ take-all (suc n) (p ∷ ps) h = ap (λ (qs : List Pair). p ∷ qs) (take-all n p
 -- what was found, and what is still to come
 pub record Taking (now : ℤ) (most : ℕ) (m : Dataset) (found : List DueKey) (rest : List TimedKey) : Type 0 where
   pub all : map shown found ++ map entered rest ≡ timed_keys m
-  pub past : filter (past now) (map shown found) ≡ map shown found
+  pub expired : filter (expired now) (map shown found) ≡ map shown found
   pub few : length found ≤ most
 
 module _ {now : ℤ} {most : ℕ} {m : Dataset} {found : List DueKey} {rest : List TimedKey} (taking : Taking now most m found rest) where
-  -- what stands in front of what isn't past
-  only_found : filter (past now) (map entered rest) ≡ [] → map shown found ≡ take most (due now m)
+  -- what stands in front of what isn't expired
+  only_found : filter (expired now) (map entered rest) ≡ [] → map shown found ≡ take most (due now m)
   only_found none =
-      sym (ap (take most) (due_is now m ∙ ap (filter (past now)) (sym taking.all) ∙ filter-append (past now) (map shown found) (map entered rest) ∙ (λ i. taking.past i ++ none i) ∙ append-nil (map shown found))
+      sym (ap (take most) (due_is now m ∙ ap (filter (expired now)) (sym taking.all) ∙ filter-append (expired now) (map shown found) (map entered rest) ∙ (λ i. taking.expired i ++ none i) ∙ append-nil (map shown found))
       ∙ take-all most (map shown found) (omega (arith, taking.few, length-map found shown)))
 
   pub at_end : rest ≡ [] → map shown found ≡ take most (due now m)
-  at_end none = only_found (ap (λ (xs : List TimedKey). filter (past now) (map entered xs)) none)
+  at_end none = only_found (ap (λ (xs : List TimedKey). filter (expired now) (map entered xs)) none)
 
   pub at_later : (x : TimedKey) (xs : List TimedKey) → rest ≡ x ∷ xs → int_le x.deadline now ≡ false → map shown found ≡ take most (due now m)
   at_later x xs is out =
       let up : Ascends pair_cmp (map entered (x ∷ xs)) = Ascends-behind (map shown found) (map entered (x ∷ xs)) (subst (Ascends pair_cmp) (sym taking.all ∙ ap (λ (ys : List TimedKey). map shown found ++ map entered ys) is) (Ascends-in_order pairs_total (flat_map (λ k. timed k (deadline_of (get m k))) (keys m)))) in
-      only_found (ap (λ (ys : List TimedKey). filter (past now) (map entered ys)) is
-      ∙ ap (λ b. cond b (entered x ∷ filter (past now) (map entered xs)) (filter (past now) (map entered xs))) out ∙ none_later (entered x) (map entered xs) now up.0 out)
+      only_found (ap (λ (ys : List TimedKey). filter (expired now) (map entered ys)) is
+      ∙ ap (λ b. cond b (entered x ∷ filter (expired now) (map entered xs)) (filter (expired now) (map entered xs))) out ∙ none_later (entered x) (map entered xs) now up.0 out)
 
   pub at_full : length found ≡ most → map shown found ≡ take most (due now m)
   at_full full =
-      sym (ap (take most) (due_is now m ∙ ap (filter (past now)) (sym taking.all) ∙ filter-append (past now) (map shown found) (map entered rest) ∙ ap (λ (ps : List Pair). ps ++ filter (past now) (map entered rest)) taking.past)
-      ∙ ap (λ (n : ℕ). take n (map shown found ++ filter (past now) (map entered rest))) (sym full ∙ sym (length-map found shown)) ∙ take-append_seam (map shown found) (filter (past now) (map entered rest)))
+      sym (ap (take most) (due_is now m ∙ ap (filter (expired now)) (sym taking.all) ∙ filter-append (expired now) (map shown found) (map entered rest) ∙ ap (λ (ps : List Pair). ps ++ filter (expired now) (map entered rest)) taking.expired)
+      ∙ ap (λ (n : ℕ). take n (map shown found ++ filter (expired now) (map entered rest))) (sym full ∙ sym (length-map found shown)) ∙ take-append_seam (map shown found) (filter (expired now) (map entered rest)))
 
   pub one_more : (x : TimedKey) (xs : List TimedKey) (d : DueKey) (more : List DueKey) → rest ≡ x ∷ xs → shown d ≡ entered x → int_le x.deadline now ≡ true → more ≡ found ++ d ∷ [] → (length found ≡ most → ⊥) → Taking now most m more xs
   one_more x xs d more is same here pushed room = record {
     all = ap (λ (ds : List DueKey). map shown ds ++ map entered xs) pushed ∙ ap (λ (ps : List Pair). ps ++ map entered xs) (map_push shown found d) ∙ append_assoc (map shown found) (shown d ∷ []) (map entered xs)
         ∙ ap (λ (p : Pair). map shown found ++ p ∷ map entered xs) same ∙ ap (λ (ys : List TimedKey). map shown found ++ map entered ys) (sym is) ∙ taking.all;
-    past = ap (λ (ds : List DueKey). filter (past now) (map shown ds)) pushed ∙ ap (filter (past now)) (map_push shown found d) ∙ filter-append (past now) (map shown found) (shown d ∷ [])
-        ∙ (λ i. taking.past i ++ one_past i) ∙ sym (ap (map shown) pushed ∙ map_push shown found d);
+    expired = ap (λ (ds : List DueKey). filter (expired now) (map shown ds)) pushed ∙ ap (filter (expired now)) (map_push shown found d) ∙ filter-append (expired now) (map shown found) (shown d ∷ [])
+        ∙ (λ i. taking.expired i ++ one_expired i) ∙ sym (ap (map shown) pushed ∙ map_push shown found d);
     few = subst (λ (ds : List DueKey). length ds ≤ most) (sym pushed) (let size : length (found ++ d ∷ []) ≡ length found + 1 = length-append found (d ∷ []) in omega (arith, taking.few, room));
   }
     where
-      one_past : filter (past now) (shown d ∷ []) ≡ shown d ∷ []
-      one_past = ap (λ b. cond b (shown d ∷ []) []) (ap (λ (p : Pair). past now p) same ∙ here)
+      one_expired : filter (expired now) (shown d ∷ []) ≡ shown d ∷ []
+      one_expired = ap (λ b. cond b (shown d ∷ []) []) (ap (λ (p : Pair). expired now p) same ∙ here)
 
   -- the keys of a dataset are words
   pub each_is_word : IsDataset m → All HasWord found
@@ -172,7 +172,7 @@ module _ {now : ℤ} {most : ℕ} {m : Dataset} {found : List DueKey} {rest : Li
 pub at_start : (now : ℤ) (most : ℕ) (m : Dataset) (none : List DueKey) (all : List TimedKey) → none ≡ [] → map entered all ≡ timed_keys m → Taking now most m none all
 at_start now most m none all is whole = record {
   all = ap (λ (ds : List DueKey). map shown ds ++ map entered all) is ∙ whole;
-  past = ap (λ (ds : List DueKey). filter (past now) (map shown ds)) is ∙ sym (ap (map shown) is);
+  expired = ap (λ (ds : List DueKey). filter (expired now) (map shown ds)) is ∙ sym (ap (map shown) is);
   few = subst (λ (ds : List DueKey). length ds ≤ most) (sym is) (omega arith);
 }
 
@@ -195,16 +195,16 @@ is_due now x (Some e) d h some = (let same : e ≡ d = cc in subst (λ (z : DueK
 
 -- ---- the first of an index
 
-some_first : (now : ℤ) (m : Dataset) (x : TimedKey) (xs : List TimedKey) → map entered (x ∷ xs) ≡ timed_keys m → due now m ≡ cond (int_le x.deadline now) (entered x ∷ filter (past now) (map entered xs)) (filter (past now) (map entered xs))
-some_first now m x xs all = due_is now m ∙ ap (filter (past now)) (sym all)
+some_first : (now : ℤ) (m : Dataset) (x : TimedKey) (xs : List TimedKey) → map entered (x ∷ xs) ≡ timed_keys m → due now m ≡ cond (int_le x.deadline now) (entered x ∷ filter (expired now) (map entered xs)) (filter (expired now) (map entered xs))
+some_first now m x xs all = due_is now m ∙ ap (filter (expired now)) (sym all)
 
-pub first_past : (now : ℤ) (m : Dataset) (x : TimedKey) (xs : List TimedKey) → map entered (x ∷ xs) ≡ timed_keys m → int_le x.deadline now ≡ true → slice_get (due now m) 0 ≡ Some (entered x)
-first_past now m x xs all here = ap (λ (ps : List Pair). slice_get ps 0) (some_first now m x xs all ∙ ap (λ b. cond b (entered x ∷ filter (past now) (map entered xs)) (filter (past now) (map entered xs))) here)
+pub first_expired : (now : ℤ) (m : Dataset) (x : TimedKey) (xs : List TimedKey) → map entered (x ∷ xs) ≡ timed_keys m → int_le x.deadline now ≡ true → slice_get (due now m) 0 ≡ Some (entered x)
+first_expired now m x xs all here = ap (λ (ps : List Pair). slice_get ps 0) (some_first now m x xs all ∙ ap (λ b. cond b (entered x ∷ filter (expired now) (map entered xs)) (filter (expired now) (map entered xs))) here)
 
 pub first_later : (now : ℤ) (m : Dataset) (x : TimedKey) (xs : List TimedKey) → map entered (x ∷ xs) ≡ timed_keys m → int_le x.deadline now ≡ false → slice_get (due now m) 0 ≡ None
 first_later now m x xs all out =
     let up : Ascends pair_cmp (map entered (x ∷ xs)) = subst (Ascends pair_cmp) (sym all) (Ascends-in_order pairs_total (flat_map (λ k. timed k (deadline_of (get m k))) (keys m))) in
-    ap (λ (ps : List Pair). slice_get ps 0) (some_first now m x xs all ∙ ap (λ b. cond b (entered x ∷ filter (past now) (map entered xs)) (filter (past now) (map entered xs))) out ∙ none_later (entered x) (map entered xs) now up.0 out)
+    ap (λ (ps : List Pair). slice_get ps 0) (some_first now m x xs all ∙ ap (λ b. cond b (entered x ∷ filter (expired now) (map entered xs)) (filter (expired now) (map entered xs))) out ∙ none_later (entered x) (map entered xs) now up.0 out)
 
 pub none_first : (now : ℤ) (m : Dataset) (xs : List TimedKey) → xs ≡ [] → map entered xs ≡ timed_keys m → slice_get (due now m) 0 ≡ None
-none_first now m xs none all = ap (λ (ps : List Pair). slice_get ps 0) (due_is now m ∙ ap (filter (past now)) (sym all ∙ ap (map entered) none))
+none_first now m xs none all = ap (λ (ps : List Pair). slice_get ps 0) (due_is now m ∙ ap (filter (expired now)) (sym all ∙ ap (map entered) none))

@@ -5,12 +5,12 @@ use Rattle.std.specs.FinMap.{get, get-retain_keys}
 use Rattle.std.proofs.lemmas.Map.Lookups.{exact_bytes}
 use Rattle.mr_map.specs.Bytes.{Bytes}
 use Rattle.mr_entries.specs.Dataset.{Dataset}
-use Rattle.mr_data.specs.Dataset.{is_past, live, seen}
+use Rattle.mr_data.specs.Dataset.{is_expired, live, seen}
 use Rattle.mr_entries.specs.declared.value.Entry.{Entry}
 
 kept : (now : ℤ) (o : Option Entry) → cond (is_some (live now o)) o None ≡ live now o
 kept now None = refl
-kept now (Some e) = elim (is_past now e.deadline) as (λ b. cond (is_some (cond b None (Some e))) (Some e) None ≡ cond b None (Some e)) [ true ↦ refl | false ↦ refl ]
+kept now (Some e) = elim (is_expired now e.deadline) as (λ b. cond (is_some (cond b None (Some e))) (Some e) None ≡ cond b None (Some e)) [ true ↦ refl | false ↦ refl ]
 
 pub get-seen : (now : ℤ) (m : Dataset) (k : Bytes) → get (seen now m) k ≡ live now (get m k)
 unfolding seen

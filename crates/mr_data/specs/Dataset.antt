@@ -57,16 +57,16 @@ pub record IsEntry (k : Bytes) (e : Entry) : Type 0 where
 pub record IsDataset (m : Dataset) : Type 0 where
   pub entries : (k : Bytes) (e : Entry) → get m k ≡ Some e → IsEntry k e
 
--- a key with this deadline is past at this moment
-abbrev pub is_past : ℤ → Option ℤ → Bool
-is_past now None = false
-is_past now (Some deadline) = int_le deadline now
+-- a key with this deadline is expired at this moment
+abbrev pub is_expired : ℤ → Option ℤ → Bool
+is_expired now None = false
+is_expired now (Some deadline) = int_le deadline now
 
--- the entry, unless it is past
+-- the entry, unless it is expired
 abbrev pub live : ℤ → Option Entry → Option Entry
 live now None = None
-live now (Some e) = if is_past now e.deadline then None else Some e
+live now (Some e) = if is_expired now e.deadline then None else Some e
 
--- the dataset without the keys that are past
+-- the dataset without the keys that are expired
 unfoldable pub seen : ℤ → Dataset → Dataset
 seen now m = retain_keys m (λ k. is_some (live now (get m k)))

@@ -1,4 +1,4 @@
--- The past keys, in the order in which they are deleted.
+-- The expired keys, in the order in which they are deleted.
 use Rattle.std.specs.Prelude.{IsTrue, ℤ, List, [], ◌∷◌, int_le, if◌then◌else◌, Option, Some, None}
 use Rattle.std.specs.List.{flat_map}
 use Rattle.std.specs.Option.{option_and_then}
@@ -14,14 +14,14 @@ use Rattle.mr_data.specs.declared.due.DueKey.{DueKey}
 abbrev pub deadline_at : Dataset → Bytes → Option ℤ
 deadline_at m k = option_and_then (λ e. e.deadline) (get m k)
 
--- a key with its deadline, if that is past at this moment
-abbrev pub if_past : ℤ → Bytes → Option ℤ → List (Bytes × ℤ)
-if_past now k None = []
-if_past now k (Some d) = if int_le d now then (k, d) ∷ [] else []
+-- a key with its deadline, if that has passed at this moment
+abbrev pub if_expired : ℤ → Bytes → Option ℤ → List (Bytes × ℤ)
+if_expired now k None = []
+if_expired now k (Some d) = if int_le d now then (k, d) ∷ [] else []
 
--- the past ones of these keys with their deadlines, in order of deadline and then of key
+-- the expired ones of these keys with their deadlines, in order of deadline and then of key
 abbrev pub due_among : ℤ → Dataset → List Bytes → List (Bytes × ℤ)
-due_among now m ks = in_order pair_cmp (flat_map (λ k. if_past now k (deadline_at m k)) ks)
+due_among now m ks = in_order pair_cmp (flat_map (λ k. if_expired now k (deadline_at m k)) ks)
 
 abbrev pub due : ℤ → Dataset → List (Bytes × ℤ)
 due now m = due_among now m (keys m)

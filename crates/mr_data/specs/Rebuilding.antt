@@ -1,4 +1,4 @@
--- The effects that make a dataset again out of nothing, past keys included.
+-- The effects that make a dataset again out of nothing, expired keys included.
 use Rattle.std.specs.Prelude.{ℤ, List, [], ◌∷◌, ◌++◌, map, Option, Some, None}
 use Rattle.std.specs.List.{flat_map}
 use Rattle.std.specs.FinMap.{entries, get, keys}

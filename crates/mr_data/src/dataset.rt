@@ -48,7 +48,7 @@ impl Dataset {
         }
     }
 
-    /// How many keys there are, past ones included.
+    /// How many keys there are, expired ones included.
     pub fn len(&self) -> usize
         ensures len { result ≡ map.len self.now }
         ensures small { result < 2 ^ 63 }
@@ -63,14 +63,14 @@ impl Dataset {
         self.len() == 0
     }
 
-    /// The keys, past ones included, in byte order.
+    /// The keys, expired ones included, in byte order.
     pub fn keys(&self) -> Keys<'_, ()>
         ensures { result ≡ map.keys self.now }
     {
         self.entries.keys()
     }
 
-    /// What a key has, past or not.
+    /// What a key has, expired or not.
     pub fn entry(&self, key: &[u8]) -> Option<&Entry>
         ensures entry { option_copied result ≡ map.get self.now key.now }
         ensures kept { IsDataset self.now }
@@ -78,7 +78,7 @@ impl Dataset {
         self.entries.get(key)
     }
 
-    /// The value of a key, past or not.
+    /// The value of a key, expired or not.
     pub fn value(&self, key: &[u8]) -> Option<&Value>
         ensures value { option_copied result ≡ option_map (λ e. e.value) (map.get self.now key.now) }
         ensures kept { IsDataset self.now }
@@ -96,7 +96,7 @@ impl Dataset {
         self.entry(key)?.deadline
     }
 
-    /// The keys that have a deadline with it, in order of deadline and then of bytes, past or not.
+    /// The keys that have a deadline with it, in order of deadline and then of bytes, expired or not.
     pub(crate) fn timed_keys(&self) -> btree_set::Iter<'_, TimedKey>
         ensures all { each shown result ≡ timed_keys self.now }
         ensures kept { IsDataset self.now }

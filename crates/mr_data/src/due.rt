@@ -1,4 +1,4 @@
-// The past keys of a dataset.
+// The expired keys of a dataset.
 ghost use Rattle.std.specs.Prelude.{◌≡◌, IfOk, All, MatchOption, map, take, slice_get, int_le, option_copied, option_map, true, false};
 ghost use Rattle.mr_entries.specs.TimedKeys.{shown as entered};
 ghost use Rattle.mr_data.specs.Due.{due, shown, HasWord};
@@ -10,14 +10,14 @@ use std::alloc::{AllocError, Global};
 /// A key with its deadline. They are in order of deadline, and then of the keys' bytes.
 #[derive(Clone, Copy, Debug, PartialEq, Eq, PartialOrd, Ord)]
 pub struct DueKey<'a> {
-    /// The moment from which the key is past, in milliseconds.
+    /// The moment from which the key is expired, in milliseconds.
     pub deadline: i64,
     pub key: &'a [u8],
 }
 
 impl Dataset {
-    /// The first keys that are past at a moment, so many at most, in the order in which they are deleted. Its time grows with
-    /// their number alone, neither with that of the keys nor with that of the past ones.
+    /// The first keys that are expired at a moment, so many at most, in the order in which they are deleted. Its time grows with
+    /// their number alone, neither with that of the keys nor with that of the expired ones.
     pub fn due_keys(
         &self,
         alloc: Global,
@@ -32,7 +32,7 @@ impl Dataset {
             if keys.len() == most {
                 return Ok(keys);
             }
-            let Some(due) = if_past(timed, now) else {
+            let Some(due) = if_expired(timed, now) else {
                 return Ok(keys);
             };
             keys.push(due)?;
@@ -40,18 +40,18 @@ impl Dataset {
         Ok(keys)
     }
 
-    /// The first key that is past at a moment, in the order in which they are deleted. It takes no memory.
+    /// The first key that is expired at a moment, in the order in which they are deleted. It takes no memory.
     pub fn due(&self, now: i64) -> Option<&[u8]>
         ensures { option_copied result ≡ option_map (λ d. d.0) (slice_get (due now self.now) 0) }
     {
         let first = self.timed_keys().next()?;
-        let due = if_past(first, now)?;
+        let due = if_expired(first, now)?;
         Some(due.key)
     }
 }
 
-// A key with its deadline, if that is past.
-fn if_past(timed: &TimedKey, now: i64) -> Option<DueKey<'_>>
+// A key with its deadline, if that has passed.
+fn if_expired(timed: &TimedKey, now: i64) -> Option<DueKey<'_>>
     ensures { MatchOption result (int_le timed.now.deadline now ≡ false) (λ d. (shown d ≡ entered timed.now) × (int_le timed.now.deadline now ≡ true)) }
 {
     if timed.deadline > now {

@@ -18,8 +18,8 @@ pub fn effects_come_in_parts()
     ensures { (es fs : List Effect) (m : Dataset) → apply_all (es ++ fs) m ≡ option_and_then (apply_all fs) (apply_all es m) }
 {}
 
-/// What is seen at a moment is what is stored and not past.
-pub fn seen_is_what_is_not_past()
+/// What is seen at a moment is what is stored and not expired.
+pub fn seen_is_what_is_not_expired()
     ensures { (now : ℤ) (m : Dataset) (k : Bytes) → get (seen now m) k ≡ live now (get m k) }
 {}
 

@@ -13,7 +13,7 @@ pub use due::DueKey;
 pub use given::Given;
 pub use laws::{
     effects_come_in_parts, rebuilding_has_command_texts, rebuilding_makes_the_dataset,
-    renaming_to_itself_changes_nothing, seen_is_what_is_not_past, texts_are_set_in_order,
+    renaming_to_itself_changes_nothing, seen_is_what_is_not_expired, texts_are_set_in_order,
 };
 pub use mr_effect::{Effect, Pairs, Scores, Words, decode, encode, encode_all};
 pub use mr_entries::{ApplyFault, Entry, Value};

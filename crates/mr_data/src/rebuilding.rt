@@ -22,7 +22,7 @@ use std::alloc::{AllocError, Global};
 const MOST_ITEMS: usize = 64;
 
 impl Dataset {
-    /// The texts of effects that make the dataset again out of nothing, past keys included, in byte order of keys. Each of
+    /// The texts of effects that make the dataset again out of nothing, expired keys included, in byte order of keys. Each of
     /// the effects has a command text.
     pub fn rebuild(&self, alloc: Global) -> Result<Vec<u8>, AllocError>
         ensures text { IfOk result (λ text. text.items ≡ texts (rebuilding self.now)) }

@@ -52,7 +52,7 @@ is_some_of (x ∷ xs) = true
 abbrev pub is_place : ℤ → Bool
 is_place i = is_i64 i && int_le (pos 0) i
 
--- a moment at which a key may become past, in milliseconds
+-- a moment at which a key may expire, in milliseconds
 abbrev pub is_deadline : ℤ → Bool
 is_deadline d = int_le (pos 1) d && int_le d (pos (2 ^ 62))
 

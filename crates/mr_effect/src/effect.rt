@@ -15,7 +15,7 @@ pub enum Effect<'a> {
         key: Word<'a>,
         value: Word<'a>,
     },
-    /// The key holds this text, whatever it held, and is past from this moment on, in milliseconds.
+    /// The key holds this text, whatever it held, and is expired from this moment on, in milliseconds.
     SetUntil {
         key: Word<'a>,
         value: Word<'a>,
@@ -51,7 +51,7 @@ pub enum Effect<'a> {
     Del {
         key: Word<'a>,
     },
-    /// The key is past from this moment on, in milliseconds.
+    /// The key is expired from this moment on, in milliseconds.
     Expire {
         key: Word<'a>,
         deadline: i64,

@@ -3,7 +3,7 @@
 /// A key with its deadline. They are in order of deadline, and then of the keys' bytes.
 #[derive(Debug, PartialEq, Eq, PartialOrd, Ord, Drop)]
 pub struct TimedKey {
-    /// The moment from which the key is past, in milliseconds.
+    /// The moment from which the key is expired, in milliseconds.
     pub deadline: i64,
     pub key: Vec<u8>,
 }

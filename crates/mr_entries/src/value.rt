@@ -21,6 +21,6 @@ pub enum Value {
 #[derive(Drop)]
 pub struct Entry {
     pub value: Value,
-    /// The moment from which the key is past, in milliseconds, or none.
+    /// The moment from which the key is expired, in milliseconds, or none.
     pub deadline: Option<i64>,
 }

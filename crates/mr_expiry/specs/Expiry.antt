@@ -1,4 +1,4 @@
--- When a key becomes past, as a request says it.
+-- When a key expires, as a request says it.
 use Rattle.std.specs.Prelude.{ℤ, ◌+ℤ◌, if◌then◌else◌, Option, Some, None, Result}
 use Rattle.mr_expiry.specs.Amounts.{is_amount, of_seconds}
 use Rattle.mr_expiry.specs.declared.expiry.Expiry.{Expiry}
@@ -17,7 +17,7 @@ milliseconds (Milliseconds n) = n
 milliseconds (AtSecond n) = of_seconds n
 milliseconds (AtMillisecond n) = n
 
--- the moment from which on the key is past, where it was said at the moment `now`
+-- the moment from which on the key is expired, where it was said at the moment `now`
 abbrev pub deadline_at : ℤ → Expiry → ℤ
 deadline_at now (Seconds n) = now +ℤ milliseconds (Seconds n)
 deadline_at now (Milliseconds n) = now +ℤ milliseconds (Milliseconds n)

@@ -1,4 +1,4 @@
-// When keys become past.
+// When keys expire.
 ghost use Rattle.std.specs.Prelude.{◌≡◌, ◌≤ℤ◌, ◌^◌, pos, IsTrue};
 ghost use Rattle.mr_expiry.specs.Amounts.{is_amount, milliseconds_of, of_seconds, seconds_of};
 ghost use Rattle.mr_expiry.specs.Expiry.{deadline_at, expiry_of, milliseconds, within_limit};
@@ -9,7 +9,7 @@ use std::marker::Model;
 /// The most milliseconds that a request may name. The least is its negative.
 const MOST: i64 = 1 << 61;
 
-/// When a key becomes past, as a request says it.
+/// When a key expires, as a request says it.
 #[derive(Clone, Copy)]
 pub enum Expiry {
     /// So many seconds from now on.
@@ -36,7 +36,7 @@ impl Expiry {
         }
     }
 
-    /// The moment from which on the key is past, where it is said at the moment `now`.
+    /// The moment from which on the key is expired, where it is said at the moment `now`.
     pub fn deadline(self, now: i64) -> i64
         requires { (pos 0 ≤ℤ now) × (now ≤ℤ pos (2 ^ 61)) }
         ensures value { result ≡ deadline_at now self }

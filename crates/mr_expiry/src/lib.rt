@@ -1,4 +1,4 @@
-//! When a key becomes past, as a request says it.
+//! When a key expires, as a request says it.
 #![tactic(auto)]
 
 mod expiry;

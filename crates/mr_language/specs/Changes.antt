@@ -19,7 +19,7 @@ pub record HasEffects (text : List ℕ) (m : Dataset) (given : Given) (effects :
   pub reply : Tree
   pub plan : HasPlan false m words given reply effects
 
--- These are due at a master's tick, where its stream has room for so many bytes: past keys go, and a PING may follow them. The tick ends
+-- These are due at a master's tick, where its stream has room for so many bytes: expired keys go, and a PING may follow them. The tick ends
 -- before the first that has no room.
 pub data IsDue (room : ℕ) (m : Dataset) (given : Given) (effects : List Effect) : Type 0 where
   deletes : effects ≡ deletions given.now m room → IsDue room m given effects

@@ -20,7 +20,7 @@ abbrev pub within : ℕ → List Effect → List Effect
 within room [] = []
 within room (e ∷ es) = if nat_le (size e) room then e ∷ within (room - size e) es else []
 
--- the past keys go, in order of deadline and then of key, as far as there is room for the effects
+-- the expired keys go, in order of deadline and then of key, as far as there is room for the effects
 abbrev pub deletions : ℤ → Dataset → ℕ → List Effect
 deletions now m room = within room (map (λ d. effect.Del d.0) (take most_deleted (due now m)))
 

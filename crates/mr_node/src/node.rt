@@ -381,7 +381,7 @@ impl Node {
     }
 
     /// The next step on a link: uses the request at the front of its unread bytes. A replica only answers: it refuses writes, and
-    /// keeps past keys. `given` is the time and the chance of this step; `fresh` is an id that was never drawn, for a step that
+    /// keeps expired keys. `given` is the time and the chance of this step; `fresh` is an id that was never drawn, for a step that
     /// needs one.
     pub fn step(&mut self, link: LinkId, given: Given, fresh: ReplId) -> Result<Step, NodeFault>
         ensures row { IfOk result (λ s. (u : List ℕ) → Agrees self.old link u → StepRow self.old link u given self.new s) }

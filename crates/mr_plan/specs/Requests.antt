@@ -31,7 +31,7 @@ readonly = error (codes "READONLY You can't write against a read only replica.")
 abbrev pub told : Ask → Given → Dataset → Tree
 told command given m = if writes command then readonly else answer (command_of command given) given.now m
 
--- On a master (false) a command has its plan; a replica (true) only answers, and leaves past keys to the DELs of its master.
+-- On a master (false) a command has its plan; a replica (true) only answers, and leaves expired keys to the DELs of its master.
 -- Words that are no command are told why by either.
 abbrev pub IsPlannedAs : Result Ask AskFault → Bool → Given → Dataset → Tree → List Effect → Type 0
 IsPlannedAs (Ok command) false given m reply effects = IsPlan (command_of command given) given.now m reply effects

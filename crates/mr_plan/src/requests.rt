@@ -34,7 +34,7 @@ pub enum Answer {
 }
 
 /// What the words of a request are answered by a master or by a replica, and their effects. Words that are no command are told why,
-/// and have none. A replica refuses writes, and no answer of its has an effect: a past key is told as absent, and kept.
+/// and have none. A replica refuses writes, and no answer of its has an effect: an expired key is told as absent, and kept.
 pub fn plan_words(
     alloc: Global,
     held: &Dataset,

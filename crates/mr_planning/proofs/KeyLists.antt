@@ -8,7 +8,7 @@ use Rattle.std.proofs.lemmas.List.{take_more, map-append}
 use Rattle.mr_map.specs.Bytes.{Bytes}
 use Rattle.mr_value.specs.Words.{fits}
 use Rattle.mr_entries.specs.Dataset.{Dataset}
-use Rattle.mr_data.specs.Dataset.{is_past, live, seen}
+use Rattle.mr_data.specs.Dataset.{is_expired, live, seen}
 use Rattle.mr_entries.specs.Changes.{change}
 use Rattle.mr_data.specs.Meaning.{apply, apply_all}
 use Rattle.mr_data.proofs.Seeing.{get-seen}
@@ -17,7 +17,7 @@ use Rattle.mr_effect.specs.declared.effect.Effect.{Effect}
 use Rattle.mr_effect.specs.declared.effect.Effect.TheVariants as effect
 use Rattle.mr_planning.specs.Taken.{is_key, has}
 use Rattle.mr_planning.specs.Keys.{chosen, without, dels, is_stored}
-use Rattle.mr_planning.specs.Keys.{past, purged}
+use Rattle.mr_planning.specs.Keys.{expired, purged}
 use Rattle.mr_entries.proofs.Maps.{same_key, remove_absent}
 use Rattle.mr_entries.proofs.Puts.{is_key_itself, is_key_symm, get_remove, removed}
 
@@ -97,8 +97,8 @@ chosen_alike t u (k ∷ ks) m n e h =
     ∙ ap (λ xs. if u (get n k) then k ∷ xs else chosen t ks m) (chosen_alike t u ks (remove m k) (remove n k) e (test_after t u k ks m n e h))
     ∙ ap (λ xs. if u (get n k) then k ∷ chosen u ks (remove n k) else xs) (chosen_alike t u ks m n e (λ q named. h q (either _ _ named)))
 
--- ---- past keys
--- of the keys that are named, those that are past are gone
+-- ---- expired keys
+-- of the keys that are named, those that are expired are deleted
 stays : (now : ℤ) (o : Option Entry) → is_stored now true o ≡ false → live now o ≡ o
 stays now None h = refl
 stays now (Some e) h = ap (λ b. if b then None else Some e) h
@@ -109,7 +109,7 @@ goes now (Some e) h = ap (λ b. if b then None else Some e) h
 
 pub get_purged : (now : ℤ) (ks : List Bytes) (m : Dataset) (q : Bytes) → get (purged now ks m) q ≡ cond (has ks q) (live now (get m q)) (get m q)
 get_purged now [] m q = refl
-get_purged now (k ∷ ks) m q = elim (is_stored now true (get m k)) as (λ b. is_stored now true (get m k) ≡ b → get (without (if b then k ∷ past now ks (remove m k) else past now ks m) m) q ≡ cond (is_key q k || has ks q) (live now (get m q)) (get m q)) [
+get_purged now (k ∷ ks) m q = elim (is_stored now true (get m k)) as (λ b. is_stored now true (get m k) ≡ b → get (without (if b then k ∷ expired now ks (remove m k) else expired now ks m) m) q ≡ cond (is_key q k || has ks q) (live now (get m q)) (get m q)) [
   | true ↦ λ t. get_purged now ks (remove m k) q ∙ ap (λ o. cond (has ks q) (live now o) o) (get_remove m k q) ∙ here t (is_key q k) refl (has ks q)
   | false ↦ λ t. get_purged now ks m q ∙ there t (is_key q k) refl (has ks q)
 ] refl
@@ -129,10 +129,10 @@ get_purged now (k ∷ ks) m q = elim (is_stored now true (get m k)) as (λ b. is
 pub purged_seen : (now : ℤ) (ks : List Bytes) (m : Dataset) → AgreeOn ks (purged now ks m) (seen now m)
 purged_seen now ks m q h = get_purged now ks m q ∙ ap (λ b. cond b (live now (get m q)) (get m q)) h ∙ sym (get-seen now m q)
 
--- what is there of what is seen is stored and not past
+-- what is there of what is seen is stored and not expired
 seen_test : (now : ℤ) (o : Option Entry) → is_some (live now o) ≡ is_stored now false o
 seen_test now None = refl
-seen_test now (Some e) = elim (is_past now e.deadline) as (λ b. is_some (if b then None else Some e) ≡ not b) [ true ↦ refl | false ↦ refl ]
+seen_test now (Some e) = elim (is_expired now e.deadline) as (λ b. is_some (if b then None else Some e) ≡ not b) [ true ↦ refl | false ↦ refl ]
 
 pub present_seen : (now : ℤ) (ks : List Bytes) (m : Dataset) → chosen is_some ks (seen now m) ≡ chosen (is_stored now false) ks m
 present_seen now ks m = chosen_alike is_some (is_stored now false) ks (seen now m) m refl (λ q named. ap is_some (get-seen now m q) ∙ seen_test now (get m q))

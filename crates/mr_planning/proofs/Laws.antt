@@ -19,7 +19,7 @@ use Rattle.mr_effect.specs.Spelling.{text, IsShort}
 use Rattle.mr_effect.specs.declared.effect.Effect.{Effect}
 use Rattle.mr_effect.specs.declared.effect.Effect.TheVariants as effect
 use Rattle.mr_effect.proofs.Texts.{command_text, short_effect}
-use Rattle.mr_planning.specs.Keys.{past, dels, is_stored}
+use Rattle.mr_planning.specs.Keys.{expired, dels, is_stored}
 use Rattle.mr_planning.specs.Answered.{Answered, kept}
 use Rattle.mr_planning.specs.Outcomes.{Outcome, answered, at_key}
 use Rattle.mr_planning.specs.Commands.{Command, on_key, on_keys, on_none, before, after, effects, own_effects, IsFaithful, HasCommandTexts}
@@ -88,10 +88,10 @@ pub record IsFaithfulAt (outcome : Outcome) (m : Dataset) : Type 0 where
 pub leading_at : (outcome : Outcome) (m : Dataset) → IsFaithfulAt outcome m → IsLeadingAt outcome m
 leading_at outcome m f = record { leads = f.leads; none = f.none; some = f.some }
 
--- .. behind a DEL for each past key
+-- .. behind a DEL for each expired key
 pub leading : (command : Command) (now : ℤ) (m : Dataset) → IsTrue (list_all fits command.keys) → IsLeadingAt (command.outcome (before command now m)) (before command now m) → IsFaithful command now m
 leading command now m h f = record {
-  leads = let ks = past now command.keys m in
+  leads = let ks = expired now command.keys m in
       apply_all-append (dels ks) (own_effects command now m) m
       ∙ ap (option_and_then (apply_all (own_effects command now m))) (dels_lead ks m (chosen_fits (is_stored now true) command.keys m h))
       ∙ f.leads;
@@ -100,7 +100,7 @@ leading command now m h f = record {
 
 pub sent : (command : Command) (now : ℤ) (m : Dataset) → IsFaithful command now m → All IsShort (own_effects command now m) → HasCommandTexts command now m
 sent command now m f short =
-    let ks = past now command.keys m in
+    let ks = expired now command.keys m in
     record { each = command_texts (effects command now m) m (after command now m) f.leads (All-append IsShort (dels ks) (own_effects command now m) (dels_short ks) short) }
 
 pub faithful : (command : Command) (now : ℤ) (m : Dataset) → IsTrue (list_all fits command.keys) → IsFaithfulAt (command.outcome (before command now m)) (before command now m) → IsLawful command now m

@@ -11,7 +11,7 @@ use Rattle.mr_entries.specs.declared.value.Entry.{Entry}
 use Rattle.mr_entries.proofs.Cutting.{IsGroup, cut_groups}
 use Rattle.mr_entries.proofs.Maps.{same_key}
 use Rattle.mr_entries.proofs.Puts.{is_key_symm, get_remove}
-use Rattle.mr_planning.specs.Keys.{chosen, is_stored, named_once, past}
+use Rattle.mr_planning.specs.Keys.{chosen, is_stored, named_once, expired}
 use Rattle.mr_planning.specs.Taken.{is_key}
 
 -- ---- what passes two tests
@@ -73,11 +73,11 @@ chosen_in_order test (k ∷ ks) m none =
       | false ↦ λ t. chosen_in_order test ks m none ∙ both_passed passes others passes (named_once ks) (λ q. passes_beside test m k q t)
     ] refl
 
-pub past_in_order : (now : ℤ) (ks : List Bytes) (m : Dataset) → past now ks m ≡ filter (λ k. is_stored now true (get m k)) (named_once ks)
-past_in_order now ks m = chosen_in_order (is_stored now true) ks m refl
+pub expired_in_order : (now : ℤ) (ks : List Bytes) (m : Dataset) → expired now ks m ≡ filter (λ k. is_stored now true (get m k)) (named_once ks)
+expired_in_order now ks m = chosen_in_order (is_stored now true) ks m refl
 
-pub past_once : (now : ℤ) (ks : List Bytes) (m : Dataset) → IsDistinct is_key (past now ks m)
-past_once now ks m = subst (IsDistinct is_key) (sym (past_in_order now ks m)) (distinct_filtered is_key (λ k. is_stored now true (get m k)) (named_once ks) (once ks))
+pub expired_once : (now : ℤ) (ks : List Bytes) (m : Dataset) → IsDistinct is_key (expired now ks m)
+expired_once now ks m = subst (IsDistinct is_key) (sym (expired_in_order now ks m)) (distinct_filtered is_key (λ k. is_stored now true (get m k)) (named_once ks) (once ks))
 
 -- ---- groups
 some_item : {A : Type 0} (g : List A) → g ≢ [] → 0 < length g

@@ -10,11 +10,11 @@ use Rattle.mr_data.specs.Meaning.{apply_all}
 use Rattle.mr_entries.specs.declared.value.Entry.{Entry}
 use Rattle.mr_effect.specs.Spelling.{text}
 use Rattle.mr_effect.specs.declared.effect.Effect.{Effect}
-use Rattle.mr_planning.specs.Keys.{past, purged, dels}
+use Rattle.mr_planning.specs.Keys.{expired, purged, dels}
 use Rattle.mr_planning.specs.Answered.{Answered}
 use Rattle.mr_planning.specs.Outcomes.{Outcome, at_key}
 
--- A command is the keys that it names, and what it does to a dataset in which none of them is past.
+-- A command is the keys that it names, and what it does to a dataset in which none of them is expired.
 pub record Command : Type 0 where
   pub keys : List Bytes
   pub outcome : Dataset → Outcome
@@ -35,7 +35,7 @@ on_none does = record { keys = []; outcome = does }
 abbrev pub answer : Command → ℤ → Dataset → Tree
 answer command now m = (command.outcome (seen now m)).reply
 
--- the dataset without the past keys that the command names
+-- the dataset without the expired keys that the command names
 abbrev pub before : Command → ℤ → Dataset → Dataset
 before command now m = purged now command.keys m
 
@@ -47,9 +47,9 @@ after command now m = (command.outcome (before command now m)).after
 abbrev pub own_effects : Command → ℤ → Dataset → List Effect
 own_effects command now m = (command.outcome (before command now m)).effects
 
--- .. behind a DEL for each past key that it names
+-- .. behind a DEL for each expired key that it names
 abbrev pub effects : Command → ℤ → Dataset → List Effect
-effects command now m = dels (past now command.keys m) ++ own_effects command now m
+effects command now m = dels (expired now command.keys m) ++ own_effects command now m
 
 pub record IsPlan (command : Command) (now : ℤ) (m : Dataset) (reply : Tree) (list : List Effect) : Type 0 where
   pub reply_is : reply ≡ answer command now m

@@ -3,7 +3,7 @@ use Rattle.std.specs.Prelude.{ℤ, List, [], ◌∷◌, filter, map, Bool, true,
 use Rattle.std.specs.FinMap.{get, remove}
 use Rattle.mr_map.specs.Bytes.{Bytes}
 use Rattle.mr_entries.specs.Dataset.{Dataset}
-use Rattle.mr_data.specs.Dataset.{is_past}
+use Rattle.mr_data.specs.Dataset.{is_expired}
 use Rattle.mr_entries.specs.declared.value.Entry.{Entry}
 use Rattle.mr_effect.specs.declared.effect.Effect.{Effect}
 use Rattle.mr_effect.specs.declared.effect.Effect.TheVariants as effect
@@ -23,19 +23,19 @@ without (k ∷ ks) m = without ks (remove m k)
 abbrev pub dels : List Bytes → List Effect
 dels ks = map effect.Del ks
 
--- a stored entry that is past, or one that isn't
+-- a stored entry that is expired, or one that isn't
 abbrev pub is_stored : ℤ → Bool → Option Entry → Bool
-is_stored now past None = false
-is_stored now true (Some e) = is_past now e.deadline
-is_stored now false (Some e) = not (is_past now e.deadline)
+is_stored now expired None = false
+is_stored now true (Some e) = is_expired now e.deadline
+is_stored now false (Some e) = not (is_expired now e.deadline)
 
--- those of these keys that are stored and past
-abbrev pub past : ℤ → List Bytes → Dataset → List Bytes
-past now ks m = chosen (is_stored now true) ks m
+-- those of these keys that are stored and expired
+abbrev pub expired : ℤ → List Bytes → Dataset → List Bytes
+expired now ks m = chosen (is_stored now true) ks m
 
 -- the dataset without them
 abbrev pub purged : ℤ → List Bytes → Dataset → Dataset
-purged now ks m = without (past now ks m) m
+purged now ks m = without (expired now ks m) m
 
 -- the keys, each where it is named first
 abbrev pub named_once : List Bytes → List Bytes

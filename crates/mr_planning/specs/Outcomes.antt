@@ -1,4 +1,4 @@
--- What a command does to a dataset in which no key that it names is past.
+-- What a command does to a dataset in which no key that it names is expired.
 use Rattle.std.specs.Prelude.{List, [], Option}
 use Rattle.std.specs.FinMap.{get}
 use Rattle.mr_map.specs.Bytes.{Bytes}

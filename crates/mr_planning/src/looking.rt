@@ -1,8 +1,8 @@
-// The keys of a dataset that a command names, past ones and others.
+// The keys of a dataset that a command names, expired ones and others.
 ghost use Rattle.std.specs.Prelude.{◌≡◌, [], ◌∷◌, ◌++◌, pos, length, true, None, IfOk, OnErr, option_copied};
 ghost use Rattle.std.specs.FinMap as map;
-ghost use Rattle.mr_data.specs.Dataset.{IsDataset, is_past, live};
-ghost use Rattle.mr_planning.specs.Keys.{chosen, dels, is_stored, past};
+ghost use Rattle.mr_data.specs.Dataset.{IsDataset, is_expired, live};
+ghost use Rattle.mr_planning.specs.Keys.{chosen, dels, is_stored, expired};
 
 use crate::effects::Effects;
 use crate::taken::Taken;
@@ -11,9 +11,9 @@ use mr_value::Word;
 use mr_words::{Argument, Words};
 use std::alloc::{AllocError, Global};
 
-/// Whether an entry with this deadline is past.
-fn is_past(now: i64, deadline: Option<i64>) -> bool
-    ensures { result ≡ is_past now deadline }
+/// Whether an entry with this deadline is expired.
+fn is_expired(now: i64, deadline: Option<i64>) -> bool
+    ensures { result ≡ is_expired now deadline }
 {
     match deadline {
         None => false,
@@ -21,19 +21,19 @@ fn is_past(now: i64, deadline: Option<i64>) -> bool
     }
 }
 
-/// What is seen at a key, and whether the key is past. It takes no memory.
+/// What is seen at a key, and whether the key is expired. It takes no memory.
 pub fn see<'d>(held: &'d Dataset, key: &[u8], given: Given) -> (Option<&'d Entry>, bool)
     ensures live_entry { option_copied result.0 ≡ live given.now (map.get held.now key.now) }
-    ensures past { result.1 ≡ is_stored given.now true (map.get held.now key.now) }
+    ensures expired { result.1 ≡ is_stored given.now true (map.get held.now key.now) }
 {
     match held.entry(key) {
         None => (None, false),
-        Some(entry) if is_past(given.now(), entry.deadline) => (None, true),
+        Some(entry) if is_expired(given.now(), entry.deadline) => (None, true),
         Some(entry) => (Some(entry), false),
     }
 }
 
-/// What is seen at a key. A past one gets its DEL, which alone takes memory. What the dataset keeps is known from here on.
+/// What is seen at a key. An expired one gets its DEL, which alone takes memory. What the dataset keeps is known from here on.
 pub fn look<'d>(
     alloc: Global,
     held: &'d Dataset,
@@ -42,14 +42,14 @@ pub fn look<'d>(
     effects: &mut Effects,
 ) -> Result<Option<&'d Entry>, AllocError>
     ensures live_entry { IfOk result (λ e. option_copied e ≡ live given.now (map.get held.now key.now)) }
-    ensures past { IfOk result (λ _. effects.new ≡ effects.old ++ dels (past given.now (key.now ∷ []) held.now)) }
+    ensures expired { IfOk result (λ _. effects.new ≡ effects.old ++ dels (expired given.now (key.now ∷ []) held.now)) }
     ensures err { OnErr result (live given.now (map.get held.now key.now) ≡ None) }
     ensures kept { IsDataset held.now }
 {
     let Some(entry) = held.entry(key.as_slice()) else {
         return Ok(None);
     };
-    if !is_past(given.now(), entry.deadline) {
+    if !is_expired(given.now(), entry.deadline) {
         return Ok(Some(entry));
     }
     effects.push(Effect::Del {
@@ -58,13 +58,13 @@ pub fn look<'d>(
     Ok(None)
 }
 
-// Whether there is an entry, and it is past as asked.
-fn is_stored(now: i64, past: bool, entry: Option<&Entry>) -> bool
-    ensures { result ≡ is_stored now past (option_copied entry.entry) }
+// Whether there is an entry, and it is expired as asked.
+fn is_stored(now: i64, expired: bool, entry: Option<&Entry>) -> bool
+    ensures { result ≡ is_stored now expired (option_copied entry.entry) }
 {
     match entry {
         None => false,
-        Some(entry) => is_past(now, entry.deadline) == past,
+        Some(entry) => is_expired(now, entry.deadline) == expired,
     }
 }
 
@@ -74,13 +74,13 @@ fn push_del(
     held: &Dataset,
     key: &[u8],
     given: Given,
-    past: bool,
+    expired: bool,
     effects: &mut Effects,
 ) -> Result<i64, AllocError>
-    ensures count { IfOk result (λ count. count ≡ pos (length (chosen (is_stored given.now past) (key.now ∷ []) held.now))) }
-    ensures dels { IfOk result (λ _. effects.new ≡ effects.old ++ dels (chosen (is_stored given.now past) (key.now ∷ []) held.now)) }
+    ensures count { IfOk result (λ count. count ≡ pos (length (chosen (is_stored given.now expired) (key.now ∷ []) held.now))) }
+    ensures dels { IfOk result (λ _. effects.new ≡ effects.old ++ dels (chosen (is_stored given.now expired) (key.now ∷ []) held.now)) }
 {
-    if !is_stored(given.now(), past, held.entry(key)) {
+    if !is_stored(given.now(), expired, held.entry(key)) {
         return Ok(0);
     }
     effects.push(Effect::Del {
@@ -89,26 +89,26 @@ fn push_del(
     Ok(1)
 }
 
-/// A DEL for each of the keys that are stored and past, or stored and not past, and how many these are.
+/// A DEL for each of the keys that are stored and expired, or stored and not expired, and how many these are.
 pub fn push_dels(
     alloc: Global,
     held: &Dataset,
     keys: &Words<'_, '_>,
     given: Given,
-    past: bool,
+    expired: bool,
     effects: &mut Effects,
 ) -> Result<i64, AllocError>
-    ensures count { IfOk result (λ count. count ≡ pos (length (chosen (is_stored given.now past) keys.now held.now))) }
-    ensures dels { IfOk result (λ _. effects.new ≡ effects.old ++ dels (chosen (is_stored given.now past) keys.now held.now)) }
+    ensures count { IfOk result (λ count. count ≡ pos (length (chosen (is_stored given.now expired) keys.now held.now))) }
+    ensures dels { IfOk result (λ _. effects.new ≡ effects.old ++ dels (chosen (is_stored given.now expired) keys.now held.now)) }
 {
     if let [only] = keys.as_slice() {
-        return push_del(alloc, held, only.as_slice(), given, past, effects);
+        return push_del(alloc, held, only.as_slice(), given, expired, effects);
     }
     let now = given.now();
     let mut taken = Taken::new(alloc);
     for word in keys.as_slice() {
         let key = word.as_slice();
-        if is_stored(now, past, held.entry(key)) && taken.take(key)? {
+        if is_stored(now, expired, held.entry(key)) && taken.take(key)? {
             effects.push(Effect::Del {
                 key: Word::copied(alloc, key)?,
             })?;

@@ -8,7 +8,7 @@ ghost use Rattle.mr_data.specs.Dataset.{live};
 ghost use Rattle.mr_planning.specs.Answered.{Answered};
 ghost use Rattle.mr_planning.specs.Commands.{after, answer, on_key};
 
-/// The next command on a key, at the same moment, sees the entry that a command left there, unless that is past.
+/// The next command on a key, at the same moment, sees the entry that a command left there, unless that is expired.
 pub fn what_is_left_is_seen()
     ensures { (k : Bytes) (answers next : Option Entry → Answered) (now : ℤ) (m : Dataset) → answer (on_key k next) now (after (on_key k answers) now m) ≡ (next (live now (answers (live now (get m k))).entry)).reply }
 {}

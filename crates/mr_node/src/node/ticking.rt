@@ -17,7 +17,7 @@ use std::alloc::{AllocError, Global};
 const MOST_DELETED: usize = 64;
 
 impl Node {
-    /// Time passes: a master deletes the first keys that are past, 64 at most, in order of deadline and then of bytes. It ends before
+    /// Time passes: a master deletes the first keys that are expired, 64 at most, in order of deadline and then of bytes. It ends before
     /// the first whose effect would carry the offset past its limit. A replica deletes none.
     pub fn tick(&mut self, given: Given) -> Result<Outs, NodeFault>
         ensures row { IfOk result (λ outs. TickRow self.old given.now self.new outs) }

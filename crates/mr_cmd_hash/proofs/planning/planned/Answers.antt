@@ -3,7 +3,7 @@ use Rattle.std.specs.FinMap.{get}
 use Rattle.mr_resp.specs.ReplyView.{view}
 use Rattle.mr_data.specs.Dataset.{live}
 use Rattle.mr_entries.specs.Steps.{hashes, held}
-use Rattle.mr_planning.specs.Keys.{dels, past}
+use Rattle.mr_planning.specs.Keys.{dels, expired}
 use Rattle.mr_planning.proofs.PlanLemmas.{key_plan}
 use Rattle.mr_cmd_hash.specs.Commands.{key_of, answer_of}
 use Rattle.mr_cmd_hash.proofs.AnswerLemmas.{takes_wrong, takes_made}
@@ -13,16 +13,16 @@ pub returns-in_default-clause-plan : goal.returns-in_default-clause-plan
 returns-in_default-clause-plan c =
     let k = key_of c.args.ask.now in
     let live_entry : option_copied c.in_ok-live_entry.live_entry ≡ live c.args.given.now (get c.args.held.now k) = rw c.key_of.ensures at c.in_ok-live_entry.ensures.live_entry in
-    let past : c.look.new.effects ≡ c.new-effects.result ++ dels (past c.args.given.now (k ∷ []) c.args.held.now) = rw c.key_of.ensures at c.in_ok-live_entry.ensures.past in
+    let expired : c.look.new.effects ≡ c.new-effects.result ++ dels (expired c.args.given.now (k ∷ []) c.args.held.now) = rw c.key_of.ensures at c.in_ok-live_entry.ensures.expired in
     let none : held hashes (option_copied c.in_ok-live_entry.live_entry) ≡ None = search rules in
-    key_plan k (answer_of c.args.ask.now) _ _ (option_copied c.in_ok-live_entry.live_entry) _ _ _ _ _ live_entry c.new-effects.ensures past c.into_plan.ensures.effects
+    key_plan k (answer_of c.args.ask.now) _ _ (option_copied c.in_ok-live_entry.live_entry) _ _ _ _ _ live_entry c.new-effects.ensures expired c.into_plan.ensures.effects
     (takes_wrong c.args.ask.now _ _ _ none (ap view c.into_plan.ensures.reply ∙ c.wrong_kind.ensures))
 
 pub returns-clause-plan : goal.returns-clause-plan
 returns-clause-plan c =
     let k = key_of c.args.ask.now in
     let live_entry : option_copied c.in_ok-live_entry.live_entry ≡ live c.args.given.now (get c.args.held.now k) = rw c.key_of.ensures at c.in_ok-live_entry.ensures.live_entry in
-    let past : c.look.new.effects ≡ c.new-effects.result ++ dels (past c.args.given.now (k ∷ []) c.args.held.now) = rw c.key_of.ensures at c.in_ok-live_entry.ensures.past in
+    let expired : c.look.new.effects ≡ c.new-effects.result ++ dels (expired c.args.given.now (k ∷ []) c.args.held.now) = rw c.key_of.ensures at c.in_ok-live_entry.ensures.expired in
     let some : held hashes (option_copied c.in_ok-live_entry.live_entry) ≡ Some c.in-Some.hash.now = search rules in
-    key_plan k (answer_of c.args.ask.now) _ _ (option_copied c.in_ok-live_entry.live_entry) _ _ _ _ _ live_entry c.new-effects.ensures past c.into_plan-2.ensures.effects
+    key_plan k (answer_of c.args.ask.now) _ _ (option_copied c.in_ok-live_entry.live_entry) _ _ _ _ _ live_entry c.new-effects.ensures expired c.into_plan-2.ensures.effects
     (takes_made c.args.ask.now _ c.in-Some.hash.now _ _ _ some (rw c.into_plan-2.ensures.reply c.in_ok-reply.ensures))

@@ -15,4 +15,4 @@ returns c =
     let number_fits : FitsSigned w64 c.told_in-number.result = search rules in
     let number : c.told_in-number.result ≡ told_in c.args.form c.args.given.now (option_copied c.in_ok-live_entry.live_entry) = c.told_in-number.ensures in
     let reply = ap view c.into_plan.ensures.reply ∙ c.integer.ensures ∙ ap reply.int (to_z-of_z w64 _ number_fits ∙ number) in
-    key_plan c.args.key.now (deadline_answer c.args.form c.args.given.now) c.args.given.now c.args.held.now _ _ _ _ _ _ c.in_ok-live_entry.ensures.live_entry c.new-effects.ensures c.in_ok-live_entry.ensures.past c.into_plan.ensures.effects (told _ _ refl reply)
+    key_plan c.args.key.now (deadline_answer c.args.form c.args.given.now) c.args.given.now c.args.held.now _ _ _ _ _ _ c.in_ok-live_entry.ensures.live_entry c.new-effects.ensures c.in_ok-live_entry.ensures.expired c.into_plan.ensures.effects (told _ _ refl reply)

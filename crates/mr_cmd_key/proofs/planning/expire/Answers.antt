@@ -13,4 +13,4 @@ returns c =
     let now = c.args.given.now in
     let answers = expire_answer k c.args.condition now (deadline_at now c.args.expiry) in
     let takes : Takes (answers (option_copied c.in_ok-live_entry.live_entry)) (view c.in_ok-reply.reply) c.look.new.effects c.expire.new.effects = search (rules, to_z-of_z) in
-    rw c.into_plan.ensures.reply (key_plan k answers now c.args.held.now _ _ _ _ _ _ c.in_ok-live_entry.ensures.live_entry c.new-effects.ensures c.in_ok-live_entry.ensures.past c.into_plan.ensures.effects takes)
+    rw c.into_plan.ensures.reply (key_plan k answers now c.args.held.now _ _ _ _ _ _ c.in_ok-live_entry.ensures.live_entry c.new-effects.ensures c.in_ok-live_entry.ensures.expired c.into_plan.ensures.effects takes)

@@ -5,4 +5,4 @@ use Rattle.mr_cmd_key.specs.Kinds.{type_answer}
 use Rattle.mr_cmd_key.proofs.planning.key_type.Goals as goal
 
 pub returns : goal.returns
-returns c = key_plan c.args.key.now type_answer c.args.given.now c.args.held.now _ _ _ _ _ _ c.in_ok-live_entry.ensures.live_entry c.new-effects.ensures c.in_ok-live_entry.ensures.past c.into_plan.ensures.effects (told _ _ refl (ap view c.into_plan.ensures.reply ∙ c.key_type-reply.ensures))
+returns c = key_plan c.args.key.now type_answer c.args.given.now c.args.held.now _ _ _ _ _ _ c.in_ok-live_entry.ensures.live_entry c.new-effects.ensures c.in_ok-live_entry.ensures.expired c.into_plan.ensures.effects (told _ _ refl (ap view c.into_plan.ensures.reply ∙ c.key_type-reply.ensures))

@@ -8,5 +8,5 @@ returns c =
     let to = c.args.to.now in
     let m = c.args.held.now in
     rw c.into_plan.ensures.reply (both_plan c.args.given.now from to m (renamed_nx from to) _ _ _ _ _ _ _
-    c.in_ok-source.ensures.source c.in_ok-source.ensures.target c.new-effects.ensures c.in_ok-source.ensures.past c.into_plan.ensures.effects
+    c.in_ok-source.ensures.source c.in_ok-source.ensures.target c.new-effects.ensures c.in_ok-source.ensures.expired c.into_plan.ensures.effects
     c.in_ok-reply.ensures)

@@ -21,7 +21,7 @@ returns-clause-plan c =
           c.in_ok-source.ensures.live_entry
           (ap option_copied w.target-is ∙ c.in_ok-source.ensures.live_entry ∙ ap (λ (k : Bytes). live now (get m k)) (same_bytes from to equal))
           c.new-effects.ensures
-          (w.effects-is ∙ looked_one from to c.args.member.now now m equal _ _ c.in_ok-source.ensures.past)
+          (w.effects-is ∙ looked_one from to c.args.member.now now m equal _ _ c.in_ok-source.ensures.expired)
           c.into_plan.ensures.effects c.in_ok-reply.ensures
       | else-same+in_ok-target w ↦
           let differ : bytes_eq from to ≡ false = sym c.same.ensures ∙ w.if-same.false in
@@ -29,6 +29,6 @@ returns-clause-plan c =
           c.in_ok-source.ensures.live_entry
           (ap option_copied w.target-is ∙ w.in_ok-target.ensures.live_entry)
           c.new-effects.ensures
-          (w.effects-is ∙ looked_two from to c.args.member.now now m differ _ _ _ c.in_ok-source.ensures.past w.in_ok-target.ensures.past)
+          (w.effects-is ∙ looked_two from to c.args.member.now now m differ _ _ _ c.in_ok-source.ensures.expired w.in_ok-target.ensures.expired)
           c.into_plan.ensures.effects c.in_ok-reply.ensures
     ])

@@ -3,4 +3,4 @@ use Rattle.mr_cmd_set.specs.Sets.{srem_answer}
 use Rattle.mr_cmd_set.proofs.planning.srem.Goals as goal
 
 pub returns-clause-plan : goal.returns-clause-plan
-returns-clause-plan c = rw c.into_plan.ensures.reply (key_plan c.args.key.now (srem_answer c.args.key.now c.args.members.now) c.args.given.now c.args.held.now _ _ _ _ _ _ c.in_ok-live_entry.ensures.live_entry c.new-effects.ensures c.in_ok-live_entry.ensures.past c.into_plan.ensures.effects c.in_ok-reply.ensures)
+returns-clause-plan c = rw c.into_plan.ensures.reply (key_plan c.args.key.now (srem_answer c.args.key.now c.args.members.now) c.args.given.now c.args.held.now _ _ _ _ _ _ c.in_ok-live_entry.ensures.live_entry c.new-effects.ensures c.in_ok-live_entry.ensures.expired c.into_plan.ensures.effects c.in_ok-reply.ensures)

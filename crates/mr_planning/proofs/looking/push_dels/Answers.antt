@@ -11,7 +11,7 @@ loop-word-init c = none_taken _ _ _ _ c.new-taken.ensures
 
 pub loop-word-preserved : goal.loop-word-preserved
 loop-word-preserved c =
-    let told : c.is_stored.result ≡ is_stored c.args.given.now c.args.past (get c.args.held.now c.as_slice-key.result.now) = search rules in
+    let told : c.is_stored.result ≡ is_stored c.args.given.now c.args.expired (get c.args.held.now c.as_slice-key.result.now) = search rules in
     elim c.if-is_stored.branch [
       | then-is_stored+in_ok-take+then-branch+in_ok-copied+in_ok-push w ↦
           rw (w.taken-is, w.effects-is) (word_taken _ _ _ _ c.loop-word-test.true c.word-item.is _ c.as_slice-key.ensures.value _ _ _ _ _ _ _ _ c.loop-word.invariant (sym told ∙ w.if-is_stored.true)

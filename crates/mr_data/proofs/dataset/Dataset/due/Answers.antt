@@ -3,7 +3,7 @@ use Rattle.std.specs.Prelude.{option_copied, int_le}
 use Rattle.std.specs.Option.{option_map}
 use Rattle.std.proofs.lemmas.Int.{to_z-of_z}
 use Rattle.mr_entries.specs.TimedKeys.{shown as entered}
-use Rattle.mr_data.proofs.Dues.{first_past, first_later, none_first, is_none, is_due}
+use Rattle.mr_data.proofs.Dues.{first_expired, first_later, none_first, is_none, is_due}
 use Rattle.mr_data.proofs.dataset.Dataset.due.Goals as goal
 
 pub returns-in_err-first : goal.returns-in_err-first
@@ -13,14 +13,14 @@ returns-in_err-first c =
 pub returns-in_err-due : goal.returns-in_err-due
 returns-in_err-due c =
     let x = c.in_ok-first.first.now in
-    let later : int_le x.deadline c.args.now ≡ false = ap (int_le x.deadline) (sym (to_z-of_z w64 c.args.now c.ranges.now)) ∙ is_none (to_z w64 (of_z w64 c.args.now)) x c.if_past.result c.if_past.ensures c.in_err-due.was in
+    let later : int_le x.deadline c.args.now ≡ false = ap (int_le x.deadline) (sym (to_z-of_z w64 c.args.now c.ranges.now)) ∙ is_none (to_z w64 (of_z w64 c.args.now)) x c.if_expired.result c.if_expired.ensures c.in_err-due.was in
     ap option_copied c.from_residual-in_err-due.ensures
     ∙ ap (option_map (λ d. d.0)) (sym (first_later c.args.now c.args.self.now x c.next.new.self (ap (map entered) (sym c.in_ok-first.ensures.steps) ∙ c.timed_keys.ensures.all) later))
 
 pub returns : goal.returns
 returns c =
     let x = c.in_ok-first.first.now in
-    let told = is_due (to_z w64 (of_z w64 c.args.now)) x c.if_past.result c.in_ok-due.due c.if_past.ensures c.in_ok-due.was in
+    let told = is_due (to_z w64 (of_z w64 c.args.now)) x c.if_expired.result c.in_ok-due.due c.if_expired.ensures c.in_ok-due.was in
     let here : int_le x.deadline c.args.now ≡ true = ap (int_le x.deadline) (sym (to_z-of_z w64 c.args.now c.ranges.now)) ∙ told.1 in
     ap (λ d. Some d.0) told.0
-    ∙ ap (option_map (λ d. d.0)) (sym (first_past c.args.now c.args.self.now x c.next.new.self (ap (map entered) (sym c.in_ok-first.ensures.steps) ∙ c.timed_keys.ensures.all) here))
+    ∙ ap (option_map (λ d. d.0)) (sym (first_expired c.args.now c.args.self.now x c.next.new.self (ap (map entered) (sym c.in_ok-first.ensures.steps) ∙ c.timed_keys.ensures.all) here))

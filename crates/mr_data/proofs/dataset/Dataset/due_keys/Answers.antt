@@ -15,7 +15,7 @@ returns-then-len-most-clause-words c = each_is_word c.loop-timed.invariant c.tim
 pub returns-in_default-clause-keys : goal.returns-in_default-clause-keys
 returns-in_default-clause-keys c =
     let x = c.in-Some.timed.now in
-    at_later c.loop-timed.invariant x c.next.new.self c.in-Some.ensures.steps (is_out (to_z w64 (of_z w64 c.args.now)) x c.if_past.result c.if_past.ensures c.in_default.not-Some)
+    at_later c.loop-timed.invariant x c.next.new.self c.in-Some.ensures.steps (is_out (to_z w64 (of_z w64 c.args.now)) x c.if_expired.result c.if_expired.ensures c.in_default.not-Some)
     ∙ ap (λ (n : ℤ). take c.args.most (due n c.args.self.now)) (to_z-of_z w64 c.args.now c.ranges.now)
 
 pub returns-in_default-clause-words : goal.returns-in_default-clause-words
