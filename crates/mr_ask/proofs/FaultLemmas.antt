@@ -1,4 +1,4 @@
--- Told is the fault that comes first among those that the words have.
+-- Answered is the fault that comes first among those that the words have.
 use Rattle.std.proofs.Common.{ℕ, ℤ, ◌≡◌, List, [], ◌∷◌, ◌++◌, Bool, true, false, Option, Some, None, refl, ◌∙◌}
 use Rattle.std.specs.Prelude.{if◌then◌else◌, Result, Ok, Err}
 use Rattle.std.specs.Option.{ok_or}
@@ -8,7 +8,7 @@ use Rattle.mr_value.specs.declared.ends.End.TheVariants.{Left, Right}
 use Rattle.mr_words.specs.Names.{lowered, named}
 use Rattle.mr_words.specs.Pairing.{are_pairs, paired}
 use Rattle.mr_words.specs.Parts.{with, integer, count, offset}
-use Rattle.mr_words.specs.FaultOrder.{counted, first_of, in_reading, told}
+use Rattle.mr_words.specs.FaultOrder.{counted, first_of, in_reading, answered_fault}
 use Rattle.mr_words.proofs.FaultPlaces.{OnlyFault}
 use Rattle.mr_words.specs.declared.name.Name.{Name}
 use Rattle.mr_words.specs.declared.name.Name.TheVariants as name
@@ -46,53 +46,53 @@ use Rattle.mr_cmd_key.proofs.FaultLemmas.{expire_first, scan_first}
 use Rattle.mr_cmd_key.specs.Arguments.{expire, scan}
 
 module _ {A : Type 0} (kind : A → Ask) where
-  of_its_kind : (r : Result A AskFault) → told (of_kind kind r) ≡ told r
+  of_its_kind : (r : Result A AskFault) → answered_fault (of_kind kind r) ≡ answered_fault r
   of_its_kind (Ok a) = refl
   of_its_kind (Err f) = refl
 
   -- ---- one word
-  alone : (r : Result A AskFault) → told (of_kind kind r) ≡ first_of (in_reading r ++ [])
+  alone : (r : Result A AskFault) → answered_fault (of_kind kind r) ≡ first_of (in_reading r ++ [])
   alone (Ok a) = refl
   alone (Err f) = refl
 
-  one : {X : Type 0} (next : X → A) (r : Result X AskFault) → told (of_kind kind (with r (λ x. Ok (next x)))) ≡ first_of (in_reading r ++ [])
+  one : {X : Type 0} (next : X → A) (r : Result X AskFault) → answered_fault (of_kind kind (with r (λ x. Ok (next x)))) ≡ first_of (in_reading r ++ [])
   one next (Ok x) = refl
   one next (Err f) = refl
 
-  last : {X : Type 0} (next : X → A) (r : Result X AskFault) → told (of_kind kind (with r (λ x. Ok (next x)))) ≡ first_of (in_reading r)
+  last : {X : Type 0} (next : X → A) (r : Result X AskFault) → answered_fault (of_kind kind (with r (λ x. Ok (next x)))) ≡ first_of (in_reading r)
   last next (Ok x) = refl
   last next (Err f) = refl
 
-  nested : {X Y : Type 0} (next : Y → A) (g : X → Result Y AskFault) (r : Result X AskFault) → told (of_kind kind (with r (λ x. with (g x) (λ y. Ok (next y))))) ≡ first_of (in_reading (with r g) ++ [])
+  nested : {X Y : Type 0} (next : Y → A) (g : X → Result Y AskFault) (r : Result X AskFault) → answered_fault (of_kind kind (with r (λ x. with (g x) (λ y. Ok (next y))))) ≡ first_of (in_reading (with r g) ++ [])
   nested next g (Ok x) = one next (g x)
   nested next g (Err f) = refl
 
   -- ---- two words
-  two_integers : (next : ℤ → ℤ → A) (o p : Option ℤ) → told (of_kind kind (with (ok_or o Integer) (λ m. with (ok_or p Integer) (λ n. Ok (next m n))))) ≡ first_of (in_reading (ok_or o Integer) ++ (in_reading (ok_or p Integer) ++ []))
+  two_integers : (next : ℤ → ℤ → A) (o p : Option ℤ) → answered_fault (of_kind kind (with (ok_or o Integer) (λ m. with (ok_or p Integer) (λ n. Ok (next m n))))) ≡ first_of (in_reading (ok_or o Integer) ++ (in_reading (ok_or p Integer) ++ []))
   two_integers next None None = refl
   two_integers next None (Some n) = refl
   two_integers next (Some m) None = refl
   two_integers next (Some m) (Some n) = refl
 
-  both_syntax : {X : Type 0} (next : X → X → A) (r q : Result X AskFault) → OnlyFault Syntax r → OnlyFault Syntax q → told (of_kind kind (with r (λ x. with q (λ y. Ok (next x y))))) ≡ first_of (in_reading r ++ (in_reading q ++ []))
+  both_syntax : {X : Type 0} (next : X → X → A) (r q : Result X AskFault) → OnlyFault Syntax r → OnlyFault Syntax q → answered_fault (of_kind kind (with r (λ x. with q (λ y. Ok (next x y))))) ≡ first_of (in_reading r ++ (in_reading q ++ []))
   both_syntax next (Ok x) (Ok y) h k = refl
   both_syntax next (Ok x) (Err g) h k = refl
   both_syntax next (Err f) (Ok y) h k = refl
   both_syntax next (Err f) (Err g) h k = rw (h, k) refl
 
   two_bounds : {B : Type 0} (next : B → B → A) (r q : Result B AskFault) → OnlyFault (Other bad.Bound) r → OnlyFault (Other bad.Bound) q
-      → told (of_kind kind (with {A = B × B} (with r (λ min. with q (λ max. Ok (min, max)))) (λ ends. Ok (next ends.0 ends.1)))) ≡ first_of (in_reading r ++ (in_reading q ++ []))
+      → answered_fault (of_kind kind (with {A = B × B} (with r (λ min. with q (λ max. Ok (min, max)))) (λ ends. Ok (next ends.0 ends.1)))) ≡ first_of (in_reading r ++ (in_reading q ++ []))
   two_bounds next (Ok x) (Ok y) h k = refl
   two_bounds next (Ok x) (Err g) h k = refl
   two_bounds next (Err f) (Ok y) h k = refl
   two_bounds next (Err f) (Err g) h k = rw (h, k) refl
 
   -- ---- pairs
-  if_pairs : {P : Type 0} (n : Name) (next : P → A) (b : Bool) (ps : P) → told (of_kind kind (with (ok_or (if b then Some ps else None) (Arity n)) (λ x. Ok (next x)))) ≡ first_of (counted n (if b then Some [] else None))
+  if_pairs : {P : Type 0} (n : Name) (next : P → A) (b : Bool) (ps : P) → answered_fault (of_kind kind (with (ok_or (if b then Some ps else None) (Arity n)) (λ x. Ok (next x)))) ≡ first_of (counted n (if b then Some [] else None))
   if_pairs n next true ps = refl
   if_pairs n next false ps = refl
 
-if_named : (a : ServerAsk) (b : Bool) → told (of_kind ask.Server (if b then Ok a else Err Syntax)) ≡ first_of (if b then [] else Syntax ∷ [])
+if_named : (a : ServerAsk) (b : Bool) → answered_fault (of_kind ask.Server (if b then Ok a else Err Syntax)) ≡ first_of (if b then [] else Syntax ∷ [])
 if_named a true = refl
 if_named a false = refl
 
@@ -106,7 +106,7 @@ end_fault : (w : List ℕ) → OnlyFault Syntax (end_of w)
 end_fault w = one_of_two (bytes_eq (lowered w) (end_text Left)) (bytes_eq (lowered w) (end_text Right)) Left Right
 
 -- ---- every command
-argument_first : (n : Name) (ws : List (List ℕ)) → told (reading n ws) ≡ first_of (argument_faults n ws)
+argument_first : (n : Name) (ws : List (List ℕ)) → answered_fault (reading n ws) ≡ first_of (argument_faults n ws)
 argument_first name.Get (a ∷ []) = refl
 argument_first name.Get _ = refl
 argument_first name.Set ws = of_its_kind ask.Texts (set ws) ∙ set_first ws
@@ -320,10 +320,10 @@ argument_first name.Client (o ∷ l ∷ []) = if_named (server.ClientSetName l) 
 argument_first name.Client (o ∷ a ∷ v ∷ []) = if_named (server.ClientSetInfo a v) (bytes_eq (lowered o) setinfo)
 argument_first name.Client _ = refl
 
-behind_first : (o : Option Name) (ws : List (List ℕ)) → told (asked_by o ws) ≡ first_of (faults_behind o ws)
+behind_first : (o : Option Name) (ws : List (List ℕ)) → answered_fault (asked_by o ws) ≡ first_of (faults_behind o ws)
 behind_first None ws = refl
 behind_first (Some n) ws = argument_first n ws
 
-pub first_is_told : (ws : List (List ℕ)) → told (asked ws) ≡ first_of (word_faults ws)
-first_is_told [] = refl
-first_is_told (w ∷ ws) = behind_first (named (lowered w)) ws
+pub first_is_answered : (ws : List (List ℕ)) → answered_fault (asked ws) ≡ first_of (word_faults ws)
+first_is_answered [] = refl
+first_is_answered (w ∷ ws) = behind_first (named (lowered w)) ws

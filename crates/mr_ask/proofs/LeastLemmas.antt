@@ -6,9 +6,9 @@ use Rattle.std.proofs.lemmas.Bool.Decides.{nat_tests}
 use Rattle.std.proofs.lemmas.List.Elements.{All-from_recursion}
 use Rattle.mr_words.specs.declared.fault.AskFault.{AskFault}
 use Rattle.mr_ask.specs.Asks.{asked}
-use Rattle.mr_words.specs.FaultOrder.{earlier, earlier_of_any, first_of, place_of, told, IsFirst}
+use Rattle.mr_words.specs.FaultOrder.{earlier, earlier_of_any, first_of, place_of, answered_fault, IsFirst}
 use Rattle.mr_ask.specs.WordFaults.{word_faults}
-use Rattle.mr_ask.proofs.FaultLemmas.{first_is_told}
+use Rattle.mr_ask.proofs.FaultLemmas.{first_is_answered}
 use Rattle.mr_ask.specs.declared.ask.Ask.{Ask}
 
 abbrev NoneBefore : ℕ → List AskFault → Type 0
@@ -38,11 +38,11 @@ leads [] = tt
 leads (f ∷ []) = (at_head f [], (omega arith, tt))
 leads (f ∷ g ∷ faults) = one_more f (earlier_of_any g (first_of faults)) (g ∷ faults) (leads (g ∷ faults))
 
-first_one : (r : Result Ask AskFault) (faults : List AskFault) → told r ≡ first_of faults → IfErr r (IsFirst faults)
+first_one : (r : Result Ask AskFault) (faults : List AskFault) → answered_fault r ≡ first_of faults → IfErr r (IsFirst faults)
 first_one (Ok a) faults e = tt
 first_one (Err f) faults e =
     let h = subst (λ (o : Option AskFault). IfSome o (Leads faults)) (sym e) (leads faults) in
     (h.0, All-from_recursion (λ other. place_of f ≤ place_of other) faults h.1)
 
-pub told_is_first : (words : List (List ℕ)) → IfErr (asked words) (IsFirst (word_faults words))
-told_is_first words = first_one (asked words) (word_faults words) (first_is_told words)
+pub answered_is_first : (words : List (List ℕ)) → IfErr (asked words) (IsFirst (word_faults words))
+answered_is_first words = first_one (asked words) (word_faults words) (first_is_answered words)

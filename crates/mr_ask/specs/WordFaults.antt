@@ -1,4 +1,4 @@
--- The faults that the words of a request have, each word taken by itself. Told is the one that comes first in the order of faults.
+-- The faults that the words of a request have, each word taken by itself. Answered is the one that comes first in the order of faults.
 use Rattle.std.specs.Prelude.{ℕ, List, [], ◌∷◌, ◌++◌, if◌then◌else◌, Option, Some, None, option_map}
 use Rattle.mr_words.specs.FaultOrder.{counted, in_reading}
 use Rattle.mr_words.specs.Names.{lowered, named}

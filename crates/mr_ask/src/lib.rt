@@ -8,5 +8,5 @@ mod reading;
 
 pub use ask::Ask;
 pub use group::Group;
-pub use laws::{first_fault_is_told, spelled_is_read};
+pub use laws::{first_fault_is_answered, spelled_is_read};
 pub use reading::read;

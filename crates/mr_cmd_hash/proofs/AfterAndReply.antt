@@ -15,7 +15,7 @@ use Rattle.mr_planning.specs.Taken.{is_key}
 use Rattle.mr_cmd_hash.specs.Hashes.{Hash, count_reply, value_reply, hget, last_values, count_new, set_pairs, unchanged, overflow, number_at, increase_from, removed}
 use Rattle.mr_cmd_hash.specs.Laws.{SetCountsNewFields, SetIsRead, RemoveCountsFields, IncreaseIsRead, HMGetIsHGetOfEach}
 use Rattle.mr_cmd_hash.proofs.Fields.{Pair, AreApart, entries_apart, with_entries}
-use Rattle.mr_cmd_hash.proofs.Gone.{NamesApart, names_apart, with_names}
+use Rattle.mr_cmd_hash.proofs.Removed.{NamesApart, names_apart, with_names}
 
 -- ---- HSET
 fresh : Hash → List Pair → List Pair
@@ -94,12 +94,12 @@ shrunk (e ∷ es) h a = elim (contains_key h e) as (λ b. contains_key h e ≡ b
       omega (arith, less, same, rest)
 ] refl
 
-all_gone : (fs : List Bytes) (h : Hash) → len (without_fields fs h) + length (removed fs h) ≡ len h
+all_removed : (fs : List Bytes) (h : Hash) → len (without_fields fs h) + length (removed fs h) ≡ len h
 unfolding there_are
-all_gone fs h = ap (λ (m : Hash). len m + length (removed fs h)) (with_names fs h) ∙ shrunk (keys (with_members fs empty)) h (names_apart (with_members fs empty))
+all_removed fs h = ap (λ (m : Hash). len m + length (removed fs h)) (with_names fs h) ∙ shrunk (keys (with_members fs empty)) h (names_apart (with_members fs empty))
 
 pub remove_counts : RemoveCountsFields
-remove_counts k fs h n is = ap count_reply (same_count (len (without_fields fs h)) (length (removed fs h)) (len h) n (sym (all_gone fs h)) is)
+remove_counts k fs h n is = ap count_reply (same_count (len (without_fields fs h)) (length (removed fs h)) (len h) n (sym (all_removed fs h)) is)
 
 -- ---- HINCRBY
 pub increase_read : IncreaseIsRead

@@ -38,7 +38,7 @@ use Rattle.mr_planning.proofs.PlanLemmas.{purged_at}
 use Rattle.mr_cmd_hash.specs.Hashes.{Hash, unchanged, last_values, changed, set_pairs, count_reply, hsetnx, number_at, overflow, no_integer, set_number, increase_from, hincrby, removed, hdel, fields_reply, count_new}
 use Rattle.mr_cmd_hash.specs.Commands.{key_of, change, answer_of, command}
 use Rattle.mr_cmd_hash.proofs.Fields.{all_map, own_entries, with_changed, none_changed}
-use Rattle.mr_cmd_hash.proofs.Gone.{without_removed, none_removed, removed_fit}
+use Rattle.mr_cmd_hash.proofs.Removed.{without_removed, none_removed, removed_fit}
 use Rattle.mr_effect.proofs.Texts.{short_effect}
 
 both : (a b : Bool) → a ≡ true → b ≡ true → (a && b) ≡ true
@@ -81,7 +81,7 @@ removing : IsFold hashes without_fields
 removing = record {
   nothing = λ h. refl;
   more = without_append;
-  gone = λ fs h some none gs. ap (λ (m : Hash). len m == 0) (without_fields_none gs) ∙ no_elements Bytes;
+  deleted = λ fs h some none gs. ap (λ (m : Hash). len m == 0) (without_fields_none gs) ∙ no_elements Bytes;
 }
 
 remove_step : (k : Bytes) → fits k ≡ true → (g : List Bytes) → IsGroup fits g → IsStep k (effect.RemoveFields k g) (on hashes (λ x. Some (without_fields g x)))
@@ -191,6 +191,6 @@ pub hash_faithful : (c : HashAsk) (now : ℤ) (m : Dataset) → IsDataset m → 
 hash_faithful c now m kept fit =
     let k = key_of c in
     let n = purged now (k ∷ []) m in
-    let seen_kept : IsKept hashes (get n k) = subst (IsKept hashes) (sym (purged_at now k m)) (live_kept now (get m k) (hashes_kept m k kept)) in
+    let purged_kept : IsKept hashes (get n k) = subst (IsKept hashes) (sym (purged_at now k m)) (live_kept now (get m k) (hashes_kept m k kept)) in
     faithful (command c) now m (both (fits k) true (key_fits c fit) refl)
-    (at_key_faithful k (answer_of c) n (changing_faithful hashes hashes_are (change c) k n seen_kept (λ h is. change_faithful c h (get n k) fit is)))
+    (at_key_faithful k (answer_of c) n (changing_faithful hashes hashes_are (change c) k n purged_kept (λ h is. change_faithful c h (get n k) fit is)))

@@ -3,7 +3,7 @@ pub mod GroupLemmas
 pub mod Pushing
 pub mod Single
 pub mod Fields
-pub mod Gone
+pub mod Removed
 pub mod Laws
 pub mod AnswerLemmas
 pub mod AfterAndReply

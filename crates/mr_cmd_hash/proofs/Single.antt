@@ -36,8 +36,8 @@ one_changed f v h = ap (filter (λ p. not (is_value p.1 (get h p.0)))) (one_entr
     kept false = refl
 
 one_set : (k f v : Bytes) (answer r : Tree) (h : Hash) (o : Option Bytes) (es es2 : List Effect) → o ≡ get h f → r ≡ answer → es2 ≡ es ++ map (effect.SetFields k) (cut (if is_value v o then [] else (f, v) ∷ [])) → Makes (set_pairs k answer ((f, v) ∷ []) h) r es es2
-one_set k f v answer r h o es es2 is told put = record {
-  reply_is = told;
+one_set k f v answer r h o es es2 is replied put = record {
+  reply_is = replied;
   effects_are = put ∙ ap (λ ps. es ++ map (effect.SetFields k) (cut ps)) (ap (λ x. if is_value v x then [] else (f, v) ∷ []) is ∙ sym (one_changed f v h));
 }
 
@@ -47,19 +47,19 @@ absent (Some x) h = cc
 
 -- HSETNX of a field that isn't there
 pub new_set : (k f v : Bytes) (r : Tree) (h : Hash) (es es2 : List Effect) → contains_key h f ≡ false → r ≡ count_reply 1 → es2 ≡ es ++ map (effect.SetFields k) (cut ((f, v) ∷ [])) → Makes (hsetnx k f v h) r es es2
-new_set k f v r h es es2 there told put =
+new_set k f v r h es es2 there replied put =
     subst (λ (b : Bool). Makes (if b then unchanged (count_reply 0) h else set_pairs k (count_reply 1) ((f, v) ∷ []) h) r es es2) (sym there)
-    (one_set k f v (count_reply 1) r h None es es2 (absent (get h f) there) told put)
+    (one_set k f v (count_reply 1) r h None es es2 (absent (get h f) there) replied put)
 
 pub is_i64-fits : (n : ℤ) → FitsSigned w64 n → is_i64 n ≡ true
 is_i64-fits n h = lt-ltb _ _ h.sfits
 
 -- HINCRBY of a number whose sum fits
 pub sum_set : (k f : Bytes) (by n sum : ℤ) (text : Bytes) (r : Tree) (h : Hash) (o : Option Bytes) (es es2 : List Effect) → o ≡ get h f → number_at o ≡ Some n → FitsSigned w64 (n +ℤ by) → sum ≡ n +ℤ by → text ≡ signed_decimal sum → r ≡ reply.int sum → es2 ≡ es ++ map (effect.SetFields k) (cut (if is_value text o then [] else (f, text) ∷ [])) → Makes (hincrby k f by h) r es es2
-sum_set k f by n sum text r h o es es2 is number fits total spelled told put =
+sum_set k f by n sum text r h o es es2 is number fits total spelled replied put =
     subst (λ (x : Option ℤ). Makes (increase_from k f by x h) r es es2) (sym number ∙ ap number_at is)
     (subst (λ (b : Bool). Makes (if b then set_pairs k (reply.int (n +ℤ by)) ((f, signed_decimal (n +ℤ by)) ∷ []) h else unchanged overflow h) r es es2) (sym (is_i64-fits (n +ℤ by) fits))
-    (one_set k f (signed_decimal (n +ℤ by)) (reply.int (n +ℤ by)) r h o es es2 is (told ∙ ap reply.int total)
+    (one_set k f (signed_decimal (n +ℤ by)) (reply.int (n +ℤ by)) r h o es es2 is (replied ∙ ap reply.int total)
     (put ∙ ap (λ (x : Bytes). es ++ map (effect.SetFields k) (cut (if is_value x o then [] else (f, x) ∷ []))) (spelled ∙ ap signed_decimal total))))
 
 -- HSET of one field
@@ -75,20 +75,20 @@ none_counted None = refl
 none_counted (Some x) = refl
 
 pub field_set : (k f v : Bytes) (answer : FieldsReply) (n : ℕ) (r : Tree) (h : Hash) (o : Option (Bor Bytes)) (es es2 : List Effect) → option_copied o ≡ get h f → n ≡ from_bool (is_none o) → r ≡ fields_reply answer n → es2 ≡ es ++ map (effect.SetFields k) (cut (if is_value v (option_copied o) then [] else (f, v) ∷ [])) → Makes (hset k answer ((f, v) ∷ []) h) r es es2
-field_set k f v answer n r h o es es2 is new told put =
+field_set k f v answer n r h o es es2 is new replied put =
     one_set k f v (fields_reply answer (count_new ((f, v) ∷ []) h)) r h (option_copied o) es es2 is
-    (told ∙ ap (fields_reply answer) (new ∙ none_counted o ∙ ap (λ (x : Option Bytes). cond (is_some x) 0 1) is ∙ sym (one_new f v h))) put
+    (replied ∙ ap (fields_reply answer) (new ∙ none_counted o ∙ ap (λ (x : Option Bytes). cond (is_some x) 0 1) is ∙ sym (one_new f v h))) put
 
 -- HDEL of one field
 one_removed : (f : Bytes) (h : Hash) → removed (f ∷ []) h ≡ (if contains_key h f then f ∷ [] else [])
 one_removed f h = ap (λ es. filter (contains_key h) (map (λ e. e.0) es)) (one_entry {X = Unit {0}} f tt)
 
-pub field_gone : (k f : Bytes) (there : Bool) (n : ℕ) (r : Tree) (h : Hash) (es es2 : List Effect) → there ≡ contains_key h f → n ≡ from_bool there → r ≡ count_reply n → es2 ≡ es ++ map (effect.RemoveFields k) (cut (if there then f ∷ [] else [])) → Makes (hdel k (f ∷ []) h) r es es2
-field_gone k f there n r h es es2 is counted told put =
-    let gone : (if there then f ∷ [] else []) ≡ removed (f ∷ []) h = ap (λ b. if b then f ∷ [] else []) is ∙ sym (one_removed f h) in
+pub field_removed : (k f : Bytes) (there : Bool) (n : ℕ) (r : Tree) (h : Hash) (es es2 : List Effect) → there ≡ contains_key h f → n ≡ from_bool there → r ≡ count_reply n → es2 ≡ es ++ map (effect.RemoveFields k) (cut (if there then f ∷ [] else [])) → Makes (hdel k (f ∷ []) h) r es es2
+field_removed k f there n r h es es2 is counted replied put =
+    let is_removed : (if there then f ∷ [] else []) ≡ removed (f ∷ []) h = ap (λ b. if b then f ∷ [] else []) is ∙ sym (one_removed f h) in
     record {
-      reply_is = told ∙ ap count_reply (counted ∙ one_counted there) ∙ ap (λ (fs : List Bytes). count_reply (length fs)) gone;
-      effects_are = put ∙ ap (λ (fs : List Bytes). es ++ map (effect.RemoveFields k) (cut fs)) gone;
+      reply_is = replied ∙ ap count_reply (counted ∙ one_counted there) ∙ ap (λ (fs : List Bytes). count_reply (length fs)) is_removed;
+      effects_are = put ∙ ap (λ (fs : List Bytes). es ++ map (effect.RemoveFields k) (cut fs)) is_removed;
     }
   where
     one_counted : (b : Bool) → from_bool b ≡ length (if b then f ∷ [] else [])

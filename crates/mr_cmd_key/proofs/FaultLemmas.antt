@@ -1,10 +1,10 @@
--- Told is the fault that comes first among those that the arguments of SCAN, and of EXPIRE and its kin, have.
+-- Answered is the fault that comes first among those that the arguments of SCAN, and of EXPIRE and its kin, have.
 use Rattle.std.proofs.Common.{ℕ, ℤ, pos, negsuc, zero, suc, ◌≡◌, List, [], ◌∷◌, ◌++◌, true, false, Option, Some, None, refl}
 use Rattle.std.specs.Prelude.{if◌then◌else◌, int_lt, option_map, Result, Ok, Err}
 use Rattle.std.specs.Option.{ok_or}
 use Rattle.mr_value.specs.Number.{number_of}
 use Rattle.mr_words.specs.Parts.{with, not_below_1}
-use Rattle.mr_words.specs.FaultOrder.{counted, first_of, in_reading, told}
+use Rattle.mr_words.specs.FaultOrder.{counted, first_of, in_reading, answered_fault}
 use Rattle.mr_words.proofs.FaultPlaces.{ComesBefore, ComesLater, no_other, OnlyFault}
 use Rattle.mr_words.specs.declared.name.Name.{Name}
 use Rattle.mr_words.specs.declared.name.Name.TheVariants as name
@@ -26,7 +26,7 @@ use Rattle.mr_cmd_key.specs.Arguments.{expire, scan}
 
 -- what is read first and stands behind
 behind_read_first : {A X Y : Type 0} (next : X → Y → A) (r : Result X AskFault) (q : Result Y AskFault) → OnlyFault Syntax q → ComesLater 3 r
-    → told (with q (λ y. with r (λ x. Ok (next x y)))) ≡ first_of (in_reading r ++ in_reading q)
+    → answered_fault (with q (λ y. with r (λ x. Ok (next x y)))) ≡ first_of (in_reading r ++ in_reading q)
 behind_read_first next (Ok x) (Ok y) h k = refl
 behind_read_first next (Err g) (Ok y) h k = refl
 behind_read_first next (Ok x) (Err f) h k = refl
@@ -42,7 +42,7 @@ amount_fault : (o : Option ℤ) (u : ExpiryUnit) (c : ExpiringCommand) → Comes
 amount_fault None u c = refl
 amount_fault (Some n) u c = elim (expiry_of u n) as (λ e. ComesLater 3 (ok_or e (ExpireTime c))) [ None ↦ refl | Some e ↦ tt ]
 
-pub expire_first : (n : Name) (u : ExpiryUnit) (ws : List (List ℕ)) → told (expire n u ws) ≡ first_of (counted n (time_and_condition u ws))
+pub expire_first : (n : Name) (u : ExpiryUnit) (ws : List (List ℕ)) → answered_fault (expire n u ws) ≡ first_of (counted n (time_and_condition u ws))
 expire_first n u (k ∷ a ∷ ws) =
     behind_read_first (λ expiry condition. key.Expire k expiry condition) (key_expiry u a) (condition_if_any ws) (condition_fault ws) (amount_fault (number_of a) u (expiring u))
 expire_first n u _ = refl
@@ -63,18 +63,18 @@ counts_fault None = tt
 counts_fault (Some w) = count_fault (number_of w)
 
 cursor_last : {C D : Type 0} (next : C → D → KeyAsk) (r : Result C AskFault) (q : Result D AskFault) → OnlyFault (Other bad.Cursor) r → ComesBefore 6 q
-    → told (with q (λ n. with r (λ c. Ok (next c n)))) ≡ first_of (in_reading r ++ in_reading q)
+    → answered_fault (with q (λ n. with r (λ c. Ok (next c n)))) ≡ first_of (in_reading r ++ in_reading q)
 cursor_last next (Ok c) (Ok n) h k = refl
 cursor_last next (Ok c) (Err f) h k = refl
 cursor_last next (Err g) (Ok n) h k = refl
 cursor_last next (Err g) (Err f) h k = rw (h, k) refl
 
 scan_cases : (r : Result Cursor AskFault) (q : Result ScanOptions AskFault) → OnlyFault (Other bad.Cursor) r → OnlyFault Syntax q
-    → told (with q (λ options. with (positive_if_any options.count) (λ n. with r (λ place. Ok (key.Scan place options.pattern (option_map kind_of options.kind)))))) ≡ first_of (in_reading r ++ in_scan_options q)
+    → answered_fault (with q (λ options. with (positive_if_any options.count) (λ n. with r (λ place. Ok (key.Scan place options.pattern (option_map kind_of options.kind)))))) ≡ first_of (in_reading r ++ in_scan_options q)
 scan_cases r (Ok s) h k = cursor_last (λ place n. key.Scan place s.pattern (option_map kind_of s.kind)) r (positive_if_any s.count) h (counts_fault s.count)
 scan_cases (Ok c) (Err f) h k = refl
 scan_cases (Err g) (Err f) h k = rw (h, k) refl
 
-pub scan_first : (ws : List (List ℕ)) → told (scan ws) ≡ first_of (counted name.Scan (cursor_and_options ws))
+pub scan_first : (ws : List (List ℕ)) → answered_fault (scan ws) ≡ first_of (counted name.Scan (cursor_and_options ws))
 scan_first (w ∷ ws) = scan_cases (cursor_of w) (scan_options ws) (cursor_fault (number_of w)) (no_other (scan_options ws) (scan_options_only ws))
 scan_first _ = refl

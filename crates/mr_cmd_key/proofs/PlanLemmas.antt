@@ -23,9 +23,9 @@ del_plan ks now m n none first second list start es count more all = record {
       ∙ ap (λ (xs : List Bytes). dels (expired now ks m) ++ dels xs) (sym (present_seen now ks m) ∙ sym (present_purged now ks m));
 }
 
-seen_count : (now : ℤ) (m : Dataset) (ks : List Bytes) → present_at now m ks ≡ present (seen now m) ks
-seen_count now m [] = refl
-seen_count now m (k ∷ ks) = ap (λ (o : Option Entry). one_if (is_some o) + present_at now m ks) (sym (get-seen now m k)) ∙ ap (λ n. one_if (is_some (get (seen now m) k)) + n) (seen_count now m ks)
+live_count : (now : ℤ) (m : Dataset) (ks : List Bytes) → present_at now m ks ≡ present (seen now m) ks
+live_count now m [] = refl
+live_count now m (k ∷ ks) = ap (λ (o : Option Entry). one_if (is_some o) + present_at now m ks) (sym (get-seen now m k)) ∙ ap (λ n. one_if (is_some (get (seen now m) k)) + n) (live_count now m ks)
 
 present-push : (now : ℤ) (m : Dataset) (ks : List Bytes) (k : Bytes) → present_at now m (ks ++ k ∷ []) ≡ present_at now m ks + one_if (is_some (live now (get m k)))
 present-push now m [] k = omega arith
@@ -48,4 +48,4 @@ module _ {A : Type 0} (f : A → Bytes) (now : ℤ) (m : Dataset) (xs : List A) 
   }
 
 pub exists_plan : (ks : List Bytes) (now : ℤ) (m : Dataset) (n : ℤ) (none first list : List Effect) → none ≡ [] → first ≡ none ++ dels (expired now ks m) → n ≡ pos (present_at now m ks) → list ≡ first → IsPlan (on_keys ks (counted ks)) now m (reply.int n) list
-exists_plan ks now m n none first list start look count all = keys_plan ks (λ x. reply.int (pos (present x ks))) now m (reply.int n) none first list start look (ap reply.int (count ∙ ap pos (seen_count now m ks))) all
+exists_plan ks now m n none first list start look count all = keys_plan ks (λ x. reply.int (pos (present x ks))) now m (reply.int n) none first list start look (ap reply.int (count ∙ ap pos (live_count now m ks))) all

@@ -63,8 +63,8 @@ module _ (from to : Bytes) (m : Dataset) (fit : fits from && fits to ≡ true) w
   -- the one key isn't there any more
   carry_changes : (e : Entry) → get m from ≡ Some e → bytes_eq from to ≡ false → insert (remove m from) to e ≡ m → ⊥
   carry_changes e is differ same =
-      let gone : get (insert (remove m from) to e) from ≡ None = get-insert nat_list_cmp_total (remove m from) to e from ∙ ap (λ b. cond b (Some e) (get (remove m from) from)) (apart from to differ) ∙ removed m from in
-      let wrong : None ≡ Some e = sym gone ∙ ap (λ (n : Dataset). get n from) same ∙ is in
+      let is_removed : get (insert (remove m from) to e) from ≡ None = get-insert nat_list_cmp_total (remove m from) to e from ∙ ap (λ b. cond b (Some e) (get (remove m from) from)) (apart from to differ) ∙ removed m from in
+      let wrong : None ≡ Some e = sym is_removed ∙ ap (λ (n : Dataset). get n from) same ∙ is in
       cc
 
   carried_faithful : (answer : Tree) (e : Entry) → get m from ≡ Some e → IsFaithfulAt (carried from to answer e m) m
@@ -140,16 +140,16 @@ module _ (now : ℤ) (from to : Bytes) (m : Dataset) where
       ∙ elim (is_stored now true (get m from)) as (λ b. go b [] (if b then from ∷ [] else []) ≡ (if b then from ∷ [] else [])) [ true ↦ refl | false ↦ refl ]
 
   -- what is seen at the two keys, once expired ones are deleted
-  seen_first : get (purged now (from ∷ to ∷ []) m) from ≡ live now (get m from)
-  seen_first = get_purged now (from ∷ to ∷ []) m from ∙ ap (λ b. cond (b || has (to ∷ []) from) (live now (get m from)) (get m from)) (is_key_itself from)
+  live_first : get (purged now (from ∷ to ∷ []) m) from ≡ live now (get m from)
+  live_first = get_purged now (from ∷ to ∷ []) m from ∙ ap (λ b. cond (b || has (to ∷ []) from) (live now (get m from)) (get m from)) (is_key_itself from)
 
   or_true : (a b : Bool) → b ≡ true → (a || (b || false)) ≡ true
   or_true true b h = refl
   or_true false true h = refl
   or_true false false h = cc
 
-  seen_second : get (purged now (from ∷ to ∷ []) m) to ≡ live now (get m to)
-  seen_second = get_purged now (from ∷ to ∷ []) m to ∙ ap (λ b. cond b (live now (get m to)) (get m to)) (or_true (is_key to from) (is_key to to) (is_key_itself to))
+  live_second : get (purged now (from ∷ to ∷ []) m) to ≡ live now (get m to)
+  live_second = get_purged now (from ∷ to ∷ []) m to ∙ ap (λ b. cond b (live now (get m to)) (get m to)) (or_true (is_key to from) (is_key to to) (is_key_itself to))
 
   pub looked_two : bytes_eq from to ≡ false → (none first second : List Effect) → first ≡ none ++ dels (expired now (from ∷ []) m) → second ≡ first ++ dels (expired now (to ∷ []) m) → second ≡ none ++ dels (expired now (from ∷ to ∷ []) m)
   looked_two h none one two e f =
@@ -164,7 +164,7 @@ module _ (now : ℤ) (from to : Bytes) (m : Dataset) where
   pub both_plan : (does : Dataset → Outcome) (o p : Option Entry) (r : Tree) (none looked own list : List Effect) → o ≡ live now (get m from) → p ≡ live now (get m to) → none ≡ [] → looked ≡ none ++ dels (expired now (from ∷ to ∷ []) m) → list ≡ own → ((n : Dataset) → get n from ≡ o → get n to ≡ p → Gives (does n) r looked own) → IsPlan (on_keys (from ∷ to ∷ []) does) now m r list
   both_plan does o p r none looked own list source target start look all gives =
       let shown = gives (seen now m) (get-seen now m from ∙ sym source) (get-seen now m to ∙ sym target) in
-      let made = gives (purged now (from ∷ to ∷ []) m) (seen_first ∙ sym source) (seen_second ∙ sym target) in
+      let made = gives (purged now (from ∷ to ∷ []) m) (live_first ∙ sym source) (live_second ∙ sym target) in
       record {
         reply_is = shown.reply_is;
         effects_are = all ∙ made.effects_are ∙ ap (λ es. es ++ (does (purged now (from ∷ to ∷ []) m)).effects) (look ∙ ap (λ es. es ++ dels (expired now (from ∷ to ∷ []) m)) start);

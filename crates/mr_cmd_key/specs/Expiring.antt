@@ -1,4 +1,4 @@
--- Deadlines that keys get and lose, and what is told of them.
+-- Deadlines that keys get and lose, and what is answered of them.
 use Rattle.std.specs.Prelude.{◌≡◌, ℤ, pos, negsuc, ◌+ℤ◌, ◌-ℤ◌, int_le, int_lt, [], ◌∷◌, Bool, true, false, IsTrue, if◌then◌else◌, Option, Some, None, is_none, is_some}
 use Rattle.std.specs.Int.{int_div_euclid}
 use Rattle.std.specs.Ordering.{int_eq}
@@ -69,7 +69,7 @@ persist_answer k (Some e) = if is_some e.deadline then endless k e else kept (re
 abbrev pub in_seconds : ℤ → ℤ
 in_seconds n = int_div_euclid (n +ℤ pos 500) (pos 1000)
 
--- what is told at the moment `now` of the deadline d
+-- what is answered at the moment `now` of the deadline d
 abbrev pub deadline_in : DeadlineForm → ℤ → ℤ → ℤ
 deadline_in form.SecondsLeft now d = in_seconds (d -ℤ now)
 deadline_in form.MillisecondsLeft now d = d -ℤ now
@@ -82,9 +82,9 @@ lifetime_in form now None = negsuc 0
 lifetime_in form now (Some d) = deadline_in form now d
 
 -- -2 for no key
-abbrev pub told_in : DeadlineForm → ℤ → Option Entry → ℤ
-told_in form now None = negsuc 1
-told_in form now (Some e) = lifetime_in form now e.deadline
+abbrev pub answered_in : DeadlineForm → ℤ → Option Entry → ℤ
+answered_in form now None = negsuc 1
+answered_in form now (Some e) = lifetime_in form now e.deadline
 
 abbrev pub deadline_answer : DeadlineForm → ℤ → Option Entry → Answered
-deadline_answer form now before = kept (reply.int (told_in form now before)) before
+deadline_answer form now before = kept (reply.int (answered_in form now before)) before

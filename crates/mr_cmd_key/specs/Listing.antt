@@ -1,4 +1,4 @@
--- What is told of all keys of a dataset.
+-- What is answered of all keys of a dataset.
 use Rattle.std.specs.Prelude.{ℤ, pos, List, [], ◌∷◌, map, filter, codes, Bool, true, false, ◌&&◌, Option, Some, None}
 use Rattle.std.specs.FinMap.{get, keys, len}
 use Rattle.mr_map.specs.Bytes.{Bytes}

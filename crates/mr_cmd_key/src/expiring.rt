@@ -1,9 +1,9 @@
-// Deadlines that keys get and lose, and what is told of them.
+// Deadlines that keys get and lose, and what is answered of them.
 ghost use Rattle.std.specs.Prelude.{◌≡◌, ◌≤ℤ◌, ◌^◌, pos, IfOk, IfSome, option_copied};
 ghost use Rattle.mr_resp.specs.ReplyView.{view};
 ghost use Rattle.mr_data.specs.Dataset.{IsLifetime};
 ghost use Rattle.mr_planning.specs.Answered.{Takes};
-ghost use Rattle.mr_cmd_key.specs.Expiring.{allows, deadline_in, expire_answer, in_seconds, is_until, lifetime_in, persist_answer, told_in};
+ghost use Rattle.mr_cmd_key.specs.Expiring.{allows, deadline_in, expire_answer, in_seconds, is_until, lifetime_in, persist_answer, answered_in};
 
 use crate::key_ask::ExpireCondition;
 use mr_data::{Effect, Entry, Given};
@@ -94,7 +94,7 @@ pub fn persist(
     Ok(count(1))
 }
 
-/// What a key's deadline is told as.
+/// What a key's deadline is answered as.
 #[derive(Clone, Copy)]
 pub enum DeadlineForm {
     /// The seconds that are left (`TTL`).
@@ -107,10 +107,10 @@ pub enum DeadlineForm {
     Millisecond,
 }
 
-/// What is told of the deadline of a key: -2 where there is no key, and -1 where it has none.
-pub fn told_in(form: DeadlineForm, given: Given, live_entry: Option<&Entry>) -> i64
+/// What is answered of the deadline of a key: -2 where there is no key, and -1 where it has none.
+pub fn answered_in(form: DeadlineForm, given: Given, live_entry: Option<&Entry>) -> i64
     requires { IfSome (option_copied live_entry) (λ e. IsLifetime e.deadline) }
-    ensures { result ≡ told_in form given.now (option_copied live_entry.entry) }
+    ensures { result ≡ answered_in form given.now (option_copied live_entry.entry) }
 {
     match live_entry {
         None => -2,

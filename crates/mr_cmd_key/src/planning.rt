@@ -230,6 +230,6 @@ fn deadline(
 {
     let mut effects = Effects::new(alloc);
     let live_entry = look(alloc, held, key, given, &mut effects)?;
-    let number = expiring::told_in(form, given, live_entry);
+    let number = expiring::answered_in(form, given, live_entry);
     Ok(effects.into_plan(integer(number)))
 }

@@ -22,7 +22,7 @@ use Rattle.mr_entries.specs.declared.value.Entry.{Entry}
 use Rattle.mr_entries.proofs.Ends.{no_end}
 use Rattle.mr_entries.proofs.Puts.{get_put}
 use Rattle.mr_cmd_list.specs.declared.list_ask.PushTo.TheVariants.{AnyKey, ExistingKey}
-use Rattle.mr_planning.specs.Collections.{told, changed}
+use Rattle.mr_planning.specs.Collections.{replied, changed}
 use Rattle.mr_planning.specs.Outcomes.{at_key}
 use Rattle.mr_planning.specs.Answered.{wrong_kind}
 use Rattle.mr_cmd_list.specs.Laws.{PushAnswersLength, PushIsRead, PopTakesTheEnd, MoveTakesTheEnd, MovePutsAtTheEnd, with_pushed, end_index}
@@ -33,7 +33,7 @@ use Rattle.mr_cmd_list.specs.Pushes.{push_change}
 use Rattle.mr_cmd_list.specs.Telling.{llen_answer, lrange_answer, named_item, lindex_answer}
 use Rattle.mr_cmd_list.proofs.Sizes.{same_bytes}
 
--- ---- what is told of a list that was left
+-- ---- what is answered of a list that was left
 some_entry : (d : Option ℤ) (y : Bytes) (ys : List Bytes) → entry_of lists d (y ∷ ys) ≡ Some (record { value = value.List (y ∷ ys); deadline = d })
 some_entry d y ys = ap (λ b. let none : Option Entry = None in if b then none else Some (record { value = value.List (y ∷ ys); deadline = d })) (ne_eqb (length (y ∷ ys)) 0 (λ e. omega (arith, e)))
 
@@ -44,7 +44,7 @@ of_left absent answer d (y ∷ ys) h = ap (λ o. (of_list absent answer o).reply
 -- .. and of a value of another kind
 of_other : (absent : Tree) (answer : List Bytes → Tree) (before : Option Entry) → held lists before ≡ None → wrong_kind ≡ (of_list absent answer before).reply
 of_other absent answer None h = cc
-of_other absent answer (Some e) h = ap (λ o. (told lists answer o (Some e)).reply) (sym h)
+of_other absent answer (Some e) h = ap (λ o. (replied lists answer o (Some e)).reply) (sym h)
 
 -- ---- pushes
 pushed_is : (end : End) (items xs : List Bytes) → pushed end items xs ≡ with_pushed end items xs
@@ -121,7 +121,7 @@ popped_reply k end None xs = refl
 popped_reply k end (Some x) xs = refl
 
 popped_end : (k : Bytes) (end : End) (e : Entry) (h : Option (List Bytes))
-    → (changed lists (λ xs. without_item k end (end_item end xs) xs) h (Some e)).reply ≡ (told lists (λ xs. item_reply (named_item (end_index end) xs)) h (Some e)).reply
+    → (changed lists (λ xs. without_item k end (end_item end xs) xs) h (Some e)).reply ≡ (replied lists (λ xs. item_reply (named_item (end_index end) xs)) h (Some e)).reply
 popped_end k end e None = refl
 popped_end k end e (Some xs) = popped_reply k end (end_item end xs) xs ∙ ap item_reply (sym (end_named end xs))
 
@@ -136,7 +136,7 @@ turned_reply k taken put (Some x) xs = refl
 
 turned_end : (k : Bytes) (taken put : End) (before : Option Entry) → (rotate_answer k taken put before).reply ≡ (lindex_answer (end_index taken) before).reply
 turned_end k taken put None = refl
-turned_end k taken put (Some e) = elim (held lists (Some e)) as (λ h. (changed lists (λ xs. with_rotated k taken put (end_item taken xs) xs) h (Some e)).reply ≡ (told lists (λ xs. item_reply (named_item (end_index taken) xs)) h (Some e)).reply) [
+turned_end k taken put (Some e) = elim (held lists (Some e)) as (λ h. (changed lists (λ xs. with_rotated k taken put (end_item taken xs) xs) h (Some e)).reply ≡ (replied lists (λ xs. item_reply (named_item (end_index taken) xs)) h (Some e)).reply) [
   | None ↦ refl
   | Some xs ↦ turned_reply k taken put (end_item taken xs) xs ∙ ap item_reply (sym (end_named taken xs))
 ]
@@ -162,7 +162,7 @@ carried_reply from to taken put (Some x) xs ys source target = refl
 
 carried_end : (from to : Bytes) (taken put : End) (source target : Option Entry) → (carry from to taken put source target).reply ≢ wrong_kind → (carry from to taken put source target).reply ≡ (lindex_answer (end_index taken) source).reply
 carried_end from to taken put None target = λ other. refl
-carried_end from to taken put (Some e) target = elim (held lists (Some e)) as (λ h. (carry_from from to taken put h (Some e) target).reply ≢ wrong_kind → (carry_from from to taken put h (Some e) target).reply ≡ (told lists (λ xs. item_reply (named_item (end_index taken) xs)) h (Some e)).reply) [
+carried_end from to taken put (Some e) target = elim (held lists (Some e)) as (λ h. (carry_from from to taken put h (Some e) target).reply ≢ wrong_kind → (carry_from from to taken put h (Some e) target).reply ≡ (replied lists (λ xs. item_reply (named_item (end_index taken) xs)) h (Some e)).reply) [
   | None ↦ λ other. refl
   | Some xs ↦ elim (held lists target) as (λ h. (carry_to from to taken put xs h (Some e) target).reply ≢ wrong_kind → (carry_to from to taken put xs h (Some e) target).reply ≡ item_reply (named_item (end_index taken) xs)) [
     | None ↦ λ other. absurd (other refl)

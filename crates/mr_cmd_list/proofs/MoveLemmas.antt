@@ -32,8 +32,8 @@ apart_key s d apart = elim (is_key d s) as (λ b. is_key d s ≡ b → b ≡ fal
 -- ---- a key that is named twice
 module _ (test : Option Entry → Bool) (k : Bytes) (m : Dataset) where
   twice_by : test (get (remove m k) k) ≡ false → (b : Bool) → test (get m k) ≡ b → (if b then k ∷ (if test (get (remove m k) k) then k ∷ [] else []) else (if test (get m k) then k ∷ [] else [])) ≡ (if b then k ∷ [] else [])
-  twice_by gone true h = ap (λ c. k ∷ (if c then k ∷ [] else [])) gone
-  twice_by gone false h = ap (λ c. if c then k ∷ [] else []) h
+  twice_by is_removed true h = ap (λ c. k ∷ (if c then k ∷ [] else [])) is_removed
+  twice_by is_removed false h = ap (λ c. if c then k ∷ [] else []) h
 
   twice : test None ≡ false → chosen test (k ∷ k ∷ []) m ≡ chosen test (k ∷ []) m
   twice none = twice_by (ap test (removed m k) ∙ none) (test (get m k)) refl
@@ -90,8 +90,8 @@ module _ (s d : Bytes) (taken put : End) (apart : bytes_eq s d ≡ false) where
       → o ≡ live now (get m s) → p ≡ live now (get m d)
       → none ≡ [] → first ≡ none ++ dels (expired now (s ∷ []) m) → second ≡ first ++ dels (expired now (d ∷ []) m)
       → r ≡ (carry s d taken put o p).reply → list ≡ second ++ (carry s d taken put o p).effects → IsPlan (moving s d taken put) now m r list
-  carried_plan now m o p r none first second list source target start one two told all = record {
-    reply_is = told
+  carried_plan now m o p r none first second list source target start one two replied all = record {
+    reply_is = replied
         ∙ ap (λ (x : Option Entry). (carry s d taken put x p).reply) (source ∙ sym (get-seen now m s))
         ∙ ap (λ (x : Option Entry). (carry s d taken put (get (seen now m) s) x).reply) (target ∙ sym (get-seen now m d))
         ∙ sym (ap (λ (x : Outcome). x.reply) (at_two (seen now m)));

@@ -23,5 +23,5 @@ not_there (ask.LMove from to taken put) = tt
 not_there (ask.RPopLPush from to) = tt
 
 -- with nothing at the key there are none
-pub nothing_seen : (a : ListAsk) (o : Option Entry) → o ≡ None → HasNumbers a o
-nothing_seen a o h = subst (HasNumbers a) (sym h) (not_there a)
+pub no_live_entry : (a : ListAsk) (o : Option Entry) → o ≡ None → HasNumbers a o
+no_live_entry a o h = subst (HasNumbers a) (sym h) (not_there a)

@@ -160,8 +160,8 @@ module _ (xs : List Bytes) (s : Members) where
   pub removed_none : without_members xs s ≡ s → removed xs s ≡ empty
   removed_none h = none_there (removed xs s) (λ q i.
       let there = sym (removed_is q) ∙ i in
-      let gone : contains_key s q ≡ false = ap (λ (t : Members). contains_key t q) (sym h) ∙ contains_without xs s q ∙ ap (λ b. not b && contains_key s q) (first (has xs q) (contains_key s q) there) in
-      let wrong : false ≡ true = sym gone ∙ second (has xs q) (contains_key s q) there in absurd (cc))
+      let is_removed : contains_key s q ≡ false = ap (λ (t : Members). contains_key t q) (sym h) ∙ contains_without xs s q ∙ ap (λ b. not b && contains_key s q) (first (has xs q) (contains_key s q) there) in
+      let wrong : false ≡ true = sym is_removed ∙ second (has xs q) (contains_key s q) there in absurd (cc))
 
   pub removed_fit : IsTrue (list_all fits xs) → IsTrue (list_all fits (keys (removed xs s)))
   removed_fit h = keys_fit (removed xs s) (λ q i. has_fits xs q h (first (has xs q) (contains_key s q) (sym (removed_is q) ∙ i)))
@@ -174,8 +174,8 @@ module _ (xs : List Bytes) (s : Members) where
   pub set_none : ((q : Bytes) → has xs q ≡ true → contains_key s q ≡ true) → without_members xs s ≡ s → as_set xs ≡ empty
   set_none there h = none_there (as_set xs) (λ q i.
       let named = sym (contains_as_set xs q) ∙ i in
-      let gone : contains_key s q ≡ false = ap (λ (t : Members). contains_key t q) (sym h) ∙ contains_without xs s q ∙ ap (λ b. not b && contains_key s q) named in
-      let wrong : false ≡ true = sym gone ∙ there q named in absurd (cc))
+      let is_removed : contains_key s q ≡ false = ap (λ (t : Members). contains_key t q) (sym h) ∙ contains_without xs s q ∙ ap (λ b. not b && contains_key s q) named in
+      let wrong : false ≡ true = sym is_removed ∙ there q named in absurd (cc))
 
   pub set_fits : ((q : Bytes) → has xs q ≡ true → IsTrue (fits q)) → IsTrue (list_all fits (keys (as_set xs)))
   set_fits h = keys_fit (as_set xs) (λ q i. h q (sym (contains_as_set xs q) ∙ i))

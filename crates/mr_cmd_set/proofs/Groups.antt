@@ -37,7 +37,7 @@ some_word (x ∷ xs) n = refl
 
 fold_of : (w : Write) → IsFold sets (written w)
 fold_of write.Add = adding_members
-fold_of write.Remove = record { nothing = λ s. refl; more = λ xs ys s. without_append xs ys s; gone = λ xs s n none ys. ap (λ (t : Members). len t == 0) (without_members_none ys) ∙ no_elements (Unit {0}) }
+fold_of write.Remove = record { nothing = λ s. refl; more = λ xs ys s. without_append xs ys s; deleted = λ xs s n none ys. ap (λ (t : Members). len t == 0) (without_members_none ys) ∙ no_elements (Unit {0}) }
 
 both : (a b : Bool) → a ≡ true → b ≡ true → a && b ≡ true
 both true b p q = q

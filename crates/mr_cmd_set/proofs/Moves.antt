@@ -101,8 +101,8 @@ module _ (from to x : Bytes) (m : Dataset) (s d : Members) (source : held sets (
         ∙ ap (λ (n : Dataset). get n from) same in
         let left : Some (remove s x) ≡ Some s = sym (held_entry sets sets_are (deadline_of (get m from)) (remove s x) (get m from) entry) ∙ source in
         let still : remove s x ≡ s = cc in
-        let gone : contains_key (remove s x) x ≡ false = contains_remove s x x ∙ ap (λ b. not b && contains_key s x) (is_key_itself x) in
-        let wrong : true ≡ false = sym member ∙ ap (λ (t : Members). contains_key t x) (sym still) ∙ gone in
+        let is_removed : contains_key (remove s x) x ≡ false = contains_remove s x x ∙ ap (λ b. not b && contains_key s x) (is_key_itself x) in
+        let wrong : true ≡ false = sym member ∙ ap (λ (t : Members). contains_key t x) (sym still) ∙ is_removed in
         absurd (cc)
 
 -- ---- the law
@@ -150,16 +150,16 @@ module _ (now : ℤ) (from to : Bytes) (m : Dataset) where
       ∙ elim (is_stored now true (get m from)) as (λ b. go b [] (if b then from ∷ [] else []) ≡ (if b then from ∷ [] else [])) [ true ↦ refl | false ↦ refl ]
 
   -- what is seen at the two keys, once expired ones are deleted
-  seen_first : get (purged now (from ∷ to ∷ []) m) from ≡ live now (get m from)
-  seen_first = get_purged now (from ∷ to ∷ []) m from ∙ ap (λ b. cond (b || has (to ∷ []) from) (live now (get m from)) (get m from)) (is_key_itself from)
+  live_first : get (purged now (from ∷ to ∷ []) m) from ≡ live now (get m from)
+  live_first = get_purged now (from ∷ to ∷ []) m from ∙ ap (λ b. cond (b || has (to ∷ []) from) (live now (get m from)) (get m from)) (is_key_itself from)
 
   or_true : (a b : Bool) → b ≡ true → (a || (b || false)) ≡ true
   or_true true b h = refl
   or_true false true h = refl
   or_true false false h = cc
 
-  seen_second : get (purged now (from ∷ to ∷ []) m) to ≡ live now (get m to)
-  seen_second = get_purged now (from ∷ to ∷ []) m to ∙ ap (λ b. cond b (live now (get m to)) (get m to)) (or_true (is_key to from) (is_key to to) (is_key_itself to))
+  live_second : get (purged now (from ∷ to ∷ []) m) to ≡ live now (get m to)
+  live_second = get_purged now (from ∷ to ∷ []) m to ∙ ap (λ b. cond b (live now (get m to)) (get m to)) (or_true (is_key to from) (is_key to to) (is_key_itself to))
 
 module _ (from to x : Bytes) (now : ℤ) (m : Dataset) where
   abbrev the_move : Command
@@ -168,7 +168,7 @@ module _ (from to x : Bytes) (now : ℤ) (m : Dataset) where
   pub move_plan : (o p : Option Entry) (r : Tree) (none looked own list : List Effect) → o ≡ live now (get m from) → p ≡ live now (get m to) → none ≡ [] → looked ≡ none ++ dels (expired now (from ∷ to ∷ []) m) → list ≡ own → ((n : Dataset) → get n from ≡ o → get n to ≡ p → Gives (smove from to x n) r looked own) → IsPlan the_move now m r list
   move_plan o p r none looked own list source target start look all gives =
       let shown = gives (seen now m) (get-seen now m from ∙ sym source) (get-seen now m to ∙ sym target) in
-      let done = gives (purged now (from ∷ to ∷ []) m) (seen_first now from to m ∙ sym source) (seen_second now from to m ∙ sym target) in
+      let done = gives (purged now (from ∷ to ∷ []) m) (live_first now from to m ∙ sym source) (live_second now from to m ∙ sym target) in
       record {
         reply_is = shown.reply_is;
         effects_are = all ∙ done.effects_are ∙ ap (λ es. es ++ (smove from to x (purged now (from ∷ to ∷ []) m)).effects) (look ∙ ap (λ es. es ++ dels (expired now (from ∷ to ∷ []) m)) start);

@@ -36,7 +36,7 @@ use Rattle.mr_cmd_string.specs.declared.text_ask.SetReply.TheVariants as asked
 use Rattle.mr_planning.specs.Answered.{Answered, done}
 use Rattle.mr_planning.specs.Commands.{IsFaithful, on_key, HasCommandTexts}
 use Rattle.mr_entries.proofs.Puts.{put_same}
-use Rattle.mr_planning.proofs.Laws.{IsFaithfulAnswer, kept_faithful, stays_faithful, if_faithful, by_answer, by_telling, keys_told, IsLawful, none_short, one_short}
+use Rattle.mr_planning.proofs.Laws.{IsFaithfulAnswer, kept_faithful, stays_faithful, if_faithful, by_answer, by_telling, keys_answered, IsLawful, none_short, one_short}
 use Rattle.mr_cmd_string.specs.Texts.{get_reply, strlen_reply, getrange_reply, found}
 use Rattle.mr_cmd_string.specs.Setting.{said_at, until, set_effect, text_until, holds_until, put, plain, allows, holds_other, set_answer, set_for_answer, setnx_answer, getset_answer, taken, getdel_answer}
 use Rattle.mr_cmd_string.specs.declared.deadlines.NewDeadline.{NewDeadline}
@@ -143,9 +143,9 @@ by_setting : (k text : Bytes) (answers : Option Entry → Answered) (now : ℤ) 
 by_setting k text answers now m h f = by_answer k answers now m (ap (λ b. b && true) (first _ _ h)) (λ n. f n (of_two _ _ h))
 
 -- ---- a text is taken away
-gone_faithful : (k text : Bytes) (e : Entry) (m : Dataset) → fits k ≡ true → get m k ≡ Some e → IsFaithfulAnswer (taken k (value.Text text) e) k m
+deleted_faithful : (k text : Bytes) (e : Entry) (m : Dataset) → fits k ≡ true → get m k ≡ Some e → IsFaithfulAnswer (taken k (value.Text text) e) k m
 unfolding apply change
-gone_faithful k text e m h is = record {
+deleted_faithful k text e m h is = record {
   leads = ap (λ b. option_and_then (apply_all []) (if b then Some (put_at m k None) else None)) h;
   short = one_short (effect.Del k) (short_effect (effect.Del k) (omega arith));
   none = λ n. cc;
@@ -153,7 +153,7 @@ gone_faithful k text e m h is = record {
 }
 
 taken_faithful : (k : Bytes) (v : Value) (e : Entry) (m : Dataset) → fits k ≡ true → get m k ≡ Some e → IsFaithfulAnswer (taken k v e) k m
-taken_faithful k (value.Text text) e m h is = gone_faithful k text e m h is
+taken_faithful k (value.Text text) e m h is = deleted_faithful k text e m h is
 taken_faithful k (value.Hash t) e m h is = kept_faithful _ k m (sym is) refl
 taken_faithful k (value.List t) e m h is = kept_faithful _ k m (sym is) refl
 taken_faithful k (value.Set t) e m h is = kept_faithful _ k m (sym is) refl
@@ -185,7 +185,7 @@ texts_faithful (ask.SetEx k n text) now m h moment timed limit number = one_text
 texts_faithful (ask.PSetEx k n text) now m h moment timed limit number = one_text (ask.PSetEx k n text) now m (by_time k text (expiry.Milliseconds n) now m h moment timed limit)
 texts_faithful (ask.StrLen k) now m h moment timed limit number = one_text (ask.StrLen k) now m (by_telling k strlen_reply now m h)
 texts_faithful (ask.GetRange k a b) now m h moment timed limit number = one_text (ask.GetRange k a b) now m (by_telling k (getrange_reply a b) now m h)
-texts_faithful (ask.MGet ks) now m h moment timed limit number = one_text (ask.MGet ks) now m (keys_told ks (λ n. reply.array (trees_of (map (λ k. found (get n k)) ks))) now m h)
+texts_faithful (ask.MGet ks) now m h moment timed limit number = one_text (ask.MGet ks) now m (keys_answered ks (λ n. reply.array (trees_of (map (λ k. found (get n k)) ks))) now m h)
 texts_faithful (ask.SetNx k text) now m h moment timed limit number = one_text (ask.SetNx k text) now m (by_setting k text (setnx_answer k text) now m h (setnx_faithful k text))
 texts_faithful (ask.GetSet k text) now m h moment timed limit number = one_text (ask.GetSet k text) now m (by_setting k text (getset_answer k text) now m h (getset_faithful k text))
 texts_faithful (ask.GetDel k) now m h moment timed limit number = one_text (ask.GetDel k) now m (by_answer k (getdel_answer k) now m h (λ n. getdel_faithful k n (first _ _ h)))

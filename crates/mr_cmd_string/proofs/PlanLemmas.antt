@@ -16,9 +16,9 @@ use Rattle.mr_planning.proofs.PlanLemmas.{keys_plan}
 use Rattle.mr_cmd_string.specs.Texts.{found, texts, texts_at}
 
 -- ---- the texts at several keys
-seen_texts : (now : ℤ) (m : Dataset) (ks : List Bytes) → texts_at now ks m ≡ map (λ k. found (get (seen now m) k)) ks
-seen_texts now m [] = refl
-seen_texts now m (k ∷ ks) = ap (λ o. found o ∷ texts_at now ks m) (sym (get-seen now m k)) ∙ ap (λ ts. found (get (seen now m) k) ∷ ts) (seen_texts now m ks)
+live_texts : (now : ℤ) (m : Dataset) (ks : List Bytes) → texts_at now ks m ≡ map (λ k. found (get (seen now m) k)) ks
+live_texts now m [] = refl
+live_texts now m (k ∷ ks) = ap (λ o. found o ∷ texts_at now ks m) (sym (get-seen now m k)) ∙ ap (λ ts. found (get (seen now m) k) ∷ ts) (live_texts now m ks)
 
 pub texts_plan : (ks : List Bytes) (now : ℤ) (m : Dataset) (r : Tree) (none first list : List Effect) → none ≡ [] → first ≡ none ++ dels (expired now ks m) → r ≡ reply.array (trees_of (texts_at now ks m)) → list ≡ first → IsPlan (on_keys ks (texts ks)) now m r list
-texts_plan ks now m r none first list start look told all = keys_plan ks (λ n. reply.array (trees_of (map (λ k. found (get n k)) ks))) now m r none first list start look (told ∙ ap (λ ts. reply.array (trees_of ts)) (seen_texts now m ks)) all
+texts_plan ks now m r none first list start look replied all = keys_plan ks (λ n. reply.array (trees_of (map (λ k. found (get n k)) ks))) now m r none first list start look (replied ∙ ap (λ ts. reply.array (trees_of ts)) (live_texts now m ks)) all

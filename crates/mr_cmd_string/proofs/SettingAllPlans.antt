@@ -126,8 +126,8 @@ changed_purged now m ps = filter_alike _ _ (entries (last_texts ps)) (all_map _ 
 
 -- MSET
 pub mset_plan : (ps : List Pair) (now : ℤ) (m : Dataset) (r : Tree) (none looked list own : List Effect) → none ≡ [] → looked ≡ none ++ dels (expired now (names ps) m) → r ≡ done → own ≡ looked ++ set_effects (changed_at now (entries (last_texts ps)) m) → list ≡ own → IsPlan (on_keys (names ps) (mset ps)) now m r list
-mset_plan ps now m r none looked list own start look told put all = record {
-  reply_is = told;
+mset_plan ps now m r none looked list own start look replied put all = record {
+  reply_is = replied;
   effects_are = all ∙ put ∙ ap (λ es. es ++ set_effects (changed_at now (entries (last_texts ps)) m)) (look ∙ ap (λ es. es ++ dels (expired now (names ps) m)) start)
       ∙ ap (λ xs. dels (expired now (names ps) m) ++ set_effects xs) (changed_purged now m ps);
 }
@@ -172,15 +172,15 @@ all_changed now m ps h = sym (filter_whole _ (entries (last_texts ps)) (all_map 
 
 module _ (ps : List Pair) (now : ℤ) (m : Dataset) (r : Tree) (none looked list : List Effect) (start : none ≡ []) (look : looked ≡ none ++ dels (expired now (names ps) m)) where
   pub some_there : is_any_live now ps m ≡ true → r ≡ reply.int (pos 0) → list ≡ looked → IsPlan (on_keys (names ps) (msetnx ps)) now m r list
-  some_there there told all = record {
-    reply_is = told ∙ ap (λ b. (if b then answered (reply.int (pos 0)) (seen now m) else put_all (reply.int (pos 1)) ps (seen now m)).reply) (sym there ∙ live_seen now m ps);
+  some_there there replied all = record {
+    reply_is = replied ∙ ap (λ b. (if b then answered (reply.int (pos 0)) (seen now m) else put_all (reply.int (pos 1)) ps (seen now m)).reply) (sym there ∙ live_seen now m ps);
     effects_are = all ∙ look ∙ ap (λ es. es ++ dels (expired now (names ps) m)) start ∙ sym (append_none _)
         ∙ ap (λ b. dels (expired now (names ps) m) ++ (if b then answered (reply.int (pos 0)) (purged now (names ps) m) else put_all (reply.int (pos 1)) ps (purged now (names ps) m)).effects) (sym there ∙ live_purged now m ps);
   }
 
   pub none_there : (own : List Effect) → is_any_live now ps m ≡ false → r ≡ reply.int (pos 1) → own ≡ looked ++ set_effects (entries (last_texts ps)) → list ≡ own → IsPlan (on_keys (names ps) (msetnx ps)) now m r list
-  none_there own there told put all = record {
-    reply_is = told ∙ ap (λ b. (if b then answered (reply.int (pos 0)) (seen now m) else put_all (reply.int (pos 1)) ps (seen now m)).reply) (sym there ∙ live_seen now m ps);
+  none_there own there replied put all = record {
+    reply_is = replied ∙ ap (λ b. (if b then answered (reply.int (pos 0)) (seen now m) else put_all (reply.int (pos 1)) ps (seen now m)).reply) (sym there ∙ live_seen now m ps);
     effects_are = all ∙ put
         ∙ ap (λ es. es ++ set_effects (entries (last_texts ps))) (look ∙ ap (λ es. es ++ dels (expired now (names ps) m)) start)
         ∙ ap (λ xs. dels (expired now (names ps) m) ++ set_effects xs) (all_changed now m ps there)

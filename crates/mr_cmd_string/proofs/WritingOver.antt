@@ -23,7 +23,7 @@ use Rattle.mr_entries.specs.declared.value.Value.{Value}
 use Rattle.mr_entries.specs.declared.value.Value.TheVariants as value
 use Rattle.mr_entries.specs.declared.value.Entry.{Entry}
 use Rattle.mr_planning.specs.Answered.{Takes}
-use Rattle.mr_planning.proofs.PlanLemmas.{told}
+use Rattle.mr_planning.proofs.PlanLemmas.{takes_reply}
 use Rattle.mr_cmd_string.specs.Setting.{is_text}
 use Rattle.mr_cmd_string.specs.Changing.{holds, rewritten, length_of, too_long, lengthened, put_over, setrange_answer, overflow, increase_from, increase_text, increase_answer}
 use Rattle.mr_cmd_string.proofs.SameTexts.{same_bytes, bytes_itself}
@@ -116,14 +116,14 @@ module _ (k part text : Bytes) (offset : ℕ) (o : Option Entry) (is : held (str
   ] is
 
   pub written_before : (r : Tree) (old : List Effect) → bytes_eq text (overwritten offset part text) ≡ true → r ≡ reply.int (pos (length text)) → Takes (setrange_answer k offset part o) r old old
-  written_before r old same told_so =
+  written_before r old same replied_so =
       subst (λ t. Takes t r old old) (sym put_over_is)
-      (told _ old (ap (λ b. let none : List Effect = [] in if b then none else effect.SetRange k (pos offset) part ∷ []) (there same)) (told_so ∙ ap (λ (x : Bytes). length_of x) (same_bytes text _ same)))
+      (takes_reply _ old (ap (λ b. let none : List Effect = [] in if b then none else effect.SetRange k (pos offset) part ∷ []) (there same)) (replied_so ∙ ap (λ (x : Bytes). length_of x) (same_bytes text _ same)))
 
   pub written_over : (r : Tree) (old new : List Effect) → bytes_eq text (overwritten offset part text) ≡ false → r ≡ reply.int (pos (length (overwritten offset part text))) → new ≡ old ++ effect.SetRange k (pos offset) part ∷ [] → Takes (setrange_answer k offset part o) r old new
-  written_over r old new differs told_so put =
+  written_over r old new differs replied_so put =
       subst (λ t. Takes t r old new) (sym put_over_is)
-      (record { reply_is = told_so; effects_are = put ∙ ap (λ b. old ++ (if b then [] else effect.SetRange k (pos offset) part ∷ [])) (sym (not_there differs)) })
+      (record { reply_is = replied_so; effects_are = put ∙ ap (λ b. old ++ (if b then [] else effect.SetRange k (pos offset) part ∷ [])) (sym (not_there differs)) })
 
 -- ---- INCR and its kin
 no_more : (n by : ℤ) → n ≡ n +ℤ by → by ≡ pos 0
@@ -153,9 +153,9 @@ module _ (k text : Bytes) (by n : ℤ) (o : Option Entry) (is : held (strings (c
   ] is differs
 
   pub increased : (sum : ℤ) (r : Tree) (old new : List Effect) → (is_some o && int_eq by (pos 0)) ≡ false → sum ≡ n +ℤ by → r ≡ reply.int sum → new ≡ old ++ effect.Increase k by ∷ [] → Takes (increase_answer k by o) r old new
-  increased sum r old new differs total told_so put =
+  increased sum r old new differs total replied_so put =
       subst (λ t. Takes t r old new) (sym increase_is)
-      (record { reply_is = told_so ∙ ap reply.int total; effects_are = put ∙ ap (λ b. old ++ (if b then [] else effect.Increase k by ∷ [])) (sym (other differs)) })
+      (record { reply_is = replied_so ∙ ap reply.int total; effects_are = put ∙ ap (λ b. old ++ (if b then [] else effect.Increase k by ∷ [])) (sym (other differs)) })
 
 pub is_i64-fits : (n : ℤ) → FitsSigned w64 n → is_i64 n ≡ true
 is_i64-fits n h = lt-ltb _ _ h.sfits

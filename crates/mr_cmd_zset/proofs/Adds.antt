@@ -98,15 +98,15 @@ if_nat true = refl
 if_nat false = refl
 
 pub adds_made : (k : Bytes) (s t w : Scores) (r : Tree) (n m : ℕ) (old new : List Effect) → r ≡ number m → m ≡ n → over w s ≡ t → new ≡ old ++ map (effect.SetScores k) (cut (changed s w)) → Makes (set_to k (number n) s t) r old new
-adds_made k s t w r n m old new told same is put = record {
-  reply_is = told ∙ ap number same;
+adds_made k s t w r n m old new replied same is put = record {
+  reply_is = replied ∙ ap number same;
   effects_are = put ∙ ap (λ ps. old ++ map (effect.SetScores k) (cut ps)) (changed_over w s ∙ ap (changed s) is);
 }
 
 -- one member has another score
 pub alone_made : (k x : Bytes) (reply r : Tree) (s t : Scores) (old new : List Effect) (before after : Option ℤ) → before ≡ get s x → after ≡ get t x → ((q : Bytes) → is_key q x ≡ false → get t q ≡ get s q) → r ≡ reply → new ≡ old ++ map (effect.SetScores k) (cut (changed_alone x before after)) → Makes (set_to k reply s t) r old new
-alone_made k x reply r s t old new before after is was others told put = record {
-  reply_is = told;
+alone_made k x reply r s t old new before after is was others replied put = record {
+  reply_is = replied;
   effects_are = put ∙ ap (λ ps. old ++ map (effect.SetScores k) (cut ps)) (ap (λ o. changed_alone x o after) is ∙ ap (changed_alone x (get s x)) was ∙ sym (changed_one s t x others));
 }
 
@@ -124,19 +124,19 @@ module _ (only : Option ScoreCondition) (than : Option Comparison) where
   unpaired s x z q h = elim (is_set only than (get s x) z) as (λ b. get (if b then insert s x z else s) q ≡ get s q) [ true ↦ other s x z q h | false ↦ refl ]
 
   pub one_made : (answer : ScoresReply) (k x : Bytes) (z y : ℤ) (s : Scores) (r : Tree) (b : Bool) (old new : List Effect) (before after : Option ℤ) → y ≡ z → before ≡ get s x → after ≡ score_after only than before y → b ≡ is_counted answer before after → r ≡ number (from_bool b) → new ≡ old ++ map (effect.SetScores k) (cut (changed_alone x before after)) → Makes (zadd only than k answer ((z, x) ∷ []) s) r old new
-  one_made answer k x z y s r b old new before after same is was counts told put =
+  one_made answer k x z y s r b old new before after same is was counts replied put =
       let later : after ≡ score_after only than (get s x) z = was ∙ ap (λ v. score_after only than before v) same ∙ ap (λ o. score_after only than o z) is in
       alone_made k x _ r s (with_pair only than (z, x) s) old new before after is (later ∙ sym (paired s x z)) (unpaired s x z)
-      (told ∙ ap number (if_nat b ∙ ap (λ c. (if c then 1 else 0) + 0) (counts ∙ ap (λ o. is_counted answer o after) is ∙ ap (is_counted answer (get s x)) later))) put
+      (replied ∙ ap number (if_nat b ∙ ap (λ c. (if c then 1 else 0) + 0) (counts ∙ ap (λ o. is_counted answer o after) is ∙ ap (is_counted answer (get s x)) later))) put
 
 -- ---- sums
 limited : (n z : ℤ) → within_limit n ≡ Some z → (is_score n ≡ true) × (n ≡ z)
 limited n z h = elim (is_score n) as (λ b. (if b then Some n else None) ≡ Some z → (b ≡ true) × (n ≡ z)) [ true ↦ λ e. (refl, cc) | false ↦ λ e. cc ] h
 
 pub sum_made : (k x : Bytes) (by y z : ℤ) (s : Scores) (r : Tree) (old new : List Effect) (before : Option ℤ) → y ≡ by → before ≡ get s x → within_limit (score_or_0 before +ℤ y) ≡ Some z → r ≡ score_reply z → new ≡ old ++ map (effect.SetScores k) (cut (changed_alone x before (Some z))) → Makes (zincrby k by x s) r old new
-sum_made k x by y z s r old new before same is sum told put =
+sum_made k x by y z s r old new before same is sum replied put =
     let n = score_or_0 (get s x) +ℤ by in
     let sum_is : within_limit n ≡ Some z = ap (λ o. within_limit (score_or_0 o +ℤ by)) (sym is) ∙ ap (λ v. within_limit (score_or_0 before +ℤ v)) (sym same) ∙ sum in
     let found = limited n z sum_is in
     subst (λ c. Makes c r old new) (sym (ap (λ b. if b then set_to k (score_reply n) s (insert s x n) else unchanged out_of_range s) found.0 ∙ ap (λ v. set_to k (score_reply v) s (insert s x v)) found.1))
-    (alone_made k x (score_reply z) r s (insert s x z) old new before (Some z) is (sym (inserted s x z)) (other s x z) told put)
+    (alone_made k x (score_reply z) r s (insert s x z) old new before (Some z) is (sym (inserted s x z)) (other s x z) replied put)

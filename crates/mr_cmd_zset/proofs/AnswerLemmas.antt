@@ -5,15 +5,15 @@ use Rattle.mr_effect.specs.declared.effect.Effect.{Effect}
 use Rattle.mr_entries.specs.Steps.{sorted_sets, held}
 use Rattle.mr_entries.specs.declared.value.Entry.{Entry}
 use Rattle.mr_planning.specs.Answered.{Answered, Takes, wrong_kind}
-use Rattle.mr_planning.specs.Collections.{Change, changed, changing, telling, told as tells}
-use Rattle.mr_planning.proofs.PlanLemmas.{told}
+use Rattle.mr_planning.specs.Collections.{Change, changed, changing, telling, replied as tells}
+use Rattle.mr_planning.proofs.PlanLemmas.{takes_reply}
 use Rattle.mr_cmd_zset.specs.Scores.{Scores, Makes}
 
 -- at a key of another kind
 pub takes_wrong : (change : Scores → Change Scores) (o : Option Entry) (r : Tree) (old : List Effect) → held sorted_sets o ≡ None → r ≡ wrong_kind → Takes (changing sorted_sets change o) r old old
-takes_wrong change o r old is told_so =
+takes_wrong change o r old is replied_so =
     let same : changing sorted_sets change o ≡ changed sorted_sets change None o = ap (λ (h : Option Scores). changed sorted_sets change h o) is in
-    told (changing sorted_sets change o) old (ap (λ (t : Answered). t.effects) same) (told_so ∙ sym (ap (λ (t : Answered). t.reply) same))
+    takes_reply (changing sorted_sets change o) old (ap (λ (t : Answered). t.effects) same) (replied_so ∙ sym (ap (λ (t : Answered). t.reply) same))
 
 -- at a key with this set
 pub takes_made : (change : Scores → Change Scores) (o : Option Entry) (s : Scores) (r : Tree) (old new : List Effect) → held sorted_sets o ≡ Some s → Makes (change s) r old new → Takes (changing sorted_sets change o) r old new
@@ -25,8 +25,8 @@ takes_made change o s r old new is made =
     }
 
 -- a command that only tells of a set
-pub takes_told : (answer : Scores → Tree) (o : Option Entry) (r : Tree) (old : List Effect) → r ≡ (telling sorted_sets answer o).reply → Takes (telling sorted_sets answer o) r old old
-takes_told answer o r old is = told (telling sorted_sets answer o) old (silent (held sorted_sets o)) is
+pub takes_telling : (answer : Scores → Tree) (o : Option Entry) (r : Tree) (old : List Effect) → r ≡ (telling sorted_sets answer o).reply → Takes (telling sorted_sets answer o) r old old
+takes_telling answer o r old is = takes_reply (telling sorted_sets answer o) old (silent (held sorted_sets o)) is
   where
     silent : (h : Option Scores) → (tells sorted_sets answer h o).effects ≡ []
     silent None = refl

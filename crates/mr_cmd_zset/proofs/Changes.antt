@@ -78,7 +78,7 @@ removing : IsFold sorted_sets without_scores
 removing = record {
   nothing = λ s. refl;
   more = without_append;
-  gone = λ xs s some none ys. ap (λ (m : Scores). len m == 0) (without_scores_none ys) ∙ no_elements ℤ;
+  deleted = λ xs s some none ys. ap (λ (m : Scores). len m == 0) (without_scores_none ys) ∙ no_elements ℤ;
 }
 
 remove_step : (k : Bytes) → fits k ≡ true → (g : List Bytes) → IsGroup fits g → IsStep k (effect.RemoveScores k g) (on sorted_sets (λ x. Some (without_scores g x)))

@@ -55,8 +55,8 @@ sum_faithful k x n s o a b kept is = elim (is_score n) as (λ t. is_score n ≡ 
   | false ↦ λ t. unchanged_faithful out_of_range s k o
 ] refl
 
-told_faithful : (k : Bytes) (answer : Scores → Tree) (now : ℤ) (m : Dataset) → fits k ≡ true → IsLawful (on_key k (telling sorted_sets answer)) now m
-told_faithful k answer now m h =
+tells_faithful : (k : Bytes) (answer : Scores → Tree) (now : ℤ) (m : Dataset) → fits k ≡ true → IsLawful (on_key k (telling sorted_sets answer)) now m
+tells_faithful k answer now m h =
     let c = on_key k (telling sorted_sets answer) in
     faithful c now m (both (fits k) true h refl) (at_key_faithful k (telling sorted_sets answer) (before c now m) (telling_faithful sorted_sets answer k (before c now m)))
 
@@ -66,13 +66,13 @@ zset_faithful (ask.ZAdd k only than reply ps) now m kept scores h = changing_set
 zset_faithful (ask.ZIncrBy k by x) now m kept scores h = changing_set k (zincrby k by x) now m kept (left (fits k) _ h) (λ s o fine is.
     sum_faithful k x (score_or_0 (get s x) +ℤ by) s o (left (fits k) _ h) (left (fits x) _ (right (fits k) _ h)) fine is)
 zset_faithful (ask.ZRem k xs) now m kept scores h = changing_set k (zrem k xs) now m kept (left (fits k) _ h) (λ s o fine is. reduced_faithful k _ xs s o (left (fits k) _ h) fine is)
-zset_faithful (ask.ZCard k) now m kept scores h = told_faithful k _ now m (left (fits k) _ h)
-zset_faithful (ask.ZCount k min max) now m kept scores h = told_faithful k _ now m (left (fits k) _ h)
-zset_faithful (ask.ZScore k x) now m kept scores h = told_faithful k _ now m (left (fits k) _ h)
-zset_faithful (ask.ZMScore k xs) now m kept scores h = told_faithful k _ now m (left (fits k) _ h)
-zset_faithful (ask.GetRank k x order) now m kept scores h = told_faithful k _ now m (left (fits k) _ h)
-zset_faithful (ask.RangeByRank k first last order reply) now m kept scores h = told_faithful k _ now m (left (fits k) _ h)
-zset_faithful (ask.RangeByScore k min max order limit reply) now m kept scores h = told_faithful k _ now m (left (fits k) _ h)
+zset_faithful (ask.ZCard k) now m kept scores h = tells_faithful k _ now m (left (fits k) _ h)
+zset_faithful (ask.ZCount k min max) now m kept scores h = tells_faithful k _ now m (left (fits k) _ h)
+zset_faithful (ask.ZScore k x) now m kept scores h = tells_faithful k _ now m (left (fits k) _ h)
+zset_faithful (ask.ZMScore k xs) now m kept scores h = tells_faithful k _ now m (left (fits k) _ h)
+zset_faithful (ask.GetRank k x order) now m kept scores h = tells_faithful k _ now m (left (fits k) _ h)
+zset_faithful (ask.RangeByRank k first last order reply) now m kept scores h = tells_faithful k _ now m (left (fits k) _ h)
+zset_faithful (ask.RangeByScore k min max order limit reply) now m kept scores h = tells_faithful k _ now m (left (fits k) _ h)
 zset_faithful (ask.TakePairs k order count) now m kept scores h = changing_set k (take_pairs k order count) now m kept (left (fits k) _ h) (λ s o fine is. reduced_faithful k _ (names_of (taken order count s)) s o (left (fits k) _ h) fine is)
 zset_faithful (ask.ZRemRangeByRank k first last) now m kept scores h = changing_set k (zremrangebyrank k first last) now m kept (left (fits k) _ h) (λ s o fine is. reduced_faithful k _ (names_of (windowed (window_of first last (len s)) (pairs_of s))) s o (left (fits k) _ h) fine is)
 zset_faithful (ask.ZRemRangeByScore k min max) now m kept scores h = changing_set k (zremrangebyscore k min max) now m kept (left (fits k) _ h) (λ s o fine is. reduced_faithful k _ (names_of (range_of min max s)) s o (left (fits k) _ h) fine is)

@@ -61,14 +61,14 @@ pub over_none : (s : Scores) → over empty s ≡ s
 over_none s = same_scores _ _ (λ q. get_over empty s q ∙ ap (λ o. or_else o (get s q)) (get-empty bytes_cmp q))
 
 -- ---- members that go
-gone_twice : (b c : Bool) (o : Option ℤ) → cond c None (cond b None o) ≡ cond (b || c) None o
-gone_twice true true o = refl
-gone_twice true false o = refl
-gone_twice false c o = refl
+removed_twice : (b c : Bool) (o : Option ℤ) → cond c None (cond b None o) ≡ cond (b || c) None o
+removed_twice true true o = refl
+removed_twice true false o = refl
+removed_twice false c o = refl
 
 pub get_without : (xs : List Bytes) (s : Scores) (q : Bytes) → get (without_scores xs s) q ≡ cond (has xs q) None (get s q)
 get_without [] s q = refl
-get_without (x ∷ xs) s q = get_without xs (remove s x) q ∙ ap (cond (has xs q) None) (get-remove nat_list_cmp_total s x q) ∙ gone_twice (is_key q x) (has xs q) (get s q)
+get_without (x ∷ xs) s q = get_without xs (remove s x) q ∙ ap (cond (has xs q) None) (get-remove nat_list_cmp_total s x q) ∙ removed_twice (is_key q x) (has xs q) (get s q)
 
 -- ---- members that pass a test
 module _ {X : Type 0} where

@@ -14,7 +14,7 @@ use Rattle.mr_zset.specs.Pairs.{pairs_of, shown}
 use Rattle.mr_entries.specs.Steps.{sorted_sets, held}
 use Rattle.mr_entries.specs.declared.value.Entry.{Entry}
 use Rattle.mr_planning.specs.Answered.{wrong_kind}
-use Rattle.mr_planning.specs.Collections.{telling, told}
+use Rattle.mr_planning.specs.Collections.{telling, replied}
 use Rattle.mr_zset_options.specs.declared.choices.Order.{Order}
 use Rattle.mr_zset_options.specs.declared.choices.Order.TheVariants.{Ascending, Descending}
 use Rattle.mr_zset_options.specs.declared.choices.RangeReply.TheVariants.{Members, WithScores}
@@ -90,11 +90,11 @@ some_limited limit l (negsuc o) count pairs n s m found from many long up start 
 
 -- what a command that only tells of the set at a key answers
 
-pub told_of : (answer : Scores → Tree) (live_entry : Option Entry) (scores : Scores) → Some scores ≡ held sorted_sets live_entry → answer scores ≡ (telling sorted_sets answer live_entry).reply
-told_of answer live_entry scores e = ap (λ (o : Option Scores). (told sorted_sets answer o live_entry).reply) e
+pub reply_of : (answer : Scores → Tree) (live_entry : Option Entry) (scores : Scores) → Some scores ≡ held sorted_sets live_entry → answer scores ≡ (telling sorted_sets answer live_entry).reply
+reply_of answer live_entry scores e = ap (λ (o : Option Scores). (replied sorted_sets answer o live_entry).reply) e
 
 pub no_set : (answer : Scores → Tree) (live_entry : Option Entry) → None ≡ held sorted_sets live_entry → wrong_kind ≡ (telling sorted_sets answer live_entry).reply
-no_set answer live_entry e = ap (λ (o : Option Scores). (told sorted_sets answer o live_entry).reply) e
+no_set answer live_entry e = ap (λ (o : Option Scores). (replied sorted_sets answer o live_entry).reply) e
 
 pairs_ordered : (order : Order) (scores : Scores) → ordered order (pairs_of scores) ≡ pairs_in order scores
 pairs_ordered Ascending scores = refl

@@ -200,18 +200,18 @@ module _ (s : Scores) where
 
 -- ---- what is made of a set
 pub reduced_made : (k : Bytes) (xs : List Bytes) (s : Scores) (there : ByteMap (Unit {0})) (r : Tree) (n : ℕ) (old new : List Effect) → keys there ≡ lost s (without_scores xs s) → r ≡ number n → n ≡ len there → new ≡ old ++ map (effect.RemoveScores k) (cut (keys there)) → Makes (remove_all k xs s) r old new
-reduced_made k xs s there r n old new same told count put = record {
-  reply_is = told ∙ ap number (count ∙ len_keys there ∙ ap length same);
+reduced_made k xs s there r n old new same replied count put = record {
+  reply_is = replied ∙ ap number (count ∙ len_keys there ∙ ap length same);
   effects_are = put ∙ ap (λ ks. old ++ map (effect.RemoveScores k) (cut ks)) same;
 }
 
 pub pairs_made : (k : Bytes) (ps qs : List (Bytes × ℤ)) (s : Scores) (r : Tree) (old new : List Effect) → qs ≡ ps → AreIn s ps → r ≡ number (len (as_set (members_of qs))) → new ≡ old ++ map (effect.RemoveScores k) (cut (keys (as_set (members_of qs)))) → Makes (remove_all k (members_of ps) s) r old new
-pairs_made k ps qs s r old new same a told put =
+pairs_made k ps qs s r old new same a replied put =
     let keys_are = ap (λ (xs : List (Bytes × ℤ)). keys (as_set (members_of xs))) same ∙ all_lost s ps a in
-    reduced_made k (members_of ps) s (as_set (members_of qs)) r _ old new keys_are told refl put
+    reduced_made k (members_of ps) s (as_set (members_of qs)) r _ old new keys_are replied refl put
 
 pub taken_made : (k : Bytes) (ps qs : List (Bytes × ℤ)) (s : Scores) (r : Tree) (there : ByteMap (Unit {0})) (old new : List Effect) → qs ≡ ps → AreIn s ps → there ≡ as_set (members_of qs) → r ≡ pairs_reply WithScores qs → new ≡ old ++ map (effect.RemoveScores k) (cut (keys there)) → Makes (reduced_to k (pairs_reply WithScores ps) s (without_scores (members_of ps) s)) r old new
-taken_made k ps qs s r there old new same a is told put = record {
-  reply_is = told ∙ ap (pairs_reply WithScores) same;
+taken_made k ps qs s r there old new same a is replied put = record {
+  reply_is = replied ∙ ap (pairs_reply WithScores) same;
   effects_are = put ∙ ap (λ ks. old ++ map (effect.RemoveScores k) (cut ks)) (ap keys is ∙ ap (λ (xs : List (Bytes × ℤ)). keys (as_set (members_of xs))) same ∙ all_lost s ps a);
 }

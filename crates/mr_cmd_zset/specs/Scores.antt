@@ -1,4 +1,4 @@
--- Sorted sets before and after a command: how they differ, the effects that say so, and what is told of them.
+-- Sorted sets before and after a command: how they differ, the effects that say so, and what is answered of them.
 use Rattle.std.specs.Prelude.{◌≡◌, ℕ, ℤ, pos, List, [], ◌∷◌, ◌++◌, map, reverse, Bool, true, false, not, if◌then◌else◌, Option, Some, None}
 use Rattle.std.specs.Fmt.{signed_decimal}
 use Rattle.std.specs.FinMap.{get, contains_key, entries, keys, retain_keys}
@@ -23,7 +23,7 @@ Scores = ByteMap ℤ
 abbrev pub number : ℕ → Tree
 number n = reply.int (pos n)
 
--- a score is told as its text
+-- a score is answered as its text
 abbrev pub score_reply : ℤ → Tree
 score_reply score = reply.bytes (signed_decimal score)
 

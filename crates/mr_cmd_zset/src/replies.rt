@@ -28,7 +28,7 @@ pub fn set_at<'d>(live_entry: Option<&'d Entry>, empty: &'d ZSet) -> Option<&'d 
     }
 }
 
-/// A score, told as its text.
+/// A score, answered as its text.
 pub fn score_bulk(alloc: Global, score: i64) -> Result<Reply, AllocError>
     ensures { IfOk result (λ r. view r ≡ score_reply score) }
 {

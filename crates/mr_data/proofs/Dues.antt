@@ -178,18 +178,18 @@ at_start now most m none all is whole = record {
 
 -- what is answered of a timed key
 
-abbrev pub Told : ℤ → TimedKey → Option DueKey → Type 0
-Told now x o = MatchOption o (int_le x.deadline now ≡ false) (λ d. (shown d ≡ entered x) × (int_le x.deadline now ≡ true))
+abbrev pub Returned : ℤ → TimedKey → Option DueKey → Type 0
+Returned now x o = MatchOption o (int_le x.deadline now ≡ false) (λ d. (shown d ≡ entered x) × (int_le x.deadline now ≡ true))
 
-pub is_out : (now : ℤ) (x : TimedKey) (o : Option DueKey) → Told now x o → ((d : DueKey) → o ≡ Some d → ⊥) → int_le x.deadline now ≡ false
+pub is_out : (now : ℤ) (x : TimedKey) (o : Option DueKey) → Returned now x o → ((d : DueKey) → o ≡ Some d → ⊥) → int_le x.deadline now ≡ false
 is_out now x None h none = h
 is_out now x (Some d) h none = absurd (none d refl)
 
-pub is_none : (now : ℤ) (x : TimedKey) (o : Option DueKey) → Told now x o → o ≡ None → int_le x.deadline now ≡ false
+pub is_none : (now : ℤ) (x : TimedKey) (o : Option DueKey) → Returned now x o → o ≡ None → int_le x.deadline now ≡ false
 is_none now x None h none = h
 is_none now x (Some d) h none = cc
 
-pub is_due : (now : ℤ) (x : TimedKey) (o : Option DueKey) (d : DueKey) → Told now x o → o ≡ Some d → (shown d ≡ entered x) × (int_le x.deadline now ≡ true)
+pub is_due : (now : ℤ) (x : TimedKey) (o : Option DueKey) (d : DueKey) → Returned now x o → o ≡ Some d → (shown d ≡ entered x) × (int_le x.deadline now ≡ true)
 is_due now x None d h some = cc
 is_due now x (Some e) d h some = (let same : e ≡ d = cc in subst (λ (z : DueKey). (shown z ≡ entered x) × (int_le x.deadline now ≡ true)) same h)
 

@@ -34,8 +34,8 @@ field_put h f v old fit_f fit_v g w is =
       | false ↦ λ t s. old g w s
     ] refl (sym (get-insert nat_list_cmp_total h f v g) ∙ is)
 
-field_gone : (h : ByteMap Bytes) (f : Bytes) → FieldsFit h → FieldsFit (remove h f)
-field_gone h f old g w is =
+field_removed : (h : ByteMap Bytes) (f : Bytes) → FieldsFit h → FieldsFit (remove h f)
+field_removed h f old g w is =
     elim (eq_by_cmp bytes_cmp g f) as (λ b. cond b None (get h g) ≡ Some w → IsWord g × IsWord w) [
       | true ↦ λ s. cc
       | false ↦ λ s. old g w s
@@ -49,7 +49,7 @@ with_fields_fit (p ∷ ps) h fit old =
 
 pub without_fields_fit : (fs : List Bytes) (h : ByteMap Bytes) → FieldsFit h → FieldsFit (without_fields fs h)
 without_fields_fit [] h old = old
-without_fields_fit (f ∷ fs) h old = without_fields_fit fs (remove h f) (field_gone h f old)
+without_fields_fit (f ∷ fs) h old = without_fields_fit fs (remove h f) (field_removed h f old)
 
 -- ---- sets
 
@@ -66,8 +66,8 @@ member_put s x old fit y is =
       | false ↦ λ t h. old y h
     ] refl (sym (ap is_some (get-insert nat_list_cmp_total s x tt y)) ∙ is)
 
-member_gone : (s : ByteMap (Unit {0})) (x : Bytes) → MembersFit s → MembersFit (remove s x)
-member_gone s x old y is =
+member_removed : (s : ByteMap (Unit {0})) (x : Bytes) → MembersFit s → MembersFit (remove s x)
+member_removed s x old y is =
     elim (eq_by_cmp bytes_cmp y x) as (λ b. is_some (cond b None (get s y)) ≡ true → IsWord y) [
       | true ↦ λ h. cc
       | false ↦ λ h. old y h
@@ -79,7 +79,7 @@ with_members_fit (x ∷ xs) s fit old = with_members_fit xs (insert s x tt) (sec
 
 pub without_members_fit : (xs : List Bytes) (s : ByteMap (Unit {0})) → MembersFit s → MembersFit (without_members xs s)
 without_members_fit [] s old = old
-without_members_fit (x ∷ xs) s old = without_members_fit xs (remove s x) (member_gone s x old)
+without_members_fit (x ∷ xs) s old = without_members_fit xs (remove s x) (member_removed s x old)
 
 -- ---- sorted sets
 
@@ -96,8 +96,8 @@ score_put s x z old fit within y u is =
       | false ↦ λ t h. old y u h
     ] refl (sym (get-insert nat_list_cmp_total s x z y) ∙ is)
 
-score_gone : (s : ByteMap ℤ) (x : Bytes) → ScoresFit s → ScoresFit (remove s x)
-score_gone s x old y u is =
+score_removed : (s : ByteMap ℤ) (x : Bytes) → ScoresFit s → ScoresFit (remove s x)
+score_removed s x old y u is =
     elim (eq_by_cmp bytes_cmp y x) as (λ b. cond b None (get s y) ≡ Some u → IsWord y × IsTrue (is_score u)) [
       | true ↦ λ h. cc
       | false ↦ λ h. old y u h
@@ -111,7 +111,7 @@ with_scores_fit (p ∷ ps) s fit within old =
 
 pub without_scores_fit : (xs : List Bytes) (s : ByteMap ℤ) → ScoresFit s → ScoresFit (without_scores xs s)
 without_scores_fit [] s old = old
-without_scores_fit (x ∷ xs) s old = without_scores_fit xs (remove s x) (score_gone s x old)
+without_scores_fit (x ∷ xs) s old = without_scores_fit xs (remove s x) (score_removed s x old)
 
 -- ---- lists
 

@@ -45,7 +45,7 @@ pub setting_fields : IsFold hashes with_fields
 setting_fields = record {
   nothing = λ h. refl;
   more = fields-append;
-  gone = λ ps h some none. absurd (not_none _ (with_fields_some ps h (some_of ps some)) none);
+  deleted = λ ps h some none. absurd (not_none _ (with_fields_some ps h (some_of ps some)) none);
 }
 
 pub set_fields_is_step : (k : Bytes) → IsTrue (fits k) → (g : List (Bytes × Bytes)) → IsGroup pair_fits g → IsStep k (effect.SetFields k g) (set_fields_step g)
@@ -65,7 +65,7 @@ pub pushing : (end : End) → IsFold lists (pushed end)
 pushing end = record {
   nothing = λ x. refl;
   more = pushed-append end;
-  gone = λ xs x some none. absurd (not_none _ (pushed_some end xs x (some_of xs some)) none);
+  deleted = λ xs x some none. absurd (not_none _ (pushed_some end xs x (some_of xs some)) none);
 }
 
 pub push_is_step : (k : Bytes) (end : End) → IsTrue (fits k) → (g : List Bytes) → IsGroup fits g → IsStep k (effect.Push k end g) (push_step end g)
@@ -85,7 +85,7 @@ pub adding_members : IsFold sets with_members
 adding_members = record {
   nothing = λ s. refl;
   more = members-append;
-  gone = λ xs s some none. absurd (not_none _ (with_members_some xs s (some_of xs some)) none);
+  deleted = λ xs s some none. absurd (not_none _ (with_members_some xs s (some_of xs some)) none);
 }
 
 pub add_members_is_step : (k : Bytes) → IsTrue (fits k) → (g : List Bytes) → IsGroup fits g → IsStep k (effect.AddMembers k g) (add_members_step g)
@@ -105,7 +105,7 @@ pub setting_scores : IsFold sorted_sets with_scores
 setting_scores = record {
   nothing = λ s. refl;
   more = scores-append;
-  gone = λ ps s some none. absurd (not_none _ (with_scores_some ps s (some_of ps some)) none);
+  deleted = λ ps s some none. absurd (not_none _ (with_scores_some ps s (some_of ps some)) none);
 }
 
 -- a member and its score are within their limits

@@ -115,7 +115,7 @@ module _ {X : Type 0} (kind : Kind X) where
   pub record IsFold {A : Type 0} (f : List A → X → X) : Type 0 where
     pub nothing : (x : X) → f [] x ≡ x
     pub more : (xs ys : List A) (x : X) → f (xs ++ ys) x ≡ f ys (f xs x)
-    pub gone : (xs : List A) (x : X) → xs ≢ [] → StaysNone f (f xs x)
+    pub deleted : (xs : List A) (x : X) → xs ≢ [] → StaysNone f (f xs x)
 
 module _ {A X : Type 0} (kind : Kind X) (laws : IsKind kind) (f : List A → X → X) (fold : IsFold kind f) where
   -- the step of a group
@@ -141,7 +141,7 @@ module _ {A X : Type 0} (kind : Kind X) (laws : IsKind kind) (f : List A → X �
   rest_runs d x [] stays h = ap (λ y. Some (entry_of kind d y)) (sym (fold.nothing x))
   rest_runs d x (g ∷ gs) stays h =
       ap (option_and_then (run (map group_step gs))) (next_step d x g (kind.is_none x) refl stays)
-      ∙ rest_runs d (f g x) gs (fold.gone g x h.0) h.1
+      ∙ rest_runs d (f g x) gs (fold.deleted g x h.0) h.1
       ∙ ap (λ y. Some (entry_of kind d y)) (sym (fold.more g (flat_map (λ g. g) gs) x))
 
   -- The groups do what all items do.
@@ -149,5 +149,5 @@ module _ {A X : Type 0} (kind : Kind X) (laws : IsKind kind) (f : List A → X �
   groups_run o x [] is some h = absurd (some refl)
   groups_run o x (g ∷ gs) is some h =
       ap (λ y. option_and_then (run (map group_step gs)) (option_and_then (λ z. option_map (entry_of kind (deadline_of o)) (Some (f g z))) y)) is
-      ∙ rest_runs (deadline_of o) (f g x) gs (fold.gone g x h.0) h.1
+      ∙ rest_runs (deadline_of o) (f g x) gs (fold.deleted g x h.0) h.1
       ∙ ap (λ y. Some (entry_of kind (deadline_of o) y)) (sym (fold.more g (flat_map (λ g. g) gs) x))

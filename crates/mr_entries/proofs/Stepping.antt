@@ -80,8 +80,8 @@ module _ {X : Type 0} (kind : Kind X) (f : X → Option X) (e : Entry) where
   is_left x y h s some = becomes x (Some y) h s ∙ ap (λ b. Some (if b then None else Some (with_value (kind.value y) e.deadline))) some
 
   -- no element is left
-  pub is_gone : (x y : X) → kind.of e.value ≡ Some x → f x ≡ Some y → kind.is_none y ≡ true → on kind f (Some e) ≡ Some None
-  is_gone x y h s none = becomes x (Some y) h s ∙ ap (λ b. Some (if b then None else Some (with_value (kind.value y) e.deadline))) none
+  pub is_deleted : (x y : X) → kind.of e.value ≡ Some x → f x ≡ Some y → kind.is_none y ≡ true → on kind f (Some e) ≡ Some None
+  is_deleted x y h s none = becomes x (Some y) h s ∙ ap (λ b. Some (if b then None else Some (with_value (kind.value y) e.deadline))) none
 
 -- what the one without elements becomes has none
 pub stays_none : {X : Type 0} (kind : Kind X) (g : X → X) → g kind.none ≡ kind.none → kind.is_none kind.none ≡ true → on kind (λ x. Some (g x)) None ≡ Some None

@@ -117,12 +117,12 @@ pub grows : {room : ℕ} {all es : List Effect} {rest : List DueKey} (d : DueKey
     → o ≡ record base { grown = texts es; appended = texts es } → fits ≡ nat_le (length o.grown + size (effect.Del d.key.now)) room → fits ≡ true
     → p ≡ (if fits then record o { grown = o.grown ++ text (effect.Del d.key.now); appended = o.appended ++ text (effect.Del d.key.now) } else o) → e ≡ effect.Del d.key.now → fs ≡ es ++ e ∷ []
     → Growing room all fs ds × (p ≡ record base { grown = texts fs; appended = texts fs })
-grows {room} {all} {es} {rest} d ds base o p fitting e fs growing next outs_are test so told is pushed =
+grows {room} {all} {es} {rest} d ds base o p fitting e fs growing next outs_are test so shows is pushed =
     let whole : fs ≡ es ++ effect.Del d.key.now ∷ [] = pushed ∙ ap (λ (x : Effect). es ++ x ∷ []) is in
     let here : o.grown ≡ texts es = ap (λ (x : OutsState). x.grown) outs_are in
     let fit : nat_le (length (texts es) + size (effect.Del d.key.now)) room ≡ true = ap (λ (bs : List ℕ). nat_le (length bs + size (effect.Del d.key.now)) room) (sym here) ∙ sym test ∙ so in (
       subst (λ (xs : List Effect). Growing room all xs ds) (sym whole) (one_more (subst (λ (ks : List DueKey). Growing room all es ks) next growing) fit),
-      told ∙ ap (λ b. if b then record o { grown = o.grown ++ text (effect.Del d.key.now); appended = o.appended ++ text (effect.Del d.key.now) } else o) (so)
+      shows ∙ ap (λ b. if b then record o { grown = o.grown ++ text (effect.Del d.key.now); appended = o.appended ++ text (effect.Del d.key.now) } else o) (so)
           ∙ ap (λ (x : OutsState). record x { grown = x.grown ++ text (effect.Del d.key.now); appended = x.appended ++ text (effect.Del d.key.now) }) outs_are
           ∙ ap (λ (bs : List ℕ). record base { grown = bs; appended = bs }) (sym (texts-push es (effect.Del d.key.now)) ∙ ap texts (sym whole)),
     )

@@ -24,7 +24,7 @@ use Rattle.mr_node.specs.Rows.{ClientRow, StepRow, Leaves, Ends, Stops}
 use Rattle.mr_node.specs.Parts.{Uses, Ran, Quits, Spends, last_outs}
 use Rattle.mr_node.specs.Parts.Ran.{commits, too_far}
 use Rattle.mr_node.specs.Parts.{HaltsAt, Passes, Questions, Rewrites, Runs, halting_outs}
-use Rattle.mr_node.specs.Telling.{told_as}
+use Rattle.mr_node.specs.Telling.{reply_about}
 use Rattle.mr_cmd_server.specs.declared.question.Question.{Question}
 use Rattle.mr_node.specs.declared.step.Step.{Step}
 use Rattle.mr_node.proofs.Ends.{some_is, client_is, put_agrees, put_shut, put_others}
@@ -79,13 +79,13 @@ rewriting_row a b l given u used up r remakes uses ag =
     })
 
 pub telling_row : (a b : NodeState) (l : LinkId) (given : Given) (u : List ℕ) (used : ℕ) (question : Question) → a.core.up ≡ true → Questions u used question → Uses a l used b → Agrees a l u
-    → ClientRow a l u given b (outs_with (Some l) (told_as question a.core))
+    → ClientRow a l u given b (outs_with (Some l) (reply_about question a.core))
 telling_row a b l given u used question up q uses ag =
     let e = used_end a b l u used ag uses in
     ClientRow.serves (record {
       up = up;
       rest = drop used u;
-      out = told_as question a.core;
+      out = reply_about question a.core;
       served = Served.request q.words q.asks (Answered.tells question q.asked (ap (λ (s : NodeState). s.core) e) refl);
       leaves = leaves_of a b l (drop used u) e;
       outs_are = refl;

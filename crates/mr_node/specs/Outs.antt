@@ -79,9 +79,9 @@ halted_outs true = halt ∷ []
 halted_outs false = []
 
 -- what is sent, whether the link is closed behind that, and whether the program is to end
-abbrev pub told_outs : OutsState → List OutState
-told_outs o = sent_outs o.link o.reply ++ (closed_outs o.link o.closes ++ halted_outs o.halts)
+abbrev pub reply_outs : OutsState → List OutState
+reply_outs o = sent_outs o.link o.reply ++ (closed_outs o.link o.closes ++ halted_outs o.halts)
 
--- in their order: what the stream grows by, what is done to the file, and only then what is told
+-- in their order: what the stream grows by, what is done to the file, and only then what is answered
 abbrev pub outs_of : OutsState → List OutState
-outs_of o = grown_outs o.grown ++ (appended_outs o.appended ++ (replaced_outs o.replaced ++ told_outs o))
+outs_of o = grown_outs o.grown ++ (appended_outs o.appended ++ (replaced_outs o.replaced ++ reply_outs o))

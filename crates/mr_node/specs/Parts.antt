@@ -118,15 +118,15 @@ Uses a l used b = (kept : List ℕ) → end_of a l ≡ Some (client kept) → b 
 abbrev pub Hears : NodeState → LinkId → List ℕ → NodeState → Type 0
 Hears a l bytes b = (kept : List ℕ) → end_of a l ≡ Some (client kept) → b ≡ put_end a l (client (kept ++ bytes))
 
--- this is told last
+-- this is answered last
 abbrev pub last_outs : LinkId → List ℕ → OutsState
 last_outs l last = record no_outs { link = Some l; reply = last; closes = true }
 
--- nothing is told, and the program is to end
+-- nothing is answered, and the program is to end
 abbrev pub halting_outs : LinkId → OutsState
 halting_outs l = record no_outs { link = Some l; halts = true }
 
--- The effects are done, and all is told.
+-- The effects are done, and all is answered.
 pub record Commits (a : NodeState) (l : LinkId) (used : ℕ) (reply : Tree) (effects : List Effect) (b : NodeState) (s : Step) : Type 0 where
   pub held : Dataset
   pub applied : apply_all effects a.core.held ≡ Some held

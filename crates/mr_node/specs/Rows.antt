@@ -30,12 +30,12 @@ pub record Serves (a : NodeState) (l : LinkId) (u : List ℕ) (given : Given) (b
   pub leaves : Leaves a l b rest
   pub outs_are : outs ≡ outs_with (Some l) out
 
--- These bytes end a link, and this is told last: they are doomed, or a client asks that its link be closed.
+-- These bytes end a link, and this is answered last: they are doomed, or a client asks that its link be closed.
 pub data Ends (u last : List ℕ) : Type 0 where
   doomed : (fault : Fault) → IsDoomedBy u fault → last ≡ reply_text (error (fault_text fault)) → Ends u last
   quit : (words : List (List ℕ)) (rest : List ℕ) → Asks u words rest → quits words ≡ true → last ≡ reply_text done → Ends u last
 
--- The last is told, and the link is closed.
+-- The last is answered, and the link is closed.
 pub record Closes (a : NodeState) (l : LinkId) (u : List ℕ) (b : NodeState) (outs : OutsState) : Type 0 where
   pub up : a.core.up ≡ true
   pub last : List ℕ
@@ -51,7 +51,7 @@ pub record AsksToHalt (u rest : List ℕ) : Type 0 where
   pub asks : Asks u words rest
   pub halting : is_halting words ≡ true
 
--- A client asks that the program end: that is used, nothing is told, and nothing else changes.
+-- A client asks that the program end: that is used, nothing is answered, and nothing else changes.
 pub record Halts (a : NodeState) (l : LinkId) (u : List ℕ) (b : NodeState) (outs : OutsState) : Type 0 where
   pub up : a.core.up ≡ true
   pub rest : List ℕ

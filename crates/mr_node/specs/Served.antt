@@ -17,7 +17,7 @@ use Rattle.mr_data.specs.Rebuilding.{rebuilding}
 use Rattle.mr_node.specs.State.{Core}
 use Rattle.mr_node.specs.Outs.{Output, no_output, growth}
 use Rattle.mr_node.specs.Requests.{Asks, AsksNothing}
-use Rattle.mr_node.specs.Telling.{told_as}
+use Rattle.mr_node.specs.Telling.{reply_about}
 
 -- no offset is greater
 abbrev pub offset_limit : ℕ
@@ -72,7 +72,7 @@ pub data Answered (c : Core) (words : List (List ℕ)) (given : Given) (d : Core
   -- the append-only file is replaced by what makes the dataset again, on a master and on a replica
   rewritten : rewrites words ≡ true → Remakes (rebuilding c.held) c.held → d ≡ c → out ≡ rewritten_as c.held → Answered c words given d out
   -- the node tells of itself, and nothing changes
-  tells : (question : Question) → question_in words ≡ Some question → d ≡ c → out ≡ told_as question c → Answered c words given d out
+  tells : (question : Question) → question_in words ≡ Some question → d ≡ c → out ≡ reply_about question c → Answered c words given d out
 
 -- What stands at the front of unread bytes is used: what it makes of the node, what is left unread, and what it gives out.
 pub data Served (c : Core) (u : List ℕ) (given : Given) (d : Core) (rest : List ℕ) (out : Output) : Type 0 where

@@ -15,5 +15,5 @@ answer_about question.OtherSection c = bytes []
 answer_about question.Role c = role_reply c.replica c.stream.offset
 
 -- .. as a reply, and nothing else is given out
-abbrev pub told_as : Question → Core → Output
-told_as question c = record no_output { said = reply_text (answer_about question c) }
+abbrev pub reply_about : Question → Core → Output
+reply_about question c = record no_output { said = reply_text (answer_about question c) }

@@ -241,7 +241,7 @@ impl Node {
         ensures quiet { plan.effects.items ≡ [] → self.new.core ≡ self.old.core }
     {
         let mut outs = self.fresh_outs(Some(link));
-        match told(&mut outs, &plan, self.stream.end()) {
+        match put_answer(&mut outs, &plan, self.stream.end()) {
             Err(_) => Err(NodeFault::Memory),
             Ok(false) => {
                 self.advance(link, used);
@@ -279,7 +279,7 @@ impl Node {
 
 /// Writes the texts of the effects and the reply. False where the effects would carry the offset past its limit: then what is
 /// written says so, and no effect.
-fn told(outs: &mut Outs, plan: &Plan, offset: u64) -> Result<bool, AllocError>
+fn put_answer(outs: &mut Outs, plan: &Plan, offset: u64) -> Result<bool, AllocError>
     requires empty { (outs.old.grown ≡ []) × (outs.old.appended ≡ []) × (outs.old.reply ≡ []) }
     requires offset { offset ≤ offset_limit }
     ensures { IfOk result (λ fits. Tells offset (view plan.now.reply) plan.now.effects.items outs.old fits outs.new) }

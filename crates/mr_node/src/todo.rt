@@ -16,9 +16,9 @@ pub(crate) enum Todo {
     Wait(Progress),
     /// An empty request is used.
     Skip { used: usize },
-    /// The fault is told, and the link closed.
+    /// The fault is answered, and the link closed.
     Refuse(Fault),
-    /// OK is told, and the link closed.
+    /// OK is answered, and the link closed.
     Quit,
     /// A request is used, and the append-only file written anew.
     Rewrite { used: usize },

@@ -14,7 +14,7 @@ use Rattle.mr_data.specs.declared.given.Given.{Given}
 use Rattle.mr_ask.specs.Carried.{AskFits}
 use Rattle.mr_ask.specs.declared.ask.Ask.{Ask}
 use Rattle.mr_plan.specs.PlannedCommands.{command_of}
-use Rattle.mr_plan.specs.Requests.{IsPlannedAs, Leads, is_rewriting, is_shutdown, left_by, question_asked, told}
+use Rattle.mr_plan.specs.Requests.{IsPlannedAs, Leads, is_rewriting, is_shutdown, left_by, question_asked, replica_reply}
 use Rattle.mr_ask.specs.declared.ask.Ask.TheVariants as ask
 use Rattle.mr_cmd_server.specs.declared.server_ask.ServerAsk.TheVariants as server
 use Rattle.mr_cmd_server.specs.declared.question.Question.{Question}
@@ -36,7 +36,7 @@ pub leads_on_master : (replica : Bool) (a : Ask) (given : Given) (m : Dataset) (
 leads_on_master replica a given m reply es is p f = planned_leads (command_of a given) given.now m reply es p f ∙ ap (λ b. Some (left_by (Ok a) b given m)) (sym is)
 
 -- a replica only answers
-pub on_replica : (replica : Bool) (a : Ask) (given : Given) (m : Dataset) (reply : Tree) (es : List Effect) → replica ≡ true → reply ≡ told a given m → es ≡ [] → IsPlannedAs (Ok a) replica given m reply es
+pub on_replica : (replica : Bool) (a : Ask) (given : Given) (m : Dataset) (reply : Tree) (es : List Effect) → replica ≡ true → reply ≡ replica_reply a given m → es ≡ [] → IsPlannedAs (Ok a) replica given m reply es
 on_replica replica a given m reply es is r none = subst (λ b. IsPlannedAs (Ok a) b given m reply es) (sym is) (r, none)
 
 pub leads_on_replica : (replica : Bool) (a : Ask) (given : Given) (m : Dataset) (es : List Effect) → replica ≡ true → es ≡ [] → apply_all es m ≡ Some (left_by (Ok a) replica given m)

@@ -5,7 +5,7 @@ use Rattle.mr_entries.specs.Dataset.{Dataset}
 use Rattle.mr_entries.specs.Steps.{Kind, held, hashes, lists, sets, sorted_sets}
 use Rattle.mr_entries.specs.declared.value.Entry.{Entry}
 use Rattle.mr_data.specs.declared.given.Given.{Given}
-use Rattle.mr_planning.specs.Collections.{Change, told, changed}
+use Rattle.mr_planning.specs.Collections.{Change, replied, changed}
 use Rattle.mr_planning.specs.Commands.{own_effects}
 use Rattle.mr_cmd_list.specs.Lists.{of_list}
 use Rattle.mr_ask.specs.declared.ask.Ask.TheVariants as ask
@@ -29,9 +29,9 @@ use Rattle.mr_plan.specs.Writes.{OthersHaveNoEffects, text_writes, key_writes, h
 never : {A : Type 0} → true ≡ false → A
 never e = absurd (cc)
 
-silent_told : {X : Type 0} (kind : Kind X) (answer : X → Tree) (value : Option X) (before : Option Entry) → (told kind answer value before).effects ≡ []
-silent_told kind answer None before = refl
-silent_told kind answer (Some x) before = refl
+silent_replied : {X : Type 0} (kind : Kind X) (answer : X → Tree) (value : Option X) (before : Option Entry) → (replied kind answer value before).effects ≡ []
+silent_replied kind answer None before = refl
+silent_replied kind answer (Some x) before = refl
 
 silent_changed : {X : Type 0} (kind : Kind X) (change : X → Change X) → ((x : X) → (change x).effects ≡ []) → (value : Option X) (before : Option Entry) → (changed kind change value before).effects ≡ []
 silent_changed kind change silent None before = refl
@@ -39,7 +39,7 @@ silent_changed kind change silent (Some x) before = silent x
 
 silent_list : (absent : Tree) (answer : List (List ℕ) → Tree) (before : Option Entry) → (of_list absent answer before).effects ≡ []
 silent_list absent answer None = refl
-silent_list absent answer (Some e) = silent_told lists answer (held lists (Some e)) (Some e)
+silent_list absent answer (Some e) = silent_replied lists answer (held lists (Some e)) (Some e)
 
 texts : (command : TextAsk) (given : Given) (m : Dataset) → text_writes command ≡ false → own_effects (command_of (ask.Texts command) given) given.now m ≡ []
 texts (text.Get k) given m is = refl
@@ -84,11 +84,11 @@ in_sets (set.SAdd k xs) given m is = never is
 in_sets (set.SRem k xs) given m is = never is
 in_sets (set.SPop k count) given m is = never is
 in_sets (set.SMove from to x) given m is = never is
-in_sets (set.SIsMember k x) given m is = silent_told sets _ _ _
-in_sets (set.SMIsMember k xs) given m is = silent_told sets _ _ _
-in_sets (set.SMembers k) given m is = silent_told sets _ _ _
-in_sets (set.SCard k) given m is = silent_told sets _ _ _
-in_sets (set.SRandMember k count) given m is = silent_told sets _ _ _
+in_sets (set.SIsMember k x) given m is = silent_replied sets _ _ _
+in_sets (set.SMIsMember k xs) given m is = silent_replied sets _ _ _
+in_sets (set.SMembers k) given m is = silent_replied sets _ _ _
+in_sets (set.SCard k) given m is = silent_replied sets _ _ _
+in_sets (set.SRandMember k count) given m is = silent_replied sets _ _ _
 in_sets (set.Combine operation ks) given m is = refl
 
 in_sorted_sets : (command : ZSetAsk) (given : Given) (m : Dataset) → zset_writes command ≡ false → own_effects (command_of (ask.SortedSets command) given) given.now m ≡ []
@@ -98,7 +98,7 @@ in_sorted_sets (zset.ZRem k xs) given m is = never is
 in_sorted_sets (zset.TakePairs k order count) given m is = never is
 in_sorted_sets (zset.ZRemRangeByRank k first last) given m is = never is
 in_sorted_sets (zset.ZRemRangeByScore k min max) given m is = never is
-in_sorted_sets _ given m is = silent_told sorted_sets _ _ _
+in_sorted_sets _ given m is = silent_replied sorted_sets _ _ _
 
 pub others_are_silent : OthersHaveNoEffects
 others_are_silent (ask.Texts command) given m is = texts command given m is

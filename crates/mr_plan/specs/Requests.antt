@@ -28,14 +28,14 @@ abbrev pub readonly : Tree
 readonly = error (codes "READONLY You can't write against a read only replica.")
 
 -- what a replica answers: it refuses writes, and tells what is seen at the moment
-abbrev pub told : Ask → Given → Dataset → Tree
-told command given m = if writes command then readonly else answer (command_of command given) given.now m
+abbrev pub replica_reply : Ask → Given → Dataset → Tree
+replica_reply command given m = if writes command then readonly else answer (command_of command given) given.now m
 
 -- On a master (false) a command has its plan; a replica (true) only answers, and leaves expired keys to the DELs of its master.
--- Words that are no command are told why by either.
+-- Words that are no command are answered why by either.
 abbrev pub IsPlannedAs : Result Ask AskFault → Bool → Given → Dataset → Tree → List Effect → Type 0
 IsPlannedAs (Ok command) false given m reply effects = IsPlan (command_of command given) given.now m reply effects
-IsPlannedAs (Ok command) true given m reply effects = (reply ≡ told command given m) × (effects ≡ [])
+IsPlannedAs (Ok command) true given m reply effects = (reply ≡ replica_reply command given m) × (effects ≡ [])
 IsPlannedAs (Err fault) replica given m reply effects = (reply ≡ error (fault_text fault)) × (effects ≡ [])
 
 pub record IsPlanned (replica : Bool) (words : List (List ℕ)) (given : Given) (m : Dataset) (reply : Tree) (effects : List Effect) : Type 0 where

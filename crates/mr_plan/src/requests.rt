@@ -7,7 +7,7 @@ ghost use Rattle.mr_resp.specs.Usual.{commands};
 ghost use Rattle.mr_ask.specs.Carried.{AskFits};
 ghost use Rattle.mr_plan.specs.PlannedCommands.{HasRoom};
 ghost use Rattle.mr_resp.specs.ReplyView.{view};
-ghost use Rattle.mr_plan.specs.Requests.{IsAnswer, IsAnswerTo, Leads, HasTexts, is_quit, is_rewriting, is_shutdown, left, left_by, question_asked, told, readonly};
+ghost use Rattle.mr_plan.specs.Requests.{IsAnswer, IsAnswerTo, Leads, HasTexts, is_quit, is_rewriting, is_shutdown, left, left_by, question_asked, replica_reply, readonly};
 
 use crate::planning::plan;
 use crate::writing::writes;
@@ -33,8 +33,8 @@ pub enum Answer {
     Halt,
 }
 
-/// What the words of a request are answered by a master or by a replica, and their effects. Words that are no command are told why,
-/// and have none. A replica refuses writes, and no answer of its has an effect: an expired key is told as absent, and kept.
+/// What the words of a request are answered by a master or by a replica, and their effects. Words that are no command are answered why,
+/// and have none. A replica refuses writes, and no answer of its has an effect: an expired key is answered as absent, and kept.
 pub fn plan_words(
     alloc: Global,
     held: &Dataset,
@@ -96,7 +96,7 @@ fn answer_to(
 
 /// What a replica answers.
 fn tell(alloc: Global, held: &Dataset, ask: &Ask<'_, '_>, given: Given) -> Result<Reply, AllocError>
-    ensures { IfOk result (λ reply. view reply ≡ told ask.now given held.now) }
+    ensures { IfOk result (λ reply. view reply ≡ replica_reply ask.now given held.now) }
 {
     if writes(ask) {
         return Ok(readonly());

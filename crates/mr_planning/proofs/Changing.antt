@@ -10,7 +10,7 @@ use Rattle.mr_entries.specs.Steps.{Step, Kind, held, entry_of, deadline_of}
 use Rattle.mr_data.specs.Meaning.{apply_all}
 use Rattle.mr_entries.specs.declared.value.Entry.{Entry}
 use Rattle.mr_effect.specs.declared.effect.Effect.{Effect}
-use Rattle.mr_planning.specs.Collections.{Change, told, telling, changed, changing}
+use Rattle.mr_planning.specs.Collections.{Change, replied, telling, changed, changing}
 use Rattle.mr_entries.proofs.Puts.{put_same}
 use Rattle.mr_planning.proofs.Laws.{IsFaithfulAnswer, kept_faithful}
 use Rattle.mr_data.proofs.Running.{AreSteps, steps_short, run, run_leads, IsKind, IsKept, same_entry, same_collection}
@@ -25,7 +25,7 @@ pub record IsFaithfulChange {X : Type 0} (kind : Kind X) (change : Change X) (x 
 
 module _ {X : Type 0} (kind : Kind X) where
   pub telling_faithful : (answer : X → Tree) (k : Bytes) (m : Dataset) → IsFaithfulAnswer (telling kind answer (get m k)) k m
-  telling_faithful answer k m = elim (held kind (get m k)) as (λ h. IsFaithfulAnswer (told kind answer h (get m k)) k m) [
+  telling_faithful answer k m = elim (held kind (get m k)) as (λ h. IsFaithfulAnswer (replied kind answer h (get m k)) k m) [
     | None ↦ kept_faithful _ k m refl refl
     | Some x ↦ kept_faithful _ k m refl refl
   ]

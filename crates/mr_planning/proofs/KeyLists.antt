@@ -71,7 +71,7 @@ without_absent (k ∷ ks) m q h = without_absent ks (remove m k) q (get_remove m
 pub none_chosen : (ks : List Bytes) (m : Dataset) → without ks m ≡ m → chosen is_some ks m ≡ []
 none_chosen [] m h = refl
 none_chosen (k ∷ ks) m h = elim (is_some (get m k)) as (λ b. is_some (get m k) ≡ b → (if b then k ∷ chosen is_some ks (remove m k) else chosen is_some ks m) ≡ []) [
-  | true ↦ λ t. let gone : get m k ≡ None = ap (λ (x : Dataset). get x k) (sym h) ∙ without_absent ks (remove m k) k (removed m k) in let wrong : true ≡ false = sym t ∙ ap is_some gone in cc
+  | true ↦ λ t. let is_removed : get m k ≡ None = ap (λ (x : Dataset). get x k) (sym h) ∙ without_absent ks (remove m k) k (removed m k) in let wrong : true ≡ false = sym t ∙ ap is_some is_removed in cc
   | false ↦ λ t. none_chosen ks m (ap (without ks) (sym (remove_absent m k (absent _ t))) ∙ h)
 ] refl
 
@@ -130,12 +130,12 @@ pub purged_seen : (now : ℤ) (ks : List Bytes) (m : Dataset) → AgreeOn ks (pu
 purged_seen now ks m q h = get_purged now ks m q ∙ ap (λ b. cond b (live now (get m q)) (get m q)) h ∙ sym (get-seen now m q)
 
 -- what is there of what is seen is stored and not expired
-seen_test : (now : ℤ) (o : Option Entry) → is_some (live now o) ≡ is_stored now false o
-seen_test now None = refl
-seen_test now (Some e) = elim (is_expired now e.deadline) as (λ b. is_some (if b then None else Some e) ≡ not b) [ true ↦ refl | false ↦ refl ]
+live_test : (now : ℤ) (o : Option Entry) → is_some (live now o) ≡ is_stored now false o
+live_test now None = refl
+live_test now (Some e) = elim (is_expired now e.deadline) as (λ b. is_some (if b then None else Some e) ≡ not b) [ true ↦ refl | false ↦ refl ]
 
 pub present_seen : (now : ℤ) (ks : List Bytes) (m : Dataset) → chosen is_some ks (seen now m) ≡ chosen (is_stored now false) ks m
-present_seen now ks m = chosen_alike is_some (is_stored now false) ks (seen now m) m refl (λ q named. ap is_some (get-seen now m q) ∙ seen_test now (get m q))
+present_seen now ks m = chosen_alike is_some (is_stored now false) ks (seen now m) m refl (λ q named. ap is_some (get-seen now m q) ∙ live_test now (get m q))
 
 pub present_purged : (now : ℤ) (ks : List Bytes) (m : Dataset) → chosen is_some ks (purged now ks m) ≡ chosen is_some ks (seen now m)
 present_purged now ks m = chosen_alike is_some is_some ks (purged now ks m) (seen now m) refl (λ q named. ap is_some (purged_seen now ks m q named))

@@ -160,9 +160,9 @@ pub by_telling : (k : Bytes) (answer : Option Entry → Tree) (now : ℤ) (m : D
 by_telling k answer now m h = by_answer k (λ o. kept (answer o) o) now m h (λ n. stays_faithful (answer (get n k)) k n)
 
 -- on several keys, which only tells
-pub keys_told : (ks : List Bytes) (answer : Dataset → Tree) (now : ℤ) (m : Dataset) → IsTrue (list_all fits ks) → IsLawful (on_keys ks (λ n. answered (answer n) n)) now m
-keys_told ks answer now m h = faithful (on_keys ks (λ n. answered (answer n) n)) now m h (answered_faithful _ _ refl refl)
+pub keys_answered : (ks : List Bytes) (answer : Dataset → Tree) (now : ℤ) (m : Dataset) → IsTrue (list_all fits ks) → IsLawful (on_keys ks (λ n. answered (answer n) n)) now m
+keys_answered ks answer now m h = faithful (on_keys ks (λ n. answered (answer n) n)) now m h (answered_faithful _ _ refl refl)
 
 -- that names no key and only tells
-pub none_told : (answer : Dataset → Tree) (now : ℤ) (m : Dataset) → IsLawful (on_none (λ n. answered (answer n) n)) now m
-none_told answer now m = faithful (on_none (λ n. answered (answer n) n)) now m refl (answered_faithful _ _ refl refl)
+pub none_answered : (answer : Dataset → Tree) (now : ℤ) (m : Dataset) → IsLawful (on_none (λ n. answered (answer n) n)) now m
+none_answered answer now m = faithful (on_none (λ n. answered (answer n) n)) now m refl (answered_faithful _ _ refl refl)

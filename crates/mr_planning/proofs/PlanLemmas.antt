@@ -40,8 +40,8 @@ append_none [] = refl
 append_none (x ∷ xs) = ap (λ ys. x ∷ ys) (append_none xs)
 
 -- a command that only tells of what is there
-pub told : (answer : Answered) {r : Tree} (old : List Effect) → answer.effects ≡ [] → r ≡ answer.reply → Takes answer r old old
-told answer old none is = record { reply_is = is; effects_are = sym (append_none old) ∙ ap (λ xs. old ++ xs) (sym none) }
+pub takes_reply : (answer : Answered) {r : Tree} (old : List Effect) → answer.effects ≡ [] → r ≡ answer.reply → Takes answer r old old
+takes_reply answer old none is = record { reply_is = is; effects_are = sym (append_none old) ∙ ap (λ xs. old ++ xs) (sym none) }
 
 -- a command that only tells of several keys
 pub keys_plan : (ks : List Bytes) (answer : Dataset → Tree) (now : ℤ) (m : Dataset) (r : Tree) (none first list : List Effect) → none ≡ [] → first ≡ none ++ dels (expired now ks m) → r ≡ answer (seen now m) → list ≡ first → IsPlan (on_keys ks (λ n. answered (answer n) n)) now m r list

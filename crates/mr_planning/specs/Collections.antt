@@ -14,13 +14,13 @@ pub record Change (X : Type 0) : Type 0 where
 
 module _ {X : Type 0} (kind : Kind X) where
   -- the collection stays as it is
-  abbrev pub told : (X → Tree) → Option X → Option Entry → Answered
-  told answer None before = kept wrong_kind before
-  told answer (Some x) before = kept (answer x) before
+  abbrev pub replied : (X → Tree) → Option X → Option Entry → Answered
+  replied answer None before = kept wrong_kind before
+  replied answer (Some x) before = kept (answer x) before
 
   -- A command that only tells of the collection at a key. An absent key has one without elements.
   abbrev pub telling : (X → Tree) → Option Entry → Answered
-  telling answer before = told answer (held kind before) before
+  telling answer before = replied answer (held kind before) before
 
   abbrev pub changed : (X → Change X) → Option X → Option Entry → Answered
   changed change None before = kept wrong_kind before

@@ -1,4 +1,4 @@
--- The order of faults: of several the first is told.
+-- The order of faults: of several the first is answered.
 use Rattle.std.specs.Prelude.{◌≤◌, All, Contains, ℕ, List, [], ◌∷◌, if◌then◌else◌, nat_lt, Option, Some, None, Result, Ok, Err}
 use Rattle.mr_words.specs.declared.name.Name.{Name}
 use Rattle.mr_words.specs.declared.fault.AskFault.{AskFault}
@@ -28,10 +28,10 @@ first_of (f ∷ fs) = Some (earlier_of_any f (first_of fs))
 abbrev pub IsFirst : List AskFault → AskFault → Type 0
 IsFirst faults fault = Contains faults fault × All (λ other. place_of fault ≤ place_of other) faults
 
--- the fault that is told, if one is
-abbrev pub told : {A : Type 0} → Result A AskFault → Option AskFault
-told (Ok a) = None
-told (Err fault) = Some fault
+-- the fault that is answered, if one is
+abbrev pub answered_fault : {A : Type 0} → Result A AskFault → Option AskFault
+answered_fault (Ok a) = None
+answered_fault (Err fault) = Some fault
 
 -- the fault that a reading has, if it has one
 abbrev pub in_reading : {A : Type 0} → Result A AskFault → List AskFault

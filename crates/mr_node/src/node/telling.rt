@@ -4,7 +4,7 @@ ghost use Rattle.mr_resp.specs.ReplyView.{view};
 ghost use Rattle.mr_info.specs.Info.{info_text};
 ghost use Rattle.mr_node.specs.Outs.{outs_with};
 ghost use Rattle.mr_node.specs.Parts.{HasAhead, Uses, halting_outs};
-ghost use Rattle.mr_node.specs.Telling.{answer_about, told_as};
+ghost use Rattle.mr_node.specs.Telling.{answer_about, reply_about};
 
 use crate::fault::NodeFault;
 use crate::node::Node;
@@ -53,7 +53,7 @@ impl Node {
         question: Question,
     ) -> Result<Step, NodeFault>
         requires { HasAhead self.old link used }
-        ensures step { IfOk result (λ s. s ≡ Step.Done (outs_with (Some link) (told_as question self.old.core))) }
+        ensures step { IfOk result (λ s. s ≡ Step.Done (outs_with (Some link) (reply_about question self.old.core))) }
         ensures state { OnOk result (Uses self.old link used self.new) }
         ensures err { IfErr result (λ e. (e ≡ NodeFault.Memory) × (self.new ≡ self.old)) }
     {
@@ -68,7 +68,7 @@ impl Node {
         Ok(Step::Done(outs))
     }
 
-    /// Uses a client's wish that the program end. Nothing is told.
+    /// Uses a client's wish that the program end. Nothing is answered.
     pub(crate) fn halt(&mut self, link: LinkId, used: usize) -> Step
         requires { HasAhead self.old link used }
         ensures step { result ≡ Step.Done (halting_outs link) }

@@ -18,5 +18,5 @@ returns c =
     let sum_fits : FitsSigned w64 sum = search rules in
     let added : FitsSigned w64 (n +ℤ c.args.by) × (sum ≡ n +ℤ c.args.by) = simp to_z-of_z at c.in-Some-checked_add.ensures in
     let spelled : c.as_bytes-text.result.now ≡ signed_decimal sum = search (rules, to_z-of_z) in
-    let told : view c.integer.result ≡ reply.int sum = c.integer.ensures ∙ ap reply.int (to_z-of_z w64 sum sum_fits) in
-    sum_set _ _ _ n sum _ _ _ (option_copied c.get-before.result) _ _ (search rules) number added.0 added.1 spelled told (search rules)
+    let replied : view c.integer.result ≡ reply.int sum = c.integer.ensures ∙ ap reply.int (to_z-of_z w64 sum sum_fits) in
+    sum_set _ _ _ n sum _ _ _ (option_copied c.get-before.result) _ _ (search rules) number added.0 added.1 spelled replied (search rules)

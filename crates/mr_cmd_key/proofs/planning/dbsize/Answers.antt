@@ -8,5 +8,5 @@ use Rattle.mr_cmd_key.proofs.planning.dbsize.Goals as goal
 
 pub returns : goal.returns
 returns c =
-    let told : view c.into_plan.result.reply ≡ reply.int (pos c.count_keys-present.result) = ap view c.into_plan.ensures.reply ∙ c.count.ensures ∙ search rules in
-    none_plan (λ m. reply.int (pos (len m))) c.args.given.now c.args.held.now _ _ _ c.new.ensures (told ∙ ap (λ n. reply.int (pos n)) (c.count_keys-present.ensures.count ∙ sym (len_seen c.args.given.now c.args.held.now))) c.into_plan.ensures.effects
+    let replied : view c.into_plan.result.reply ≡ reply.int (pos c.count_keys-present.result) = ap view c.into_plan.ensures.reply ∙ c.count.ensures ∙ search rules in
+    none_plan (λ m. reply.int (pos (len m))) c.args.given.now c.args.held.now _ _ _ c.new.ensures (replied ∙ ap (λ n. reply.int (pos n)) (c.count_keys-present.ensures.count ∙ sym (len_seen c.args.given.now c.args.held.now))) c.into_plan.ensures.effects

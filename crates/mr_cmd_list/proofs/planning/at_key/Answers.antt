@@ -2,7 +2,7 @@ use Rattle.std.proofs.Common.{◌∙◌, ap}
 use Rattle.mr_resp.specs.ReplyView.{view}
 use Rattle.mr_planning.proofs.PlanLemmas.{key_plan}
 use Rattle.mr_cmd_list.specs.Commands.{answer_of}
-use Rattle.mr_cmd_list.proofs.NumberLemmas.{nothing_seen}
+use Rattle.mr_cmd_list.proofs.NumberLemmas.{no_live_entry}
 use Rattle.mr_cmd_list.proofs.planning.at_key.Goals as goal
 
 pub returns-clause-plan : goal.returns-clause-plan
@@ -11,4 +11,4 @@ returns-clause-plan c =
     (record { reply_is = ap view c.into_plan.ensures.reply ∙ c.in_ok-reply.ensures.takes.reply_is; effects_are = c.in_ok-reply.ensures.takes.effects_are })
 
 pub returns-in_err-live_entry-clause-numbers : goal.returns-in_err-live_entry-clause-numbers
-returns-in_err-live_entry-clause-numbers c = nothing_seen c.args.ask.now _ c.in_err-live_entry.ensures.err
+returns-in_err-live_entry-clause-numbers c = no_live_entry c.args.ask.now _ c.in_err-live_entry.ensures.err

@@ -20,7 +20,7 @@ returns c =
     let by_fits : FitsSigned w64 c.args.by = c.ranges.by in
     let sum_fits : FitsSigned w64 sum = search rules in
     let added : FitsSigned w64 (n +ℤ c.args.by) × (sum ≡ n +ℤ c.args.by) = simp to_z-of_z at c.in-Some-checked_add.ensures in
-    let told : view c.integer-2.result ≡ reply.int sum = c.integer-2.ensures ∙ ap reply.int (to_z-of_z w64 sum sum_fits) in
+    let replied : view c.integer-2.result ≡ reply.int sum = c.integer-2.ensures ∙ ap reply.int (to_z-of_z w64 sum sum_fits) in
     let differs : (is_some (option_copied c.args.live_entry) && int_eq c.args.by (pos 0)) ≡ false = search (rules, to_z-of_z) in
     let put : c.push.new.self ≡ c.args.effects.now ++ effect.Increase c.args.key.now c.args.by ∷ [] = search (rules, to_z-of_z) in
-    increased c.args.key.now c.in-Some.text.now c.args.by n _ is spelled (is_i64-fits _ added.0) sum _ _ _ differs added.1 told put
+    increased c.args.key.now c.in-Some.text.now c.args.by n _ is spelled (is_i64-fits _ added.0) sum _ _ _ differs added.1 replied put

@@ -22,8 +22,8 @@ returns-then-holds_part c =
     let is : held (strings []) (option_copied c.args.live_entry) ≡ Some c.in-Some.text.now = search rules in
     let some : (length c.args.part.now == 0) ≡ false = search rules in
     let same : bytes_eq c.in-Some.text.now (overwritten c.args.offset c.args.part.now c.in-Some.text.now) ≡ true = search rules in
-    let told : view c.count-then-holds_part.result ≡ reply.int (pos (length c.in-Some.text.now)) = search rules in
-    written_before c.args.key.now c.args.part.now c.in-Some.text.now c.args.offset _ is some within _ _ same told
+    let replied : view c.count-then-holds_part.result ≡ reply.int (pos (length c.in-Some.text.now)) = search rules in
+    written_before c.args.key.now c.args.part.now c.in-Some.text.now c.args.offset _ is some within _ _ same replied
 
 pub overflow_cast-offset : goal.overflow_cast-offset
 overflow_cast-offset c =
@@ -42,8 +42,8 @@ returns c =
     let is : held (strings []) (option_copied c.args.live_entry) ≡ Some c.in-Some.text.now = search rules in
     let some : (length c.args.part.now == 0) ≡ false = search rules in
     let differs : bytes_eq c.in-Some.text.now (overwritten c.args.offset c.args.part.now c.in-Some.text.now) ≡ false = search rules in
-    let told : view c.count-2.result ≡ reply.int (pos (length (overwritten c.args.offset c.args.part.now c.in-Some.text.now))) = search rules in
+    let replied : view c.count-2.result ≡ reply.int (pos (length (overwritten c.args.offset c.args.part.now c.in-Some.text.now))) = search rules in
     let ends = small_end c.in-Some.text.now c.args.part.now c.args.offset within in
     let fits_offset : FitsSigned w64 (pos c.args.offset) = record { sfits = omega (arith, ends) } in
     let put : c.push-2.new.self ≡ c.args.effects.now ++ effect.SetRange c.args.key.now (pos c.args.offset) c.args.part.now ∷ [] = search (rules, to_z-of_z) in
-    written_over c.args.key.now c.args.part.now c.in-Some.text.now c.args.offset _ is some within _ _ _ differs told put
+    written_over c.args.key.now c.args.part.now c.in-Some.text.now c.args.offset _ is some within _ _ _ differs replied put

@@ -5,7 +5,7 @@ use Rattle.mr_value.specs.Window.{window_of}
 use Rattle.mr_zset.specs.Pairs.{pairs_of, shown}
 use Rattle.mr_zset.proofs.PairLemmas.{if_ok, length-pairs_of}
 use Rattle.mr_cmd_zset.specs.Ranges.{ordered, pairs_reply, ranked}
-use Rattle.mr_cmd_zset.proofs.RangeLemmas.{ranked_part, told_of}
+use Rattle.mr_cmd_zset.proofs.RangeLemmas.{ranked_part, reply_of}
 use Rattle.mr_cmd_zset.proofs.ranges.by_rank.Goals as goal
 
 pub returns : goal.returns
@@ -20,4 +20,4 @@ returns c =
     listed
     ∙ ap (λ ps. pairs_reply c.args.shape (ordered c.args.order ps)) (ap (map shown) c.as_slice.ensures.value ∙ c.in_ok-pairs.ensures ∙ ap (slice_range (pairs_of set) start) past)
     ∙ ap (pairs_reply c.args.shape) (ranked_part c.args.first c.args.last c.args.order set c.in-Some-window.first c.in-Some-window.last start end places (c.places_in-start.ensures.same (pairs_of set) (length-pairs_of set ∙ sym c.len-2.ensures.len)))
-    ∙ told_of (λ scores. pairs_reply c.args.shape (ranked c.args.first c.args.last c.args.order scores)) (option_copied c.args.live_entry) set c.in-Some.ensures) c.listed.ensures
+    ∙ reply_of (λ scores. pairs_reply c.args.shape (ranked c.args.first c.args.last c.args.order scores)) (option_copied c.args.live_entry) set c.in-Some.ensures) c.listed.ensures

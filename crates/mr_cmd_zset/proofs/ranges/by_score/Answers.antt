@@ -4,7 +4,7 @@ use Rattle.mr_zset.specs.Pairs.{pairs_of, range_of, shown}
 use Rattle.mr_zset.proofs.PairLemmas.{if_ok}
 use Rattle.mr_zset.proofs.StoredChanges.{range_len}
 use Rattle.mr_cmd_zset.specs.Ranges.{ordered, pairs_reply, scored}
-use Rattle.mr_cmd_zset.proofs.RangeLemmas.{part_of_part, scored_part, told_of}
+use Rattle.mr_cmd_zset.proofs.RangeLemmas.{part_of_part, scored_part, reply_of}
 use Rattle.mr_cmd_zset.proofs.ranges.by_score.Goals as goal
 
 pub returns : goal.returns
@@ -22,4 +22,4 @@ returns c =
     listed
     ∙ ap (λ ps. pairs_reply c.args.shape (ordered c.args.order ps)) (ap (map shown) c.as_slice.ensures.value ∙ c.in_ok-pairs.ensures ∙ part)
     ∙ ap (pairs_reply c.args.shape) (scored_part c.args.limit c.args.order found (past - first) start end c.limited_places-start.result.0 c.limited_places-start.result.1 (sym count) c.places_in-start.ensures.same c.limited_places-start.ensures.same)
-    ∙ told_of (λ scores. pairs_reply c.args.shape (scored c.args.min c.args.max c.args.order c.args.limit scores)) (option_copied c.args.live_entry) set c.in-Some.ensures) c.listed.ensures
+    ∙ reply_of (λ scores. pairs_reply c.args.shape (scored c.args.min c.args.max c.args.order c.args.limit scores)) (option_copied c.args.live_entry) set c.in-Some.ensures) c.listed.ensures

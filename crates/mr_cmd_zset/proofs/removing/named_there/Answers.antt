@@ -11,10 +11,10 @@ loop-word-init c = none_there _ c.args.set.now c.new-there.ensures
 
 pub loop-word-preserved : goal.loop-word-preserved
 loop-word-preserved c =
-    let told = ap is_some (sym c.score.ensures.value) ∙ sym c.is_some.ensures in
+    let says = ap is_some (sym c.score.ensures.value) ∙ sym c.is_some.ensures in
     elim c.if-is_some.branch [
-      | then-is_some+in_ok-insert w ↦ rw w.there-is (word_there cow_slice_items _ _ _ c.loop-word-test.true c.word-item.is _ c.as_slice-member.ensures.value c.args.set.now _ c.loop-word.invariant _ (told ∙ w.if-is_some.true) w.in_ok-insert.ensures.ok)
-      | else-is_some w ↦ rw w.there-is (word_absent cow_slice_items _ _ _ c.loop-word-test.true c.word-item.is _ c.as_slice-member.ensures.value c.args.set.now _ c.loop-word.invariant (told ∙ w.if-is_some.false))
+      | then-is_some+in_ok-insert w ↦ rw w.there-is (word_there cow_slice_items _ _ _ c.loop-word-test.true c.word-item.is _ c.as_slice-member.ensures.value c.args.set.now _ c.loop-word.invariant _ (says ∙ w.if-is_some.true) w.in_ok-insert.ensures.ok)
+      | else-is_some w ↦ rw w.there-is (word_absent cow_slice_items _ _ _ c.loop-word-test.true c.word-item.is _ c.as_slice-member.ensures.value c.args.set.now _ c.loop-word.invariant (says ∙ w.if-is_some.false))
     ]
 
 pub returns : goal.returns

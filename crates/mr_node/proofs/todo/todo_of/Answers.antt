@@ -28,9 +28,9 @@ returns-in_ok-answer-in-Whole c =
     let fit = all_fit ws (subst (λ n. All (λ w. length w ≤ n) ws) usual-word (c.words_fit.ensures.each whole ws r.1)) in
     let few : length c.in-Whole.words.items ≤ commands.words = omega (arith, c.words_fit.ensures.count whole ws r.1, usual-words, commands-words, length-map c.in-Whole.words.items cow_slice_items) in
     let leads = subst (λ xs. IsTrue (list_all fits (map cow_slice_items xs)) → Leads a c.args.held.now (left c.args.replica (map cow_slice_items xs) c.args.given c.args.held.now)) slices c.in_ok-answer-in-Whole.ensures.leads fit in
-    let told = subst (λ xs. IsTrue (list_all fits (map cow_slice_items xs)) → length xs ≤ commands.words → HasTexts a) slices c.in_ok-answer-in-Whole.ensures.texts fit few in
+    let says = subst (λ xs. IsTrue (list_all fits (map cow_slice_items xs)) → length xs ≤ commands.words → HasTexts a) slices c.in_ok-answer-in-Whole.ensures.texts fit few in
     rw c.carry_out.ensures (record {
-      todo = answer_todo c.args.replica input c.args.given c.args.held.now a c.in-Whole.used ws r.0 (record { text = whole; begins = sym (take-append-drop c.in-Whole.used input); request = r.1 }) is leads told;
+      todo = answer_todo c.args.replica input c.args.given c.args.held.now a c.in-Whole.used ws r.0 (record { text = whole; begins = sym (take-append-drop c.in-Whole.used input); request = r.1 }) is leads says;
       along = answer_along input a c.in-Whole.used;
     })
 

@@ -11,10 +11,10 @@ loop-word-init c = none_taken _ _ _ _ c.new-taken.ensures
 
 pub loop-word-preserved : goal.loop-word-preserved
 loop-word-preserved c =
-    let told : c.is_stored.result ≡ is_stored c.args.given.now c.args.expired (get c.args.held.now c.as_slice-key.result.now) = search rules in
+    let says : c.is_stored.result ≡ is_stored c.args.given.now c.args.expired (get c.args.held.now c.as_slice-key.result.now) = search rules in
     elim c.if-is_stored.branch [
       | then-is_stored+in_ok-take+then-branch+in_ok-copied+in_ok-push w ↦
-          rw (w.taken-is, w.effects-is) (word_taken _ _ _ _ c.loop-word-test.true c.word-item.is _ c.as_slice-key.ensures.value _ _ _ _ _ _ _ _ c.loop-word.invariant (sym told ∙ w.if-is_stored.true)
+          rw (w.taken-is, w.effects-is) (word_taken _ _ _ _ c.loop-word-test.true c.word-item.is _ c.as_slice-key.ensures.value _ _ _ _ _ _ _ _ c.loop-word.invariant (sym says ∙ w.if-is_stored.true)
           (not_true _ (sym w.if-branch.true ∙ w.in_ok-take.ensures.first)) w.in_ok-take.ensures.taken
           (w.in_ok-take.ensures.len ∙ ap (λ b. length c.loop-word.taken + (if b then 1 else 0)) w.if-branch.true) w.in_ok-push.ensures w.in_ok-copied.ensures)
       | else-is_stored w ↦ elim w.else-is_stored.branch [
@@ -22,6 +22,6 @@ loop-word-preserved c =
             rw (w.taken-is, w.effects-is, w'.taken-is) (word_taken_before _ _ _ _ c.loop-word-test.true c.word-item.is _ c.as_slice-key.ensures.value _ _ _ _ _ _ refl c.loop-word.invariant
             (not_false _ (sym w'.if-branch.false ∙ w'.in_ok-take.ensures.first)) w'.in_ok-take.ensures.taken
             (w'.in_ok-take.ensures.len ∙ ap (λ b. length c.loop-word.taken + (if b then 1 else 0)) w'.if-branch.false))
-        | else-is_stored-via-else-is_stored w' ↦ rw (w.taken-is, w.effects-is, w'.taken-is) (word_not_chosen _ _ _ _ c.loop-word-test.true c.word-item.is _ c.as_slice-key.ensures.value _ _ _ _ _ refl c.loop-word.invariant (sym told ∙ w'.if-is_stored.false))
+        | else-is_stored-via-else-is_stored w' ↦ rw (w.taken-is, w.effects-is, w'.taken-is) (word_not_chosen _ _ _ _ c.loop-word-test.true c.word-item.is _ c.as_slice-key.ensures.value _ _ _ _ _ refl c.loop-word.invariant (sym says ∙ w'.if-is_stored.false))
       ]
     ]

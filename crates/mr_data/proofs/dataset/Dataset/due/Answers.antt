@@ -20,7 +20,7 @@ returns-in_err-due c =
 pub returns : goal.returns
 returns c =
     let x = c.in_ok-first.first.now in
-    let told = is_due (to_z w64 (of_z w64 c.args.now)) x c.if_expired.result c.in_ok-due.due c.if_expired.ensures c.in_ok-due.was in
-    let here : int_le x.deadline c.args.now ≡ true = ap (int_le x.deadline) (sym (to_z-of_z w64 c.args.now c.ranges.now)) ∙ told.1 in
-    ap (λ d. Some d.0) told.0
+    let returned = is_due (to_z w64 (of_z w64 c.args.now)) x c.if_expired.result c.in_ok-due.due c.if_expired.ensures c.in_ok-due.was in
+    let here : int_le x.deadline c.args.now ≡ true = ap (int_le x.deadline) (sym (to_z-of_z w64 c.args.now c.ranges.now)) ∙ returned.1 in
+    ap (λ d. Some d.0) returned.0
     ∙ ap (option_map (λ d. d.0)) (sym (first_expired c.args.now c.args.self.now x c.next.new.self (ap (map entered) (sym c.in_ok-first.ensures.steps) ∙ c.timed_keys.ensures.all) here))

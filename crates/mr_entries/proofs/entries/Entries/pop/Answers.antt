@@ -5,7 +5,7 @@ use Rattle.mr_entries.specs.declared.value.Entry.{Entry}
 use Rattle.mr_entries.specs.declared.value.Value.TheVariants as value
 use Rattle.mr_entries.specs.Collections.{may_take, popped}
 use Rattle.mr_entries.specs.Steps.{lists, pop_step, deadline_of}
-use Rattle.mr_entries.proofs.Stepping.{refuses, goes, other_kind, is_undefined, is_gone, refused_if, done_if, not_a_list, entry_at, is_there}
+use Rattle.mr_entries.proofs.Stepping.{refuses, goes, other_kind, is_undefined, is_deleted, refused_if, done_if, not_a_list, entry_at, is_there}
 use Rattle.mr_entries.proofs.entries.Entries.pop.Goals as goal
 
 pub returns-in_default-value : goal.returns-in_default-value
@@ -29,7 +29,7 @@ returns-then-is_empty-clause-applies c =
     let may : may_take c.args.count (length c.in-List.list) ≡ true = search rules in
     let same : unsigned_abs c.args.count ≡ c.in-Some-taken_of.taken = search rules in
     goes (pop_step c.args.end c.args.count) c.self.view_is c.args.key.now (entry_at c.self.inside.by_key c.args.key.now c.in-Some.value.now) _ (is_there c.self.inside.by_key c.args.key.now c.in-Some.value.now c.in-Some.ensures.value)
-    (is_gone lists (λ items. if may_take c.args.count (length items) then Some (popped c.args.end (unsigned_abs c.args.count) items) else None) (entry_at c.self.inside.by_key c.args.key.now c.in-Some.value.now) c.in-List.list c.pop_items.new.list (ap lists.of c.in-List.is)
+    (is_deleted lists (λ items. if may_take c.args.count (length items) then Some (popped c.args.end (unsigned_abs c.args.count) items) else None) (entry_at c.self.inside.by_key c.args.key.now c.in-Some.value.now) c.in-List.list c.pop_items.new.list (ap lists.of c.in-List.is)
     (done_if _ _ _ may (ap (λ n. popped c.args.end n c.in-List.list) same ∙ sym c.pop_items.ensures))
     (sym c.is_empty.ensures ∙ c.if-is_empty.true))
     _ c.remove.ensures.removed

@@ -2,7 +2,7 @@ use Rattle.std.proofs.Common.{ap, refl, sym, ◌∙◌, Some}
 use Rattle.mr_entries.specs.Collections.{without_fields}
 use Rattle.mr_entries.specs.Steps.{hashes, remove_fields_step}
 use Rattle.mr_entries.proofs.Nonempty.{without_fields_none, no_elements}
-use Rattle.mr_entries.proofs.Stepping.{refuses, goes, stays_away, stays_none, other_kind, is_gone, not_a_hash, entry_at, is_there, is_absent}
+use Rattle.mr_entries.proofs.Stepping.{refuses, goes, stays_away, stays_none, other_kind, is_deleted, not_a_hash, entry_at, is_there, is_absent}
 use Rattle.mr_entries.proofs.entries.Entries.remove_fields.Goals as goal
 
 pub returns-in_default-value : goal.returns-in_default-value
@@ -20,5 +20,5 @@ returns-in_default-clause-applies c =
 pub returns-then-is_empty-clause-applies : goal.returns-then-is_empty-clause-applies
 returns-then-is_empty-clause-applies c =
     goes (remove_fields_step c.args.fields.now) c.self.view_is c.args.key.now (entry_at c.self.inside.by_key c.args.key.now c.in-Some.value.now) _ (is_there c.self.inside.by_key c.args.key.now c.in-Some.value.now c.in-Some.ensures.value)
-    (is_gone hashes (λ fields. Some (without_fields c.args.fields.now fields)) (entry_at c.self.inside.by_key c.args.key.now c.in-Some.value.now) c.in-Hash.hash c.take_fields.new.hash (ap hashes.of c.in-Hash.is) (ap Some (sym c.take_fields.ensures)) (sym c.is_empty.ensures ∙ c.if-is_empty.true))
+    (is_deleted hashes (λ fields. Some (without_fields c.args.fields.now fields)) (entry_at c.self.inside.by_key c.args.key.now c.in-Some.value.now) c.in-Hash.hash c.take_fields.new.hash (ap hashes.of c.in-Hash.is) (ap Some (sym c.take_fields.ensures)) (sym c.is_empty.ensures ∙ c.if-is_empty.true))
     _ c.remove.ensures.removed

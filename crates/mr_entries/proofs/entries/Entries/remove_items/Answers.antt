@@ -4,7 +4,7 @@ use Rattle.std.proofs.Common.{ap, refl, sym, ◌∙◌, Some}
 use Rattle.mr_value.specs.Lists.{without}
 use Rattle.mr_entries.specs.Steps.{lists, remove_items_step}
 use Rattle.mr_entries.proofs.Ends.{without_none}
-use Rattle.mr_entries.proofs.Stepping.{refuses, goes, stays_away, stays_none, other_kind, is_gone, not_a_list, entry_at, is_there, is_absent}
+use Rattle.mr_entries.proofs.Stepping.{refuses, goes, stays_away, stays_none, other_kind, is_deleted, not_a_list, entry_at, is_there, is_absent}
 use Rattle.mr_entries.proofs.entries.Entries.remove_items.Goals as goal
 
 pub returns-in_default-value : goal.returns-in_default-value
@@ -23,5 +23,5 @@ returns-in_default-clause-applies c =
 pub returns-then-is_empty-clause-applies : goal.returns-then-is_empty-clause-applies
 returns-then-is_empty-clause-applies c =
     goes (remove_items_step c.args.count c.args.item.now) c.self.view_is c.args.key.now (entry_at c.self.inside.by_key c.args.key.now c.in-Some.value.now) _ (is_there c.self.inside.by_key c.args.key.now c.in-Some.value.now c.in-Some.ensures.value)
-    (is_gone lists (λ items. Some (without c.args.count c.args.item.now items)) (entry_at c.self.inside.by_key c.args.key.now c.in-Some.value.now) c.in-List.list c.remove_matching.new.self (ap lists.of c.in-List.is) (ap Some (sym (c.remove_matching.ensures.list ∙ ap (λ z. without z c.args.item.now c.in-List.list) (to_z-of_z w64 c.args.count c.ranges.count)))) (sym c.is_empty.ensures ∙ c.if-is_empty.true))
+    (is_deleted lists (λ items. Some (without c.args.count c.args.item.now items)) (entry_at c.self.inside.by_key c.args.key.now c.in-Some.value.now) c.in-List.list c.remove_matching.new.self (ap lists.of c.in-List.is) (ap Some (sym (c.remove_matching.ensures.list ∙ ap (λ z. without z c.args.item.now c.in-List.list) (to_z-of_z w64 c.args.count c.ranges.count)))) (sym c.is_empty.ensures ∙ c.if-is_empty.true))
     _ c.remove.ensures.removed

@@ -2,7 +2,7 @@ use Rattle.std.proofs.Common.{ap, refl, sym, ◌∙◌, Some}
 use Rattle.mr_entries.specs.Collections.{without_members}
 use Rattle.mr_entries.specs.Steps.{sets, remove_members_step}
 use Rattle.mr_entries.proofs.Nonempty.{without_members_none, no_elements}
-use Rattle.mr_entries.proofs.Stepping.{refuses, goes, stays_away, stays_none, other_kind, is_gone, not_a_set, entry_at, is_there, is_absent}
+use Rattle.mr_entries.proofs.Stepping.{refuses, goes, stays_away, stays_none, other_kind, is_deleted, not_a_set, entry_at, is_there, is_absent}
 use Rattle.mr_entries.proofs.entries.Entries.remove_members.Goals as goal
 
 pub returns-in_default-value : goal.returns-in_default-value
@@ -20,5 +20,5 @@ returns-in_default-clause-applies c =
 pub returns-then-is_empty-clause-applies : goal.returns-then-is_empty-clause-applies
 returns-then-is_empty-clause-applies c =
     goes (remove_members_step c.args.members.now) c.self.view_is c.args.key.now (entry_at c.self.inside.by_key c.args.key.now c.in-Some.value.now) _ (is_there c.self.inside.by_key c.args.key.now c.in-Some.value.now c.in-Some.ensures.value)
-    (is_gone sets (λ members. Some (without_members c.args.members.now members)) (entry_at c.self.inside.by_key c.args.key.now c.in-Some.value.now) c.in-Set.set c.take_members.new.set (ap sets.of c.in-Set.is) (ap Some (sym c.take_members.ensures)) (sym c.is_empty.ensures ∙ c.if-is_empty.true))
+    (is_deleted sets (λ members. Some (without_members c.args.members.now members)) (entry_at c.self.inside.by_key c.args.key.now c.in-Some.value.now) c.in-Set.set c.take_members.new.set (ap sets.of c.in-Set.is) (ap Some (sym c.take_members.ensures)) (sym c.is_empty.ensures ∙ c.if-is_empty.true))
     _ c.remove.ensures.removed

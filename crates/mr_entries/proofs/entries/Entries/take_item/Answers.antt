@@ -7,7 +7,7 @@ use Rattle.mr_entries.specs.declared.value.Value.TheVariants as value
 use Rattle.mr_entries.specs.Collections.{end_item, popped, may_take}
 use Rattle.mr_entries.specs.Steps.{lists, pop_step, deadline_of}
 use Rattle.mr_entries.proofs.Moving.{no_item, done}
-use Rattle.mr_entries.proofs.Stepping.{goes, is_gone, done_if, not_a_list, entry_at, is_there}
+use Rattle.mr_entries.proofs.Stepping.{goes, is_deleted, done_if, not_a_list, entry_at, is_there}
 use Rattle.mr_entries.proofs.entries.Entries.take_item.Goals as goal
 
 pub returns-in_default-value : goal.returns-in_default-value
@@ -31,5 +31,5 @@ returns-then-is_empty-clause-taken c =
     let may : may_take (pos 1) (length c.in-List.list) ≡ true = search rules in
     let left : popped c.args.end 1 c.in-List.list ≡ c.pop_item.new.list = search rules in
     done _ _ _ (goes (pop_step c.args.end (pos 1)) c.self.view_is c.args.key.now (entry_at c.self.inside.by_key c.args.key.now c.in-Some.value.now) _ (is_there c.self.inside.by_key c.args.key.now c.in-Some.value.now c.in-Some.ensures.value)
-    (is_gone lists (λ items. if may_take (pos 1) (length items) then Some (popped c.args.end 1 items) else None) (entry_at c.self.inside.by_key c.args.key.now c.in-Some.value.now) c.in-List.list c.pop_item.new.list (ap lists.of c.in-List.is) (done_if _ _ _ may left) (sym c.is_empty.ensures ∙ c.if-is_empty.true))
+    (is_deleted lists (λ items. if may_take (pos 1) (length items) then Some (popped c.args.end 1 items) else None) (entry_at c.self.inside.by_key c.args.key.now c.in-Some.value.now) c.in-List.list c.pop_item.new.list (ap lists.of c.in-List.is) (done_if _ _ _ may left) (sym c.is_empty.ensures ∙ c.if-is_empty.true))
     _ c.remove.ensures.removed)

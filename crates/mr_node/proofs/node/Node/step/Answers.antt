@@ -7,7 +7,7 @@ use Rattle.mr_resp.specs.Faults.{fault_text}
 use Rattle.mr_resp.specs.Replies.{error, reply_text}
 use Rattle.mr_planning.specs.Answered.{done}
 use Rattle.mr_node.specs.Parts.{halting_outs, last_outs, HaltsAt, Passes, Questions, Quits, Rewrites, Runs}
-use Rattle.mr_node.specs.Telling.{told_as}
+use Rattle.mr_node.specs.Telling.{reply_about}
 use Rattle.mr_node.specs.Outs.{outs_with}
 use Rattle.mr_node.specs.Served.{rewritten_as}
 use Rattle.mr_node.specs.Requests.{IsDoomedBy}
@@ -58,7 +58,7 @@ returns-in-Ok-Tell-clause-row c =
     let found : end_of a l ≡ Some (client c.unread.result.now) = ap (λ (s : NodeState). end_of s l) (sym c.self.view_is) ∙ (sym c.in-Some.ensures ∙ ap Some c.unread.ensures) in
     let up : a.core.up ≡ true = search rules in
     let q : Questions c.unread.result.now c.in-Ok-Tell.used c.in-Ok-Tell.question = search rules in
-    ok_is c.tell.result (Done (outs_with (Some l) (told_as c.in-Ok-Tell.question a.core))) _ _ c.tell.ensures.step c.tell.ensures.state
+    ok_is c.tell.result (Done (outs_with (Some l) (reply_about c.in-Ok-Tell.question a.core))) _ _ c.tell.ensures.step c.tell.ensures.state
     (λ e u ag. telling_row a c.tell.new.self l c.args.given u c.in-Ok-Tell.used c.in-Ok-Tell.question up (subst (λ z. Questions z c.in-Ok-Tell.used c.in-Ok-Tell.question) (kept_is a l u _ ag found) q) e ag)
 
 pub returns-in-Ok-Halt-clause-row : goal.returns-in-Ok-Halt-clause-row

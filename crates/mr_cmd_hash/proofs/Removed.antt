@@ -19,14 +19,14 @@ use Rattle.mr_cmd_hash.proofs.Fields.{turned, left as is_below, right as are_sor
 abbrev Names : Type 0
 Names = ByteMap (Unit {0})
 
-gone_next : {X : Type 0} (a b : Bool) (o : Option X) → cond b None (cond a None o) ≡ cond (a || b) None o
-gone_next true true o = refl
-gone_next true false o = refl
-gone_next false b o = refl
+removed_next : {X : Type 0} (a b : Bool) (o : Option X) → cond b None (cond a None o) ≡ cond (a || b) None o
+removed_next true true o = refl
+removed_next true false o = refl
+removed_next false b o = refl
 
 get_without : (fs : List Bytes) (h : Hash) (q : Bytes) → get (without_fields fs h) q ≡ cond (has fs q) None (get h q)
 get_without [] h q = refl
-get_without (f ∷ fs) h q = get_without fs (remove h f) q ∙ ap (cond (has fs q) None) (get-remove nat_list_cmp_total h f q) ∙ gone_next (is_key q f) (has fs q) (get h q)
+get_without (f ∷ fs) h q = get_without fs (remove h f) q ∙ ap (cond (has fs q) None) (get-remove nat_list_cmp_total h f q) ∙ removed_next (is_key q f) (has fs q) (get h q)
 
 -- ---- the fields that are named
 or_next : (a b c : Bool) → (b || (a || c)) ≡ ((a || b) || c)
@@ -70,15 +70,15 @@ has_filter p (x ∷ xs) q = elim (p x) as (λ b. p x ≡ b → has (cond b (x �
 has_removed : (fs : List Bytes) (h : Hash) (q : Bytes) → has (removed fs h) q ≡ (has fs q && contains_key h q)
 has_removed fs h q = has_filter (contains_key h) (keys (with_members fs empty)) q ∙ ap (λ b. b && contains_key h q) (has_names fs q)
 
-gone_there : {X : Type 0} (b : Bool) (o : Option X) → cond (b && is_some o) None o ≡ cond b None o
-gone_there true None = refl
-gone_there true (Some x) = refl
-gone_there false o = refl
+removed_there : {X : Type 0} (b : Bool) (o : Option X) → cond (b && is_some o) None o ≡ cond b None o
+removed_there true None = refl
+removed_there true (Some x) = refl
+removed_there false o = refl
 
 -- the fields that are there are all that need to go
 pub without_removed : (fs : List Bytes) (h : Hash) → without_fields fs h ≡ without_fields (removed fs h) h
 without_removed fs h = same_map nat_list_cmp_total exact_bytes _ _ (λ q.
-    get_without fs h q ∙ sym (gone_there (has fs q) (get h q)) ∙ ap (λ b. cond b None (get h q)) (sym (has_removed fs h q)) ∙ sym (get_without (removed fs h) h q))
+    get_without fs h q ∙ sym (removed_there (has fs q) (get h q)) ∙ ap (λ b. cond b None (get h q)) (sym (has_removed fs h q)) ∙ sym (get_without (removed fs h) h q))
 
 none_has : (xs : List Bytes) → ((q : Bytes) → has xs q ≡ false) → xs ≡ []
 none_has [] h = refl
