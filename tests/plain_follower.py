@@ -172,7 +172,7 @@ class Entries:
             deadline = number(options[1], 1, MOST)
         self.entries[key] = (text, deadline)
 
-    def set_all(self, *words):
+    def mset(self, *words):
         for key, text in pairs(words):
             self.set(key, text)
 
@@ -339,7 +339,7 @@ def grouped(name, items):
 
 EFFECTS = {
     b"SET": Entries.set,
-    b"MSET": Entries.set_all,
+    b"MSET": Entries.mset,
     b"APPEND": Entries.append,
     b"SETRANGE": Entries.set_range,
     b"INCRBY": Entries.increase,

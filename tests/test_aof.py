@@ -165,7 +165,7 @@ class Rewriting(OfFile):
         )
         self.answers(request("PEXPIRETIME", "a") + request("PTTL", "b") + request("TTL", "c"), b":1007\r\n:494\r\n:-1\r\n", "--now", "1006")
 
-    def test_past_keys_stay_until_they_are_named(self):
+    def test_expired_keys_stay_until_they_are_named(self):
         self.answers(request("SET", "k", "v", "PX", "500") + request("SET", "l", "v"), OK + OK, "--now", "1000")
         self.answers(REWRITE + request("GET", "k"), STARTED + NIL, "--now", "2000")
         self.assertEqual(self.bytes(), SET_V + request("PEXPIREAT", "k", "1500") + request("SET", "l", "v") + request("DEL", "k"))

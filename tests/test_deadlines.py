@@ -33,7 +33,7 @@ class AtMoments(Rehearsing):
 
 class Rebuilding(AtMoments):
     def rebuilds(self, effects, commands):
-        """Whatever the moment is: past keys are rebuilt too."""
+        """Whatever the moment is: expired keys are rebuilt too."""
         texts = b"".join(effect(*it) for it in commands)
         for now in (0, 8, MOST):
             calls = [("give " + effect(*it).hex(), "applied") for it in effects]
@@ -144,7 +144,7 @@ class Rebuilding(AtMoments):
 
 
 class Expiring(AtMoments):
-    def test_a_key_is_past_from_its_deadline_on(self):
+    def test_a_key_is_expired_from_its_deadline_on(self):
         expire = b"*3\r\n$9\r\nPEXPIREAT\r\n$1\r\nk\r\n$5\r\n11000\r\n"
         self.assertEqual(len(expire), 37)
         self.rehearses([
@@ -241,7 +241,7 @@ class Expiring(AtMoments):
             ("PEXPIREAT k 1000 NX", number(1), "DEL k"),
         ])
 
-    def test_a_past_key_is_deleted_first(self):
+    def test_an_expired_key_is_deleted_first(self):
         self.plays_at([
             (1000, "SET k v", OK, "SET k v"),
             (1000, "EXPIRE k 1", number(1), "PEXPIREAT k 2000"),
@@ -440,7 +440,7 @@ class SetUntil(AtMoments):
             ("SET l v EX 1", OK, "SET l v PXAT 2000"),
         ])
 
-    def test_a_text_is_set_until_a_moment_that_is_past(self):
+    def test_a_text_is_set_until_a_moment_that_has_passed(self):
         self.plays_all_at(1000, [
             ("SET k v PXAT 1", OK, "SET k v PXAT 1"),
             ("GET k", NIL, "DEL k"),

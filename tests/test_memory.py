@@ -32,7 +32,7 @@ ANSWERED = (
 )
 
 
-# commands on deadlines at moment 1000, with keys that are past at once
+# commands on deadlines at moment 1000, with keys that are expired at once
 DEADLINES = [
     ("SETEX k 10 v", OK),
     ("SETEX k 20 w", OK),
@@ -67,7 +67,7 @@ DEADLINES = [
 
 REFUSAL = b"refused: out of memory"
 
-# a dataset with more past keys than a tick deletes, and others
+# a dataset with more expired keys than a tick deletes, and others
 HELD = ["SET a v PXAT 5", "HSET h f v g w", "RPUSH l x y", "PEXPIREAT l 4", "SADD s m", "ZADD z 1 m", "PEXPIREAT z 9", "PERSIST z", "SET a w KEEPTTL",
         *("SET k%02d v PXAT 5" % it for it in range(66))]
 LOOKED_AT = ["given 5 0", "due", asking("PTTL", "a"), asking("DBSIZE"), "rebuild", "due", "rebuild"]

@@ -162,7 +162,7 @@ class Replicas(Rehearsing):
         self.answers(("PING", b"+PONG\r\n"), ("ECHO m", bulk("m")), ("SELECT 0", OK), ("COMMAND", NONE))
 
     def test_its_file_is_written_anew(self):
-        """Past keys included."""
+        """Expired keys included."""
         effects = ["SET k v", "PEXPIREAT k 5", "RPUSH l a b"]
         texts = b"".join(request(*it.split(" ")) for it in effects)
         self.rehearses([

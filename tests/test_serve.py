@@ -569,7 +569,7 @@ class Deadlines(Serving):
         client.asks("SET", "k", "v", "EXAT", "%d" % (before - 10))
         self.assertEqual(client.asks("GET", "k"), NIL)
 
-    def test_a_past_key_goes_without_being_named_and_its_del_is_in_the_file(self):
+    def test_an_expired_key_goes_without_being_named_and_its_del_is_in_the_file(self):
         it = self.serve(aof=self.path)
         client = self.client(it)
         client.asks("SET", "l", "v")
@@ -579,7 +579,7 @@ class Deadlines(Serving):
         it.kill()
         self.assertEqual(READY.fullmatch(self.serve(aof=self.path).ready)[2], b"1")
 
-    def test_many_past_keys_go(self):
+    def test_many_expired_keys_go(self):
         it = self.serve(aof=self.path)
         client = self.client(it)
         client.send(b"".join(request("SET", "key%d" % at, "v", "PX", "%d" % (1 + at % 200)) for at in range(1000)))
@@ -593,7 +593,7 @@ class Deadlines(Serving):
         for words in (("SET", "k", "v", "PXAT", str(FAR)), ("RPUSH", "l", "a"), ("PEXPIREAT", "l", str(FAR + 1)), ("SET", "m", "v", "PX", "50")):
             client.asks(*words)
         it.kill()
-        # the last is past by then
+        # the last is expired by then
         time.sleep(0.06)
         client = self.client(self.serve(aof=self.path))
         self.assertEqual([client.asks("PEXPIRETIME", key) for key in "klm"], [number(FAR), number(FAR + 1), number(-2)])

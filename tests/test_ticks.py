@@ -1,4 +1,4 @@
-"""Ticks, and the first past key: which keys are due after their deadlines were set, moved and taken off, and in which order they go."""
+"""Ticks, and the first expired key: which keys are due after their deadlines were set, moved and taken off, and in which order they go."""
 
 import unittest
 
@@ -48,7 +48,7 @@ class Ticking(Rehearsing):
             ("shows", "shows %s 192" % ID),
         ])
 
-    def test_a_key_is_past_from_its_deadline_on(self):
+    def test_a_key_is_expired_from_its_deadline_on(self):
         self.rehearses([*begin("SET a v PXAT 5"), *ticks(4), *ticks(5, "a")])
         self.rehearses([*begin("SET a v PXAT 5"), *ticks(6, "a"), *ticks(5)])
         self.rehearses([*begin("SET a v PXAT 1", "SET b v PXAT 2"), *ticks(0), *ticks(1, "a"), *ticks(MOST, "b")])
@@ -107,13 +107,13 @@ class Ticking(Rehearsing):
             *ticks(5),
         ])
 
-    def test_a_text_that_is_past_at_once_goes(self):
+    def test_a_text_that_is_expired_at_once_goes(self):
         self.rehearses([*begin(), *asks(9, "SET a v PXAT 3"), *ticks(9, "a"), *ticks(9)])
 
     def test_a_clock_that_goes_back_deletes_less(self):
         self.rehearses([*begin("SET a v PXAT 5", "SET b v PXAT 7"), *ticks(5, "a"), *ticks(3), *ticks(7, "b")])
 
-    def test_a_replica_deletes_no_past_key(self):
+    def test_a_replica_deletes_no_expired_key(self):
         held = ["SET a v PXAT 5", "SET b v PXAT 7", "RPUSH c v", "PEXPIREAT c 5"]
         self.rehearses([*holding(*held), ("replica", "started"), *ticks(4), *ticks(5), *ticks(MOST), ("shows", "shows %s 0" % ID)])
 
@@ -263,7 +263,7 @@ class Due(Rehearsing):
             with self.subTest(held=held, lines=lines):
                 self.rehearses(calls)
 
-    def test_the_first_past_key_is_due(self):
+    def test_the_first_expired_key_is_due(self):
         for lines, first in FIRST_DUE:
             before, key = first or (MOST, None)
             for way in ("lend ", "give "):
@@ -288,7 +288,7 @@ class Due(Rehearsing):
                         at(8), ("due", "due 6c"),
                     ])
 
-    def test_one_past_key_after_another_is_due(self):
+    def test_one_expired_key_after_another_is_due(self):
         self.rehearses([
             *holding("SET a v PXAT 7", "SET c v PXAT 5", "SET b v PXAT 5", "SET d v"),
             at(4), ("due", "nothing due"),

@@ -9,7 +9,6 @@ use Rattle.mr_value.specs.declared.ends.End.TheVariants.{Left, Right}
 use Rattle.mr_value.specs.declared.ends.Side.{Side}
 use Rattle.mr_value.specs.declared.ends.Side.TheVariants.{Before, After}
 use Rattle.mr_value.proofs.Numbers.{number_of-signed_decimal}
-use Rattle.mr_words.specs.Names.{lowered}
 use Rattle.mr_words.specs.Parts.{with, count}
 use Rattle.mr_words.specs.Spelling.{Word, Number, Keyword, ScoreBound, IsPart, AreParts}
 use Rattle.mr_words.proofs.ReadLemmas.{four_parts, keyword_is, literals, one_part, pairs_itself, three_parts, two_parts, words_are}

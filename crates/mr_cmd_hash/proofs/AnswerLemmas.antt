@@ -1,4 +1,4 @@
--- Turns from what is done to a hash.
+-- Answers from what is done to a hash.
 use Rattle.std.proofs.Common.{◌≡◌, List, ◌++◌, Option, Some, None, sym, ◌∙◌, ap}
 use Rattle.mr_resp.specs.Replies.{Tree}
 use Rattle.mr_effect.specs.declared.effect.Effect.{Effect}

@@ -13,11 +13,7 @@ type Reading<'a, 't> = Result<HashAsk<'a, 't>, AskFault>;
 /// # Errors
 ///
 /// There are fewer than three words, or a field has no value.
-pub fn hset<'a, 't>(
-    name: Name,
-    reply: FieldsReply,
-    arguments: Arguments<'a, 't>,
-) -> Reading<'a, 't>
+pub fn hset<'a, 't>(name: Name, reply: FieldsReply, arguments: Arguments<'a, 't>) -> Reading<'a, 't>
     ensures { result ≡ hset name reply (map cow_slice_items arguments.now) }
 {
     match arguments {

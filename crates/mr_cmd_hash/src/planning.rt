@@ -107,9 +107,7 @@ fn change(
         HashAsk::HGet { key: _, field } => reading::hget(alloc, field, hash),
         HashAsk::HMGet { key: _, fields } => reading::hmget(alloc, fields, hash),
         HashAsk::ListHash { key: _, part } => reading::list_hash(alloc, *part, hash),
-        HashAsk::HDel { key, fields } => {
-            removing::hdel(alloc, key, fields, hash, effects)
-        }
+        HashAsk::HDel { key, fields } => { removing::hdel(alloc, key, fields, hash, effects) }
         HashAsk::HExists { key: _, field } => Ok(reading::hexists(field, hash)),
         HashAsk::HLen { key: _ } => Ok(reading::hlen(hash)),
         HashAsk::HStrLen { key: _, field } => Ok(reading::hstrlen(field, hash)),

@@ -1,4 +1,4 @@
--- The turns of the commands on one key, whatever it holds.
+-- What kind of value a key holds, as TYPE answers it.
 use Rattle.std.specs.Prelude.{codes, Option, Some, None}
 use Rattle.mr_resp.specs.Replies as reply
 use Rattle.mr_resp.specs.Replies.{Tree}

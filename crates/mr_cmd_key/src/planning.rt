@@ -201,7 +201,15 @@ fn expire(
     let mut effects = Effects::new(alloc);
     let live_entry = look(alloc, held, key, given, &mut effects)?;
     let deadline = expiry.deadline(given.now());
-    let reply = expiring::expire(alloc, key, condition, deadline, live_entry, given, &mut effects)?;
+    let reply = expiring::expire(
+        alloc,
+        key,
+        condition,
+        deadline,
+        live_entry,
+        given,
+        &mut effects,
+    )?;
     Ok(effects.into_plan(reply))
 }
 

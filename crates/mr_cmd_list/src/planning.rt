@@ -106,7 +106,9 @@ fn answer_of(
             to,
             items,
         } => pushes::push(alloc, key, *end, *to, items, live_entry, effects),
-        ListAsk::Pop { key, end, count } => pops::pop(alloc, key, *end, *count, live_entry, effects),
+        ListAsk::Pop { key, end, count } => pops::pop(
+            alloc, key, *end, *count, live_entry, effects,
+        ),
         ListAsk::LLen { .. } => Ok(telling::llen(live_entry)),
         ListAsk::LRange {
             key: _,

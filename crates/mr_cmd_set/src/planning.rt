@@ -55,9 +55,7 @@ fn planned(
         SetAsk::SCard { key } => scard(alloc, held, key, given),
         SetAsk::SPop { key, count } => spop(alloc, held, key, *count, given),
         SetAsk::SRandMember { key, count } => srandmember(alloc, held, key, *count, given),
-        SetAsk::SMove { from, to, member } => {
-            smove(alloc, held, from, to, member, given)
-        }
+        SetAsk::SMove { from, to, member } => { smove(alloc, held, from, to, member, given) }
         SetAsk::Combine { operation, keys } => combine(alloc, held, *operation, keys, given),
     }
 }

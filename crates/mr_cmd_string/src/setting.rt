@@ -56,7 +56,15 @@ fn set_and_say(
     if !allows(rules.condition, live_entry) {
         return Ok(Reply::NullBulk);
     }
-    put(alloc, key, text, rules.deadline, done(), live_entry, effects)
+    put(
+        alloc,
+        key,
+        text,
+        rules.deadline,
+        done(),
+        live_entry,
+        effects,
+    )
 }
 
 // SET with GET.
@@ -77,7 +85,15 @@ fn set_and_get(
     if !allows(rules.condition, live_entry) {
         return Ok(before);
     }
-    put(alloc, key, text, rules.deadline, before, live_entry, effects)
+    put(
+        alloc,
+        key,
+        text,
+        rules.deadline,
+        before,
+        live_entry,
+        effects,
+    )
 }
 
 /// `SETNX`

@@ -1,5 +1,5 @@
 -- The effects of a plan lead somewhere, and their texts are command texts.
-use Rattle.std.proofs.Common.{◌≡◌, List, [], Bool, true, false, Some, None, ◌∙◌, ap, refl, sym, subst}
+use Rattle.std.proofs.Common.{◌≡◌, List, [], Bool, true, false, Some, ◌∙◌, ap, refl, sym, subst}
 use Rattle.std.specs.Prelude.{All, Result, Ok, Err, IfOk}
 use Rattle.std.proofs.lemmas.List.Elements.{All-same, All-nil}
 use Rattle.std.specs.Prelude.{ℤ}

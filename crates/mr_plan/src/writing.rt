@@ -77,10 +77,8 @@ fn set_writes(ask: &SetAsk<'_, '_>) -> bool
     ensures { result ≡ set_writes ask.now }
 {
     match ask {
-        SetAsk::SAdd { .. }
-        | SetAsk::SRem { .. }
-        | SetAsk::SPop { .. }
-        | SetAsk::SMove { .. } => true,
+        SetAsk::SAdd { .. } | SetAsk::SRem { .. } | SetAsk::SPop { .. } | SetAsk::SMove { .. } =>
+            true,
         _ => false,
     }
 }

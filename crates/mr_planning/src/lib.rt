@@ -8,7 +8,7 @@ mod replies;
 mod sequels;
 mod taken;
 
-pub use choosing::{items_are_cut_in_groups, expired_keys_stand_once};
+pub use choosing::{expired_keys_stand_once, items_are_cut_in_groups};
 pub use effects::Effects;
 pub use looking::{look, push_dels, see};
 pub use replies::{bulk, count, done, integer, wrong_kind};

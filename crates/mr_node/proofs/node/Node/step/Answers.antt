@@ -6,7 +6,7 @@ use Rattle.mr_node.specs.Rows.{StepRow, WhyStopped}
 use Rattle.mr_resp.specs.Faults.{fault_text}
 use Rattle.mr_resp.specs.Replies.{error, reply_text}
 use Rattle.mr_planning.specs.Answered.{done}
-use Rattle.mr_node.specs.Parts.{halting_outs, last_outs, HaltsAt, Passes, Questions, Quits, Rewrites, Runs}
+use Rattle.mr_node.specs.Parts.{last_outs, HaltsAt, Passes, Questions, Quits, Rewrites, Runs}
 use Rattle.mr_node.specs.Telling.{reply_about}
 use Rattle.mr_node.specs.Outs.{outs_with}
 use Rattle.mr_node.specs.Served.{rewritten_as}

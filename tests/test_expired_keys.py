@@ -1,4 +1,4 @@
-"""Each command that names keys meets past ones. A row is a command, the past keys that it names in order of naming, each once, its reply, and its own effects."""
+"""Each command that names keys meets expired ones. A row is a command, the expired keys that it names in order of naming, each once, its reply, and its own effects."""
 
 import unittest
 
@@ -6,10 +6,10 @@ from program import request
 from rehearsal import ID, Rehearsing, done, effect, holding
 from replies import INTEGER, NIL, NO_KEY, NO_LIST, NONE, OK, READONLY, SYNTAX, WRONG_KIND, arity, array, array_of, bulk, number
 
-# the moment of the commands, which is the deadline of the past keys
+# the moment of the commands, which is the deadline of the expired keys
 NOW = 2000
 PAST = "pqr"
-# a past key of each kind, with what would show in a reply
+# an expired key of each kind, with what would show in a reply
 KINDS = ["SET %s 5", "HSET %s f 5", "RPUSH %s a b", "SADD %s a m", "ZADD %s 5 a"]
 # a key of each kind without a deadline, and one with a deadline that is still to come
 LIVE = ["SET t hello", "SET n 7 PXAT %d" % (NOW + 1), "HSET h f v", "RPUSH l a b c", "SADD s a b", "ZADD z 1 a 2 b"]
@@ -20,7 +20,7 @@ def dels(keys):
 
 
 def stored(kind):
-    """The calls that put the live keys and past ones of this kind into the dataset."""
+    """The calls that put the live keys and expired ones of this kind into the dataset."""
     return holding(*LIVE, *(kind % key for key in PAST), *("PEXPIREAT %s %d" % (key, NOW) for key in PAST))
 
 
@@ -65,7 +65,7 @@ TOLD_OF_COLLECTIONS = [
     ("SUNION q p", "qp", NONE),
     ("SDIFF s p", "p", array("a", "b")),
     ("SDIFF p s p q", "pq", NONE),
-    # a key of another kind is refused before and behind a past one
+    # a key of another kind is refused before and behind an expired one
     ("SINTER p t q", "pq", WRONG_KIND),
     ("SUNION t p", "p", WRONG_KIND),
     ("SDIFF l q p", "qp", WRONG_KIND),
@@ -87,7 +87,7 @@ TOLD_OF_SORTED_SETS = [
 
 TEXTS = [
     ("SET p v", "p", OK, "SET p v"),
-    # what is stored in the past key isn't what is set
+    # what is stored in the expired key isn't what is set
     ("SET p 5", "p", OK, "SET p 5"),
     ("SET p v NX", "p", OK, "SET p v"),
     ("SET p v XX", "p", NIL),
@@ -228,7 +228,7 @@ SORTED_SETS = [
     ("ZREMRANGEBYSCORE p -inf +inf", "p", number(0)),
 ]
 
-# what names no key: no past key is shown, and none is deleted
+# what names no key: no expired key is shown, and none is deleted
 NAMELESS = [
     ("KEYS *", "", array("h", "l", "n", "s", "t", "z")),
     ("KEYS [p-r]", "", NONE),
@@ -251,7 +251,7 @@ NAMELESS = [
     ("CLIENT SETINFO p q", "", OK),
 ]
 
-# what is no command does nothing, though it names a past key
+# what is no command does nothing, though it names an expired key
 FAULTS = [
     ("GET p q", "", arity("get")),
     ("MSET p 1 q", "", arity("mset")),
@@ -270,11 +270,11 @@ FAULTS = [
 
 class PastKeys(Rehearsing):
     def each_meets(self, rows, start, deletes):
-        """Plays each row with past keys of each kind. A tick then deletes those that are left."""
+        """Plays each row with expired keys of each kind. A tick then deletes those that are left."""
         for kind in KINDS:
             calls = []
             for line, named, reply, *own in rows:
-                gone = dels(named) if deletes else b""
+                deleted = dels(named) if deletes else b""
                 left = dels(sorted(set(PAST) - set(named))) if deletes else b""
                 calls += [
                     *stored(kind),
@@ -282,7 +282,7 @@ class PastKeys(Rehearsing):
                     ("given %d 0" % NOW, "given"),
                     ("open", "opened"),
                     ("feed 0 " + request(*line.split(" ")).hex(), "fed"),
-                    ("step 0", done(reply, gone + b"".join(map(effect, own)))),
+                    ("step 0", done(reply, deleted + b"".join(map(effect, own)))),
                     ("tick", done(b"", left)),
                 ]
             self.rehearses(calls)
@@ -332,11 +332,11 @@ class PastKeys(Rehearsing):
     def test_what_is_no_command(self):
         self.meets(FAULTS)
 
-    def test_a_replica_reads_a_past_key_as_absent_and_keeps_it(self):
+    def test_a_replica_reads_an_expired_key_as_absent_and_keeps_it(self):
         for rows in (TOLD, TOLD_OF_COLLECTIONS, TOLD_OF_SORTED_SETS, NAMELESS, FAULTS):
             self.only_reads(rows)
 
-    def test_a_replica_refuses_each_write_and_keeps_the_past_keys_that_it_names(self):
+    def test_a_replica_refuses_each_write_and_keeps_the_expired_keys_that_it_names(self):
         for rows in (TEXTS, TEXTS_IN_PART, KEYS, DEADLINES, HASHES, LISTS, SETS, SORTED_SETS):
             self.only_reads([(line, named, READONLY) for line, named, *_ in rows])
 
@@ -375,7 +375,7 @@ class Edges(Rehearsing):
             ("GET e", NIL, "DEL e"),
         ])
 
-    def test_a_text_that_is_past_at_once_is_stored(self):
+    def test_a_text_that_is_expired_at_once_is_stored(self):
         self.plays_on(NOW, ["SET p 5 PXAT 1999"], [
             ("SET p v PXAT 2000", OK, "DEL p", "SET p v PXAT 2000"),
             ("SET p v PXAT 2000", OK, "DEL p", "SET p v PXAT 2000"),
@@ -383,25 +383,25 @@ class Edges(Rehearsing):
             ("PTTL p", number(-1)),
         ])
 
-    def test_all_keys_are_cleared_past_ones_among_them(self):
+    def test_all_keys_are_cleared_expired_ones_among_them(self):
         for line in ("FLUSHALL", "FLUSHDB", "FLUSHALL ASYNC", "FLUSHDB SYNC"):
             self.plays_on(NOW, ["SET p 5 PXAT 1999", "SET t v"], [(line, OK, "FLUSHALL"), (line, OK), ("SET p v NX", OK, "SET p v")])
             self.plays_on(NOW, ["RPUSH p 5", "PEXPIREAT p 2000"], [("DBSIZE", number(0)), (line, OK, "FLUSHALL"), (line, OK), ("GET p", NIL)])
 
-    def test_each_past_key_is_deleted_once(self):
+    def test_each_expired_key_is_deleted_once(self):
         self.plays_on(NOW, ["SET p 5 PXAT 1", "SET q 5 PXAT 2000"], [
             ("MGET q p q p", array(None, None, None, None), "DEL q", "DEL p"),
             ("MGET q p q p", array(None, None, None, None)),
         ])
 
-    def test_many_past_keys_in_order_of_naming(self):
+    def test_many_expired_keys_in_order_of_naming(self):
         keys = ["k%02d" % it for it in range(70)]
         named = keys[::-1] + keys
         self.plays_on(NOW, ["SET %s v PXAT 7" % key for key in keys], [
             ("EXISTS " + " ".join(named), number(0), *("DEL " + key for key in keys[::-1])),
         ])
 
-    def test_what_a_command_leaves_has_no_deadline_of_the_past_key(self):
+    def test_what_a_command_leaves_has_no_deadline_of_the_expired_key(self):
         makers = ["SETNX p v", "SET p v KEEPTTL", "GETSET p v", "MSET p v", "MSETNX p v", "APPEND p v", "SETRANGE p 0 v", "INCR p", "HSET p f v",
                   "HSETNX p f v", "HINCRBY p f 1", "LPUSH p v", "RPUSH p v", "LMOVE l p LEFT LEFT", "SADD p v", "SMOVE s p m", "ZADD p 1 m",
                   "ZINCRBY p 1 m", "RENAME t p", "RENAMENX t p"]
@@ -417,7 +417,7 @@ class Edges(Rehearsing):
                 ("step 0", done(number(-1))),
             ])
 
-    def test_a_renamed_key_takes_its_deadline_over_a_past_one(self):
+    def test_a_renamed_key_takes_its_deadline_over_an_expired_one(self):
         self.plays_on(NOW, ["SET p 5 PXAT 1999", "SET n v PXAT 2001"], [
             ("RENAME n p", OK, "DEL p", "RENAME n p"),
             ("PEXPIRETIME p", number(2001)),
