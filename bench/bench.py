@@ -7,7 +7,7 @@ median is told. bench/files.py measures the append-only file, and bench/instruct
 
 The clock of `pipe` stands still, so ticks are made by `rehearse` (crates/rehearse) on a dataset of a million keys; what it
 takes to read the lines and to write the effects in hexadecimal digits is counted in. What redis-server does in their place is
-its active expiry, ten times a second: of keys none of which are past, the server's time so long, a cycle; of past keys, its time
+its active expiry, ten times a second: of keys none of which are expired, the server's time so long, a cycle; of expired keys, its time
 until none is left, a key.
 
 What a replica takes from its master is fed by `rehearse_values` to a follower; what it takes to read the lines is taken off, and what
@@ -347,7 +347,7 @@ HELD = [
 ]
 
 # ticks on a million deadlines: how many, and at which moment; the time is told a tick, or a key where they delete some
-TICKS = [("tick, none of a million past", KEYS, 0), ("tick, all of a million past", KEYS // 64, DEADLINE)]
+TICKS = [("tick, none of a million expired", KEYS, 0), ("tick, all of a million expired", KEYS // 64, DEADLINE)]
 
 # what a replica takes from its master
 PIECE = 65_536
@@ -424,19 +424,19 @@ def ticked(room, count, now):
     return times[1] - times[0]
 
 
-def expired(room, is_past):
-    """Nanoseconds of redis-server's active expiry on a million keys with deadlines: a key that was past, or a cycle where none is."""
+def expired(room, is_expired):
+    """Nanoseconds of redis-server's active expiry on a million keys with deadlines: a key that was expired, or a cycle where none is."""
     path = os.path.join(room, "requests")
     with open(path, "wb") as file:
         for at in range(KEYS):
-            file.write(request(b"SET", scrambled(at), VALUE, b"PX", b"1" if is_past else b"%d" % DEADLINE))
+            file.write(request(b"SET", scrambled(at), VALUE, b"PX", b"1" if is_expired else b"%d" % DEADLINE))
     server = Redis(room, "--enable-debug-command", "yes")
     try:
         server.asked("DEBUG", "SET-ACTIVE-EXPIRE", "0")
         server.run(path)
         server.asked("DEBUG", "SET-ACTIVE-EXPIRE", "1")
         before, seconds = server.used(), 5
-        if not is_past:
+        if not is_expired:
             time.sleep(seconds)
             return (server.used() - before) / (10 * seconds)
         while server.asked("DBSIZE") != "0":
@@ -447,10 +447,10 @@ def expired(room, is_past):
 
 
 def tick_cells(room, count, now):
-    is_past = now >= DEADLINE
-    a_time = ticked(room, count, now) / (KEYS if is_past else count)
-    cells = [f"{KEYS if is_past else count:,}", f"{a_time:,.0f}", ""]
-    return cells + ([f"{expired(room, is_past):,.0f}", ""] if has_redis() else ["-", "-"])
+    is_expired = now >= DEADLINE
+    a_time = ticked(room, count, now) / (KEYS if is_expired else count)
+    cells = [f"{KEYS if is_expired else count:,}", f"{a_time:,.0f}", ""]
+    return cells + ([f"{expired(room, is_expired):,.0f}", ""] if has_redis() else ["-", "-"])
 
 
 def followed(room, is_snapshot):

@@ -32,7 +32,7 @@ abbrev pub replica_reply : Ask → Given → Dataset → Tree
 replica_reply command given m = if writes command then readonly else answer (command_of command given) given.now m
 
 -- On a master (false) a command has its plan; a replica (true) only answers, and leaves expired keys to the DELs of its master.
--- Words that are no command are answered why by either.
+-- Words that are no command are answered their fault by either.
 abbrev pub IsPlannedAs : Result Ask AskFault → Bool → Given → Dataset → Tree → List Effect → Type 0
 IsPlannedAs (Ok command) false given m reply effects = IsPlan (command_of command given) given.now m reply effects
 IsPlannedAs (Ok command) true given m reply effects = (reply ≡ replica_reply command given m) × (effects ≡ [])

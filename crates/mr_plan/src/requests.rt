@@ -33,8 +33,8 @@ pub enum Answer {
     Halt,
 }
 
-/// What the words of a request are answered by a master or by a replica, and their effects. Words that are no command are answered why,
-/// and have none. A replica refuses writes, and no answer of its has an effect: an expired key is answered as absent, and kept.
+/// What the words of a request are answered by a master or by a replica, and their effects. Words that are no command are answered
+/// their fault, and have none. A replica refuses writes, and no answer of its has an effect: an expired key is answered as absent, and kept.
 pub fn plan_words(
     alloc: Global,
     held: &Dataset,
