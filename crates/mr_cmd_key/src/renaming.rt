@@ -49,7 +49,7 @@ pub fn renamenx(
     Ok(effects.into_plan(reply))
 }
 
-// What is seen at two keys, which may be one. Expired ones get their DELs.
+// The live entries at two keys, which may be one. Expired ones get their DELs.
 fn look_at_both<'d>(
     alloc: Global,
     held: &'d Dataset,

@@ -14,7 +14,7 @@ use mr_value::{SetValue, Word};
 use mr_words::Argument;
 use std::alloc::{AllocError, Global};
 
-/// The answer, from what is seen at the source and at the target.
+/// The answer, from the live entries at the source and at the target.
 pub fn moved(
     alloc: Global,
     from: &Argument<'_>,

@@ -1,4 +1,4 @@
-//! What planners of commands share: the keys that a command names, what is seen there, and effects that own their words.
+//! What planners of commands share: the keys that a command names, the live entries there, and effects that own their words.
 #![tactic(auto)]
 
 mod choosing;

@@ -21,7 +21,7 @@ fn is_expired(now: i64, deadline: Option<i64>) -> bool
     }
 }
 
-/// What is seen at a key, and whether the key is expired. It takes no memory.
+/// The live entry at a key, and whether the key is expired. It takes no memory.
 pub fn see<'d>(held: &'d Dataset, key: &[u8], given: Given) -> (Option<&'d Entry>, bool)
     ensures live_entry { option_copied result.0 ≡ live given.now (map.get held.now key.now) }
     ensures expired { result.1 ≡ is_stored given.now true (map.get held.now key.now) }
@@ -33,7 +33,7 @@ pub fn see<'d>(held: &'d Dataset, key: &[u8], given: Given) -> (Option<&'d Entry
     }
 }
 
-/// What is seen at a key. An expired one gets its DEL, which alone takes memory. What the dataset keeps is known from here on.
+/// The live entry at a key. An expired key gets its DEL, which alone takes memory. What the dataset keeps is known from here on.
 pub fn look<'d>(
     alloc: Global,
     held: &'d Dataset,
