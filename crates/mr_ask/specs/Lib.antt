@@ -1,3 +1,4 @@
+pub mod Kinds
 pub mod Asks
 pub mod Carried
 pub mod Spelled

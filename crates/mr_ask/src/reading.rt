@@ -6,7 +6,9 @@ ghost use Rattle.mr_value.specs.Words.{fits};
 ghost use Rattle.mr_ask.specs.Asks.{asked, reading, of_kind};
 ghost use Rattle.mr_ask.specs.Carried.{AskFits};
 ghost use Rattle.mr_ask.specs.Spelled.{Spells};
-ghost use Rattle.mr_ask.specs.declared.ask.Ask.TheVariants as kind;
+ghost use Rattle.mr_ask.specs.Kinds.{kind_of};
+ghost use Rattle.mr_ask.specs.Kinds as kind;
+ghost use Rattle.mr_ask.specs.declared.ask.Ask.TheVariants as ask;
 
 use crate::ask::Ask;
 use mr_cmd_hash::{FieldsReply, HashAsk, HashPart, arguments as hashes};
@@ -46,26 +48,134 @@ fn command<'a, 't>(words: Arguments<'a, 't>) -> Reading<'a, 't>
     }
 }
 
-// The table: the name chooses how the arguments are read.
+// The name chooses whose arguments they are. Each kind of command is read by a function of its own, so that a request makes room on the
+// stack for the forms of one kind alone.
 fn read_arguments<'a, 't>(name: Name, arguments: Arguments<'a, 't>) -> Reading<'a, 't>
+    ensures { result ≡ reading name (map cow_slice_items arguments.now) }
+{
+    match name {
+        Name::Get
+        | Name::Set
+        | Name::StrLen
+        | Name::GetRange
+        | Name::MGet
+        | Name::SetNx
+        | Name::GetSet
+        | Name::GetDel
+        | Name::MSet
+        | Name::MSetNx
+        | Name::Append
+        | Name::SetRange
+        | Name::Incr
+        | Name::Decr
+        | Name::IncrBy
+        | Name::DecrBy
+        | Name::SetEx
+        | Name::PSetEx => read_texts(name, arguments),
+        Name::Del
+        | Name::Unlink
+        | Name::Exists
+        | Name::KeyType
+        | Name::Keys
+        | Name::Scan
+        | Name::DbSize
+        | Name::Rename
+        | Name::RenameNx
+        | Name::FlushAll
+        | Name::FlushDb
+        | Name::Expire
+        | Name::PExpire
+        | Name::ExpireAt
+        | Name::PExpireAt
+        | Name::Ttl
+        | Name::PTtl
+        | Name::ExpireTime
+        | Name::PExpireTime
+        | Name::Persist => read_keys(name, arguments),
+        Name::HSet
+        | Name::HMSet
+        | Name::HSetNx
+        | Name::HGet
+        | Name::HMGet
+        | Name::HGetAll
+        | Name::HKeys
+        | Name::HVals
+        | Name::HDel
+        | Name::HExists
+        | Name::HLen
+        | Name::HStrLen
+        | Name::HIncrBy => read_hashes(name, arguments),
+        Name::LPush
+        | Name::RPush
+        | Name::LPushX
+        | Name::RPushX
+        | Name::LPop
+        | Name::RPop
+        | Name::LLen
+        | Name::LRange
+        | Name::LIndex
+        | Name::LSet
+        | Name::LInsert
+        | Name::LRem
+        | Name::LTrim
+        | Name::LMove
+        | Name::RPopLPush => read_lists(name, arguments),
+        Name::SAdd
+        | Name::SRem
+        | Name::SIsMember
+        | Name::SMIsMember
+        | Name::SMembers
+        | Name::SCard
+        | Name::SPop
+        | Name::SRandMember
+        | Name::SMove
+        | Name::SInter
+        | Name::SUnion
+        | Name::SDiff => read_sets(name, arguments),
+        Name::ZAdd
+        | Name::ZIncrBy
+        | Name::ZRem
+        | Name::ZCard
+        | Name::ZCount
+        | Name::ZScore
+        | Name::ZMScore
+        | Name::ZRank
+        | Name::ZRevRank
+        | Name::ZRange
+        | Name::ZRevRange
+        | Name::ZRangeByScore
+        | Name::ZRevRangeByScore
+        | Name::ZPopMin
+        | Name::ZPopMax
+        | Name::ZRemRangeByRank
+        | Name::ZRemRangeByScore => read_sorted_sets(name, arguments),
+        Name::Ping
+        | Name::Echo
+        | Name::Select
+        | Name::Quit
+        | Name::BgRewriteAof
+        | Name::Info
+        | Name::Role
+        | Name::Shutdown
+        | Name::Command
+        | Name::Client => read_server(name, arguments),
+    }
+}
+
+#[inline(never)]
+fn read_texts<'a, 't>(name: Name, arguments: Arguments<'a, 't>) -> Reading<'a, 't>
+    requires { kind_of name ≡ kind.texts }
     ensures { result ≡ reading name (map cow_slice_items arguments.now) }
 {
     match name {
         Name::Get => of_texts(texts::get(arguments)),
         Name::Set => of_texts(texts::set(arguments)),
-        Name::Del => of_keys(keys::del(arguments)),
-        Name::Unlink => of_keys(keys::unlink(arguments)),
-        Name::Exists => of_keys(keys::exists(arguments)),
-        Name::KeyType => of_keys(keys::key_type(arguments)),
         Name::StrLen => of_texts(texts::strlen(arguments)),
         Name::GetRange => of_texts(texts::getrange(arguments)),
         Name::MGet => of_texts(texts::mget(arguments)),
         Name::SetNx => of_texts(texts::setnx(arguments)),
         Name::GetSet => of_texts(texts::getset(arguments)),
         Name::GetDel => of_texts(texts::getdel(arguments)),
-        Name::Keys => of_keys(keys::keys(arguments)),
-        Name::Scan => of_keys(keys::scan(arguments)),
-        Name::DbSize => of_keys(keys::dbsize(arguments)),
         Name::MSet => of_texts(texts::mset(arguments)),
         Name::MSetNx => of_texts(texts::msetnx(arguments)),
         Name::Append => of_texts(texts::append(arguments)),
@@ -74,12 +184,29 @@ fn read_arguments<'a, 't>(name: Name, arguments: Arguments<'a, 't>) -> Reading<'
         Name::Decr => of_texts(texts::step(name, Amount::MinusOne, arguments)),
         Name::IncrBy => of_texts(texts::incrby(arguments)),
         Name::DecrBy => of_texts(texts::decrby(arguments)),
+        Name::SetEx => of_texts(texts::setex(arguments)),
+        Name::PSetEx => of_texts(texts::psetex(arguments)),
+        _ => unreachable!(),
+    }
+}
+
+#[inline(never)]
+fn read_keys<'a, 't>(name: Name, arguments: Arguments<'a, 't>) -> Reading<'a, 't>
+    requires { kind_of name ≡ kind.keys }
+    ensures { result ≡ reading name (map cow_slice_items arguments.now) }
+{
+    match name {
+        Name::Del => of_keys(keys::del(arguments)),
+        Name::Unlink => of_keys(keys::unlink(arguments)),
+        Name::Exists => of_keys(keys::exists(arguments)),
+        Name::KeyType => of_keys(keys::key_type(arguments)),
+        Name::Keys => of_keys(keys::keys(arguments)),
+        Name::Scan => of_keys(keys::scan(arguments)),
+        Name::DbSize => of_keys(keys::dbsize(arguments)),
         Name::Rename => of_keys(keys::rename(arguments)),
         Name::RenameNx => of_keys(keys::renamenx(arguments)),
         Name::FlushAll => of_keys(keys::clear(Databases::All, arguments)),
         Name::FlushDb => of_keys(keys::clear(Databases::Selected, arguments)),
-        Name::SetEx => of_texts(texts::setex(arguments)),
-        Name::PSetEx => of_texts(texts::psetex(arguments)),
         Name::Expire => of_keys(keys::expire(name, ExpiryUnit::Seconds, arguments)),
         Name::PExpire => of_keys(keys::expire(name, ExpiryUnit::Milliseconds, arguments)),
         Name::ExpireAt => of_keys(keys::expire(name, ExpiryUnit::AtSecond, arguments)),
@@ -89,6 +216,16 @@ fn read_arguments<'a, 't>(name: Name, arguments: Arguments<'a, 't>) -> Reading<'
         Name::ExpireTime => of_keys(keys::expiretime(arguments)),
         Name::PExpireTime => of_keys(keys::pexpiretime(arguments)),
         Name::Persist => of_keys(keys::persist(arguments)),
+        _ => unreachable!(),
+    }
+}
+
+#[inline(never)]
+fn read_hashes<'a, 't>(name: Name, arguments: Arguments<'a, 't>) -> Reading<'a, 't>
+    requires { kind_of name ≡ kind.hashes }
+    ensures { result ≡ reading name (map cow_slice_items arguments.now) }
+{
+    match name {
         Name::HSet => of_hashes(hashes::hset(name, FieldsReply::Added, arguments)),
         Name::HMSet => of_hashes(hashes::hset(name, FieldsReply::Done, arguments)),
         Name::HSetNx => of_hashes(hashes::hsetnx(arguments)),
@@ -102,6 +239,16 @@ fn read_arguments<'a, 't>(name: Name, arguments: Arguments<'a, 't>) -> Reading<'
         Name::HLen => of_hashes(hashes::hlen(arguments)),
         Name::HStrLen => of_hashes(hashes::hstrlen(arguments)),
         Name::HIncrBy => of_hashes(hashes::hincrby(arguments)),
+        _ => unreachable!(),
+    }
+}
+
+#[inline(never)]
+fn read_lists<'a, 't>(name: Name, arguments: Arguments<'a, 't>) -> Reading<'a, 't>
+    requires { kind_of name ≡ kind.lists }
+    ensures { result ≡ reading name (map cow_slice_items arguments.now) }
+{
+    match name {
         Name::LPush => of_lists(lists::push(name, End::Left, PushTo::AnyKey, arguments)),
         Name::RPush => of_lists(lists::push(name, End::Right, PushTo::AnyKey, arguments)),
         Name::LPushX => of_lists(lists::push(name, End::Left, PushTo::ExistingKey, arguments)),
@@ -117,6 +264,16 @@ fn read_arguments<'a, 't>(name: Name, arguments: Arguments<'a, 't>) -> Reading<'
         Name::LTrim => of_lists(lists::ltrim(arguments)),
         Name::LMove => of_lists(lists::lmove(arguments)),
         Name::RPopLPush => of_lists(lists::rpoplpush(arguments)),
+        _ => unreachable!(),
+    }
+}
+
+#[inline(never)]
+fn read_sets<'a, 't>(name: Name, arguments: Arguments<'a, 't>) -> Reading<'a, 't>
+    requires { kind_of name ≡ kind.sets }
+    ensures { result ≡ reading name (map cow_slice_items arguments.now) }
+{
+    match name {
         Name::SAdd => of_sets(sets::sadd(arguments)),
         Name::SRem => of_sets(sets::srem(arguments)),
         Name::SIsMember => of_sets(sets::sismember(arguments)),
@@ -129,6 +286,16 @@ fn read_arguments<'a, 't>(name: Name, arguments: Arguments<'a, 't>) -> Reading<'
         Name::SInter => of_sets(sets::combine(name, SetOperation::Intersection, arguments)),
         Name::SUnion => of_sets(sets::combine(name, SetOperation::Union, arguments)),
         Name::SDiff => of_sets(sets::combine(name, SetOperation::Difference, arguments)),
+        _ => unreachable!(),
+    }
+}
+
+#[inline(never)]
+fn read_sorted_sets<'a, 't>(name: Name, arguments: Arguments<'a, 't>) -> Reading<'a, 't>
+    requires { kind_of name ≡ kind.sorted_sets }
+    ensures { result ≡ reading name (map cow_slice_items arguments.now) }
+{
+    match name {
         Name::ZAdd => of_sorted_sets(zset::zadd(arguments)),
         Name::ZIncrBy => of_sorted_sets(zset::zincrby(arguments)),
         Name::ZRem => of_sorted_sets(zset::zrem(arguments)),
@@ -154,6 +321,16 @@ fn read_arguments<'a, 't>(name: Name, arguments: Arguments<'a, 't>) -> Reading<'
         Name::ZPopMax => of_sorted_sets(zset::zpop(name, Order::Descending, arguments)),
         Name::ZRemRangeByRank => of_sorted_sets(zset::zremrangebyrank(arguments)),
         Name::ZRemRangeByScore => of_sorted_sets(zset::zremrangebyscore(arguments)),
+        _ => unreachable!(),
+    }
+}
+
+#[inline(never)]
+fn read_server<'a, 't>(name: Name, arguments: Arguments<'a, 't>) -> Reading<'a, 't>
+    requires { kind_of name ≡ kind.server }
+    ensures { result ≡ reading name (map cow_slice_items arguments.now) }
+{
+    match name {
         Name::Ping => of_server(server::ping(arguments)),
         Name::Echo => of_server(server::echo(arguments)),
         Name::Select => of_server(server::select(arguments)),
@@ -164,47 +341,48 @@ fn read_arguments<'a, 't>(name: Name, arguments: Arguments<'a, 't>) -> Reading<'
         Name::Shutdown => of_server(server::shutdown(arguments)),
         Name::Command => of_server(server::command(arguments)),
         Name::Client => of_server(server::client(arguments)),
+        _ => unreachable!(),
     }
 }
 
 fn of_texts<'a, 't>(reading: Result<TextAsk<'a, 't>, AskFault>) -> Reading<'a, 't>
-    ensures { result ≡ of_kind kind.Texts reading.entry }
+    ensures { result ≡ of_kind ask.Texts reading.entry }
 {
     Ok(Ask::Texts(reading?))
 }
 
 fn of_keys<'a, 't>(reading: Result<KeyAsk<'a, 't>, AskFault>) -> Reading<'a, 't>
-    ensures { result ≡ of_kind kind.Keys reading.entry }
+    ensures { result ≡ of_kind ask.Keys reading.entry }
 {
     Ok(Ask::Keys(reading?))
 }
 
 fn of_hashes<'a, 't>(reading: Result<HashAsk<'a, 't>, AskFault>) -> Reading<'a, 't>
-    ensures { result ≡ of_kind kind.Hashes reading.entry }
+    ensures { result ≡ of_kind ask.Hashes reading.entry }
 {
     Ok(Ask::Hashes(reading?))
 }
 
 fn of_lists<'a, 't>(reading: Result<ListAsk<'a, 't>, AskFault>) -> Reading<'a, 't>
-    ensures { result ≡ of_kind kind.Lists reading.entry }
+    ensures { result ≡ of_kind ask.Lists reading.entry }
 {
     Ok(Ask::Lists(reading?))
 }
 
 fn of_sets<'a, 't>(reading: Result<SetAsk<'a, 't>, AskFault>) -> Reading<'a, 't>
-    ensures { result ≡ of_kind kind.Sets reading.entry }
+    ensures { result ≡ of_kind ask.Sets reading.entry }
 {
     Ok(Ask::Sets(reading?))
 }
 
 fn of_sorted_sets<'a, 't>(reading: Result<ZSetAsk<'a, 't>, AskFault>) -> Reading<'a, 't>
-    ensures { result ≡ of_kind kind.SortedSets reading.entry }
+    ensures { result ≡ of_kind ask.SortedSets reading.entry }
 {
     Ok(Ask::SortedSets(reading?))
 }
 
 fn of_server<'a, 't>(reading: Result<ServerAsk<'a, 't>, AskFault>) -> Reading<'a, 't>
-    ensures { result ≡ of_kind kind.Server reading.entry }
+    ensures { result ≡ of_kind ask.Server reading.entry }
 {
     Ok(Ask::Server(reading?))
 }
