@@ -170,7 +170,7 @@ def refused(edit, reasons):
 
 @dataclass
 class Trial:
-    """The edits of one crate, tried over one folder of checked modules."""
+    """The edits of one crate."""
 
     crate: object
     edits: list
@@ -181,14 +181,16 @@ class Trial:
     memory: int = 0
     checks: int = 0
     notes: list = field(default_factory=list)
+    # where checks of the whole crate keep their work, and the edits that were tried so, in order
+    kept: str = None
+    whole: list = field(default_factory=list)
 
     def run(self):
         begun, groups = time.monotonic(), batches(self.edits, self.alone)
-        with tempfile.TemporaryDirectory(prefix="edits-") as kept:
-            for edit in self.try_batches(groups, kept):
-                # what was found over kept work that isn't sound is found anew from nothing
-                with tempfile.TemporaryDirectory(prefix="edits-") as empty:
-                    edit.verdict = self.verdict_of(edit, empty)
+        with tempfile.TemporaryDirectory(prefix="edits-") as self.kept:
+            self.try_batches(groups)
+            for edit in self.doubtful():
+                edit.verdict = self.verdict_of(edit, from_nothing=True)
         sizes, took = ", ".join(str(len(it)) for it in groups), time.monotonic() - begun
         self.notes.append(f"{self.crate.name}: {len(self.edits)} edits, in batches of {sizes}; {self.checks} checks, {self.processor:.0f} s of processor, {took:.0f} s, {self.memory / 1e9:.1f} GB")
 
@@ -197,21 +199,24 @@ class Trial:
         for edit in (it for it in self.edits if not it.verdict):
             edit.verdict = Verdict(False, f"NOT TRIED {edit.name}: its crate, or one below it, was not proved")
 
-    def try_batches(self, groups, kept):
-        """Sets each edit's verdict, and returns the edits that the work kept by earlier checks may have refused wrongly."""
-        waiting, over_kept = list(groups), []
+    def try_batches(self, groups):
+        """Sets each edit's verdict."""
+        waiting = list(groups)
         while waiting:
-            batch, is_first = waiting.pop(0), self.checks == 0
+            batch = waiting.pop(0)
             if len(batch) == 1:
-                batch[0].verdict = self.verdict_of(batch[0], kept)
+                batch[0].verdict = self.verdict_of(batch[0])
             else:
-                waiting += self.try_batch(batch, kept)
-            over_kept += [it for it in batch if it.verdict and it.verdict.passes and not is_first]
-        return over_kept if over_kept and not self.is_proved_over(kept, over_kept) else []
+                waiting += self.try_batch(batch)
 
-    def try_batch(self, batch, kept):
+    def doubtful(self):
+        """The edits that the work kept by an earlier check of the whole crate may have refused wrongly."""
+        over_kept = [it for it in self.whole[1:] if it.verdict.passes]
+        return over_kept if over_kept and not self.is_proved_over_kept(over_kept) else []
+
+    def try_batch(self, batch):
         """Sets the verdicts for which one check of these edits tells, and returns what is still to be tried."""
-        answer = self.check(batch, set().union(*[it.touched for it in batch]), kept)
+        answer = self.check(batch, set().union(*[it.touched for it in batch]))
         strange = [it for it in batch if answer.unknown in it.touched]
         if strange and len(strange) < len(batch):
             return [[it for it in batch if it not in strange], *[[it] for it in strange]]
@@ -223,26 +228,28 @@ class Trial:
             edit.verdict = verdict_in_batch(edit, answer)
         return [[it] for it in batch if it.verdict is None]
 
-    def verdict_of(self, edit, kept):
+    def verdict_of(self, edit, from_nothing=False):
         """Tries one edit alone: with the functions that it changes, and where the prover doesn't know their names, with the whole crate."""
-        answer = self.check([edit], edit.touched or set(), kept)
-        if answer.unknown and edit.touched:
+        if edit.touched:
+            answer = self.check([edit], edit.touched)
+            if not answer.unknown:
+                return verdict_alone(edit, answer)
             self.notes.append(f"{edit.name}: no name of the prover's: {', '.join(sorted(edit.touched))}, so the whole crate is tried")
             edit.touched = None
-            answer = self.check([edit], set(), kept)
-        return verdict_alone(edit, answer)
+        if from_nothing:
+            return verdict_alone(edit, self.check([edit], set()))
+        self.whole.append(edit)
+        return verdict_alone(edit, self.check([edit], set(), self.kept))
 
-    def is_proved_over(self, kept, edits):
-        """Whether the crate as it is, is proved over the kept work, as far as these edits change it."""
-        is_whole = any(it.touched is None for it in edits)
-        only = set() if is_whole else set().union(*[it.touched for it in edits])
-        well = self.check([], only, kept).status == 0
+    def is_proved_over_kept(self, edits):
+        """Whether the crate as it is, is proved over the work that checks of the whole crate have kept."""
+        well = self.check([], set(), self.kept).status == 0
         if not well:
             self.notes.append(f"{self.crate.name}: not proved over the work that earlier edits left, so {len(edits)} edits are tried again")
         return well
 
-    def check(self, batch, only, kept):
-        """Checks a copy of the crate with these edits, and reads what the prover says."""
+    def check(self, batch, only, kept=None):
+        """Checks a copy of the crate with these edits, over kept work or else from nothing, and reads what the prover says."""
         texts = merged(batch, self.text_of)
         with tempfile.TemporaryDirectory(prefix="edit-") as room:
             for part in self.crate.parts():
@@ -250,7 +257,7 @@ class Trial:
             for path, text in texts.items():
                 with open(os.path.join(room, path), "w", encoding="utf-8") as it:
                     it.write(text)
-            words = [*self.crate.check(), "--incremental", kept, *[word for name in sorted(only) for word in ("--only", name)]]
+            words = [*self.crate.check(), *(["--incremental", kept] if kept else []), *[word for name in sorted(only) for word in ("--only", name)]]
             status, said, processor, memory = timed(words, room)
             if status == -signal.SIGKILL:
                 self.notes.append(f"{self.crate.name}: a check was killed, most likely for want of memory: once more")

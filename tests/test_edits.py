@@ -215,12 +215,13 @@ class Scripted(Trial):
     """A trial whose checks are answered by a script: the names of edits that don't compile, that change nothing, and that the prover knows no name for."""
 
     def follow(self, sources, breaks=(), harmless=(), unknown=(), is_sound=True):
-        self.asked, self.sources, self.is_sound = [], sources, is_sound
+        self.asked, self.over_kept, self.sources, self.is_sound = [], [], sources, is_sound
         self.breaks, self.harmless, self.unknown = ({f"tiny/{it}.edit" for it in names} for names in (breaks, harmless, unknown))
         return self
 
-    def check(self, batch, only, kept):
+    def check(self, batch, only, kept=None):
         self.asked.append([it.name[5:-5] for it in batch])
+        self.over_kept += [self.asked[-1]] if kept else []
         self.checks += 1
         names = {it.name for it in batch}
         if names & self.breaks:
@@ -268,12 +269,20 @@ class Trying(WithTheTinyCrate):
         self.assertEqual(trial.asked.count(["c_third"]), 2)
         self.assertTrue(verdicts["c_third"].passes)
 
-    def test_what_was_refused_over_kept_work_is_checked_without_the_edits(self):
+    def test_halves_and_what_stands_alone_are_checked_from_nothing(self):
         trial, _ = self.run_script(breaks=["b_up"])
+        self.assertEqual(trial.over_kept, [])
+
+    def test_what_was_refused_over_kept_work_is_checked_without_the_edits(self):
+        trial, _ = self.run_script(unknown=["b_up"])
+        self.assertEqual(trial.over_kept, [["b_up"]])
+        trial, verdicts = self.run_script(unknown=["b_up", "c_third"])
+        self.assertEqual(trial.over_kept, [["b_up"], ["c_third"], []])
         self.assertEqual(trial.asked[-1], [])
-        trial, _ = self.run_script(breaks=["b_up"], is_sound=False)
-        after = trial.asked[trial.asked.index([]) + 1 :]
-        self.assertEqual(sorted(after), [["a_limit"], ["c_third"], ["d_level"]])
+        self.assertTrue(all(it.passes for it in verdicts.values()))
+        trial, _ = self.run_script(unknown=["b_up", "c_third"], is_sound=False)
+        self.assertEqual(trial.over_kept, [["b_up"], ["c_third"], []])
+        self.assertEqual(trial.asked[-1], ["c_third"])
 
     def test_a_reason_of_another_function_is_none_of_the_edits(self):
         edit = next(it for it in self.found if it.name == "tiny/b_up.edit")

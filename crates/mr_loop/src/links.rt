@@ -248,8 +248,8 @@ impl Links {
         self.batch.extend_from_slice(texts)
     }
 
-    /// Whether a client asked that the program end.
-    pub(crate) fn halted(&self) -> bool
+    /// Whether a client said SHUTDOWN: no turn may begin any more.
+    pub fn halted(&self) -> bool
         ensures { result ≡ self.now.halted }
     {
         self.halted
