@@ -1,4 +1,6 @@
 pub mod Carrying
+pub mod Counts
+pub mod Halting
 pub mod Nothing
 pub mod Places
 pub mod Runs

@@ -10,12 +10,14 @@ use Rattle.mr_aof.specs.declared.log.SyncMode.{SyncMode}
 use Rattle.mr_loop.specs.declared.fault.LoopFault.{LoopFault}
 use Rattle.mr_loop.specs.declared.fault.LoopFault.TheVariants as fault
 use Rattle.mr_loop.specs.Stage.{LoopState, client_of, stage}
-use Rattle.mr_loop.specs.Rows.{Went, IsReplaced, behind_replacing, behind_step}
-use Rattle.mr_loop.specs.Outcomes.{Does}
+use Rattle.mr_loop.specs.declared.told.Turn.{Turn}
+use Rattle.mr_loop.specs.Rows.{IsReplaced, behind_replacing, behind_step}
+use Rattle.mr_loop.specs.Counting.{Counted}
+use Rattle.mr_loop.specs.Outcomes.{Does, DoesCounting}
 
--- whatever file there is
+-- whatever file there is, with no call of `Node::step`
 abbrev pub Goes : Bool → NodeState → LoopState → Links LinkState → NodeState → LoopState → Links LinkState → Type 0
-Goes tells n o w n2 o2 w2 = (mode : SyncMode) (told : Option (List ℕ)) (synced : Option ℕ) → Went tells mode (stage n o w told synced) (stage n2 o2 w2 told synced)
+Goes tells n o w n2 o2 w2 = (mode : SyncMode) (told : Option (List ℕ)) (synced : Option ℕ) → Counted tells mode 0 0 (stage n o w told synced) (stage n2 o2 w2 told synced)
 
 -- .. and what comes of it by what is answered
 abbrev pub GoesAs : {A : Type 0} → Bool → Result A LoopFault → NodeState → LoopState → Links LinkState → NodeState → LoopState → Links LinkState → Type 0
@@ -33,9 +35,9 @@ GoesAloneAs result n o n2 o2 = (tells : Bool) (w : Links LinkState) → GoesAs t
 abbrev pub FilesAs : {A : Type 0} → SyncMode → Result A LoopFault → LoopState → Option (List ℕ) → Option ℕ → LoopState → Option (List ℕ) → Option ℕ → Type 0
 FilesAs mode result o told synced o2 told2 synced2 = (tells : Bool) (n : NodeState) (w : Links LinkState) → Does tells mode result (stage n o w told synced) (stage n o2 w told2 synced2)
 
--- whatever wire there is
-abbrev pub GoesWithFileAs : {A : Type 0} → SyncMode → Result A LoopFault → NodeState → LoopState → Option (List ℕ) → Option ℕ → NodeState → LoopState → Option (List ℕ) → Option ℕ → Type 0
-GoesWithFileAs mode result n o told synced n2 o2 told2 synced2 = (tells : Bool) (w : Links LinkState) → Does tells mode result (stage n o w told synced) (stage n2 o2 w told2 synced2)
+-- whatever wire there is, with what is counted
+abbrev pub GoesWithFileAs : {A : Type 0} → SyncMode → Result A LoopFault → (old new : Turn) → NodeState → LoopState → Option (List ℕ) → Option ℕ → NodeState → LoopState → Option (List ℕ) → Option ℕ → Type 0
+GoesWithFileAs mode result old new n o told synced n2 o2 told2 synced2 = (tells : Bool) (w : Links LinkState) → DoesCounting tells mode result old new (stage n o w told synced) (stage n2 o2 w told2 synced2)
 
 -- the file was to be replaced, and failed: the old bytes are there, or the new ones
 pub record FailsReplacing (whole told told2 : Option (List ℕ)) : Type 0 where

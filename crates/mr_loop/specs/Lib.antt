@@ -1,3 +1,4 @@
+pub mod Counting
 pub mod Going
 pub mod Left
 pub mod Outcomes

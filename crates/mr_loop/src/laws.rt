@@ -1,4 +1,5 @@
 // What holds of the definitions.
+ghost use Rattle.mr_loop.specs.Counting.{KnowsShutdown};
 ghost use Rattle.mr_loop.specs.Sent.{GoesOutInOrder, HaveLinksAlways, HaveLinksFirst, IsSentOnceFiled, IsSilentBehindFaults, WireHasReplies};
 
 /// What was moved on a client's link is a beginning of what waited there and of the replies of its steps, in order; the rest waits.
@@ -26,4 +27,9 @@ pub fn clients_have_links()
 /// replies of the client's steps.
 pub fn the_wire_has_the_replies()
     ensures { WireHasReplies }
+{}
+
+/// The loop holds that a client said SHUTDOWN where one did at a step, or where it held so before.
+pub fn shutdown_is_known()
+    ensures { KnowsShutdown }
 {}

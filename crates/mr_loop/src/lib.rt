@@ -11,14 +11,16 @@ mod moment;
 mod reading;
 mod serving;
 mod stepping;
+mod told;
 mod turning;
 mod writing;
 
 pub use fault::LoopFault;
 pub use laws::{
-    clients_have_links, nothing_is_sent_behind_a_fault, replies_go_out_in_order,
+    clients_have_links, nothing_is_sent_behind_a_fault, replies_go_out_in_order, shutdown_is_known,
     the_wire_has_the_replies, what_is_sent_is_filed,
 };
 pub use links::Links;
 pub use serving::serve;
+pub use told::Turn;
 pub use turning::turn;

@@ -1,24 +1,36 @@
-// What the steps of a turn are given.
+// What the steps of a turn are given, and how many there were.
+ghost use Rattle.std.specs.Prelude.{◌≡◌};
 ghost use Rattle.mr_data.specs.Given.{IsMoment};
 
+use crate::told::Turn;
 use mr_data::Given;
 use mr_repl::ReplId;
 use mr_source::Source;
 
-/// The time of a turn, an id that was never drawn before, and where chance comes from.
+/// The time of a turn, an id that was never drawn before, where chance comes from, and what was counted in the turn so far.
 #[derive(Drop)]
 pub(crate) struct Moment<'a, S: Source> {
     source: &'a mut S,
     now: i64,
     fresh: ReplId,
+    pub(crate) turn: Turn,
     ghost in_range: { IsMoment now },
 }
 
 impl<'a, S: Source> Moment<'a, S> {
-    pub(crate) fn new(source: &'a mut S) -> Moment<'a, S> {
+    pub(crate) fn new(source: &'a mut S) -> Moment<'a, S>
+        ensures steps { result.turn.steps ≡ 0 }
+        ensures used { result.turn.used ≡ 0 }
+    {
         let fresh = source.id();
         let now = source.now();
-        Moment { source, now, fresh }
+        let turn = Turn::begun();
+        Moment {
+            source,
+            now,
+            fresh,
+            turn,
+        }
     }
 
     pub(crate) fn fresh(&self) -> ReplId {
@@ -26,7 +38,9 @@ impl<'a, S: Source> Moment<'a, S> {
     }
 
     /// What the next step is given.
-    pub(crate) fn given(&mut self) -> Given {
+    pub(crate) fn given(&mut self) -> Given
+        ensures { self.new.turn ≡ self.old.turn }
+    {
         let word = self.source.word();
         match Given::new(self.now, word) {
             Some(given) => given,

@@ -30,8 +30,8 @@ pub fn serve<W: Wire, F: LogFile, S: Source>(
     ensures quiet { AllWait node.old → OnOk result (AllWait node.new) }
 {
     for _ in 0..turns {
-        turn(node, links, wire, log, source)?;
-        if links.halted() {
+        let told = turn(node, links, wire, log, source)?;
+        if told.halted {
             return Ok(());
         }
     }

@@ -9,6 +9,7 @@ use crate::client::Phase;
 use crate::fault::LoopFault;
 use crate::filing::replace;
 use crate::links::Links;
+use crate::told::Turn;
 use mr_aof::Log;
 use mr_data::Given;
 use mr_file::LogFile;
@@ -16,7 +17,7 @@ use mr_links::LinkId;
 use mr_node::{Node, NodeFault, Outs, Step};
 use mr_repl::ReplId;
 
-/// The next step on a client's link. It answers whether something was used.
+/// The next step on a client's link, which is counted. It answers whether something was used.
 pub(crate) fn step<F: LogFile>(
     node: &mut Node,
     links: &mut Links,
@@ -24,8 +25,9 @@ pub(crate) fn step<F: LogFile>(
     k: LinkId,
     given: Given,
     fresh: ReplId,
+    turn: &mut Turn,
 ) -> Result<bool, LoopFault>
-    ensures went { GoesWithFileAs log.old.mode result node.old links.old (F.told log.old.file) (F.synced log.old.file) node.new links.new (F.told log.new.file) (F.synced log.new.file) }
+    ensures went { GoesWithFileAs log.old.mode result turn.old turn.new node.old links.old (F.told log.old.file) (F.synced log.old.file) node.new links.new (F.told log.new.file) (F.synced log.new.file) }
     ensures mode { log.new.mode ≡ log.old.mode }
     ensures device { IsErrOf result LoopFault.File → log.new.broken ≡ true }
     ensures quiet { WaitsBut (client_of links.old k) node.old → IfOk result (λ used. WaitsUnless used (client_of links.new k) node.new) }
@@ -38,8 +40,10 @@ pub(crate) fn step<F: LogFile>(
         return Ok(false);
     }
     let link = client.link();
+    turn.count_step();
     match node.step(link, given, fresh) {
         Ok(Step::Done(outs)) => {
+            turn.count_use();
             let carried = carry_out(links, log, k, &outs);
             node.reuse(outs);
             match carried {

@@ -3,7 +3,7 @@ ghost use Rattle.std.specs.Prelude.{◌≡◌, ◌<◌, [], false, true, IfOk, O
 ghost use Rattle.mr_file.specs.LogFile.{Rose};
 ghost use Rattle.mr_loop.specs.Stage.{client_of, stage_of};
 ghost use Rattle.mr_loop.specs.Left.{left_of};
-ghost use Rattle.mr_loop.specs.Outcomes.{Does, Turns};
+ghost use Rattle.mr_loop.specs.Outcomes.{DoesCounting, DoesTelling, Turns};
 ghost use Rattle.mr_loop.specs.Quiet.{AllWait, WaitsBut, WaitsUnless};
 
 use crate::accepting::accept_all;
@@ -13,6 +13,7 @@ use crate::links::Links;
 use crate::moment::Moment;
 use crate::reading::{gather, read_piece};
 use crate::stepping::{step, tick};
+use crate::told::Turn;
 use crate::writing::{close_all, unburden, write_all};
 use mr_aof::Log;
 use mr_file::LogFile;
@@ -33,14 +34,15 @@ const MOST_BATCH: usize = 1_048_576;
 /// One turn: waits until something is ready, accepts links, reads of each client whose link is ready and steps as far as its
 /// requests go, appends what they changed to the file, sends the replies, and lets time pass at the node. On a client whose link
 /// isn't ready it spends nothing. No turn begins once a client asked that the program end: the one in which it did goes to its
-/// end. Where the file fails, or memory runs out for what the node gave out, the node is stopped.
+/// end. It answers how many steps the node was asked for, how many of them used something, and whether a client asked that. Where the
+/// file fails, or memory runs out for what the node gave out, the node is stopped.
 pub fn turn<W: Wire, F: LogFile, S: Source>(
     node: &mut Node,
     links: &mut Links,
     wire: &mut W,
     log: &mut Log<F>,
     source: &mut S,
-) -> Result<(), LoopFault>
+) -> Result<Turn, LoopFault>
     requires filed { links.old.batch ≡ [] }
     requires runs { links.old.halted ≡ false }
     ensures went { Turns W.tells log.old.mode result (stage_of W.links F.told F.synced node.old links.old wire.old log.old) (stage_of W.links F.told F.synced node.new links.new wire.new log.new) }
@@ -56,7 +58,7 @@ pub fn turn<W: Wire, F: LogFile, S: Source>(
         return Err(LoopFault::Listener);
     }
     match go_on(node, links, wire, log, source) {
-        Ok(()) => Ok(()),
+        Ok(told) => Ok(told),
         Err(fault) => {
             node.file_failed();
             Err(fault)
@@ -71,9 +73,9 @@ fn go_on<W: Wire, F: LogFile, S: Source>(
     wire: &mut W,
     log: &mut Log<F>,
     source: &mut S,
-) -> Result<(), LoopFault>
+) -> Result<Turn, LoopFault>
     requires { links.old.batch ≡ [] }
-    ensures went { Does W.tells log.old.mode result (stage_of W.links F.told F.synced node.old links.old wire.old log.old) (stage_of W.links F.told F.synced node.new links.new wire.new log.new) }
+    ensures went { DoesTelling W.tells log.old.mode result (stage_of W.links F.told F.synced node.old links.old wire.old log.old) (stage_of W.links F.told F.synced node.new links.new wire.new log.new) }
     ensures written { OnOk result (links.new.batch ≡ []) }
     ensures mode { log.new.mode ≡ log.old.mode }
     ensures device { IsErrOf result LoopFault.File → log.new.broken ≡ true }
@@ -88,7 +90,7 @@ fn go_on<W: Wire, F: LogFile, S: Source>(
     tick(node, links, moment.given())?;
     commit(links, log)?;
     links.set_hurries(accepts || reads);
-    Ok(())
+    Ok(moment.turn.with_halted(links.halted()))
 }
 
 /// Waits until something is ready. Behind a turn that met a limit nothing is waited for.
@@ -108,7 +110,7 @@ fn read_all<W: Wire, F: LogFile, S: Source>(
     log: &mut Log<F>,
     moment: &mut Moment<'_, S>,
 ) -> Result<bool, LoopFault>
-    ensures went { Does W.tells log.old.mode result (stage_of W.links F.told F.synced node.old links.old wire.old log.old) (stage_of W.links F.told F.synced node.new links.new wire.new log.new) }
+    ensures went { DoesCounting W.tells log.old.mode result moment.old.turn moment.new.turn (stage_of W.links F.told F.synced node.old links.old wire.old log.old) (stage_of W.links F.told F.synced node.new links.new wire.new log.new) }
     ensures mode { log.new.mode ≡ log.old.mode }
     ensures device { IsErrOf result LoopFault.File → log.new.broken ≡ true }
     ensures quiet { AllWait node.old → OnOk result (AllWait node.new) }
@@ -128,7 +130,7 @@ fn read_each<W: Wire, F: LogFile, S: Source>(
     moment: &mut Moment<'_, S>,
     piece: &mut [u8],
 ) -> Result<bool, LoopFault>
-    ensures went { Does W.tells log.old.mode result (stage_of W.links F.told F.synced node.old links.old wire.old log.old) (stage_of W.links F.told F.synced node.new links.new wire.new log.new) }
+    ensures went { DoesCounting W.tells log.old.mode result moment.old.turn moment.new.turn (stage_of W.links F.told F.synced node.old links.old wire.old log.old) (stage_of W.links F.told F.synced node.new links.new wire.new log.new) }
     ensures mode { log.new.mode ≡ log.old.mode }
     ensures device { IsErrOf result LoopFault.File → log.new.broken ≡ true }
     ensures quiet { AllWait node.old → OnOk result (AllWait node.new) }
@@ -150,7 +152,7 @@ fn read_at<W: Wire, F: LogFile, S: Source>(
     piece: &mut [u8],
     index: usize,
 ) -> Result<bool, LoopFault>
-    ensures went { Does W.tells log.old.mode result (stage_of W.links F.told F.synced node.old links.old wire.old log.old) (stage_of W.links F.told F.synced node.new links.new wire.new log.new) }
+    ensures went { DoesCounting W.tells log.old.mode result moment.old.turn moment.new.turn (stage_of W.links F.told F.synced node.old links.old wire.old log.old) (stage_of W.links F.told F.synced node.new links.new wire.new log.new) }
     ensures mode { log.new.mode ≡ log.old.mode }
     ensures device { IsErrOf result LoopFault.File → log.new.broken ≡ true }
     ensures quiet { AllWait node.old → OnOk result (AllWait node.new) }
@@ -171,7 +173,7 @@ fn read_client<W: Wire, F: LogFile, S: Source>(
     piece: &mut [u8],
     k: LinkId,
 ) -> Result<bool, LoopFault>
-    ensures went { Does W.tells log.old.mode result (stage_of W.links F.told F.synced node.old links.old wire.old log.old) (stage_of W.links F.told F.synced node.new links.new wire.new log.new) }
+    ensures went { DoesCounting W.tells log.old.mode result moment.old.turn moment.new.turn (stage_of W.links F.told F.synced node.old links.old wire.old log.old) (stage_of W.links F.told F.synced node.new links.new wire.new log.new) }
     ensures mode { log.new.mode ≡ log.old.mode }
     ensures device { IsErrOf result LoopFault.File → log.new.broken ≡ true }
     ensures quiet { AllWait node.old → OnOk result (AllWait node.new) }
@@ -194,7 +196,7 @@ fn step_all<W: Wire, F: LogFile, S: Source>(
     moment: &mut Moment<'_, S>,
     k: LinkId,
 ) -> Result<(), LoopFault>
-    ensures went { Does W.tells log.old.mode result (stage_of W.links F.told F.synced node.old links.old wire.old log.old) (stage_of W.links F.told F.synced node.new links.new wire.new log.new) }
+    ensures went { DoesCounting W.tells log.old.mode result moment.old.turn moment.new.turn (stage_of W.links F.told F.synced node.old links.old wire.old log.old) (stage_of W.links F.told F.synced node.new links.new wire.new log.new) }
     ensures mode { log.new.mode ≡ log.old.mode }
     ensures device { IsErrOf result LoopFault.File → log.new.broken ≡ true }
     ensures quiet { WaitsBut (client_of links.old k) node.old → OnOk result (AllWait node.new) }
@@ -212,7 +214,7 @@ fn step_next<W: Wire, F: LogFile, S: Source>(
     moment: &mut Moment<'_, S>,
     k: LinkId,
 ) -> Result<bool, LoopFault>
-    ensures went { Does W.tells log.old.mode result (stage_of W.links F.told F.synced node.old links.old wire.old log.old) (stage_of W.links F.told F.synced node.new links.new wire.new log.new) }
+    ensures went { DoesCounting W.tells log.old.mode result moment.old.turn moment.new.turn (stage_of W.links F.told F.synced node.old links.old wire.old log.old) (stage_of W.links F.told F.synced node.new links.new wire.new log.new) }
     ensures mode { log.new.mode ≡ log.old.mode }
     ensures device { IsErrOf result LoopFault.File → log.new.broken ≡ true }
     ensures quiet { WaitsBut (client_of links.old k) node.old → IfOk result (λ used. WaitsUnless used (client_of links.new k) node.new) }
@@ -221,7 +223,7 @@ fn step_next<W: Wire, F: LogFile, S: Source>(
     unburden(node, links, wire, log, k)?;
     let given = moment.given();
     let fresh = moment.fresh();
-    let used = step(node, links, log, k, given, fresh)?;
+    let used = step(node, links, log, k, given, fresh, &mut moment.turn)?;
     if links.batch().len() > MOST_BATCH {
         commit(links, log)?;
     }

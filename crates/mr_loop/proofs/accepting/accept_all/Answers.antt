@@ -1,5 +1,5 @@
 use Rattle.std.proofs.Common.{rules, ◌≡◌, Err}
-use Rattle.mr_loop.proofs.Runs.{breaks, went_broke, went_trans}
+use Rattle.mr_loop.proofs.Runs.{breaks, went_broke, went_refl, went_trans}
 use Rattle.mr_loop.proofs.accepting.accept_all.Goals as goal
 
 pub returns-in_err-accept_next-clause-went : goal.returns-in_err-accept_next-clause-went
@@ -19,3 +19,6 @@ returns-then-not-branch-clause-quiet g c = λ q. c.accept_next.ensures.quiet (c.
 
 pub loop-preserved : goal.loop-preserved
 loop-preserved g c = (λ m t s. went_trans (c.loop.invariant.0 m t s) (c.in_ok-accept_next.ensures.went m t s), λ q. c.accept_next.ensures.quiet (c.loop.invariant.1 q))
+
+pub loop-init : goal.loop-init
+loop-init g c = (λ m t s. went_refl _, λ q. q)

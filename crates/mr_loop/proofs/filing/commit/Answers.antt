@@ -1,7 +1,7 @@
 use Rattle.std.proofs.Common.{refl, subst}
 use Rattle.mr_file.specs.LogFile.{AppendsSome}
 use Rattle.mr_loop.specs.Rows.{appends, fails}
-use Rattle.mr_loop.proofs.Runs.{broke_one, went_one}
+use Rattle.mr_loop.proofs.Runs.{broke_one, went_one, went_refl}
 use Rattle.mr_loop.proofs.filing.commit.Goals as goal
 
 pub returns-in-Ok-clause-went : goal.returns-in-Ok-clause-went
@@ -21,3 +21,6 @@ returns-in-Err-clause-went g c = λ tells n w. broke_one fails refl (record {
   wire = refl;
   node = refl;
 })
+
+pub returns-then-is_empty-clause-went : goal.returns-then-is_empty-clause-went
+returns-then-is_empty-clause-went g c = λ tells n w. went_refl _

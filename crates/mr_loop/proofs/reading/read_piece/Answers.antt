@@ -6,7 +6,7 @@ use Rattle.mr_loop.specs.declared.client.Phase.TheVariants as phase
 use Rattle.mr_loop.specs.Stage.{client_of, put_client}
 use Rattle.mr_loop.specs.Rows.{takes, finds_none, hears_end, loses}
 use Rattle.mr_loop.proofs.Places.{touches, fed_as, ends_as, some_at}
-use Rattle.mr_loop.proofs.Runs.{went_one}
+use Rattle.mr_loop.proofs.Runs.{went_one, went_refl}
 use Rattle.mr_loop.proofs.Waiting.{waits_fed, waits_ended, others_of, waits_with}
 use Rattle.mr_loop.proofs.reading.read_piece.Goals as goal
 
@@ -115,3 +115,12 @@ returns-in-Err-clause-quiet g c = λ q. waits_with (ap (λ (a : NodeState). a.li
 
 pub returns-in-End-clause-quiet : goal.returns-in-End-clause-quiet
 returns-in-End-clause-quiet g c = λ q. waits_ended c.close.ensures.ends (others_of c.link-link.result q)
+
+pub returns-in_default-clause-went : goal.returns-in_default-clause-went
+returns-in_default-clause-went g c = λ m t s. went_refl _
+
+pub returns-then-not-is_serving-clause-went : goal.returns-then-not-is_serving-clause-went
+returns-then-not-is_serving-clause-went g c = λ m t s. went_refl _
+
+pub returns-then-room-eq0-clause-went : goal.returns-then-room-eq0-clause-went
+returns-then-room-eq0-clause-went g c = λ m t s. went_refl _

@@ -3,7 +3,7 @@ use Rattle.mr_loop.specs.declared.client.Phase.TheVariants as phase
 use Rattle.mr_loop.specs.Stage.{client_of}
 use Rattle.mr_loop.specs.Rows.{hangs_up}
 use Rattle.mr_loop.proofs.Places.{ends_as}
-use Rattle.mr_loop.proofs.Runs.{went_one}
+use Rattle.mr_loop.proofs.Runs.{went_one, went_refl}
 use Rattle.mr_loop.proofs.Waiting.{hung_up_waits}
 use Rattle.mr_loop.proofs.Using.{ended_left}
 use Rattle.mr_loop.proofs.stepping.hang_up.Goals as goal
@@ -26,3 +26,9 @@ returns-clause-quiet c = λ q. hung_up_waits c.args.node.now c.close.new.self (c
 
 pub returns-clause-left : goal.returns-clause-left
 returns-clause-left c = ended_left c.args.node.now c.close.new.self (client_of c.args.links.now c.args.k) c.in-Some.client.now c.link-link.result (sym c.in-Some.ensures) c.link-link.ensures c.close.ensures.ends
+
+pub returns-in_default-clause-went : goal.returns-in_default-clause-went
+returns-in_default-clause-went c = λ tells w m t s. went_refl _
+
+pub returns-then-not-is_lost-clause-went : goal.returns-then-not-is_lost-clause-went
+returns-then-not-is_lost-clause-went c = λ tells w m t s. went_refl _

@@ -6,6 +6,7 @@ use Rattle.mr_loop.specs.Stage.{LoopState, client_of, put_client}
 use Rattle.mr_loop.specs.Quiet.{OthersWait, WaitsBut}
 use Rattle.mr_loop.specs.Rows.{steps, idles, is_refused, stops, at_step, Stepped, behind_step, phase_after}
 use Rattle.mr_loop.proofs.Carrying.{not_told}
+use Rattle.mr_loop.proofs.Counts.{counts_idle, counts_refl, counts_use}
 use Rattle.mr_loop.proofs.Places.{stepped_as, some_at}
 use Rattle.mr_loop.proofs.Runs.{broke_one, went_one, went_trans}
 use Rattle.mr_loop.proofs.Using.{done_left, left_as}
@@ -16,7 +17,8 @@ pub returns-in-Ok-clause-went : goal.returns-in-Ok-clause-went
 returns-in-Ok-clause-went g c = λ tells w.
     let serving : c.in-Some.client.now.phase ≡ phase.Serving = search rules in
     let outs = c.in-Ok-Done.outs in
-    went_one (steps c.args.k c.args.given outs) refl (record {
+    counts_use c.args.turn.now c.count_step.new.self c.count_use.new.self c.count_step.ensures.steps c.count_step.ensures.used c.count_use.ensures.steps c.count_use.ensures.used
+    (went_one (steps c.args.k c.args.given outs) refl (record {
       client = c.in-Some.client.now;
       has = record { is = sym c.in-Some.ensures };
       serving = serving;
@@ -24,7 +26,7 @@ returns-in-Ok-clause-went g c = λ tells w.
       own = some_at (λ q. c.carry_out-carried.new.links ≡ behind_step outs c.args.k q c.args.links.now) (client_of c.args.links.now c.args.k) c.in-Some.client.now (sym c.in-Some.ensures) c.in-Ok.ensures.went.0;
       wire = refl;
       file = c.in-Ok.ensures.went.1;
-    })
+    }))
 
 pub returns-in-Err-carried-clause-went : goal.returns-in-Err-carried-clause-went
 returns-in-Err-carried-clause-went g c = λ tells w.
@@ -35,24 +37,26 @@ returns-in-Err-carried-clause-went g c = λ tells w.
     c.in-Err-carried.ensures.went
 
 pub returns-in-Ok-Idle-clause-went : goal.returns-in-Ok-Idle-clause-went
-returns-in-Ok-Idle-clause-went g c = λ tells w. went_one (idles c.args.k c.args.given) refl (record {
-  client = c.in-Some.client.now;
-  has = record { is = sym c.in-Some.ensures };
-  answer = inl (stepped_as c.args.node.now c.step.new.self c.step.new.self c.link-link.result c.in-Some.client.now.link c.args.given c.in-Ok-Idle.field-0 step.Idle c.link-link.ensures refl c.in-Ok-Idle.field-0-is c.in-Ok-Idle.ensures.row);
-  own = refl;
-  wire = refl;
-  file = (refl, refl);
-})
+returns-in-Ok-Idle-clause-went g c = λ tells w. counts_idle c.args.turn.now c.count_step.new.self c.count_step.ensures.steps c.count_step.ensures.used
+    (went_one (idles c.args.k c.args.given) refl (record {
+      client = c.in-Some.client.now;
+      has = record { is = sym c.in-Some.ensures };
+      answer = inl (stepped_as c.args.node.now c.step.new.self c.step.new.self c.link-link.result c.in-Some.client.now.link c.args.given c.in-Ok-Idle.field-0 step.Idle c.link-link.ensures refl c.in-Ok-Idle.field-0-is c.in-Ok-Idle.ensures.row);
+      own = refl;
+      wire = refl;
+      file = (refl, refl);
+    }))
 
 pub returns-in-Ok-Closed-clause-went : goal.returns-in-Ok-Closed-clause-went
-returns-in-Ok-Closed-clause-went g c = λ tells w. went_one (idles c.args.k c.args.given) refl (record {
-  client = c.in-Some.client.now;
-  has = record { is = sym c.in-Some.ensures };
-  answer = inr (stepped_as c.args.node.now c.step.new.self c.step.new.self c.link-link.result c.in-Some.client.now.link c.args.given c.in-Ok-Closed.field-0 step.Closed c.link-link.ensures refl c.in-Ok-Closed.field-0-is c.in-Ok-Closed.ensures.row);
-  own = refl;
-  wire = refl;
-  file = (refl, refl);
-})
+returns-in-Ok-Closed-clause-went g c = λ tells w. counts_idle c.args.turn.now c.count_step.new.self c.count_step.ensures.steps c.count_step.ensures.used
+    (went_one (idles c.args.k c.args.given) refl (record {
+      client = c.in-Some.client.now;
+      has = record { is = sym c.in-Some.ensures };
+      answer = inr (stepped_as c.args.node.now c.step.new.self c.step.new.self c.link-link.result c.in-Some.client.now.link c.args.given c.in-Ok-Closed.field-0 step.Closed c.link-link.ensures refl c.in-Ok-Closed.field-0-is c.in-Ok-Closed.ensures.row);
+      own = refl;
+      wire = refl;
+      file = (refl, refl);
+    }))
 
 pub returns-in-Err-Stopped-clause-went : goal.returns-in-Err-Stopped-clause-went
 returns-in-Err-Stopped-clause-went g c = λ tells w.
@@ -63,7 +67,8 @@ pub returns-in-Err-clause-went : goal.returns-in-Err-clause-went
 returns-in-Err-clause-went g c = λ tells w.
     let serving : c.in-Some.client.now.phase ≡ phase.Serving = search rules in
     let same : c.step.new.self ≡ c.args.node.now = search rules in
-    went_trans (went_one (is_refused c.args.k) refl (record {
+    counts_idle c.args.turn.now c.count_step.new.self c.count_step.ensures.steps c.count_step.ensures.used
+    (went_trans (went_one (is_refused c.args.k) refl (record {
       client = c.in-Some.client.now;
       given_up = record {
         has = record { is = sym c.in-Some.ensures };
@@ -73,7 +78,7 @@ returns-in-Err-clause-went g c = λ tells w.
         own = some_at (λ q. c.set_phase.new.self ≡ put_client c.args.links.now c.args.k (record q { phase = phase.Lost })) (client_of c.args.links.now c.args.k) c.in-Some.client.now (sym c.in-Some.ensures) c.set_phase.ensures;
         file = (refl, refl);
       };
-    })) (c.hang_up.ensures.went tells w c.args.log.now.mode (g.F.LogFile.told c.args.log.now.file) (g.F.LogFile.synced c.args.log.now.file))
+    })) (c.hang_up.ensures.went tells w c.args.log.now.mode (g.F.LogFile.told c.args.log.now.file) (g.F.LogFile.synced c.args.log.now.file)))
 
 pub returns-in-Ok-clause-quiet : goal.returns-in-Ok-clause-quiet
 returns-in-Ok-clause-quiet g c = λ q.
@@ -116,3 +121,9 @@ returns-in-Ok-clause-uses g c = λ used.
     let there = ap (λ (x : LoopState). client_of x c.args.k) own ∙ stepped_there outs c.args.links.now c.args.k client in
     let less = done_left c.args.node.now c.step.new.self c.link-link.result c.args.given outs c.step.result (c.in-Ok-Done.is ∙ ap Ok c.in-Ok-Done.field-0-is) c.step.ensures.down c.step.ensures.shut c.step.ensures.no_link (subst (λ z. Stepped c.args.node.now c.link-link.result c.args.given c.step.new.self z) c.in-Ok-Done.field-0-is c.in-Ok-Done.ensures.row) in
     left_as c.args.node.now c.step.new.self c.reuse.new.self o (client_of c.carry_out-carried.new.links c.args.k) client (record client { waiting = client.waiting ++ outs.reply; phase = phase_after outs client.phase }) c.link-link.result (sym c.in-Some.ensures) there c.link-link.ensures c.link-link.ensures c.reuse.ensures less
+
+pub returns-in_default-clause-went : goal.returns-in_default-clause-went
+returns-in_default-clause-went g c = λ tells w. counts_refl c.args.turn.now _
+
+pub returns-then-not-is_serving-clause-went : goal.returns-then-not-is_serving-clause-went
+returns-then-not-is_serving-clause-went g c = λ tells w. counts_refl c.args.turn.now _

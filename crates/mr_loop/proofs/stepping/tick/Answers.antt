@@ -3,7 +3,7 @@ use Rattle.mr_node.specs.Ticks.{TickRow}
 use Rattle.mr_loop.specs.Rows.{ticks, spills_tick, stops, was_down}
 use Rattle.mr_loop.proofs.Places.{filed}
 use Rattle.mr_loop.specs.Quiet.{AllWait}
-use Rattle.mr_loop.proofs.Runs.{broke_one, went_one}
+use Rattle.mr_loop.proofs.Runs.{broke_one, went_one, went_still}
 use Rattle.mr_loop.proofs.Waiting.{waits_ticked}
 use Rattle.mr_loop.proofs.stepping.tick.Goals as goal
 
@@ -34,3 +34,13 @@ returns-in-Ok-filed-clause-quiet c = λ q. subst AllWait (sym c.reuse.ensures) (
 
 pub returns-in-Err-filed-clause-quiet : goal.returns-in-Err-filed-clause-quiet
 returns-in-Err-filed-clause-quiet c = λ q. subst AllWait (sym c.reuse.ensures) (waits_ticked c.in-Ok.ensures.row q)
+
+pub returns-in-Err-clause-went : goal.returns-in-Err-clause-went
+returns-in-Err-clause-went c = λ tells w m t s.
+    let same : c.tick.new.self ≡ c.args.node.now = search rules in
+    went_still c.args.node.now c.tick.new.self c.args.links.now w t s same
+
+pub returns-in-Err-clause-quiet : goal.returns-in-Err-clause-quiet
+returns-in-Err-clause-quiet c = λ q.
+    let same : c.tick.new.self ≡ c.args.node.now = search rules in
+    subst AllWait (sym same) q

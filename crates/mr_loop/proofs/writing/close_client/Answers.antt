@@ -2,7 +2,7 @@ use Rattle.std.proofs.Common.{refl, sym, ap, ◌∙◌}
 use Rattle.std.specs.FinMap as map
 use Rattle.mr_loop.specs.Rows.{closes}
 use Rattle.mr_loop.proofs.Places.{ends_as}
-use Rattle.mr_loop.proofs.Runs.{went_one}
+use Rattle.mr_loop.proofs.Runs.{went_one, went_refl}
 use Rattle.mr_loop.proofs.Waiting.{waits_ended, others_of}
 use Rattle.mr_loop.proofs.writing.close_client.Goals as goal
 
@@ -22,3 +22,9 @@ returns-clause-went g c = λ m t s. went_one (closes c.args.k) refl (record {
 
 pub returns-clause-quiet : goal.returns-clause-quiet
 returns-clause-quiet g c = λ q. waits_ended c.close.ensures.ends (others_of c.link-link.result q)
+
+pub returns-in_default-clause-went : goal.returns-in_default-clause-went
+returns-in_default-clause-went g c = λ m t s. went_refl _
+
+pub returns-then-not-may_close-clause-went : goal.returns-then-not-may_close-clause-went
+returns-then-not-may_close-clause-went g c = λ m t s. went_refl _

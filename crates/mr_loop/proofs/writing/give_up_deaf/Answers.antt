@@ -3,7 +3,7 @@ use Rattle.mr_loop.specs.declared.client.Phase.TheVariants as phase
 use Rattle.mr_loop.specs.Stage.{LoopState, client_of, put_client}
 use Rattle.mr_loop.specs.Rows.{is_deaf}
 use Rattle.mr_loop.proofs.Places.{some_at}
-use Rattle.mr_loop.proofs.Runs.{went_one}
+use Rattle.mr_loop.proofs.Runs.{went_one, went_refl}
 use Rattle.mr_loop.proofs.Waiting.{put_there, stays_put, stays_same}
 use Rattle.mr_loop.proofs.writing.give_up_deaf.Goals as goal
 
@@ -32,3 +32,6 @@ returns-then-is_burdened-clause-client c =
 
 pub returns-else-is_burdened-clause-client : goal.returns-else-is_burdened-clause-client
 returns-else-is_burdened-clause-client c = stays_same (client_of c.args.links.now c.args.k) (client_of c.args.links.now c.args.k) refl
+
+pub returns-else-is_burdened-clause-went : goal.returns-else-is_burdened-clause-went
+returns-else-is_burdened-clause-went c = λ node tells w m t s. went_refl _

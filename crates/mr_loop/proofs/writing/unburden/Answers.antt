@@ -1,6 +1,6 @@
 use Rattle.std.proofs.Common.{rules, ◌≡◌, Err, ap, arith}
 use Rattle.mr_loop.specs.Stage.{LoopState, client_of}
-use Rattle.mr_loop.proofs.Runs.{breaks, went_trans}
+use Rattle.mr_loop.proofs.Runs.{breaks, went_refl, went_trans}
 use Rattle.mr_loop.proofs.Using.{stays_left}
 use Rattle.mr_loop.proofs.Waiting.{stays_same, stays_trans, stays_waits}
 use Rattle.mr_loop.proofs.writing.unburden.Goals as goal
@@ -33,3 +33,6 @@ returns-clause-left g c =
     let three = stays_trans (client_of c.args.links.now k) (client_of c.write_ready.new.links k) (client_of c.give_up_deaf.new.links k) two c.give_up_deaf.ensures.client in
     let same = stays_left c.args.node.now (client_of c.args.links.now k) (client_of c.give_up_deaf.new.links k) three in
     omega (arith, same, c.hang_up.ensures.left)
+
+pub returns-then-not-is_burdened-clause-went : goal.returns-then-not-is_burdened-clause-went
+returns-then-not-is_burdened-clause-went g c = went_refl _

@@ -1,7 +1,7 @@
-use Rattle.std.proofs.Common.{◌∙◌}
+use Rattle.std.proofs.Common.{◌∙◌, refl}
 use Rattle.mr_loop.specs.Stage.{client_of}
-use Rattle.mr_loop.proofs.Runs.{went_trans}
-use Rattle.mr_loop.proofs.Waiting.{stays_trans}
+use Rattle.mr_loop.proofs.Runs.{went_refl, went_trans}
+use Rattle.mr_loop.proofs.Waiting.{stays_same, stays_trans}
 use Rattle.mr_loop.proofs.writing.write_ready.Goals as goal
 
 pub returns-then-not-write_client-clause-went : goal.returns-then-not-write_client-clause-went
@@ -12,3 +12,6 @@ loop-preserved g c = (λ node m t s. went_trans (c.loop.invariant.0 node m t s) 
 
 pub returns-then-not-write_client-clause-client : goal.returns-then-not-write_client-clause-client
 returns-then-not-write_client-clause-client g c = stays_trans (client_of c.args.links.now c.args.k) (client_of c.loop.links c.args.k) (client_of c.write_client.new.links c.args.k) c.loop.invariant.2 c.write_client.ensures.client
+
+pub loop-init : goal.loop-init
+loop-init g c = (λ node m t s. went_refl _, refl, stays_same (client_of c.args.links.now c.args.k) (client_of c.args.links.now c.args.k) refl)

@@ -1,0 +1,56 @@
+ghost use Rattle.std.specs.Prelude.{◌≡◌, ◌+◌, false};
+ghost use Rattle.mr_loop.specs.Counting.{counted};
+
+/// What a turn that ended well tells of itself.
+#[derive(Clone, Copy, Debug, PartialEq, Eq)]
+pub struct Turn {
+    /// How often the node was asked for a step. It stays at 2^64 - 1.
+    pub steps: u64,
+    /// How many of these steps used something of what a client sent. It stays at 2^64 - 1.
+    pub used: u64,
+    /// A client said SHUTDOWN.
+    pub halted: bool,
+}
+
+impl Turn {
+    /// A turn begins: nothing is counted yet.
+    pub(crate) fn begun() -> Turn
+        ensures steps { result.steps ≡ 0 }
+        ensures used { result.used ≡ 0 }
+    {
+        Turn {
+            steps: 0,
+            used: 0,
+            halted: false,
+        }
+    }
+
+    /// Counts a step that the node is asked for.
+    pub(crate) fn count_step(&mut self)
+        ensures steps { self.new.steps ≡ counted (self.old.steps + 1) }
+        ensures used { self.new.used ≡ self.old.used }
+    {
+        self.steps = self.steps.saturating_add(1);
+    }
+
+    /// Counts that such a step used something.
+    pub(crate) fn count_use(&mut self)
+        ensures steps { self.new.steps ≡ self.old.steps }
+        ensures used { self.new.used ≡ counted (self.old.used + 1) }
+    {
+        self.used = self.used.saturating_add(1);
+    }
+
+    /// The same, with whether a client said SHUTDOWN.
+    pub(crate) fn with_halted(self, halted: bool) -> Turn
+        ensures steps { result.steps ≡ self.steps }
+        ensures used { result.used ≡ self.used }
+        ensures halted { result.halted ≡ halted }
+    {
+        Turn {
+            steps: self.steps,
+            used: self.used,
+            halted,
+        }
+    }
+}
