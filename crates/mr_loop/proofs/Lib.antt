@@ -1,3 +1,4 @@
+pub mod AtLinks
 pub mod Carrying
 pub mod Counts
 pub mod Halting

@@ -7,7 +7,7 @@ use Rattle.mr_wire.specs.Wire.{LinkState}
 use Rattle.mr_loop.specs.declared.fault.LoopFault.{LoopFault}
 use Rattle.mr_loop.specs.declared.fault.LoopFault.TheVariants as fault
 use Rattle.mr_loop.specs.Stage.{Stage, LoopState, stage}
-use Rattle.mr_loop.specs.Rows.{Event, fault_of, Happens, IsStopped, Run, Went, spills, tears, spills_tick, fails, stops}
+use Rattle.mr_loop.specs.Rows.{Event, fault_of, Happens, IsToldToStop, Run, Went, spills, tears, spills_tick, fails, stops}
 use Rattle.mr_loop.specs.Counting.{calls_by, uses_by, calls_in, uses_in, Counted}
 use Rattle.mr_loop.specs.Outcomes.{Broke, Does, Ends, Fails, Serves}
 
@@ -103,7 +103,7 @@ err_is why other e = cc
 pub never_listener : {A : Type 0} {tells : Bool} {mode : SyncMode} {s t : Stage} (why : LoopFault) → Broke tells mode why s t → ◌≡◌ {A = Result A LoopFault} (Err why) (Err fault.Listener) → ⊥
 never_listener {A} why broke e = no_listener broke.last (broke.told ∙ ap Some (err_is {A = A} why fault.Listener e))
 
-pub breaks_down : {tells : Bool} {mode : SyncMode} {s b t : Stage} (why : LoopFault) → Broke tells mode why s b → IsStopped b t → Fails tells mode why s t
+pub breaks_down : {tells : Bool} {mode : SyncMode} {s b t : Stage} (why : LoopFault) → Broke tells mode why s b → IsToldToStop b t → Fails tells mode why s t
 breaks_down fault.Listener broke stopped = absurd (no_listener broke.last broke.told)
 breaks_down {tells} {mode} {s} {b} {t} fault.File broke stopped = record { behind = b; broke = broke; stopped = stopped }
 breaks_down {tells} {mode} {s} {b} {t} fault.Stopped broke stopped = record { behind = b; broke = broke; stopped = stopped }

@@ -15,10 +15,9 @@ use Rattle.mr_node.specs.declared.fault.NodeFault.{NodeFault}
 use Rattle.mr_node.specs.declared.step.Step.{Step}
 use Rattle.mr_node.specs.declared.step.Step.TheVariants as step
 use Rattle.mr_loop.specs.Stage.{ClientState}
-use Rattle.mr_loop.specs.Rows.{Stepped}
 use Rattle.mr_loop.specs.Left.{left_at, left_of}
 use Rattle.mr_loop.specs.Quiet.{StaysThere}
-use Rattle.mr_loop.proofs.Waiting.{WhenDown, WhenShut, WhenNone, itself, met, not_closed, ok_is}
+use Rattle.mr_loop.proofs.Waiting.{WhenDown, WhenShut, WhenNone, AllRows, Met, itself, met, not_closed, ok_is}
 
 starred : (text : List ℕ) → IsInArray text → 0 < length text
 starred [] h = absurd h
@@ -55,10 +54,10 @@ row_left a b l u given outs ag (halts s) =
 row_left a b l u given outs ag (closes s) = omega (arith, left_open ag, left_shut s.shut)
 
 pub done_left : (a b : NodeState) (l : LinkId) (given : Given) (outs : OutsState) (r : Result Step NodeFault) → r ≡ Ok (step.Done outs) → WhenDown a r b → WhenShut a l r b → WhenNone a l r
-    → Stepped a l given b (step.Done outs) → left_at (end_of b l) < left_at (end_of a l)
+    → AllRows a l given b (step.Done outs) → left_at (end_of b l) < left_at (end_of a l)
 done_left a b l given outs r is down shuts none row = from (met a b l r (step.Done outs) is down shuts none)
   where
-    from : ((u : List ℕ) × Agrees a l u) ⊎ ((r ≡ Ok step.Closed) × (b ≡ a)) → left_at (end_of b l) < left_at (end_of a l)
+    from : Met a l r b → left_at (end_of b l) < left_at (end_of a l)
     from (inl ag) = row_left a b l ag.0 given outs ag.1 (row ag.0 ag.1)
     from (inr over) = absurd (not_closed outs (ok_is (step.Done outs) step.Closed (sym is ∙ over.0)))
 

@@ -13,7 +13,7 @@ use Rattle.mr_node.specs.State.{NodeState, EndState, Agrees, IsShut, OthersStay,
 use Rattle.mr_node.specs.State.EndState.{client, shut}
 use Rattle.mr_node.specs.Outs.{OutsState}
 use Rattle.mr_node.specs.Requests.{Waits}
-use Rattle.mr_node.specs.Rows.{ClientRow, serves, closes, halts}
+use Rattle.mr_node.specs.Rows.{ClientRow, StepRow, serves, closes, halts}
 use Rattle.mr_node.specs.Ticks.{TickRow, waits, deletes}
 use Rattle.mr_node.specs.declared.fault.NodeFault.{NodeFault}
 use Rattle.mr_node.specs.declared.fault.NodeFault.TheVariants as refused
@@ -24,7 +24,7 @@ use Rattle.mr_wire.specs.declared.wire.Moved.TheVariants as moved
 use Rattle.mr_loop.specs.declared.client.Phase.{Phase}
 use Rattle.mr_loop.specs.declared.client.Phase.TheVariants as phase
 use Rattle.mr_loop.specs.Stage.{ClientState, LoopState, client_of, put_client}
-use Rattle.mr_loop.specs.Rows.{Stepped, behind_replacing, behind_step, phase_after, phase_behind, queued}
+use Rattle.mr_loop.specs.Rows.{behind_replacing, behind_step, phase_after, phase_behind, queued}
 use Rattle.mr_loop.specs.Quiet.{AllWait, OthersWait, WaitsBut, WaitsButLost, WaitsUnless, KeepsOn, StaysThere}
 use Rattle.mr_loop.proofs.Nothing.{waits_nothing}
 
@@ -117,7 +117,7 @@ stepped_there outs o k c = replaced_there outs.replaced (queued outs k c o) k �
 
 -- ---- a step
 
-ok_err : {A E : Type 0} (x : A) (y : E) → ◌≡◌ {A = Result A E} (Ok x) (Err y) → ⊥
+pub ok_err : {A E : Type 0} (x : A) (y : E) → ◌≡◌ {A = Result A E} (Ok x) (Err y) → ⊥
 ok_err x y e = cc
 
 pub ok_is : {A E : Type 0} (x y : A) → ◌≡◌ {A = Result A E} (Ok x) (Ok y) → x ≡ y
@@ -132,17 +132,24 @@ WhenShut a l r b = a.core.up ≡ true → IsShut a l → (r ≡ Ok step.Closed) 
 abbrev pub WhenNone : NodeState → LinkId → Result Step NodeFault → Type 0
 WhenNone a l r = (r ≡ Err refused.NoLink) ↔ ((a.core.up ≡ true) × (end_of a l ≡ None))
 
--- a link at which a step is made agrees with some bytes, or was closed
-pub met : (a b : NodeState) (l : LinkId) (r : Result Step NodeFault) (s : Step) → r ≡ Ok s → WhenDown a r b → WhenShut a l r b → WhenNone a l r
-    → ((u : List ℕ) × Agrees a l u) ⊎ ((r ≡ Ok step.Closed) × (b ≡ a))
+-- what a step says for all unread bytes that the link agrees with
+abbrev pub AllRows : NodeState → LinkId → Given → NodeState → Step → Type 0
+AllRows a l given b s = (u : List ℕ) → Agrees a l u → StepRow a l u given b s
+
+-- the link agrees with some bytes, or was closed
+abbrev pub Met : NodeState → LinkId → Result Step NodeFault → NodeState → Type 0
+Met a l r b = ((u : List ℕ) × Agrees a l u) ⊎ ((r ≡ Ok step.Closed) × (b ≡ a) × IsShut a l)
+
+-- so it is where a step is made
+pub met : (a b : NodeState) (l : LinkId) (r : Result Step NodeFault) (s : Step) → r ≡ Ok s → WhenDown a r b → WhenShut a l r b → WhenNone a l r → Met a l r b
 met a b l r s is down shuts none =
-    let P : Type 0 = ((u : List ℕ) × Agrees a l u) ⊎ ((r ≡ Ok step.Closed) × (b ≡ a)) in
+    let P : Type 0 = Met a l r b in
     elim (a.core.up) as (λ up. a.core.up ≡ up → P) [
       | true ↦ λ up. elim (end_of a l) as (λ o. end_of a l ≡ o → P) [
         | None ↦ λ e. absurd (ok_err s refused.NoLink (sym is ∙ none.1 (up, e)))
         | Some x ↦ elim x as (λ x. end_of a l ≡ Some x → P) [
           | client u ↦ λ e. inl (u, record { is = e })
-          | shut ↦ λ e. inr (shuts up (record { is = e }))
+          | shut ↦ λ e. let over = shuts up (record { is = e }) in inr (over.0, over.1, record { is = e })
         ]
       ] refl
       | false ↦ λ up. absurd (ok_err s refused.Stopped (sym is ∙ (down up).0))
@@ -164,29 +171,29 @@ pub not_closed : (outs : OutsState) → step.Done outs ≡ step.Closed → ⊥
 not_closed outs e = cc
 
 pub done_waits : (a b : NodeState) (l : LinkId) (given : Given) (outs : OutsState) (r : Result Step NodeFault) (c : ClientState) → r ≡ Ok (step.Done outs) → WhenDown a r b → WhenShut a l r b → WhenNone a l r
-    → Stepped a l given b (step.Done outs) → l ≡ c.link → c.phase ≡ phase.Serving → OthersWait a l → WaitsBut (Some (record c { waiting = c.waiting ++ outs.reply; phase = phase_after outs c.phase })) b
+    → AllRows a l given b (step.Done outs) → l ≡ c.link → c.phase ≡ phase.Serving → OthersWait a l → WaitsBut (Some (record c { waiting = c.waiting ++ outs.reply; phase = phase_after outs c.phase })) b
 done_waits a b l given outs r c is down shuts none row name serving q = from (met a b l r (step.Done outs) is down shuts none)
   where
-    from : ((u : List ℕ) × Agrees a l u) ⊎ ((r ≡ Ok step.Closed) × (b ≡ a)) → WaitsBut (Some (record c { waiting = c.waiting ++ outs.reply; phase = phase_after outs c.phase })) b
+    from : Met a l r b → WaitsBut (Some (record c { waiting = c.waiting ++ outs.reply; phase = phase_after outs c.phase })) b
     from (inl ag) = let w = row_waits (row ag.0 ag.1) q in (subst (OthersWait b) name w.0, λ ne. w.1 (closing outs.closes c.phase serving ne))
     from (inr over) = absurd (not_closed outs (ok_is (step.Done outs) step.Closed (sym is ∙ over.0)))
 
-not_idle : step.Idle ≡ step.Closed → ⊥
+pub not_idle : step.Idle ≡ step.Closed → ⊥
 not_idle e = cc
 
 pub idle_waits : (a b : NodeState) (l : LinkId) (given : Given) (r : Result Step NodeFault) → r ≡ Ok step.Idle → WhenDown a r b → WhenShut a l r b → WhenNone a l r
-    → Stepped a l given b step.Idle → OthersWait a l → AllWait b
+    → AllRows a l given b step.Idle → OthersWait a l → AllWait b
 idle_waits a b l given r is down shuts none row q = from (met a b l r step.Idle is down shuts none)
   where
-    from : ((u : List ℕ) × Agrees a l u) ⊎ ((r ≡ Ok step.Closed) × (b ≡ a)) → AllWait b
+    from : Met a l r b → AllWait b
     from (inl ag) = waits_with (ap (λ (n : NodeState). n.links) (row ag.0 ag.1).same) (all_of l q (λ u here. (row u here).waits))
     from (inr over) = absurd (not_idle (ok_is step.Idle step.Closed (sym is ∙ over.0)))
 
 pub closed_waits : (a b : NodeState) (l : LinkId) (given : Given) (r : Result Step NodeFault) → r ≡ Ok step.Closed → WhenDown a r b → WhenShut a l r b → WhenNone a l r
-    → Stepped a l given b step.Closed → OthersWait a l → AllWait b
+    → AllRows a l given b step.Closed → OthersWait a l → AllWait b
 closed_waits a b l given r is down shuts none row q = from (met a b l r step.Closed is down shuts none)
   where
-    from : ((u : List ℕ) × Agrees a l u) ⊎ ((r ≡ Ok step.Closed) × (b ≡ a)) → AllWait b
+    from : Met a l r b → AllWait b
     from (inl ag) = absurd (row ag.0 ag.1)
     from (inr over) = waits_with (ap (λ (n : NodeState). n.links) over.1) (all_of l q (λ u ag. absurd (row u ag)))
 

@@ -5,7 +5,7 @@ use Rattle.mr_loop.specs.declared.fault.LoopFault.{LoopFault}
 use Rattle.mr_loop.specs.declared.fault.LoopFault.TheVariants as fault
 use Rattle.mr_loop.specs.declared.told.Turn.{Turn}
 use Rattle.mr_loop.specs.Stage.{Stage}
-use Rattle.mr_loop.specs.Rows.{Event, fault_of, Happens, IsStopped, Went}
+use Rattle.mr_loop.specs.Rows.{Event, fault_of, Happens, IsToldToStop, Went}
 use Rattle.mr_loop.specs.Counting.{Counted, CountsOn, TellsOf}
 
 module _ (tells : Bool) (mode : SyncMode) where
@@ -37,7 +37,7 @@ module _ (tells : Bool) (mode : SyncMode) where
   pub record BreaksDown (why : LoopFault) (s t : Stage) : Type 0 where
     pub behind : Stage
     pub broke : Broke why s behind
-    pub stopped : IsStopped behind t
+    pub stopped : IsToldToStop behind t
 
   -- What a turn did that ends for this. Where the wire can't be waited on, nothing has changed.
   abbrev pub Fails : LoopFault → Stage → Stage → Type 0

@@ -1,12 +1,12 @@
 -- What a turn does: one event after another, each by its row. A row says what becomes of everything that a turn acts on.
-use Rattle.std.specs.Prelude.{◌≡◌, ◌⊎◌, ◌<◌, ℕ, List, [], ◌∷◌, ◌++◌, Bool, ◌||◌, false, Option, Some, None, length, take, drop, if◌then◌else◌}
+use Rattle.std.specs.Prelude.{◌≡◌, ◌≢◌, ◌⊎◌, ◌<◌, ◌≤◌, ◌^◌, ℕ, List, [], ◌∷◌, ◌++◌, Bool, ◌||◌, false, Option, Some, None, length, take, drop, if◌then◌else◌}
 use Rattle.std.specs.FinMap as map
 use Rattle.mr_links.specs.Links.{Links}
 use Rattle.mr_links.specs.declared.link_id.LinkId.{LinkId}
 use Rattle.mr_data.specs.declared.given.Given.{Given}
-use Rattle.mr_node.specs.State.{NodeState, Agrees, IsShut, OthersStay, Opens, stopped_as}
+use Rattle.mr_node.specs.State.{NodeState, Agrees, IsShut, OthersStay, Opens, end_of, spent_as, stopped_as}
 use Rattle.mr_node.specs.Outs.{OutsState}
-use Rattle.mr_node.specs.Rows.{StepRow, WhyStopped}
+use Rattle.mr_node.specs.Rows.{StepRow, Stops}
 use Rattle.mr_node.specs.Ticks.{TickRow}
 use Rattle.mr_node.specs.declared.step.Step.{Step}
 use Rattle.mr_node.specs.declared.step.Step.TheVariants as step
@@ -38,8 +38,9 @@ pub record Touches (a : Links LinkState) (l : LinkId) (f : LinkState → LinkSta
   pub changes : ChangesLink a l f b
   pub absent : map.get a.open_links l ≡ None → b ≡ a
 
--- The node takes these bytes on a link. One that it closed drops them.
+-- The node takes these bytes on a link that it has. One that it closed drops them.
 pub record Fed (a : NodeState) (l : LinkId) (bytes : List ℕ) (b : NodeState) : Type 0 where
+  pub there : end_of a l ≢ None
   pub agrees : (u : List ℕ) → Agrees a l u → Agrees b l (u ++ bytes)
   pub shut : IsShut a l → b ≡ a
   pub others : OthersStay a b l
@@ -236,9 +237,11 @@ pub record HangsUp (k : LinkId) (s t : Stage) : Type 0 where
   pub wire : t.wire ≡ s.wire
   pub file : SameFile s t
 
--- What a step says of the node, for all unread bytes that the link agrees with.
-abbrev pub Stepped : NodeState → LinkId → Given → NodeState → Step → Type 0
-Stepped a l given b s = (u : List ℕ) → Agrees a l u → StepRow a l u given b s
+-- A step is made at an open link of the node, by the row of its unread bytes.
+pub record Stepped (a : NodeState) (l : LinkId) (given : Given) (b : NodeState) (s : Step) : Type 0 where
+  pub unread : List ℕ
+  pub agrees : Agrees a l unread
+  pub row : StepRow a l unread given b s
 
 -- The texts of effects wait for the file, and the reply waits on the link. A file that is replaced is so before the reply is sent.
 pub record Steps (k : LinkId) (given : Given) (outs : OutsState) (s t : Stage) : Type 0 where
@@ -253,7 +256,7 @@ pub record Steps (k : LinkId) (given : Given) (outs : OutsState) (s t : Stage) :
 pub record Idles (k : LinkId) (given : Given) (s t : Stage) : Type 0 where
   pub client : ClientState
   pub has : Has s.own k client
-  pub answer : (Stepped s.node client.link given t.node step.Idle) ⊎ (Stepped s.node client.link given t.node step.Closed)
+  pub answer : (Stepped s.node client.link given t.node step.Idle) ⊎ (IsShut s.node client.link × (t.node ≡ s.node))
   pub own : t.own ≡ s.own
   pub wire : t.wire ≡ s.wire
   pub file : SameFile s t
@@ -331,15 +334,22 @@ pub record IsClosed (k : LinkId) (s t : Stage) : Type 0 where
 
 -- why a node answers that it is stopped
 pub data Stopping (a b : NodeState) : Type 0 where
-  at_step : (link : LinkId) (given : Given) → WhyStopped a link given b → Stopping a b
-  at_open : b ≡ stopped_as a → Stopping a b
-  -- the file failed, or memory ran out for what the node gave out
-  is_told : b ≡ stopped_as a → Stopping a b
+  -- memory ran out while the effects of an open link's first request were applied: nothing but the dataset has changed
+  at_step : (link : LinkId) (unread : List ℕ) (given : Given) → Agrees a link unread → Stops a unread given → b ≡ spent_as b.core.held a → Stopping a b
+  -- it opened as many links as it may
+  at_open : 2 ^ 62 ≤ a.links.opened → b ≡ stopped_as a → Stopping a b
   was_down : a.core.up ≡ false → b ≡ a → Stopping a b
 
 -- The node is stopped from here on, or was.
 pub record IsStopped (s t : Stage) : Type 0 where
   pub why : Stopping s.node t.node
+  pub own : t.own ≡ s.own
+  pub wire : t.wire ≡ s.wire
+  pub file : SameFile s t
+
+-- The node is told to stop: of all that a turn acts on nothing changes but that it is up.
+pub record IsToldToStop (s t : Stage) : Type 0 where
+  pub node : t.node ≡ stopped_as s.node
   pub own : t.own ≡ s.own
   pub wire : t.wire ≡ s.wire
   pub file : SameFile s t

@@ -1,6 +1,7 @@
-use Rattle.std.proofs.Common.{rules, ◌≡◌, ap, refl}
+use Rattle.std.proofs.Common.{rules, ◌≡◌, Err, ap, refl, ◌∙◌}
 use Rattle.mr_node.specs.State.{NodeState, stopped_as}
-use Rattle.mr_loop.specs.Rows.{joins, turns_away, stays, comes_and_goes, stops, at_open}
+use Rattle.mr_loop.specs.Rows.{joins, turns_away, stays, comes_and_goes, stops}
+use Rattle.mr_loop.proofs.AtLinks.{open_stops}
 use Rattle.mr_loop.proofs.Places.{closed_again}
 use Rattle.mr_loop.proofs.Runs.{broke_one, went_broke, went_one}
 use Rattle.mr_loop.proofs.Waiting.{waits_opened, waits_ended, others_of, waits_with}
@@ -29,13 +30,14 @@ returns-in-Err-join-clause-went g c = λ before came m t s. went_one turns_away 
 
 pub returns-in-Err-Stopped-clause-went : goal.returns-in-Err-Stopped-clause-went
 returns-in-Err-Stopped-clause-went g c = λ before came m t s.
-    let down : c.open.new.self ≡ stopped_as c.args.node.now = search rules in
+    let is = c.in-Err-Stopped.is ∙ ap Err c.in-Err-Stopped.field-0-is in
+    let why = open_stops c.args.node.now c.open.new.self (c.open.ensures.stopped.0 is) (c.open.ensures.stops is) c.open.ensures.down in
     went_broke (went_one turns_away refl (record {
       wire = closed_again before (g.W.Wire.links c.args.wire.now) (g.W.Wire.links c.close-in-Err-Stopped.new.self) c.args.name came c.close-in-Err-Stopped.ensures.closed c.close-in-Err-Stopped.ensures.opened;
       node = stays refl;
       own = refl;
       file = (refl, refl);
-    })) (broke_one stops refl (record { why = at_open down; own = refl; wire = refl; file = (refl, refl) }))
+    })) (broke_one stops refl (record { why = why; own = refl; wire = refl; file = (refl, refl) }))
 
 pub returns-in-Err-clause-went : goal.returns-in-Err-clause-went
 returns-in-Err-clause-went g c = λ before came m t s.

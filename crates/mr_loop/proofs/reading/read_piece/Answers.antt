@@ -5,6 +5,7 @@ use Rattle.mr_wire.specs.declared.wire.Moved.TheVariants as moved
 use Rattle.mr_loop.specs.declared.client.Phase.TheVariants as phase
 use Rattle.mr_loop.specs.Stage.{client_of, put_client}
 use Rattle.mr_loop.specs.Rows.{takes, finds_none, hears_end, loses}
+use Rattle.mr_loop.proofs.AtLinks.{fed_there}
 use Rattle.mr_loop.proofs.Places.{touches, fed_as, ends_as, some_at}
 use Rattle.mr_loop.proofs.Runs.{went_one, went_refl}
 use Rattle.mr_loop.proofs.Waiting.{waits_fed, waits_ended, others_of, waits_with}
@@ -21,7 +22,7 @@ returns-in-Ok-clause-went g c = λ m t s.
       buffer = c.read.new.into;
       bytes_are = refl;
       wire = touches (behind_read g.W.Wire.tells (moved.Bytes c.in-Bytes.count) c.read.new.into) c.name-name.result c.in-Some.client.now.name c.name-name.ensures c.in-Bytes.ensures.read (λ e. (c.read.ensures.absent e).1);
-      node = fed_as c.link-link.result c.in-Some.client.now.link c.link-link.ensures (record { agrees = c.in-Ok.ensures.ok; shut = c.in-Ok.ensures.shut; others = c.in-Ok.ensures.others; core = c.in-Ok.ensures.core });
+      node = fed_as c.link-link.result c.in-Some.client.now.link c.link-link.ensures (record { there = fed_there c.args.node.now c.link-link.result c.feed.result c.in-Ok.is c.feed.ensures.stopped c.feed.ensures.no_link; agrees = c.in-Ok.ensures.ok; shut = c.in-Ok.ensures.shut; others = c.in-Ok.ensures.others; core = c.in-Ok.ensures.core });
       own = refl;
       file = (refl, refl);
     })

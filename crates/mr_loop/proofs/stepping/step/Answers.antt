@@ -1,28 +1,30 @@
 use Rattle.std.proofs.Common.{Err, rules, ◌≡◌, ◌++◌, ◌∙◌, Ok, Some, ap, subst, refl, sym, inl, inr}
-use Rattle.mr_node.specs.Rows.{WhyStopped}
 use Rattle.mr_node.specs.declared.step.Step.TheVariants as step
 use Rattle.mr_loop.specs.declared.client.Phase.TheVariants as phase
 use Rattle.mr_loop.specs.Stage.{LoopState, client_of, put_client}
 use Rattle.mr_loop.specs.Quiet.{OthersWait, WaitsBut}
-use Rattle.mr_loop.specs.Rows.{steps, idles, is_refused, stops, at_step, Stepped, behind_step, phase_after}
+use Rattle.mr_loop.specs.Rows.{steps, idles, is_refused, stops, Stopping, behind_step, phase_after}
+use Rattle.mr_loop.proofs.AtLinks.{closed_shut, done_stepped, idle_stepped, step_stops}
 use Rattle.mr_loop.proofs.Carrying.{not_told}
 use Rattle.mr_loop.proofs.Counts.{counts_idle, counts_refl, counts_use}
 use Rattle.mr_loop.proofs.Places.{stepped_as, some_at}
 use Rattle.mr_loop.proofs.Runs.{broke_one, went_one, went_trans}
 use Rattle.mr_loop.proofs.Using.{done_left, left_as}
-use Rattle.mr_loop.proofs.Waiting.{unserved_waits, others_wait, put_there, stepped_there, done_waits, idle_waits, closed_waits, lost_waits, lost_serving}
+use Rattle.mr_loop.proofs.Waiting.{AllRows, unserved_waits, others_wait, put_there, stepped_there, done_waits, idle_waits, closed_waits, lost_waits, lost_serving}
 use Rattle.mr_loop.proofs.stepping.step.Goals as goal
 
 pub returns-in-Ok-clause-went : goal.returns-in-Ok-clause-went
 returns-in-Ok-clause-went g c = λ tells w.
     let serving : c.in-Some.client.now.phase ≡ phase.Serving = search rules in
     let outs = c.in-Ok-Done.outs in
+    let row = subst (λ z. AllRows c.args.node.now c.link-link.result c.args.given c.step.new.self z) c.in-Ok-Done.field-0-is c.in-Ok-Done.ensures.row in
+    let stepped = done_stepped c.args.node.now c.step.new.self c.link-link.result c.args.given outs c.step.result (c.in-Ok-Done.is ∙ ap Ok c.in-Ok-Done.field-0-is) c.step.ensures.down c.step.ensures.shut c.step.ensures.no_link row in
     counts_use c.args.turn.now c.count_step.new.self c.count_use.new.self c.count_step.ensures.steps c.count_step.ensures.used c.count_use.ensures.steps c.count_use.ensures.used
     (went_one (steps c.args.k c.args.given outs) refl (record {
       client = c.in-Some.client.now;
       has = record { is = sym c.in-Some.ensures };
       serving = serving;
-      node = stepped_as c.args.node.now c.step.new.self c.reuse.new.self c.link-link.result c.in-Some.client.now.link c.args.given c.in-Ok-Done.field-0 (step.Done outs) c.link-link.ensures c.reuse.ensures c.in-Ok-Done.field-0-is c.in-Ok-Done.ensures.row;
+      node = stepped_as c.args.node.now c.step.new.self c.reuse.new.self c.link-link.result c.in-Some.client.now.link c.args.given (step.Done outs) (step.Done outs) c.link-link.ensures c.reuse.ensures refl stepped;
       own = some_at (λ q. c.carry_out-carried.new.links ≡ behind_step outs c.args.k q c.args.links.now) (client_of c.args.links.now c.args.k) c.in-Some.client.now (sym c.in-Some.ensures) c.in-Ok.ensures.went.0;
       wire = refl;
       file = c.in-Ok.ensures.went.1;
@@ -31,28 +33,35 @@ returns-in-Ok-clause-went g c = λ tells w.
 pub returns-in-Err-carried-clause-went : goal.returns-in-Err-carried-clause-went
 returns-in-Err-carried-clause-went g c = λ tells w.
     let outs = c.in-Ok-Done.outs in
+    let row = subst (λ z. AllRows c.args.node.now c.link-link.result c.args.given c.step.new.self z) c.in-Ok-Done.field-0-is c.in-Ok-Done.ensures.row in
+    let stepped = done_stepped c.args.node.now c.step.new.self c.link-link.result c.args.given outs c.step.result (c.in-Ok-Done.is ∙ ap Ok c.in-Ok-Done.field-0-is) c.step.ensures.down c.step.ensures.shut c.step.ensures.no_link row in
     not_told tells c.args.log.now.mode c.args.node.now c.reuse.new.self c.args.links.now c.carry_out-carried.new.links w (g.F.LogFile.told c.args.log.now.file) (g.F.LogFile.told c.carry_out-carried.new.log.file) (g.F.LogFile.synced c.args.log.now.file) (g.F.LogFile.synced c.carry_out-carried.new.log.file) c.args.k c.args.given outs c.in-Some.client.now (c.in-Err-carried.fault)
     (record { is = sym c.in-Some.ensures })
-    (stepped_as c.args.node.now c.step.new.self c.reuse.new.self c.link-link.result c.in-Some.client.now.link c.args.given c.in-Ok-Done.field-0 (step.Done outs) c.link-link.ensures c.reuse.ensures c.in-Ok-Done.field-0-is c.in-Ok-Done.ensures.row)
+    (stepped_as c.args.node.now c.step.new.self c.reuse.new.self c.link-link.result c.in-Some.client.now.link c.args.given (step.Done outs) (step.Done outs) c.link-link.ensures c.reuse.ensures refl stepped)
     c.in-Err-carried.ensures.went
 
 pub returns-in-Ok-Idle-clause-went : goal.returns-in-Ok-Idle-clause-went
-returns-in-Ok-Idle-clause-went g c = λ tells w. counts_idle c.args.turn.now c.count_step.new.self c.count_step.ensures.steps c.count_step.ensures.used
+returns-in-Ok-Idle-clause-went g c = λ tells w.
+    let row = subst (λ z. AllRows c.args.node.now c.link-link.result c.args.given c.step.new.self z) c.in-Ok-Idle.field-0-is c.in-Ok-Idle.ensures.row in
+    let stepped = idle_stepped c.args.node.now c.step.new.self c.link-link.result c.args.given c.step.result (c.in-Ok-Idle.is ∙ ap Ok c.in-Ok-Idle.field-0-is) c.step.ensures.down c.step.ensures.shut c.step.ensures.no_link row in
+    counts_idle c.args.turn.now c.count_step.new.self c.count_step.ensures.steps c.count_step.ensures.used
     (went_one (idles c.args.k c.args.given) refl (record {
       client = c.in-Some.client.now;
       has = record { is = sym c.in-Some.ensures };
-      answer = inl (stepped_as c.args.node.now c.step.new.self c.step.new.self c.link-link.result c.in-Some.client.now.link c.args.given c.in-Ok-Idle.field-0 step.Idle c.link-link.ensures refl c.in-Ok-Idle.field-0-is c.in-Ok-Idle.ensures.row);
+      answer = inl (stepped_as c.args.node.now c.step.new.self c.step.new.self c.link-link.result c.in-Some.client.now.link c.args.given step.Idle step.Idle c.link-link.ensures refl refl stepped);
       own = refl;
       wire = refl;
       file = (refl, refl);
     }))
 
 pub returns-in-Ok-Closed-clause-went : goal.returns-in-Ok-Closed-clause-went
-returns-in-Ok-Closed-clause-went g c = λ tells w. counts_idle c.args.turn.now c.count_step.new.self c.count_step.ensures.steps c.count_step.ensures.used
+returns-in-Ok-Closed-clause-went g c = λ tells w.
+    let row = subst (λ z. AllRows c.args.node.now c.link-link.result c.args.given c.step.new.self z) c.in-Ok-Closed.field-0-is c.in-Ok-Closed.ensures.row in
+    counts_idle c.args.turn.now c.count_step.new.self c.count_step.ensures.steps c.count_step.ensures.used
     (went_one (idles c.args.k c.args.given) refl (record {
       client = c.in-Some.client.now;
       has = record { is = sym c.in-Some.ensures };
-      answer = inr (stepped_as c.args.node.now c.step.new.self c.step.new.self c.link-link.result c.in-Some.client.now.link c.args.given c.in-Ok-Closed.field-0 step.Closed c.link-link.ensures refl c.in-Ok-Closed.field-0-is c.in-Ok-Closed.ensures.row);
+      answer = inr (closed_shut c.args.node.now c.step.new.self c.link-link.result c.in-Some.client.now.link c.args.given c.step.result (c.in-Ok-Closed.is ∙ ap Ok c.in-Ok-Closed.field-0-is) c.link-link.ensures c.step.ensures.down c.step.ensures.shut c.step.ensures.no_link row);
       own = refl;
       wire = refl;
       file = (refl, refl);
@@ -60,8 +69,9 @@ returns-in-Ok-Closed-clause-went g c = λ tells w. counts_idle c.args.turn.now c
 
 pub returns-in-Err-Stopped-clause-went : goal.returns-in-Err-Stopped-clause-went
 returns-in-Err-Stopped-clause-went g c = λ tells w.
-    let why : WhyStopped c.args.node.now c.link-link.result c.args.given c.step.new.self = c.step.ensures.stopped (c.in-Err-Stopped.is ∙ ap Err c.in-Err-Stopped.field-0-is) in
-    broke_one stops refl (record { why = at_step c.link-link.result c.args.given why; own = refl; wire = refl; file = (refl, refl) })
+    let is = c.in-Err-Stopped.is ∙ ap Err c.in-Err-Stopped.field-0-is in
+    let why : Stopping c.args.node.now c.step.new.self = step_stops c.args.node.now c.step.new.self c.link-link.result c.args.given c.step.result is c.step.ensures.shut c.step.ensures.no_link (c.step.ensures.stopped is) in
+    broke_one stops refl (record { why = why; own = refl; wire = refl; file = (refl, refl) })
 
 pub returns-in-Err-clause-went : goal.returns-in-Err-clause-went
 returns-in-Err-clause-went g c = λ tells w.
@@ -88,17 +98,17 @@ returns-in-Ok-clause-quiet g c = λ q.
     let o = client_of c.args.links.now c.args.k in
     let own = some_at (λ q. c.carry_out-carried.new.links ≡ behind_step outs c.args.k q c.args.links.now) o client (sym c.in-Some.ensures) c.in-Ok.ensures.went.0 in
     let there = ap (λ (x : LoopState). client_of x c.args.k) own ∙ stepped_there outs c.args.links.now c.args.k client in
-    let w = done_waits c.args.node.now c.step.new.self c.link-link.result c.args.given outs c.step.result client (c.in-Ok-Done.is ∙ ap Ok c.in-Ok-Done.field-0-is) c.step.ensures.down c.step.ensures.shut c.step.ensures.no_link (subst (λ z. Stepped c.args.node.now c.link-link.result c.args.given c.step.new.self z) c.in-Ok-Done.field-0-is c.in-Ok-Done.ensures.row) c.link-link.ensures serving (others_wait c.args.node.now o client c.link-link.result (sym c.in-Some.ensures) c.link-link.ensures q) in
+    let w = done_waits c.args.node.now c.step.new.self c.link-link.result c.args.given outs c.step.result client (c.in-Ok-Done.is ∙ ap Ok c.in-Ok-Done.field-0-is) c.step.ensures.down c.step.ensures.shut c.step.ensures.no_link (subst (λ z. AllRows c.args.node.now c.link-link.result c.args.given c.step.new.self z) c.in-Ok-Done.field-0-is c.in-Ok-Done.ensures.row) c.link-link.ensures serving (others_wait c.args.node.now o client c.link-link.result (sym c.in-Some.ensures) c.link-link.ensures q) in
     subst (λ z. WaitsBut z c.reuse.new.self) (sym there) (subst (λ z. WaitsBut (Some (record client { waiting = client.waiting ++ outs.reply; phase = phase_after outs client.phase })) z) (sym c.reuse.ensures) w)
 
 pub returns-in-Ok-Idle-clause-quiet : goal.returns-in-Ok-Idle-clause-quiet
 returns-in-Ok-Idle-clause-quiet g c = λ q.
-    idle_waits c.args.node.now c.step.new.self c.link-link.result c.args.given c.step.result (c.in-Ok-Idle.is ∙ ap Ok c.in-Ok-Idle.field-0-is) c.step.ensures.down c.step.ensures.shut c.step.ensures.no_link (subst (λ z. Stepped c.args.node.now c.link-link.result c.args.given c.step.new.self z) c.in-Ok-Idle.field-0-is c.in-Ok-Idle.ensures.row)
+    idle_waits c.args.node.now c.step.new.self c.link-link.result c.args.given c.step.result (c.in-Ok-Idle.is ∙ ap Ok c.in-Ok-Idle.field-0-is) c.step.ensures.down c.step.ensures.shut c.step.ensures.no_link (subst (λ z. AllRows c.args.node.now c.link-link.result c.args.given c.step.new.self z) c.in-Ok-Idle.field-0-is c.in-Ok-Idle.ensures.row)
     (others_wait c.args.node.now (client_of c.args.links.now c.args.k) c.in-Some.client.now c.link-link.result (sym c.in-Some.ensures) c.link-link.ensures q)
 
 pub returns-in-Ok-Closed-clause-quiet : goal.returns-in-Ok-Closed-clause-quiet
 returns-in-Ok-Closed-clause-quiet g c = λ q.
-    closed_waits c.args.node.now c.step.new.self c.link-link.result c.args.given c.step.result (c.in-Ok-Closed.is ∙ ap Ok c.in-Ok-Closed.field-0-is) c.step.ensures.down c.step.ensures.shut c.step.ensures.no_link (subst (λ z. Stepped c.args.node.now c.link-link.result c.args.given c.step.new.self z) c.in-Ok-Closed.field-0-is c.in-Ok-Closed.ensures.row)
+    closed_waits c.args.node.now c.step.new.self c.link-link.result c.args.given c.step.result (c.in-Ok-Closed.is ∙ ap Ok c.in-Ok-Closed.field-0-is) c.step.ensures.down c.step.ensures.shut c.step.ensures.no_link (subst (λ z. AllRows c.args.node.now c.link-link.result c.args.given c.step.new.self z) c.in-Ok-Closed.field-0-is c.in-Ok-Closed.ensures.row)
     (others_wait c.args.node.now (client_of c.args.links.now c.args.k) c.in-Some.client.now c.link-link.result (sym c.in-Some.ensures) c.link-link.ensures q)
 
 pub returns-in-Err-clause-quiet : goal.returns-in-Err-clause-quiet
@@ -119,7 +129,7 @@ returns-in-Ok-clause-uses g c = λ used.
     let o = client_of c.args.links.now c.args.k in
     let own = some_at (λ q. c.carry_out-carried.new.links ≡ behind_step outs c.args.k q c.args.links.now) o client (sym c.in-Some.ensures) c.in-Ok.ensures.went.0 in
     let there = ap (λ (x : LoopState). client_of x c.args.k) own ∙ stepped_there outs c.args.links.now c.args.k client in
-    let less = done_left c.args.node.now c.step.new.self c.link-link.result c.args.given outs c.step.result (c.in-Ok-Done.is ∙ ap Ok c.in-Ok-Done.field-0-is) c.step.ensures.down c.step.ensures.shut c.step.ensures.no_link (subst (λ z. Stepped c.args.node.now c.link-link.result c.args.given c.step.new.self z) c.in-Ok-Done.field-0-is c.in-Ok-Done.ensures.row) in
+    let less = done_left c.args.node.now c.step.new.self c.link-link.result c.args.given outs c.step.result (c.in-Ok-Done.is ∙ ap Ok c.in-Ok-Done.field-0-is) c.step.ensures.down c.step.ensures.shut c.step.ensures.no_link (subst (λ z. AllRows c.args.node.now c.link-link.result c.args.given c.step.new.self z) c.in-Ok-Done.field-0-is c.in-Ok-Done.ensures.row) in
     left_as c.args.node.now c.step.new.self c.reuse.new.self o (client_of c.carry_out-carried.new.links c.args.k) client (record client { waiting = client.waiting ++ outs.reply; phase = phase_after outs client.phase }) c.link-link.result (sym c.in-Some.ensures) there c.link-link.ensures c.link-link.ensures c.reuse.ensures less
 
 pub returns-in_default-clause-went : goal.returns-in_default-clause-went

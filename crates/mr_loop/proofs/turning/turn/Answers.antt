@@ -1,6 +1,5 @@
 use Rattle.std.proofs.Common.{ap, refl}
 use Rattle.mr_loop.specs.Stage.{Stage, stage}
-use Rattle.mr_loop.specs.Rows.{is_told}
 use Rattle.mr_loop.specs.Counting.{TellsOf}
 use Rattle.mr_loop.specs.Outcomes.{Broke}
 use Rattle.mr_loop.proofs.Runs.{breaks_down, from_wire, never_listener}
@@ -20,7 +19,7 @@ returns-in-Err-clause-went g c =
     let why = c.in-Err.fault in
     breaks_down why
     (from_wire (λ (s : Stage). Broke g.W.Wire.tells c.args.log.now.mode why s behind) c.args.node.now c.args.links.now (g.W.Wire.links c.wait.new.wire) (g.W.Wire.links c.args.wire.now) (g.F.LogFile.told c.args.log.now.file) (g.F.LogFile.synced c.args.log.now.file) c.wait.ensures.same c.in-Err.ensures.went)
-    (record { why = is_told c.file_failed.ensures.stops; own = refl; wire = refl; file = (refl, refl) })
+    (record { node = c.file_failed.ensures.stops; own = refl; wire = refl; file = (refl, refl) })
 
 pub returns-in-Err-clause-listener : goal.returns-in-Err-clause-listener
 returns-in-Err-clause-listener g c = λ h. absurd (never_listener c.in-Err.fault c.in-Err.ensures.went h)
