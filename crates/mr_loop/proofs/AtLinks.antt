@@ -1,8 +1,8 @@
 -- A step uses what is unread on a link that is open at the node.
-use Rattle.std.proofs.Common.{◌≡◌, ◌≢◌, ◌⊎◌, ◌↔◌, ◌≤◌, ◌^◌, inl, inr, true, false, Option, None, Some, Result, Ok, Err, refl, sym, ap, subst, ◌∙◌}
+use Rattle.std.proofs.Common.{◌≡◌, ◌≢◌, ◌⊎◌, ◌↔◌, ◌≤◌, ◌^◌, inl, inr, true, false, None, Some, Result, Ok, Err, refl, sym, ap, subst, ◌∙◌}
 use Rattle.mr_links.specs.declared.link_id.LinkId.{LinkId}
 use Rattle.mr_data.specs.declared.given.Given.{Given}
-use Rattle.mr_node.specs.State.{NodeState, EndState, IsShut, end_of, spent_as, stopped_as}
+use Rattle.mr_node.specs.State.{NodeState, IsShut, end_of, spent_as, stopped_as}
 use Rattle.mr_node.specs.State.EndState.{client, shut}
 use Rattle.mr_node.specs.Outs.{OutsState}
 use Rattle.mr_node.specs.Rows.{WhyStopped, was_down, stops}

@@ -2,6 +2,7 @@ pub mod AtLinks
 pub mod Carrying
 pub mod Counts
 pub mod Halting
+pub mod Light
 pub mod Nothing
 pub mod Places
 pub mod Runs

@@ -33,6 +33,11 @@ pub record IsBurdened (s : LoopState) (k : LinkId) : Type 0 where
   pub serving : client.phase ≡ phase.Serving
   pub too_much : 67108864 < length client.waiting
 
+-- a client, if there is one, that isn't served or left no more unread than it may
+abbrev pub IsLight : Option ClientState → Type 0
+IsLight None = Unit {0}
+IsLight (Some c) = c.phase ≡ phase.Serving → length c.waiting ≤ 67108864
+
 -- The wire's link becomes what this makes of it, if it is open; and nothing else.
 pub record Touches (a : Links LinkState) (l : LinkId) (f : LinkState → LinkState) (b : Links LinkState) : Type 0 where
   pub changes : ChangesLink a l f b
@@ -243,11 +248,12 @@ pub record Stepped (a : NodeState) (l : LinkId) (given : Given) (b : NodeState) 
   pub agrees : Agrees a l unread
   pub row : StepRow a l unread given b s
 
--- The texts of effects wait for the file, and the reply waits on the link. A file that is replaced is so before the reply is sent.
+-- Of a client that left no more unread than it may: the texts of effects wait for the file, and the reply waits on the link. A file that is replaced is so before the reply is sent.
 pub record Steps (k : LinkId) (given : Given) (outs : OutsState) (s t : Stage) : Type 0 where
   pub client : ClientState
   pub has : Has s.own k client
   pub serving : client.phase ≡ phase.Serving
+  pub few : length client.waiting ≤ 67108864
   pub node : Stepped s.node client.link given t.node (step.Done outs)
   pub own : t.own ≡ behind_step outs k client s.own
   pub wire : t.wire ≡ s.wire

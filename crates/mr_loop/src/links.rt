@@ -3,7 +3,7 @@ ghost use Rattle.std.specs.Prelude.{◌≡◌, ◌++◌, ◌≤◌, ◌+◌, ◌
 ghost use Rattle.std.specs.FinMap as map;
 ghost use Rattle.mr_wire.specs.Wire.{count_of};
 ghost use Rattle.mr_loop.specs.Stage.{IsNamed, LoopState, begun, client_of, put_client};
-ghost use Rattle.mr_loop.specs.Rows.{IsBurdened, phase_behind, queued};
+ghost use Rattle.mr_loop.specs.Rows.{IsBurdened, IsLight, phase_behind, queued};
 
 use crate::client::{Client, Phase};
 use mr_links::LinkId;
@@ -143,7 +143,8 @@ impl Links {
 
     /// Whether a client that is served left too much unread.
     pub(crate) fn is_burdened(&self, k: LinkId) -> bool
-        ensures { IsTrue result → IsBurdened self.now k }
+        ensures burdened { IsTrue result → IsBurdened self.now k }
+        ensures light { result ≡ false → IsLight (client_of self.now k) }
     {
         match self.clients.get(k) {
             Some(client) => client.is_serving() && client.is_too_much(),

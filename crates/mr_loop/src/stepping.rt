@@ -2,6 +2,7 @@
 ghost use Rattle.std.specs.Prelude.{◌≡◌, ◌<◌, ◌≤◌, true, IfOk, IfErr, IsErrOf};
 ghost use Rattle.mr_loop.specs.Stage.{client_of};
 ghost use Rattle.mr_loop.specs.Left.{left_of};
+ghost use Rattle.mr_loop.specs.Rows.{IsLight};
 ghost use Rattle.mr_loop.specs.Going.{GoesAlone, GoesAloneAs, GoesWithFileAs, IsCarriedOut};
 ghost use Rattle.mr_loop.specs.Quiet.{AllWait, WaitsBut, WaitsButLost, WaitsUnless};
 
@@ -17,7 +18,7 @@ use mr_links::LinkId;
 use mr_node::{Node, NodeFault, Outs, Step};
 use mr_repl::ReplId;
 
-/// The next step on a client's link, which is counted. It answers whether something was used.
+/// The next step on a client's link, which is counted, of a client that left no more unread than it may. It answers whether something was used.
 pub(crate) fn step<F: LogFile>(
     node: &mut Node,
     links: &mut Links,
@@ -27,7 +28,7 @@ pub(crate) fn step<F: LogFile>(
     fresh: ReplId,
     turn: &mut Turn,
 ) -> Result<bool, LoopFault>
-    ensures went { GoesWithFileAs log.old.mode result turn.old turn.new node.old links.old (F.told log.old.file) (F.synced log.old.file) node.new links.new (F.told log.new.file) (F.synced log.new.file) }
+    ensures went { IsLight (client_of links.old k) → GoesWithFileAs log.old.mode result turn.old turn.new node.old links.old (F.told log.old.file) (F.synced log.old.file) node.new links.new (F.told log.new.file) (F.synced log.new.file) }
     ensures mode { log.new.mode ≡ log.old.mode }
     ensures device { IsErrOf result LoopFault.File → log.new.broken ≡ true }
     ensures quiet { WaitsBut (client_of links.old k) node.old → IfOk result (λ used. WaitsUnless used (client_of links.new k) node.new) }

@@ -3,6 +3,7 @@ ghost use Rattle.std.specs.Prelude.{◌≡◌, ◌≤◌, [], OnOk, true, IsErrO
 ghost use Rattle.mr_node.specs.State.{NodeState};
 ghost use Rattle.mr_loop.specs.Stage.{client_of, stage_of};
 ghost use Rattle.mr_loop.specs.Left.{left_of};
+ghost use Rattle.mr_loop.specs.Rows.{IsLight};
 ghost use Rattle.mr_loop.specs.Outcomes.{Does};
 ghost use Rattle.mr_loop.specs.Going.{Goes, GoesAlone};
 ghost use Rattle.mr_loop.specs.Quiet.{AllWait, StaysThere, WaitsBut};
@@ -93,6 +94,7 @@ pub(crate) fn unburden<W: Wire, F: LogFile>(
     ensures device { IsErrOf result LoopFault.File → log.new.broken ≡ true }
     ensures quiet { WaitsBut (client_of links.old k) node.old → OnOk result (WaitsBut (client_of links.new k) node.new) }
     ensures left { OnOk result (left_of (client_of links.new k) node.new ≤ left_of (client_of links.old k) node.old) }
+    ensures light { OnOk result (IsLight (client_of links.new k)) }
 {
     if !links.is_burdened(k) {
         return Ok(());
@@ -109,6 +111,7 @@ fn give_up_deaf(links: &mut Links, k: LinkId)
     ensures went { (node : NodeState) → GoesAlone node links.old node links.new }
     ensures batch { links.new.batch ≡ links.old.batch }
     ensures client { StaysThere (client_of links.old k) (client_of links.new k) }
+    ensures light { IsLight (client_of links.new k) }
 {
     if links.is_burdened(k) {
         links.set_phase(k, Phase::Lost);

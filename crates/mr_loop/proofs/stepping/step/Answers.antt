@@ -7,6 +7,7 @@ use Rattle.mr_loop.specs.Rows.{steps, idles, is_refused, stops, Stopping, behind
 use Rattle.mr_loop.proofs.AtLinks.{closed_shut, done_stepped, idle_stepped, step_stops}
 use Rattle.mr_loop.proofs.Carrying.{not_told}
 use Rattle.mr_loop.proofs.Counts.{counts_idle, counts_refl, counts_use}
+use Rattle.mr_loop.proofs.Light.{few_of}
 use Rattle.mr_loop.proofs.Places.{stepped_as, some_at}
 use Rattle.mr_loop.proofs.Runs.{broke_one, went_one, went_trans}
 use Rattle.mr_loop.proofs.Using.{done_left, left_as}
@@ -14,7 +15,7 @@ use Rattle.mr_loop.proofs.Waiting.{AllRows, unserved_waits, others_wait, put_the
 use Rattle.mr_loop.proofs.stepping.step.Goals as goal
 
 pub returns-in-Ok-clause-went : goal.returns-in-Ok-clause-went
-returns-in-Ok-clause-went g c = λ tells w.
+returns-in-Ok-clause-went g c = λ light tells w.
     let serving : c.in-Some.client.now.phase ≡ phase.Serving = search rules in
     let outs = c.in-Ok-Done.outs in
     let row = subst (λ z. AllRows c.args.node.now c.link-link.result c.args.given c.step.new.self z) c.in-Ok-Done.field-0-is c.in-Ok-Done.ensures.row in
@@ -24,6 +25,7 @@ returns-in-Ok-clause-went g c = λ tells w.
       client = c.in-Some.client.now;
       has = record { is = sym c.in-Some.ensures };
       serving = serving;
+      few = few_of (client_of c.args.links.now c.args.k) c.in-Some.client.now (sym c.in-Some.ensures) light serving;
       node = stepped_as c.args.node.now c.step.new.self c.reuse.new.self c.link-link.result c.in-Some.client.now.link c.args.given (step.Done outs) (step.Done outs) c.link-link.ensures c.reuse.ensures refl stepped;
       own = some_at (λ q. c.carry_out-carried.new.links ≡ behind_step outs c.args.k q c.args.links.now) (client_of c.args.links.now c.args.k) c.in-Some.client.now (sym c.in-Some.ensures) c.in-Ok.ensures.went.0;
       wire = refl;
@@ -31,7 +33,7 @@ returns-in-Ok-clause-went g c = λ tells w.
     }))
 
 pub returns-in-Err-carried-clause-went : goal.returns-in-Err-carried-clause-went
-returns-in-Err-carried-clause-went g c = λ tells w.
+returns-in-Err-carried-clause-went g c = λ light tells w.
     let outs = c.in-Ok-Done.outs in
     let row = subst (λ z. AllRows c.args.node.now c.link-link.result c.args.given c.step.new.self z) c.in-Ok-Done.field-0-is c.in-Ok-Done.ensures.row in
     let stepped = done_stepped c.args.node.now c.step.new.self c.link-link.result c.args.given outs c.step.result (c.in-Ok-Done.is ∙ ap Ok c.in-Ok-Done.field-0-is) c.step.ensures.down c.step.ensures.shut c.step.ensures.no_link row in
@@ -41,7 +43,7 @@ returns-in-Err-carried-clause-went g c = λ tells w.
     c.in-Err-carried.ensures.went
 
 pub returns-in-Ok-Idle-clause-went : goal.returns-in-Ok-Idle-clause-went
-returns-in-Ok-Idle-clause-went g c = λ tells w.
+returns-in-Ok-Idle-clause-went g c = λ light tells w.
     let row = subst (λ z. AllRows c.args.node.now c.link-link.result c.args.given c.step.new.self z) c.in-Ok-Idle.field-0-is c.in-Ok-Idle.ensures.row in
     let stepped = idle_stepped c.args.node.now c.step.new.self c.link-link.result c.args.given c.step.result (c.in-Ok-Idle.is ∙ ap Ok c.in-Ok-Idle.field-0-is) c.step.ensures.down c.step.ensures.shut c.step.ensures.no_link row in
     counts_idle c.args.turn.now c.count_step.new.self c.count_step.ensures.steps c.count_step.ensures.used
@@ -55,7 +57,7 @@ returns-in-Ok-Idle-clause-went g c = λ tells w.
     }))
 
 pub returns-in-Ok-Closed-clause-went : goal.returns-in-Ok-Closed-clause-went
-returns-in-Ok-Closed-clause-went g c = λ tells w.
+returns-in-Ok-Closed-clause-went g c = λ light tells w.
     let row = subst (λ z. AllRows c.args.node.now c.link-link.result c.args.given c.step.new.self z) c.in-Ok-Closed.field-0-is c.in-Ok-Closed.ensures.row in
     counts_idle c.args.turn.now c.count_step.new.self c.count_step.ensures.steps c.count_step.ensures.used
     (went_one (idles c.args.k c.args.given) refl (record {
@@ -68,13 +70,13 @@ returns-in-Ok-Closed-clause-went g c = λ tells w.
     }))
 
 pub returns-in-Err-Stopped-clause-went : goal.returns-in-Err-Stopped-clause-went
-returns-in-Err-Stopped-clause-went g c = λ tells w.
+returns-in-Err-Stopped-clause-went g c = λ light tells w.
     let is = c.in-Err-Stopped.is ∙ ap Err c.in-Err-Stopped.field-0-is in
     let why : Stopping c.args.node.now c.step.new.self = step_stops c.args.node.now c.step.new.self c.link-link.result c.args.given c.step.result is c.step.ensures.shut c.step.ensures.no_link (c.step.ensures.stopped is) in
     broke_one stops refl (record { why = why; own = refl; wire = refl; file = (refl, refl) })
 
 pub returns-in-Err-clause-went : goal.returns-in-Err-clause-went
-returns-in-Err-clause-went g c = λ tells w.
+returns-in-Err-clause-went g c = λ light tells w.
     let serving : c.in-Some.client.now.phase ≡ phase.Serving = search rules in
     let same : c.step.new.self ≡ c.args.node.now = search rules in
     counts_idle c.args.turn.now c.count_step.new.self c.count_step.ensures.steps c.count_step.ensures.used
@@ -133,7 +135,7 @@ returns-in-Ok-clause-uses g c = λ used.
     left_as c.args.node.now c.step.new.self c.reuse.new.self o (client_of c.carry_out-carried.new.links c.args.k) client (record client { waiting = client.waiting ++ outs.reply; phase = phase_after outs client.phase }) c.link-link.result (sym c.in-Some.ensures) there c.link-link.ensures c.link-link.ensures c.reuse.ensures less
 
 pub returns-in_default-clause-went : goal.returns-in_default-clause-went
-returns-in_default-clause-went g c = λ tells w. counts_refl c.args.turn.now _
+returns-in_default-clause-went g c = λ light tells w. counts_refl c.args.turn.now _
 
 pub returns-then-not-is_serving-clause-went : goal.returns-then-not-is_serving-clause-went
-returns-then-not-is_serving-clause-went g c = λ tells w. counts_refl c.args.turn.now _
+returns-then-not-is_serving-clause-went g c = λ light tells w. counts_refl c.args.turn.now _

@@ -17,26 +17,26 @@ returns-in_err-used-clause-went g c =
     let why = c.in_err-used.field-0.0 in
     let told : c.from_residual-in_err-used.result ≡ Err why = search rules in
     breaks_counting c.args.moment.now.turn c.step.new.turn c.from_residual-in_err-used.result why told
-    (went_broke c.in_ok-unburden.ensures.went (broke_moded c.unburden.new.log.mode c.args.log.now.mode c.unburden.ensures.mode (c.in_err-used.ensures.went g.W.Wire.tells (g.W.Wire.links c.unburden.new.wire))))
+    (went_broke c.in_ok-unburden.ensures.went (broke_moded c.unburden.new.log.mode c.args.log.now.mode c.unburden.ensures.mode (c.in_err-used.ensures.went c.in_ok-unburden.ensures.light g.W.Wire.tells (g.W.Wire.links c.unburden.new.wire))))
 
 pub returns-in_err-commit-clause-went : goal.returns-in_err-commit-clause-went
 returns-in_err-commit-clause-went g c =
     let why = c.in_err-commit.field-0.0 in
     let told : c.from_residual-in_err-commit.result ≡ Err why = search rules in
     breaks_counting c.args.moment.now.turn c.step.new.turn c.from_residual-in_err-commit.result why told
-    (went_broke c.in_ok-unburden.ensures.went (went_broke (moded c.unburden.new.log.mode c.args.log.now.mode c.unburden.ensures.mode (c.in_ok-used.ensures.went g.W.Wire.tells (g.W.Wire.links c.unburden.new.wire)).went)
+    (went_broke c.in_ok-unburden.ensures.went (went_broke (moded c.unburden.new.log.mode c.args.log.now.mode c.unburden.ensures.mode (c.in_ok-used.ensures.went c.in_ok-unburden.ensures.light g.W.Wire.tells (g.W.Wire.links c.unburden.new.wire)).went)
     (broke_moded c.step.new.log.mode c.args.log.now.mode (c.step.ensures.mode ∙ c.unburden.ensures.mode) (c.in_err-commit.ensures.went g.W.Wire.tells c.step.new.node (g.W.Wire.links c.unburden.new.wire)))))
 
 pub returns-in_ok-commit-clause-went : goal.returns-in_ok-commit-clause-went
 returns-in_ok-commit-clause-went g c = counts_from c.args.moment.now.turn c.given-given.new.self.turn c.given-given.ensures
     (counts_trans (counts_none c.given-given.new.self.turn c.in_ok-unburden.ensures.went)
-    (counts_trans (counts_moded c.unburden.new.log.mode c.args.log.now.mode c.unburden.ensures.mode (c.in_ok-used.ensures.went g.W.Wire.tells (g.W.Wire.links c.unburden.new.wire)))
+    (counts_trans (counts_moded c.unburden.new.log.mode c.args.log.now.mode c.unburden.ensures.mode (c.in_ok-used.ensures.went c.in_ok-unburden.ensures.light g.W.Wire.tells (g.W.Wire.links c.unburden.new.wire)))
     (counts_none c.step.new.turn (moded c.step.new.log.mode c.args.log.now.mode (c.step.ensures.mode ∙ c.unburden.ensures.mode) (c.in_ok-commit.ensures.went g.W.Wire.tells c.step.new.node (g.W.Wire.links c.unburden.new.wire))))))
 
 pub returns-else-batch-gt-MOST_BATCH-clause-went : goal.returns-else-batch-gt-MOST_BATCH-clause-went
 returns-else-batch-gt-MOST_BATCH-clause-went g c = counts_from c.args.moment.now.turn c.given-given.new.self.turn c.given-given.ensures
     (counts_trans (counts_none c.given-given.new.self.turn c.in_ok-unburden.ensures.went)
-    (counts_moded c.unburden.new.log.mode c.args.log.now.mode c.unburden.ensures.mode (c.in_ok-used.ensures.went g.W.Wire.tells (g.W.Wire.links c.unburden.new.wire))))
+    (counts_moded c.unburden.new.log.mode c.args.log.now.mode c.unburden.ensures.mode (c.in_ok-used.ensures.went c.in_ok-unburden.ensures.light g.W.Wire.tells (g.W.Wire.links c.unburden.new.wire))))
 
 pub returns-in_ok-commit-clause-quiet : goal.returns-in_ok-commit-clause-quiet
 returns-in_ok-commit-clause-quiet g c = λ q.

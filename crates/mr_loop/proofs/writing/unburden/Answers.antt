@@ -36,3 +36,6 @@ returns-clause-left g c =
 
 pub returns-then-not-is_burdened-clause-went : goal.returns-then-not-is_burdened-clause-went
 returns-then-not-is_burdened-clause-went g c = went_refl _
+
+pub returns-clause-light : goal.returns-clause-light
+returns-clause-light g c = c.give_up_deaf.ensures.light
