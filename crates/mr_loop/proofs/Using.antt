@@ -1,5 +1,5 @@
 -- That a step which uses something leaves less.
-use Rattle.std.proofs.Common.{◌≡◌, ◌⊎◌, ◌<◌, ◌≤◌, ◌+◌, ◌++◌, inl, inr, ℕ, List, [], ◌∷◌, length, length-append, arith, cond, Option, None, Some, Result, Ok, sym, ap, ◌∙◌}
+use Rattle.std.proofs.Common.{◌≡◌, ◌<◌, ◌≤◌, ◌+◌, ◌++◌, inl, inr, ℕ, List, [], ◌∷◌, length, length-append, arith, cond, Option, None, Some, Result, Ok, sym, ap, ◌∙◌}
 use Rattle.std.specs.FinMap.{get, remove, get-remove}
 use Rattle.mr_links.proofs.LinkRows.{ids_total}
 use Rattle.mr_links.specs.declared.link_id.LinkId.{LinkId}
