@@ -88,9 +88,9 @@ is_padded key written same fits = subst (λ l. IsPadded (l ++ drop (length key) 
     )
 
 -- what it says that a key is short, or isn't
-pub is_short : (key k : List ℕ) → if_short key ≡ Some k → (k ≡ key) × (length k ≤ 16)
-is_short key k = elim (nat_le (length key) 16) as (λ b. nat_le (length key) 16 ≡ b → cond b (Some key) None ≡ Some k → (k ≡ key) × (length k ≤ 16)) [
-  | true ↦ λ e h. let same : k ≡ key = cc in (same, subst (λ l. length l ≤ 16) (sym same) (leb-true (length key) 16 e))
+pub is_short : (key k : List ℕ) → if_short key ≡ Some k → (k ≡ key) × (length key ≤ 16)
+is_short key k = elim (nat_le (length key) 16) as (λ b. nat_le (length key) 16 ≡ b → cond b (Some key) None ≡ Some k → (k ≡ key) × (length key ≤ 16)) [
+  | true ↦ λ e h. (cc, leb-true (length key) 16 e)
   | false ↦ λ e h. cc
 ] refl
 
