@@ -1,12 +1,12 @@
 -- What a turn counts, part by part.
-use Rattle.std.proofs.Common.{◌≡◌, Bool, ℕ, ◌+◌, ◌≤◌, ◌-◌, ◌^◌, zero, suc, min, arith, Result, Err, refl, sym, ap, subst, ◌∙◌}
+use Rattle.std.proofs.Common.{◌≡◌, Bool, ℕ, ◌+◌, ◌≤◌, ◌-◌, ◌^◌, zero, suc, arith, Result, Err, refl, sym, ap, subst, ◌∙◌}
 use Rattle.mr_aof.specs.declared.log.SyncMode.{SyncMode}
 use Rattle.mr_loop.specs.declared.fault.LoopFault.{LoopFault}
 use Rattle.mr_loop.specs.declared.told.Turn.{Turn}
 use Rattle.mr_loop.specs.Stage.{Stage}
 use Rattle.mr_loop.specs.Counting.{counted, raised, Counted, CountsOn, TellsOf}
 use Rattle.mr_loop.specs.Outcomes.{Broke, DoesCounting, DoesTelling}
-use Rattle.mr_loop.proofs.Runs.{moded, went_refl, went_trans}
+use Rattle.mr_loop.proofs.Runs.{went_refl, went_trans}
 
 raised_add : (k l n : ℕ) → raised (k + l) n ≡ raised l (raised k n)
 raised_add zero l n = let e : zero + l ≡ l = omega arith in ap (λ z. raised z n) e
