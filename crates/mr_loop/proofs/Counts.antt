@@ -32,18 +32,18 @@ raised_from k n e =
 
 -- one that steps nowhere
 pub counts_none : {tells : Bool} {mode : SyncMode} {a b : Stage} (x : Turn) → Counted tells mode 0 0 a b → CountsOn tells mode x x a b
-counts_none x c = record { calls = 0; uses = 0; went = c; steps_are = refl; used_are = refl }
+counts_none x c = record { calls = 0; uses = 0; went = c; steps_are = refl; done_are = refl }
 
 pub counts_refl : {tells : Bool} {mode : SyncMode} (x : Turn) (s : Stage) → CountsOn tells mode x x s s
 counts_refl x s = counts_none x (went_refl s)
 
 -- a step that used nothing
-pub counts_idle : {tells : Bool} {mode : SyncMode} {a b : Stage} (x y : Turn) → y.steps ≡ counted (x.steps + 1) → y.used ≡ x.used → Counted tells mode 1 0 a b → CountsOn tells mode x y a b
-counts_idle x y stepped same c = record { calls = 1; uses = 0; went = c; steps_are = stepped; used_are = same }
+pub counts_idle : {tells : Bool} {mode : SyncMode} {a b : Stage} (x y : Turn) → y.steps ≡ counted (x.steps + 1) → y.done ≡ x.done → Counted tells mode 1 0 a b → CountsOn tells mode x y a b
+counts_idle x y stepped same c = record { calls = 1; uses = 0; went = c; steps_are = stepped; done_are = same }
 
 -- .. that used something
-pub counts_use : {tells : Bool} {mode : SyncMode} {a b : Stage} (x y z : Turn) → y.steps ≡ counted (x.steps + 1) → y.used ≡ x.used → z.steps ≡ y.steps → z.used ≡ counted (y.used + 1) → Counted tells mode 1 1 a b → CountsOn tells mode x z a b
-counts_use x y z stepped same kept used c = record { calls = 1; uses = 1; went = c; steps_are = kept ∙ stepped; used_are = used ∙ ap (λ n. counted (n + 1)) same }
+pub counts_use : {tells : Bool} {mode : SyncMode} {a b : Stage} (x y z : Turn) → y.steps ≡ counted (x.steps + 1) → y.done ≡ x.done → z.steps ≡ y.steps → z.done ≡ counted (y.done + 1) → Counted tells mode 1 1 a b → CountsOn tells mode x z a b
+counts_use x y z stepped same kept used c = record { calls = 1; uses = 1; went = c; steps_are = kept ∙ stepped; done_are = used ∙ ap (λ n. counted (n + 1)) same }
 
 pub counts_trans : {tells : Bool} {mode : SyncMode} {x y z : Turn} {a b c : Stage} → CountsOn tells mode x y a b → CountsOn tells mode y z b c → CountsOn tells mode x z a c
 counts_trans {tells} {mode} {x} {y} {z} p q = record {
@@ -51,7 +51,7 @@ counts_trans {tells} {mode} {x} {y} {z} p q = record {
   uses = p.uses + q.uses;
   went = went_trans p.went q.went;
   steps_are = q.steps_are ∙ (ap (raised q.calls) p.steps_are ∙ sym (raised_add p.calls q.calls x.steps));
-  used_are = q.used_are ∙ (ap (raised q.uses) p.used_are ∙ sym (raised_add p.uses q.uses x.used));
+  done_are = q.done_are ∙ (ap (raised q.uses) p.done_are ∙ sym (raised_add p.uses q.uses x.done));
 }
 
 -- the mode of a log stays
@@ -71,10 +71,10 @@ breaks_telling {tells} {mode} {s} {t} r why e b = subst (λ (z : Result Turn Loo
 
 -- ---- a whole turn, at whose beginning nothing was counted
 
-pub tells_of : {tells : Bool} {mode : SyncMode} {s t : Stage} (x y r : Turn) → x.steps ≡ 0 → x.used ≡ 0 → r.steps ≡ y.steps → r.used ≡ y.used → r.halted ≡ t.own.halted → CountsOn tells mode x y s t → TellsOf tells mode r s t
+pub tells_of : {tells : Bool} {mode : SyncMode} {s t : Stage} (x y r : Turn) → x.steps ≡ 0 → x.done ≡ 0 → r.steps ≡ y.steps → r.done ≡ y.done → r.halted ≡ t.own.halted → CountsOn tells mode x y s t → TellsOf tells mode r s t
 tells_of x y r none nothing steps used halted c = record {
   went = c.went.went;
   steps_are = steps ∙ (c.steps_are ∙ (raised_from c.calls x.steps none ∙ ap counted (sym c.went.called)));
-  used_are = used ∙ (c.used_are ∙ (raised_from c.uses x.used nothing ∙ ap counted (sym c.went.used)));
+  done_are = used ∙ (c.done_are ∙ (raised_from c.uses x.done nothing ∙ ap counted (sym c.went.used)));
   halted = halted;
 }

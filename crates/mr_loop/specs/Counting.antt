@@ -61,13 +61,13 @@ module _ (tells : Bool) (mode : SyncMode) where
     pub uses : ℕ
     pub went : Counted calls uses s t
     pub steps_are : new.steps ≡ raised calls old.steps
-    pub used_are : new.used ≡ raised uses old.used
+    pub done_are : new.done ≡ raised uses old.done
 
   -- What a turn tells is what its events come to, and whether a client asked that the program end.
   pub record TellsOf (turn : Turn) (s t : Stage) : Type 0 where
     pub went : Went tells mode s t
     pub steps_are : turn.steps ≡ counted (calls_in went.events)
-    pub used_are : turn.used ≡ counted (uses_in went.events)
+    pub done_are : turn.done ≡ counted (uses_in went.events)
     pub halted : turn.halted ≡ t.own.halted
 
 -- **The loop knows of each SHUTDOWN**: that a client said so is what it knew before, or of some step.

@@ -20,7 +20,7 @@ pub(crate) struct Moment<'a, S: Source> {
 impl<'a, S: Source> Moment<'a, S> {
     pub(crate) fn new(source: &'a mut S) -> Moment<'a, S>
         ensures steps { result.turn.steps ≡ 0 }
-        ensures used { result.turn.used ≡ 0 }
+        ensures done { result.turn.done ≡ 0 }
     {
         let fresh = source.id();
         let now = source.now();

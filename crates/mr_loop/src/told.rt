@@ -7,7 +7,7 @@ pub struct Turn {
     /// How often the node was asked for a step. It stays at 2^64 - 1.
     pub steps: u64,
     /// How many of these steps used something of what a client sent. It stays at 2^64 - 1.
-    pub used: u64,
+    pub done: u64,
     /// A client said SHUTDOWN.
     pub halted: bool,
 }
@@ -16,11 +16,11 @@ impl Turn {
     /// A turn begins: nothing is counted yet.
     pub(crate) fn begun() -> Turn
         ensures steps { result.steps ≡ 0 }
-        ensures used { result.used ≡ 0 }
+        ensures done { result.done ≡ 0 }
     {
         Turn {
             steps: 0,
-            used: 0,
+            done: 0,
             halted: false,
         }
     }
@@ -28,7 +28,7 @@ impl Turn {
     /// Counts a step that the node is asked for.
     pub(crate) fn count_step(&mut self)
         ensures steps { self.new.steps ≡ counted (self.old.steps + 1) }
-        ensures used { self.new.used ≡ self.old.used }
+        ensures done { self.new.done ≡ self.old.done }
     {
         self.steps = self.steps.saturating_add(1);
     }
@@ -36,20 +36,20 @@ impl Turn {
     /// Counts that such a step used something.
     pub(crate) fn count_use(&mut self)
         ensures steps { self.new.steps ≡ self.old.steps }
-        ensures used { self.new.used ≡ counted (self.old.used + 1) }
+        ensures done { self.new.done ≡ counted (self.old.done + 1) }
     {
-        self.used = self.used.saturating_add(1);
+        self.done = self.done.saturating_add(1);
     }
 
     /// The same, with whether a client said SHUTDOWN.
     pub(crate) fn with_halted(self, halted: bool) -> Turn
         ensures steps { result.steps ≡ self.steps }
-        ensures used { result.used ≡ self.used }
+        ensures done { result.done ≡ self.done }
         ensures halted { result.halted ≡ halted }
     {
         Turn {
             steps: self.steps,
-            used: self.used,
+            done: self.done,
             halted,
         }
     }

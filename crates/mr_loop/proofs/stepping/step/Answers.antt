@@ -20,7 +20,7 @@ returns-in-Ok-clause-went g c = λ light tells w.
     let outs = c.in-Ok-Done.outs in
     let row = subst (λ z. AllRows c.args.node.now c.link-link.result c.args.given c.step.new.self z) c.in-Ok-Done.field-0-is c.in-Ok-Done.ensures.row in
     let stepped = done_stepped c.args.node.now c.step.new.self c.link-link.result c.args.given outs c.step.result (c.in-Ok-Done.is ∙ ap Ok c.in-Ok-Done.field-0-is) c.step.ensures.down c.step.ensures.shut c.step.ensures.no_link row in
-    counts_use c.args.turn.now c.count_step.new.self c.count_use.new.self c.count_step.ensures.steps c.count_step.ensures.used c.count_use.ensures.steps c.count_use.ensures.used
+    counts_use c.args.turn.now c.count_step.new.self c.count_use.new.self c.count_step.ensures.steps c.count_step.ensures.done c.count_use.ensures.steps c.count_use.ensures.done
     (went_one (steps c.args.k c.args.given outs) refl (record {
       client = c.in-Some.client.now;
       has = record { is = sym c.in-Some.ensures };
@@ -46,7 +46,7 @@ pub returns-in-Ok-Idle-clause-went : goal.returns-in-Ok-Idle-clause-went
 returns-in-Ok-Idle-clause-went g c = λ light tells w.
     let row = subst (λ z. AllRows c.args.node.now c.link-link.result c.args.given c.step.new.self z) c.in-Ok-Idle.field-0-is c.in-Ok-Idle.ensures.row in
     let stepped = idle_stepped c.args.node.now c.step.new.self c.link-link.result c.args.given c.step.result (c.in-Ok-Idle.is ∙ ap Ok c.in-Ok-Idle.field-0-is) c.step.ensures.down c.step.ensures.shut c.step.ensures.no_link row in
-    counts_idle c.args.turn.now c.count_step.new.self c.count_step.ensures.steps c.count_step.ensures.used
+    counts_idle c.args.turn.now c.count_step.new.self c.count_step.ensures.steps c.count_step.ensures.done
     (went_one (idles c.args.k c.args.given) refl (record {
       client = c.in-Some.client.now;
       has = record { is = sym c.in-Some.ensures };
@@ -59,7 +59,7 @@ returns-in-Ok-Idle-clause-went g c = λ light tells w.
 pub returns-in-Ok-Closed-clause-went : goal.returns-in-Ok-Closed-clause-went
 returns-in-Ok-Closed-clause-went g c = λ light tells w.
     let row = subst (λ z. AllRows c.args.node.now c.link-link.result c.args.given c.step.new.self z) c.in-Ok-Closed.field-0-is c.in-Ok-Closed.ensures.row in
-    counts_idle c.args.turn.now c.count_step.new.self c.count_step.ensures.steps c.count_step.ensures.used
+    counts_idle c.args.turn.now c.count_step.new.self c.count_step.ensures.steps c.count_step.ensures.done
     (went_one (idles c.args.k c.args.given) refl (record {
       client = c.in-Some.client.now;
       has = record { is = sym c.in-Some.ensures };
@@ -79,7 +79,7 @@ pub returns-in-Err-clause-went : goal.returns-in-Err-clause-went
 returns-in-Err-clause-went g c = λ light tells w.
     let serving : c.in-Some.client.now.phase ≡ phase.Serving = search rules in
     let same : c.step.new.self ≡ c.args.node.now = search rules in
-    counts_idle c.args.turn.now c.count_step.new.self c.count_step.ensures.steps c.count_step.ensures.used
+    counts_idle c.args.turn.now c.count_step.new.self c.count_step.ensures.steps c.count_step.ensures.done
     (went_trans (went_one (is_refused c.args.k) refl (record {
       client = c.in-Some.client.now;
       given_up = record {

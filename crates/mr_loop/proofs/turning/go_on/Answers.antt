@@ -51,8 +51,8 @@ returns-in_err-commit-2-clause-went g c =
 pub returns-clause-went : goal.returns-clause-went
 returns-clause-went g c =
     let reads = c.read_all.new.moment.turn in
-    tells_of c.new-moment.result.turn reads c.with_halted.result c.new-moment.ensures.steps c.new-moment.ensures.used
-    (c.with_halted.ensures.steps ∙ ap (λ (z : Turn). z.steps) c.given.ensures) (c.with_halted.ensures.used ∙ ap (λ (z : Turn). z.used) c.given.ensures) (c.with_halted.ensures.halted ∙ c.halted.ensures)
+    tells_of c.new-moment.result.turn reads c.with_halted.result c.new-moment.ensures.steps c.new-moment.ensures.done
+    (c.with_halted.ensures.steps ∙ ap (λ (z : Turn). z.steps) c.given.ensures) (c.with_halted.ensures.done ∙ ap (λ (z : Turn). z.done) c.given.ensures) (c.with_halted.ensures.halted ∙ c.halted.ensures)
     (counts_trans (counts_none c.new-moment.result.turn (c.in_ok-accepts.ensures.went c.args.log.now.mode (g.F.LogFile.told c.args.log.now.file) (g.F.LogFile.synced c.args.log.now.file)))
     (counts_trans c.in_ok-reads.ensures.went (counts_none reads
     (to_own c.tick.new.node c.commit-2.new.links c.set_hurries.new.self (g.W.Wire.links c.close_all.new.wire) (g.F.LogFile.told c.commit-2.new.log.file) (g.F.LogFile.synced c.commit-2.new.log.file) c.set_hurries.ensures
