@@ -59,8 +59,8 @@ class Links(unittest.TestCase):
         lost = []
         for page, text in pages().items():
             for path in NAMED.findall(text):
-                own = os.path.join("crates", path) if path.startswith(("mr_", "minired", "rehearse")) else path
-                if "*" not in path and "NAME" not in path and "must-fail" not in path and not there(own):
+                whole = os.path.join("crates", path) if path.startswith(("mr_", "minired", "rehearse")) else path
+                if "*" not in path and "NAME" not in path and "must-fail" not in path and not there(whole):
                     lost.append((page, path))
         self.assertEqual(lost, [])
 
