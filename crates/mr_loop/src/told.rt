@@ -1,3 +1,4 @@
+// What a turn tells of itself.
 ghost use Rattle.std.specs.Prelude.{◌≡◌, ◌+◌, false};
 ghost use Rattle.mr_loop.specs.Counting.{counted};
 
