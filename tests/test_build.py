@@ -18,7 +18,7 @@ sys.path.insert(0, os.path.join(ROOT, "tools"))
 
 from borrow import borrowed, proved_by
 from build import Progress, last_lines, length_of
-from lanes import Task, chains, in_lanes, share
+from lanes import YIELDING, Task, chains, in_lanes, share
 
 # each crate of a small repository, with those that it stands on and its work
 CRATES = [("sea", [], 1), ("map", [], 2), ("value", ["map"], 3), ("glob", [], 4), ("effect", ["value", "sea"], 6), ("node", ["effect", "glob"], 5)]
@@ -74,15 +74,31 @@ class Lanes(unittest.TestCase):
         ended = {task.name: value for task, value in in_lanes(self.tasks(failing=["value"]), 2, 9)}
         self.assertEqual(ended, {"map": True, "value": False, "sea": True, "glob": True})
 
-    def test_the_longest_chain_gets_the_processors_that_the_others_leave(self):
+    def test_the_longest_chain_gets_all_processors_and_the_others_share_them_beside_it(self):
         self.assertEqual([share(4, 1, 4), share(4, 2, 4), share(4, 3, 4), share(4, 1, 2), share(1, 3, 4)], [4, 3, 2, 2, 1])
         list(in_lanes(self.tasks(), 4, 90, most=4))
-        self.assertEqual((self.jobs["map"], self.jobs["glob"], self.jobs["node"]), (2, 1, 4))
+        self.assertEqual({name: self.jobs[name] for name in ("map", "sea", "glob", "node")}, {"map": 4, "sea": 3, "glob": 1, "node": 4})
 
-    def test_the_longest_chain_gets_half_the_processors_where_many_are_ready(self):
-        tasks = [Task(name, [], work, 1, lambda jobs, name=name: self.jobs.setdefault(name, jobs)) for name, work in [("long", 9), ("b", 3), ("c", 2), ("d", 1)]]
-        list(in_lanes(tasks, 4, 90, most=4))
-        self.assertEqual((self.jobs["long"], self.jobs["b"], self.jobs["c"]), (2, 1, 1))
+    def test_the_longest_chain_takes_no_more_memory_than_there_is(self):
+        # a second processor adds six tenths
+        list(in_lanes(self.tasks(), 4, 2.5, most=4))
+        self.assertEqual(self.jobs["map"], 3)
+
+    def test_those_beside_the_longest_chain_make_room_for_it(self):
+        weights = {}
+
+        def run(name):
+            weights[name] = os.getpriority(os.PRIO_PROCESS, threading.get_native_id())
+
+        ours = os.getpriority(os.PRIO_PROCESS, 0)
+        for most, beside in [(4, ours + YIELDING), (1, ours)]:
+            tasks = [Task(name, [], work, 1, lambda jobs, name=name: run(name)) for name, work in [("long", 9), ("short", 3)]]
+            list(in_lanes(tasks, 4, 90, most=most))
+            self.assertEqual(weights, {"long": ours, "short": beside})
+
+    def test_one_processor_takes_one_task_at_a_time(self):
+        list(in_lanes(self.tasks(), 1, 90, most=4))
+        self.assertEqual((self.most, set(self.jobs.values())), (1, {1}))
 
     def test_an_error_in_a_task_comes_out(self):
         def fails(_):
@@ -171,12 +187,12 @@ class Lines(unittest.TestCase):
     def test_each_crate_has_a_line(self):
         moments = iter([100.0, 141.6, 352.0])
         progress = Progress(25, 8, lambda: next(moments))
-        self.assertEqual(progress.begins(4), "building: 25 crates, 8 of them proved already; up to 4 are proved at a time")
+        self.assertEqual(progress.begins(4), "building: 25 crates, 8 of them proved already, on 4 processors")
         self.assertEqual(progress.after("mr_effect"), "proved mr_effect, 9 of 25 crates, 42 s")
         self.assertEqual(progress.after("mr_data"), "proved mr_data, 10 of 25 crates, 4 min")
 
     def test_a_build_from_nothing_says_no_count(self):
-        self.assertEqual(Progress(25, 0).begins(2), "building: 25 crates; up to 2 are proved at a time")
+        self.assertEqual(Progress(25, 0).begins(2), "building: 25 crates, on 2 processors")
 
     def test_times(self):
         self.assertEqual([length_of(it) for it in (0, 59.4, 60, 119, 3661)], ["0 s", "59 s", "1 min", "1 min", "61 min"])
@@ -217,11 +233,11 @@ class OfATinyProgram(unittest.TestCase):
         seen = [started.stderr.readline().rstrip() for _ in range(2)]
         os.killpg(started.pid, signal.SIGTERM)
         started.communicate()
-        self.assertRegex(seen[0], r"^minired: building: 3 crates; up to \d+ are proved at a time$")
+        self.assertRegex(seen[0], r"^minired: building: 3 crates, on \d+ processors$")
         self.assertRegex(seen[1], r"^minired: proved low, 1 of 3 crates, \d+ (s|min)$")
         status, lines = self.build()
         self.assertEqual(status, 0, lines)
-        self.assertRegex(lines[0], r"^minired: building: 3 crates, [12] of them proved already; up to \d+ are proved at a time$")
+        self.assertRegex(lines[0], r"^minired: building: 3 crates, [12] of them proved already, on \d+ processors$")
         self.assertEqual(lines[-1], "minired: proved minired, 3 of 3 crates, TIME")
         self.assertEqual(self.build(), (0, []))
 

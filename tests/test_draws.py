@@ -4,6 +4,7 @@ import bisect
 import random
 import unittest
 
+from names import name_of
 from program import request, run
 from replies import NIL, NONE, array, bulk, number
 
@@ -23,8 +24,7 @@ class Player:
         self.sets = {key: [] for key in SIZES}
 
     def member(self, key):
-        """A member of some length, so that some are the beginnings of others."""
-        return b"m" * self.chance.randint(0, 2) + b"%d" % self.chance.randrange(max(2 * SIZES[key], 2))
+        return name_of(self.chance.randrange(max(2 * SIZES[key], 2)))
 
     def drawn(self, members, count):
         place = self.word % len(members) if members else 0

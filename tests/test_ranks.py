@@ -4,6 +4,7 @@ import bisect
 import random
 import unittest
 
+from names import name_of
 from program import request, run
 from replies import NIL, NONE, array, bulk, number
 
@@ -83,7 +84,7 @@ class Player:
         self.sets = {key: Model() for key in SIZES}
 
     def member(self, key):
-        return b"member:%d" % self.chance.randrange(max(2 * SIZES[key], 2))
+        return name_of(self.chance.randrange(max(2 * SIZES[key], 2)))
 
     def place(self, model):
         return self.chance.randint(-len(model.pairs) - 2, len(model.pairs) + 2)

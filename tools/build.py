@@ -50,7 +50,7 @@ class Progress:
 
     def begins(self, lanes):
         already = f", {self.proved} of them proved already" if self.proved else ""
-        return f"building: {self.crates} crates{already}; up to {lanes} are proved at a time"
+        return f"building: {self.crates} crates{already}, on {lanes} processors"
 
     def after(self, name):
         """Counts a crate that is proved now."""

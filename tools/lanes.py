@@ -1,5 +1,6 @@
 """Runs tasks side by side: as many as there are processors and memory for, and first those with the longest chain of others behind them."""
 
+import os
 import queue
 import threading
 from dataclasses import dataclass
@@ -7,6 +8,8 @@ from typing import Callable
 
 # what a second processor, and each further one, adds to the memory of a task
 OF_ANOTHER = 0.6
+# by how much a task beside the one that leads makes room for it, as `nice` counts
+YIELDING = 5
 
 
 @dataclass
@@ -40,33 +43,47 @@ def share(idle, ready, most):
     return max(1, min(most, idle - (ready - 1)))
 
 
+@dataclass
+class Run:
+    """What a running task takes."""
+
+    jobs: int
+    memory: int
+    # it has the longest chain of all that run
+    leads: bool
+
+
 class Lanes:
     """The tasks that run, and how many processors and how much memory they leave to others."""
 
     def __init__(self, tasks, lanes, memory, most):
-        self.behind, self.lanes, self.most = chains(tasks), lanes, most
+        self.behind, self.lanes, self.most = chains(tasks), lanes, min(most, lanes)
         self.memory = memory if callable(memory) else lambda: memory
         self.running, self.results = {}, queue.Queue()
+
+    def leads(self, task):
+        """Whether all else waits longest for this task, where tasks may use several processors."""
+        return self.most > 1 and not task.is_awaited and self.behind[task.name] > max((self.behind[name] for name in self.running), default=0)
 
     def jobs_for(self, task, ready):
         """How many processors this task gets, of so many that are ready; none where it is to wait."""
         if task.is_awaited:
             return 1
-        idle = self.lanes - sum(jobs for jobs, _ in self.running.values())
-        room = self.memory() - sum(needs for _, needs in self.running.values())
-        if self.running and (idle <= 0 or task.memory > room):
+        idle = self.lanes - sum(it.jobs for it in self.running.values() if not it.leads)
+        room = self.memory() - sum(it.memory for it in self.running.values())
+        leads = self.leads(task)
+        if self.running and (task.memory > room or not leads and idle <= 0):
             return 0
-        jobs = share(idle, ready, self.most)
-        # what all else waits for longest gets half, however many are ready
-        if self.behind[task.name] > max((self.behind[name] for name in self.running), default=0):
-            jobs = max(jobs, min(idle, self.lanes // 2, self.most))
+        jobs = self.most if leads else share(idle, ready, self.most)
         while jobs > 1 and memory_of(task, jobs) > room:
             jobs -= 1
         return jobs
 
     def start(self, task, jobs):
-        self.running[task.name] = (0, 0) if task.is_awaited else (jobs, memory_of(task, jobs))
-        threading.Thread(target=_run, args=(task, jobs, self.results), daemon=True).start()
+        leads = self.leads(task)
+        self.running[task.name] = Run(0, 0, False) if task.is_awaited else Run(jobs, memory_of(task, jobs), leads)
+        yielding = YIELDING if self.most > 1 and not leads else 0
+        threading.Thread(target=_run, args=(task, jobs, yielding, self.results), daemon=True).start()
 
     def ended(self):
         """Waits until a task ends, and returns it with what its call returned."""
@@ -84,8 +101,8 @@ def memory_of(task, jobs):
 def in_lanes(tasks, lanes, memory, most=1):
     """Runs the tasks, and yields each with what its call returned as it ends. A task whose forerunner returned something false is not run.
 
-    A task gets up to `most` processors where there are more than ready tasks, and that with the longest chain half of all, where they
-    are idle. The memory is a number of bytes, or a call that tells how many there are by now: it is asked anew as each task ends. Where
+    A task gets up to `most` processors where there are more than ready tasks. Where `most` isn't 1, the task that has the longest chain of all that run gets
+    so many, idle or not, and the others run beside it at a lower priority: they take what it leaves, as while it loads or ends on one processor. The memory is a number of bytes, or a call that tells how many there are by now: it is asked anew as each task ends. Where
     nothing else runs or is awaited, one runs even if it wants more memory than there is."""
     beside, well = Lanes(tasks, lanes, memory, most), set()
     waiting = sorted(tasks, key=lambda it: (not it.is_awaited, -beside.behind[it.name]))
@@ -104,7 +121,10 @@ def in_lanes(tasks, lanes, memory, most=1):
         yield task, value
 
 
-def _run(task, jobs, results):
+def _run(task, jobs, yielding, results):
+    # of this thread alone, and of the programs that it starts
+    if yielding and hasattr(os, "setpriority"):
+        os.setpriority(os.PRIO_PROCESS, threading.get_native_id(), os.getpriority(os.PRIO_PROCESS, 0) + yielding)
     try:
         results.put((task, task.run(jobs), None))
     except BaseException as error:
