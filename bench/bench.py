@@ -140,13 +140,26 @@ def scored(count, group=100):
     return write
 
 
-def each_scored(count):
-    """One new member of a sorted set a request, with scores in no order."""
+def each_scored(count, rounds):
+    """One new member of a sorted set a request, with scores in no order; each round makes a set of its own."""
 
     def write(file):
-        for at in range(count):
-            file.write(request(b"ZADD", b"k", b"%d" % (at * 387_420_489 % count), key(at)))
-        return count, count * len(b":1\r\n")
+        for turn in range(rounds):
+            for at in range(count):
+                file.write(request(b"ZADD", b"k%d" % turn, b"%d" % (at * 387_420_489 % count), key(at)))
+        return rounds * count, rounds * count * len(ONE)
+
+    return write
+
+
+def each_put(count, rounds):
+    """One new member of a set a request, in no order; each round makes a set of its own."""
+
+    def write(file):
+        for turn in range(rounds):
+            for at in range(count):
+                file.write(request(b"SADD", b"k%d" % turn, key(at * 387_420_489 % count)))
+        return rounds * count, rounds * count * len(ONE)
 
     return write
 
@@ -278,7 +291,7 @@ def on_sorted_sets(size, count, rounds):
         return ranged(10_000, 100, b"ZRANGE", b"k", b"%d" % first, b"%d" % (first + 99))
 
     return [
-        (f"ZADD of {size} new members", None, each_scored(count)),
+        (f"ZADD of {size} new members", None, each_scored(count, rounds)),
         (f"ZADD that moves, of {size}", before, moved(count, rounds)),
         (f"ZINCRBY of {size}", before, incremented(count, rounds)),
         (f"ZRANK of {size}", before, ranks_of(count, rounds)),
@@ -297,7 +310,7 @@ def on_sets(size, count, rounds):
     before, few = added(count), min(count // 2, 10_000)
     halfway = ("--word", str(count // 2))
     return [
-        (f"SADD of {size} new members", None, many(b"SADD", count, ONE)),
+        (f"SADD of {size} new members", None, each_put(count, rounds)),
         (f"SISMEMBER of {size}", before, each_of(count, rounds, lambda turn, score: ONE, lambda turn, score, member: (b"SISMEMBER", b"k", member))),
         (f"SRANDMEMBER of {size}", before, asked(10_000, ONE_KEY, b"SRANDMEMBER", b"k"), *halfway),
         (f"SPOP of {size}", before, asked(few, ONE_KEY, b"SPOP", b"k"), *halfway),

@@ -254,22 +254,22 @@ class Keys(Rehearsing):
         self.plays(rows)
 
     def test_keys_of_any_length_are_listed_in_byte_order(self):
-        # keys of 16 bytes and fewer stand apart from longer ones, with zeros behind them
-        lengths = (1, 15, 16, 17, 40)
-        keys = ["", "ab", "a" * 15 + "b", "a" * 16 + "b", *[letter * length for letter in "abc" for length in lengths]]
-        keys += [key + "\0" for key in keys] + ["\0\0", "a\0\0", "a" * 14 + "\0\0", "a" * 16 + "\0\0"]
+        # keys of 23 bytes and fewer stand apart from longer ones, with zeros behind them
+        lengths = (1, 8, 16, 22, 23, 24, 40)
+        keys = ["", "ab", "a" * 22 + "b", "a" * 23 + "b", "a" * 19 + "b", *[letter * length for letter in "abc" for length in lengths]]
+        keys += [key + "\0" for key in keys] + ["\0\0", "a\0\0", "a" * 20 + "\0\0", "a" * 21 + "\0\0", "a" * 23 + "\0\0"]
         in_order = sorted(keys)
-        others = in_order[::2]
+        others, left = in_order[::2], in_order[1::2]
         rows = [("SET %s %d" % (key, place),) for place, key in enumerate(keys)]
         rows += [
             ("KEYS *", array(*in_order)),
             ("DBSIZE", number(len(keys))),
             *[("GET %s" % key, bulk(str(place))) for place, key in enumerate(keys)],
             *[("DEL %s" % key, number(1), "DEL %s" % key) for key in others],
-            ("KEYS *", array(*in_order[1::2])),
+            ("KEYS *", array(*left)),
             *[("EXISTS %s" % key, number(0)) for key in others],
-            ("RENAME %s new" % in_order[-1], OK, "RENAME %s new" % in_order[-1]),
-            ("KEYS *", array(*sorted([*in_order[1:-1:2], "new"]))),
+            ("RENAME %s new" % left[-1], OK, "RENAME %s new" % left[-1]),
+            ("KEYS *", array(*sorted([*left[:-1], "new"]))),
             ("FLUSHALL", OK, "FLUSHALL"),
             ("KEYS *", NONE),
         ]

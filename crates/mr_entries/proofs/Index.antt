@@ -55,7 +55,7 @@ updated e s n b u p = elim (is_eq (pair_cmp p (shown e))) as (λ t. is_eq (pair_
 ] refl
 
 -- when a timed key is a key's with this deadline
-tie : (p : Bytes × ℤ) (e : TimedKey) → is_eq (pair_cmp p (shown e)) ≡ (int_eq p.1 e.deadline && eq_by_cmp bytes_cmp p.0 e.key.items)
+tie : (p : Bytes × ℤ) (e : TimedKey) → is_eq (pair_cmp p (shown e)) ≡ (int_eq p.1 e.deadline && eq_by_cmp bytes_cmp p.0 e.key)
 tie p e = sym (tied_then _ _)
 
 drop_false : (a : Bool) → (a && false) ≡ false
@@ -79,20 +79,20 @@ none_left true = refl
 none_left false = refl
 
 -- one timed key comes, of a key that has none
-pub comes : (e : TimedKey) (s n : BTreeSet TimedKey) → IsDeadlineOf e.key.items None s → Updates timed_cmp s n e true → Reindexes e.key.items (Some e.deadline) s n
+pub comes : (e : TimedKey) (s n : BTreeSet TimedKey) → IsDeadlineOf e.key None s → Updates timed_cmp s n e true → Reindexes e.key (Some e.deadline) s n
 comes e s n of u p =
     updated e s n true u p ∙ ap (λ b. cond b true (has s p)) (tie p e)
-    ∙ elim (eq_by_cmp bytes_cmp p.0 e.key.items) as (λ b. eq_by_cmp bytes_cmp p.0 e.key.items ≡ b → cond (int_eq p.1 e.deadline && b) true (has s p) ≡ (if b then int_eq p.1 e.deadline else has s p)) [
-      | true ↦ λ h. ap (λ c. cond c true (has s p)) (keep_true (int_eq p.1 e.deadline)) ∙ ap (cond (int_eq p.1 e.deadline) true) (of p (same_key p.0 e.key.items h)) ∙ is_itself (int_eq p.1 e.deadline)
+    ∙ elim (eq_by_cmp bytes_cmp p.0 e.key) as (λ b. eq_by_cmp bytes_cmp p.0 e.key ≡ b → cond (int_eq p.1 e.deadline && b) true (has s p) ≡ (if b then int_eq p.1 e.deadline else has s p)) [
+      | true ↦ λ h. ap (λ c. cond c true (has s p)) (keep_true (int_eq p.1 e.deadline)) ∙ ap (cond (int_eq p.1 e.deadline) true) (of p (same_key p.0 e.key h)) ∙ is_itself (int_eq p.1 e.deadline)
       | false ↦ λ h. ap (λ c. cond c true (has s p)) (drop_false (int_eq p.1 e.deadline))
     ] refl
 
 -- the one timed key of a key goes
-pub goes_out : (e : TimedKey) (s n : BTreeSet TimedKey) → IsDeadlineOf e.key.items (Some e.deadline) s → Updates timed_cmp s n e false → Reindexes e.key.items None s n
+pub goes_out : (e : TimedKey) (s n : BTreeSet TimedKey) → IsDeadlineOf e.key (Some e.deadline) s → Updates timed_cmp s n e false → Reindexes e.key None s n
 goes_out e s n of u p =
     updated e s n false u p ∙ ap (λ b. cond b false (has s p)) (tie p e)
-    ∙ elim (eq_by_cmp bytes_cmp p.0 e.key.items) as (λ b. eq_by_cmp bytes_cmp p.0 e.key.items ≡ b → cond (int_eq p.1 e.deadline && b) false (has s p) ≡ (if b then false else has s p)) [
-      | true ↦ λ h. ap (λ c. cond c false (has s p)) (keep_true (int_eq p.1 e.deadline)) ∙ ap (cond (int_eq p.1 e.deadline) false) (of p (same_key p.0 e.key.items h)) ∙ none_left (int_eq p.1 e.deadline)
+    ∙ elim (eq_by_cmp bytes_cmp p.0 e.key) as (λ b. eq_by_cmp bytes_cmp p.0 e.key ≡ b → cond (int_eq p.1 e.deadline && b) false (has s p) ≡ (if b then false else has s p)) [
+      | true ↦ λ h. ap (λ c. cond c false (has s p)) (keep_true (int_eq p.1 e.deadline)) ∙ ap (cond (int_eq p.1 e.deadline) false) (of p (same_key p.0 e.key h)) ∙ none_left (int_eq p.1 e.deadline)
       | false ↦ λ h. ap (λ c. cond c false (has s p)) (drop_false (int_eq p.1 e.deadline))
     ] refl
 
@@ -105,15 +105,15 @@ two_numbers a b z apart h =
     ] refl
 
 -- another timed key of a key comes, and its first one goes
-pub moves : (first second : TimedKey) (s n r : BTreeSet TimedKey) → second.key.items ≡ first.key.items → int_eq first.deadline second.deadline ≡ false → IsDeadlineOf first.key.items (Some first.deadline) s
-    → Updates timed_cmp s n second true → Updates timed_cmp n r first false → Reindexes first.key.items (Some second.deadline) s r
+pub moves : (first second : TimedKey) (s n r : BTreeSet TimedKey) → second.key ≡ first.key → int_eq first.deadline second.deadline ≡ false → IsDeadlineOf first.key (Some first.deadline) s
+    → Updates timed_cmp s n second true → Updates timed_cmp n r first false → Reindexes first.key (Some second.deadline) s r
 moves first second s n r one apart of u v p =
     updated first n r false v p ∙ ap (λ b. cond b false (has n p)) (tie p first)
-    ∙ ap (cond (int_eq p.1 first.deadline && eq_by_cmp bytes_cmp p.0 first.key.items) false) (updated second s n true u p ∙ ap (λ b. cond b true (has s p)) (tie p second ∙ ap (λ (k : Bytes). int_eq p.1 second.deadline && eq_by_cmp bytes_cmp p.0 k) one))
-    ∙ elim (eq_by_cmp bytes_cmp p.0 first.key.items) as (λ b. eq_by_cmp bytes_cmp p.0 first.key.items ≡ b → cond (int_eq p.1 first.deadline && b) false (cond (int_eq p.1 second.deadline && b) true (has s p)) ≡ (if b then int_eq p.1 second.deadline else has s p)) [
+    ∙ ap (cond (int_eq p.1 first.deadline && eq_by_cmp bytes_cmp p.0 first.key) false) (updated second s n true u p ∙ ap (λ b. cond b true (has s p)) (tie p second ∙ ap (λ (k : Bytes). int_eq p.1 second.deadline && eq_by_cmp bytes_cmp p.0 k) one))
+    ∙ elim (eq_by_cmp bytes_cmp p.0 first.key) as (λ b. eq_by_cmp bytes_cmp p.0 first.key ≡ b → cond (int_eq p.1 first.deadline && b) false (cond (int_eq p.1 second.deadline && b) true (has s p)) ≡ (if b then int_eq p.1 second.deadline else has s p)) [
       | true ↦ λ h. ap (λ c. cond c false (cond (int_eq p.1 second.deadline && true) true (has s p))) (keep_true (int_eq p.1 first.deadline))
           ∙ ap (λ c. cond (int_eq p.1 first.deadline) false (cond c true (has s p))) (keep_true (int_eq p.1 second.deadline))
-          ∙ ap (λ c. cond (int_eq p.1 first.deadline) false (cond (int_eq p.1 second.deadline) true c)) (of p (same_key p.0 first.key.items h))
+          ∙ ap (λ c. cond (int_eq p.1 first.deadline) false (cond (int_eq p.1 second.deadline) true c)) (of p (same_key p.0 first.key h))
           ∙ not_both (int_eq p.1 first.deadline) (int_eq p.1 second.deadline) (two_numbers first.deadline second.deadline p.1 apart)
       | false ↦ λ h. ap (λ c. cond c false (cond (int_eq p.1 second.deadline && false) true (has s p))) (drop_false (int_eq p.1 first.deadline))
           ∙ ap (λ c. cond c true (has s p)) (drop_false (int_eq p.1 second.deadline))
@@ -151,7 +151,7 @@ module _ (m : Dataset) (k name : Bytes) (e : Entry) (s : BTreeSet TimedKey) (all
       (IsIndex-put m k (Some e) s s all (subst (λ (d : Option ℤ). Reindexes k d s s) (sym (is_none e.deadline none)) (unmoved k None s (of_none m k s all absent))))
 
   -- .. or with one
-  pub comes_with : (x : TimedKey) (n : BTreeSet TimedKey) (r : Dataset) → x.key.items ≡ k → e.deadline ≡ Some x.deadline → Updates timed_cmp s n x true → r ≡ insert m name e → IsIndex r n
+  pub comes_with : (x : TimedKey) (n : BTreeSet TimedKey) (r : Dataset) → x.key ≡ k → e.deadline ≡ Some x.deadline → Updates timed_cmp s n x true → r ≡ insert m name e → IsIndex r n
   comes_with x n r here until u is =
       subst (λ (w : Dataset). IsIndex w n) (sym (is ∙ ap (λ (q : Bytes). insert m q e) same))
       (IsIndex-put m k (Some e) s n all (subst (λ (d : Option ℤ). Reindexes k d s n) (sym until)
@@ -175,10 +175,9 @@ module _ (m : Dataset) (k : Bytes) (s : BTreeSet TimedKey) (all : IsIndex m s) w
       subst (λ (n : Dataset). IsIndex n s) (sym is) (IsIndex-put m k None s s all (unmoved k None s (subst (λ (d : Option ℤ). IsDeadlineOf k d s) (is_none e.deadline none) (of_entry m k e s all (sym there)))))
 
   -- .. or one
-  pub leaves_with : (e : Entry) (x : TimedKey) (n : BTreeSet TimedKey) (r : Dataset) → get m k ≡ Some e → x.key.items ≡ k → e.deadline ≡ Some x.deadline → Updates timed_cmp s n x false → r ≡ remove m k → IsIndex r n
-  leaves_with e x n r there here until u is =
-      subst (λ (w : Dataset). IsIndex w n) (sym is) (IsIndex-put m k None s n all
-      (subst (λ (q : Bytes). Reindexes q None s n) here (goes_out x s n (subst (λ (q : Bytes). IsDeadlineOf q (Some x.deadline) s) (sym here) (subst (λ (d : Option ℤ). IsDeadlineOf k d s) until (of_entry m k e s all (sym there)))) u)))
+  pub leaves_with : (q : Bytes) (n : BTreeSet TimedKey) (r : Dataset) → q ≡ k → Reindexes q None s n → r ≡ remove m k → IsIndex r n
+  leaves_with q n r here out is =
+      subst (λ (w : Dataset). IsIndex w n) (sym is) (IsIndex-put m k None s n all (subst (λ (p : Bytes). Reindexes p None s n) here out))
 
 -- a key that is there has another entry
 pub IsIndex-set : (m : Dataset) (k name : Bytes) (e : Entry) (s n : BTreeSet TimedKey) → IsIndex m s → name ≡ k → Reindexes name e.deadline s n → IsIndex (insert m k e) n

@@ -14,7 +14,7 @@ use Rattle.mr_entries.specs.declared.timed_key.TimedKey.{TimedKey}
 
 -- a timed key, as a key with its deadline
 abbrev pub shown : TimedKey → Bytes × ℤ
-shown x = (x.key.items, x.deadline)
+shown x = (x.key, x.deadline)
 
 -- this deadline, and no other or none
 abbrev pub is_deadline : ℤ → Option ℤ → Bool

@@ -11,7 +11,7 @@ use crate::fault::ApplyFault;
 use crate::timed_key::TimedKey;
 use crate::value::{Entry, Value};
 use mr_map::{KeyedMap, Keys};
-use mr_value::Word;
+use mr_value::{Bytes, CompactBytes, Word};
 use std::alloc::{AllocError, Global};
 use std::collections::{BTreeSet, btree_set};
 use std::hash::RandomState;
@@ -114,7 +114,7 @@ impl Keyspace {
             *place = entry;
             return Ok(());
         }
-        let name = key.into_bytes(self.alloc)?.into_vec();
+        let name = CompactBytes::from_word(self.alloc, key)?;
         reindex(
             self.alloc,
             &mut self.timed_keys,
@@ -137,7 +137,7 @@ impl Keyspace {
             let _ = self.by_key.insert(key, entry)?;
             return Ok(());
         };
-        let name = Vec::from_slice(self.alloc, key.as_slice())?;
+        let name = CompactBytes::copied(self.alloc, key.as_slice())?;
         let _ = self.by_key.insert(key, entry)?;
         match self.timed_keys.insert(TimedKey {
             deadline,
@@ -145,7 +145,7 @@ impl Keyspace {
         }) {
             Ok(_) => Ok(()),
             Err(refused) => {
-                let _ = self.by_key.remove(refused.value.key.as_slice());
+                take_back(&mut self.by_key, refused.value);
                 Err(AllocError)
             }
         }
@@ -166,7 +166,7 @@ impl Keyspace {
         if place.deadline == deadline {
             return Ok(());
         }
-        let name = key.into_bytes(self.alloc)?.into_vec();
+        let name = CompactBytes::from_word(self.alloc, key)?;
         reindex(
             self.alloc,
             &mut self.timed_keys,
@@ -185,10 +185,8 @@ impl Keyspace {
     {
         let (name, entry) = self.by_key.remove_entry(key)?;
         if let Some(deadline) = entry.deadline {
-            let _ = self.timed_keys.remove(&TimedKey {
-                deadline,
-                key: name,
-            });
+            let key = CompactBytes::from_bytes(Bytes::from_vec(name));
+            unindex(&mut self.timed_keys, key, deadline);
         }
         Some(entry)
     }
@@ -209,16 +207,23 @@ impl Keyspace {
     }
 }
 
+// Takes out a key that found no place in the index.
+fn take_back(by_key: &mut KeyedMap<Entry>, refused: TimedKey)
+    ensures { by_key.new ≡ map.remove by_key.old refused.key }
+{
+    let _ = by_key.remove(refused.key.as_slice());
+}
+
 // Makes this the deadline of a key in an index, or none. Where memory runs out nothing has changed.
 fn reindex(
     alloc: Global,
     timed_keys: &mut BTreeSet<TimedKey>,
-    key: Vec<u8>,
+    key: CompactBytes,
     before: Option<i64>,
     after: Option<i64>,
 ) -> Result<(), AllocError>
-    requires { IsDeadlineOf key.items before timed_keys.old }
-    ensures ok { OnOk result (Reindexes key.items after timed_keys.old timed_keys.new) }
+    requires { IsDeadlineOf key before timed_keys.old }
+    ensures ok { OnOk result (Reindexes key after timed_keys.old timed_keys.new) }
     ensures err { OnErr result (timed_keys.new ≡ timed_keys.old) }
 {
     match (before, after) {
@@ -229,33 +234,36 @@ fn reindex(
                 key,
             })?;
         }
-        (Some(before), None) => {
-            let _ = timed_keys.remove(&TimedKey {
-                deadline: before,
-                key,
-            });
-        }
+        (Some(before), None) => unindex(timed_keys, key, before),
         (Some(before), Some(after)) => move_deadline(alloc, timed_keys, key, before, after)?,
     }
     Ok(())
+}
+
+// Takes the deadline of a key out of an index.
+fn unindex(timed_keys: &mut BTreeSet<TimedKey>, key: CompactBytes, deadline: i64)
+    requires { IsDeadlineOf key (Some deadline) timed_keys.old }
+    ensures { Reindexes key None timed_keys.old timed_keys.new }
+{
+    let _ = timed_keys.remove(&TimedKey { deadline, key });
 }
 
 // Moves the deadline of a key in an index.
 fn move_deadline(
     alloc: Global,
     timed_keys: &mut BTreeSet<TimedKey>,
-    key: Vec<u8>,
+    key: CompactBytes,
     before: i64,
     after: i64,
 ) -> Result<(), AllocError>
-    requires { IsDeadlineOf key.items (Some before) timed_keys.old }
-    ensures ok { OnOk result (Reindexes key.items (Some after) timed_keys.old timed_keys.new) }
+    requires { IsDeadlineOf key (Some before) timed_keys.old }
+    ensures ok { OnOk result (Reindexes key (Some after) timed_keys.old timed_keys.new) }
     ensures err { OnErr result (timed_keys.new ≡ timed_keys.old) }
 {
     if before == after {
         return Ok(());
     }
-    let name = Vec::from_slice(alloc, key.as_slice())?;
+    let name = CompactBytes::copied(alloc, key.as_slice())?;
     let _ = timed_keys.insert(TimedKey {
         deadline: after,
         key: name,

@@ -1,9 +1,11 @@
 // A key with its deadline.
 
+use mr_value::CompactBytes;
+
 /// A key with its deadline. They are in order of deadline, and then of the keys' bytes.
-#[derive(Debug, PartialEq, Eq, PartialOrd, Ord, Drop)]
+#[derive(PartialEq, Eq, PartialOrd, Ord, Drop)]
 pub struct TimedKey {
     /// The moment from which the key is expired, in milliseconds.
     pub deadline: i64,
-    pub key: Vec<u8>,
+    pub key: CompactBytes,
 }

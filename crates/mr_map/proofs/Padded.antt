@@ -7,7 +7,7 @@ use Rattle.std.specs.declared.cmp.Ordering.{Ordering}
 use Rattle.std.specs.declared.cmp.Ordering.TheVariants.{Less, Equal, Greater}
 use Rattle.std.specs.Cmp.{ranks, nat_cmp_is}
 use Rattle.mr_map.specs.Bytes.{bytes_cmp}
-use Rattle.mr_map.specs.Short.{if_short, zeros, IsPadded}
+use Rattle.mr_map.specs.Short.{room, if_short, zeros, IsPadded}
 
 pub nested : (r s t : Ordering) → ordering_then (ordering_then r s) t ≡ ordering_then r (ordering_then s t)
 nested Less s t = refl
@@ -65,7 +65,7 @@ by_padded (x ∷ xs) (y ∷ ys) m n e =
 pub padded_cmp : (xs ys : List ℕ) (m n : ℕ) → IsPadded xs m → IsPadded ys n → ordering_then (bytes_cmp xs ys) (nat_cmp m n) ≡ bytes_cmp (take m xs) (take n ys)
 padded_cmp xs ys m n p q =
     (λ i. ordering_then (bytes_cmp (p.padded i) (q.padded i)) (nat_cmp (sym p.whole i) (sym q.whole i)))
-    ∙ by_padded (take m xs) (take n ys) (16 - m) (16 - n) (let a : m ≤ 16 = p.fits in let b : n ≤ 16 = q.fits in omega (arith, p.whole, q.whole))
+    ∙ by_padded (take m xs) (take n ys) (room - m) (room - n) (let a : m ≤ room = p.fits in let b : n ≤ room = q.fits in omega (arith, p.whole, q.whole))
 
 drop_zeros : (n m : ℕ) → drop n (zeros m) ≡ zeros (m - n)
 drop_zeros zero m = let e : m ≡ m - 0 = omega arith in ap zeros e
@@ -77,25 +77,25 @@ front [] ys = refl
 front (x ∷ xs) ys = ap (λ l. x ∷ l) (front xs ys)
 
 -- a key and the zeros that fill what it leaves
-pub is_padded : (key written : List ℕ) → written ≡ key → length key ≤ 16 → IsPadded (written ++ drop (length key) (zeros 16)) (length key)
-is_padded key written same fits = subst (λ l. IsPadded (l ++ drop (length key) (zeros 16)) (length key)) (sym same) (
-    let text = front key (drop (length key) (zeros 16)) in
+pub is_padded : (key written : List ℕ) → written ≡ key → length key ≤ room → IsPadded (written ++ drop (length key) (zeros room)) (length key)
+is_padded key written same fits = subst (λ l. IsPadded (l ++ drop (length key) (zeros room)) (length key)) (sym same) (
+    let text = front key (drop (length key) (zeros room)) in
     record {
       fits = fits;
       whole = ap length text;
-      padded = λ i. sym text i ++ drop_zeros (length key) 16 i;
+      padded = λ i. sym text i ++ drop_zeros (length key) room i;
     }
     )
 
 -- what it says that a key is short, or isn't
-pub is_short : (key k : List ℕ) → if_short key ≡ Some k → (k ≡ key) × (length key ≤ 16)
-is_short key k = elim (nat_le (length key) 16) as (λ b. nat_le (length key) 16 ≡ b → cond b (Some key) None ≡ Some k → (k ≡ key) × (length key ≤ 16)) [
-  | true ↦ λ e h. (cc, leb-true (length key) 16 e)
+pub is_short : (key k : List ℕ) → if_short key ≡ Some k → (k ≡ key) × (length k ≤ room)
+is_short key k = elim (nat_le (length key) room) as (λ b. nat_le (length key) room ≡ b → cond b (Some key) None ≡ Some k → (k ≡ key) × (length k ≤ room)) [
+  | true ↦ λ e h. let same : k ≡ key = cc in (same, subst (λ l. length l ≤ room) (sym same) (leb-true (length key) room e))
   | false ↦ λ e h. cc
 ] refl
 
-pub is_long : (key : List ℕ) → if_short key ≡ None → 16 < length key
-is_long key = elim (nat_le (length key) 16) as (λ b. nat_le (length key) 16 ≡ b → cond b (Some key) None ≡ None → 16 < length key) [
+pub is_long : (key : List ℕ) → if_short key ≡ None → room < length key
+is_long key = elim (nat_le (length key) room) as (λ b. nat_le (length key) room ≡ b → cond b (Some key) None ≡ None → room < length key) [
   | true ↦ λ e h. cc
-  | false ↦ λ e h. leb-false (length key) 16 e
+  | false ↦ λ e h. leb-false (length key) room e
 ] refl

@@ -1,149 +1,206 @@
--- A set of keys in two parts, the short ones and the longer ones, before and after one change, and its keys as a list.
-use Rattle.std.proofs.Common.{map, ◌≡◌, ℕ, ◌<◌, ◌≤◌, List, [], ◌∷◌, ◌++◌, length, Option, Some, None, Bool, true, false, ◌&&◌, ◌||◌, cond, refl, sym, ◌∙◌, ap, subst, arith}
-use Rattle.std.specs.Prelude.{is_some, not}
+-- A map in two parts, the short keys and the longer ones, before and after one change, and its entries as a list.
+use Rattle.std.proofs.Common.{◌≡◌, ℕ, ◌+◌, ◌-◌, ◌<◌, List, [], ◌∷◌, ◌++◌, length, Option, Some, None, Bool, true, false, cond, refl, sym, ◌∙◌, ap, subst, arith}
+use Rattle.std.specs.Prelude.{◌^◌, is_some}
 use Rattle.std.specs.Ordering.{eq_by_cmp}
-use Rattle.std.specs.FinMap.{get, insert, remove, find, keys, entries, entries_sorted, contains_key, contains_key-keys, empty, from_sorted, entries-from_sorted, get-empty, get-from_sorted, get-from_entries, get-entries, get-insert, get-remove, same_map}
+use Rattle.std.specs.FinMap.{get, insert, remove, find, len, entries, entries_sorted, contains_key, empty, from_sorted, entries-from_sorted, get-empty, get-from_sorted, get-from_entries, get-entries, get-insert, get-remove, len-empty, len-entries, len-insert, len-remove, same_map}
 use Rattle.std.proofs.lemmas.Cmp.{nat_list_cmp_total}
 use Rattle.std.proofs.lemmas.Map.Lookups.{exact_bytes}
-use Rattle.mr_map.specs.Bytes.{bytes_cmp, ByteMap}
-use Rattle.mr_map.specs.Merged.{joined, merged, AreParted}
-use Rattle.mr_map.proofs.Domains.{equal, one_unit}
-use Rattle.mr_map.proofs.Merging.{among-merged, bare, each_among, found_bare, names_bare, rise-merged, rise_names, sorted_bare}
+use Rattle.mr_map.specs.Bytes.{bytes_cmp, named_by, ByteMap}
+use Rattle.std.specs.Global.{Box}
+use Rattle.mr_map.specs.Merged.{held, joined, merged, AreParted, Entries}
+use Rattle.mr_map.proofs.Merging.{apart, each_found, find-merged, first_put, length-merged, or_else, rise-merged, rise_of, second_put, sorted_of, tied, Long, Short}
 
-abbrev pub KeySet : Type 0
-KeySet = ByteMap (Unit {0})
+same : {X : Type 0} (m n : ByteMap X) → ((q : List ℕ) → get m q ≡ get n q) → m ≡ n
+same m n is = same_map nat_list_cmp_total exact_bytes m n is
 
--- ---- what a set has
-if_put : (b : Bool) (o : Option (Unit {0})) → is_some (cond b (Some tt) o) ≡ (b || is_some o)
-if_put true o = refl
-if_put false o = refl
+-- ---- values that may be there
+first_out : {X : Type 0} (b : Bool) (a o : Option X) → (b ≡ true → o ≡ None) → or_else (cond b None a) o ≡ cond b None (or_else a o)
+first_out true a o f = f refl
+first_out false a o f = refl
 
-if_out : (b : Bool) (o : Option (Unit {0})) → is_some (cond b None o) ≡ (not b && is_some o)
-if_out true o = refl
-if_out false o = refl
+second_out : {X : Type 0} (b : Bool) (a o : Option X) → (b ≡ true → a ≡ None) → or_else a (cond b None o) ≡ cond b None (or_else a o)
+second_out true a o f = ap (λ r. or_else r None) (f refl)
+second_out false a o f = refl
 
-has-insert : (m : KeySet) (k q : List ℕ) → contains_key (insert m k tt) q ≡ (eq_by_cmp bytes_cmp q k || contains_key m q)
-has-insert m k q = ap is_some (get-insert nat_list_cmp_total m k tt q) ∙ if_put (eq_by_cmp bytes_cmp q k) (get m q)
+or_none : {X : Type 0} (a : Option X) → or_else a None ≡ a
+or_none None = refl
+or_none (Some x) = refl
 
-has-remove : (m : KeySet) (k q : List ℕ) → contains_key (remove m k) q ≡ (not (eq_by_cmp bytes_cmp q k) && contains_key m q)
-has-remove m k q = ap is_some (get-remove nat_list_cmp_total m k q) ∙ if_out (eq_by_cmp bytes_cmp q k) (get m q)
+absent : {X : Type 0} (o : Option X) → (is_some o ≡ true → ⊥) → o ≡ None
+absent None f = refl
+absent (Some x) f = absurd (f refl)
 
-found_in_both : (q : List ℕ) (es fs : List (List ℕ × Unit {0})) → is_some (find bytes_cmp q (es ++ fs)) ≡ (is_some (find bytes_cmp q es) || is_some (find bytes_cmp q fs))
+if_put : {X : Type 0} (b : Bool) (x : X) (o : Option X) {P : Type 0} → (b ≡ true → P) → (is_some o ≡ true → P) → is_some (cond b (Some x) o) ≡ true → P
+if_put true x o f g h = f refl
+if_put false x o f g h = g h
+
+if_kept : {X : Type 0} (b : Bool) (o : Option X) → is_some (cond b None o) ≡ true → is_some o ≡ true
+if_kept true o h = cc
+if_kept false o h = h
+
+found_in_both : {X : Type 0} (q : List ℕ) (es fs : Entries X) → find bytes_cmp q (es ++ fs) ≡ or_else (find bytes_cmp q es) (find bytes_cmp q fs)
 found_in_both q [] fs = refl
-found_in_both q (e ∷ es) fs = elim (eq_by_cmp bytes_cmp q e.0) as (λ b. is_some (cond b (Some e.1) (find bytes_cmp q (es ++ fs))) ≡ (is_some (cond b (Some e.1) (find bytes_cmp q es)) || is_some (find bytes_cmp q fs))) [ true ↦ refl | false ↦ found_in_both q es fs ]
+found_in_both q (e ∷ es) fs = ap (cond (eq_by_cmp bytes_cmp q e.0) (Some e.1)) (found_in_both q es fs) ∙ first_put (eq_by_cmp bytes_cmp q e.0) e.1 (find bytes_cmp q es) (find bytes_cmp q fs)
 
-has-joined : (m n : KeySet) (q : List ℕ) → contains_key (joined m n) q ≡ (contains_key m q || contains_key n q)
-has-joined m n q =
-    ap is_some (get-from_entries nat_list_cmp_total (entries m ++ entries n) q)
+get-joined : {X : Type 0} (m n : ByteMap X) (q : List ℕ) → get (joined m n) q ≡ or_else (get m q) (get n q)
+get-joined m n q =
+    get-from_entries nat_list_cmp_total (entries m ++ entries n) q
     ∙ found_in_both q (entries m) (entries n)
-    ∙ sym (λ i. is_some (get-entries m q i) || is_some (get-entries n q i))
+    ∙ sym (λ i. or_else (get-entries m q i) (get-entries n q i))
 
-same_set : (m n : KeySet) → ((q : List ℕ) → contains_key m q ≡ contains_key n q) → m ≡ n
-same_set m n same = same_map nat_list_cmp_total exact_bytes m n (λ q. one_unit _ _ (same q))
+-- ---- how many there are
+put_fits : (b : Bool) (n : ℕ) → n + 1 < 2 ^ 63 → cond b n (n + 1) < 2 ^ 63
+put_fits true n h = omega (arith, h)
+put_fits false n h = h
 
--- ---- tests
-first_in : (a b c : Bool) → ((a || b) || c) ≡ (a || (b || c))
-first_in true b c = refl
-first_in false b c = refl
+out_fits : (b : Bool) (n : ℕ) → n < 2 ^ 63 → cond b (n - 1) n < 2 ^ 63
+out_fits true n h = omega (arith, h)
+out_fits false n h = h
 
-second_in : (a b c : Bool) → (b || (a || c)) ≡ (a || (b || c))
-second_in true true c = refl
-second_in true false c = refl
-second_in false b c = refl
+module _ {X : Type 0} (m : ByteMap X) (k : List ℕ) where
+  -- one more is few enough
+  pub room_for : (v : X) → len m + 1 < 2 ^ 63 → len (insert m k v) < 2 ^ 63
+  room_for v h = subst (λ n. n < 2 ^ 63) (sym (len-insert nat_list_cmp_total m k v)) (put_fits (contains_key m k) (len m) h)
 
-first_out : (a b c : Bool) → (a ≡ true → c ≡ false) → ((not a && b) || c) ≡ (not a && (b || c))
-first_out true b c f = f refl
-first_out false b c f = refl
+  -- another value of a key that is there
+  pub room_in_place : (v : X) → contains_key m k ≡ true → len m < 2 ^ 63 → len (insert m k v) < 2 ^ 63
+  room_in_place v there h = subst (λ n. n < 2 ^ 63) (sym (len-insert nat_list_cmp_total m k v ∙ ap (λ b. cond b (len m) (len m + 1)) there)) h
 
-second_out : (a b c : Bool) → (a ≡ true → b ≡ false) → (b || (not a && c)) ≡ (not a && (b || c))
-second_out true b c f = ap (λ d. d || false) (f refl)
-second_out false b c f = refl
+  room_after : len m < 2 ^ 63 → len (remove m k) < 2 ^ 63
+  room_after h = subst (λ n. n < 2 ^ 63) (sym (len-remove nat_list_cmp_total m k)) (out_fits (contains_key m k) (len m) h)
 
-by_cases : (a b : Bool) {P : Type 0} → (a ≡ true → P) → (b ≡ true → P) → (a || b) ≡ true → P
-by_cases true b f g h = f refl
-by_cases false b f g h = g h
+-- ---- what is there, and one change
+module _ {X : Type 0} (m n : ByteMap X) (parted : AreParted m n) where
+  no_short : (q : List ℕ) → Long q → get m q ≡ None
+  no_short q long = absent (get m q) (λ h. apart q q (parted.short q h) long refl)
 
-later : (a b : Bool) → (not a && b) ≡ true → b ≡ true
-later true b h = cc
-later false b h = h
+  no_long : (q : List ℕ) → Short q → get n q ≡ None
+  no_long q short = absent (get n q) (λ h. apart q q short (parted.long q h) refl)
 
-denied : (b : Bool) → (b ≡ true → ⊥) → b ≡ false
-denied true f = absurd (f refl)
-denied false f = refl
+  pub get_short : (q : List ℕ) → Short q → get (joined m n) q ≡ get m q
+  get_short q short = get-joined m n q ∙ ap (or_else (get m q)) (no_long q short) ∙ or_none (get m q)
 
-tied : (q k : List ℕ) → eq_by_cmp bytes_cmp q k ≡ true → q ≡ k
-tied q k h = exact_bytes q k (equal _ h)
+  pub get_long : (q : List ℕ) → Long q → get (joined m n) q ≡ get n q
+  get_long q long = get-joined m n q ∙ ap (λ o. or_else o (get n q)) (no_short q long)
 
--- ---- one change
-module _ (m n : KeySet) (k : List ℕ) where
-  pub put_short : joined (insert m k tt) n ≡ insert (joined m n) k tt
-  put_short = same_set _ _ (λ q.
-      has-joined (insert m k tt) n q ∙ ap (λ b. b || contains_key n q) (has-insert m k q)
-      ∙ first_in (eq_by_cmp bytes_cmp q k) (contains_key m q) (contains_key n q)
-      ∙ sym (has-insert (joined m n) k q ∙ ap (λ b. eq_by_cmp bytes_cmp q k || b) (has-joined m n q)))
+  module _ (k : List ℕ) where
+    pub put_short : (v : X) → joined (insert m k v) n ≡ insert (joined m n) k v
+    put_short v = same _ _ (λ q.
+        get-joined (insert m k v) n q ∙ ap (λ o. or_else o (get n q)) (get-insert nat_list_cmp_total m k v q)
+        ∙ sym (first_put (eq_by_cmp bytes_cmp q k) v (get m q) (get n q))
+        ∙ sym (get-insert nat_list_cmp_total (joined m n) k v q ∙ ap (cond (eq_by_cmp bytes_cmp q k) (Some v)) (get-joined m n q)))
 
-  pub put_long : joined m (insert n k tt) ≡ insert (joined m n) k tt
-  put_long = same_set _ _ (λ q.
-      has-joined m (insert n k tt) q ∙ ap (λ b. contains_key m q || b) (has-insert n k q)
-      ∙ second_in (eq_by_cmp bytes_cmp q k) (contains_key m q) (contains_key n q)
-      ∙ sym (has-insert (joined m n) k q ∙ ap (λ b. eq_by_cmp bytes_cmp q k || b) (has-joined m n q)))
+    pub put_long : (v : X) → Long k → joined m (insert n k v) ≡ insert (joined m n) k v
+    put_long v long = same _ _ (λ q.
+        get-joined m (insert n k v) q ∙ ap (or_else (get m q)) (get-insert nat_list_cmp_total n k v q)
+        ∙ sym (second_put (eq_by_cmp bytes_cmp q k) v (get m q) (get n q) (λ h. no_short q (subst Long (sym (tied q k h)) long)))
+        ∙ sym (get-insert nat_list_cmp_total (joined m n) k v q ∙ ap (cond (eq_by_cmp bytes_cmp q k) (Some v)) (get-joined m n q)))
 
-  module _ (parted : AreParted m n) where
-    pub out_short : length k ≤ 16 → joined (remove m k) n ≡ remove (joined m n) k
-    out_short short = same_set _ _ (λ q.
-        has-joined (remove m k) n q ∙ ap (λ b. b || contains_key n q) (has-remove m k q)
-        ∙ first_out (eq_by_cmp bytes_cmp q k) (contains_key m q) (contains_key n q) (λ e. denied _ (λ h. let p = parted.long q h in let same : length q ≡ length k = ap length (tied q k e) in absurd (omega arith)))
-        ∙ sym (has-remove (joined m n) k q ∙ ap (λ b. not (eq_by_cmp bytes_cmp q k) && b) (has-joined m n q)))
+    pub out_short : Short k → joined (remove m k) n ≡ remove (joined m n) k
+    out_short short = same _ _ (λ q.
+        get-joined (remove m k) n q ∙ ap (λ o. or_else o (get n q)) (get-remove nat_list_cmp_total m k q)
+        ∙ first_out (eq_by_cmp bytes_cmp q k) (get m q) (get n q) (λ h. no_long q (subst Short (sym (tied q k h)) short))
+        ∙ sym (get-remove nat_list_cmp_total (joined m n) k q ∙ ap (cond (eq_by_cmp bytes_cmp q k) None) (get-joined m n q)))
 
-    pub out_long : 16 < length k → joined m (remove n k) ≡ remove (joined m n) k
-    out_long long = same_set _ _ (λ q.
-        has-joined m (remove n k) q ∙ ap (λ b. contains_key m q || b) (has-remove n k q)
-        ∙ second_out (eq_by_cmp bytes_cmp q k) (contains_key m q) (contains_key n q) (λ e. denied _ (λ h. let p = parted.short q h in let same : length q ≡ length k = ap length (tied q k e) in absurd (omega arith)))
-        ∙ sym (has-remove (joined m n) k q ∙ ap (λ b. not (eq_by_cmp bytes_cmp q k) && b) (has-joined m n q)))
+    pub out_long : Long k → joined m (remove n k) ≡ remove (joined m n) k
+    out_long long = same _ _ (λ q.
+        get-joined m (remove n k) q ∙ ap (or_else (get m q)) (get-remove nat_list_cmp_total n k q)
+        ∙ second_out (eq_by_cmp bytes_cmp q k) (get m q) (get n q) (λ h. no_short q (subst Long (sym (tied q k h)) long))
+        ∙ sym (get-remove nat_list_cmp_total (joined m n) k q ∙ ap (cond (eq_by_cmp bytes_cmp q k) None) (get-joined m n q)))
 
-    pub parted_put_short : length k ≤ 16 → AreParted (insert m k tt) n
-    parted_put_short short = record {
-      short = λ q h. by_cases (eq_by_cmp bytes_cmp q k) (contains_key m q) (λ e. subst (λ l. length l ≤ 16) (sym (tied q k e)) short) (parted.short q) (sym (has-insert m k q) ∙ h);
+    pub parted_put_short : (v : X) → Short k → len (insert (joined m n) k v) < 2 ^ 63 → AreParted (insert m k v) n
+    parted_put_short v short room = record {
+      short = λ q h. if_put (eq_by_cmp bytes_cmp q k) v (get m q) (λ e. subst Short (sym (tied q k e)) short) (parted.short q) (sym (ap is_some (get-insert nat_list_cmp_total m k v q)) ∙ h);
       long = parted.long;
+      few = subst (λ j. len j < 2 ^ 63) (sym (put_short v)) room;
     }
 
-    pub parted_put_long : 16 < length k → AreParted m (insert n k tt)
-    parted_put_long long = record {
+    pub parted_put_long : (v : X) → Long k → len (insert (joined m n) k v) < 2 ^ 63 → AreParted m (insert n k v)
+    parted_put_long v long room = record {
       short = parted.short;
-      long = λ q h. by_cases (eq_by_cmp bytes_cmp q k) (contains_key n q) (λ e. subst (λ l. 16 < length l) (sym (tied q k e)) long) (parted.long q) (sym (has-insert n k q) ∙ h);
+      long = λ q h. if_put (eq_by_cmp bytes_cmp q k) v (get n q) (λ e. subst Long (sym (tied q k e)) long) (parted.long q) (sym (ap is_some (get-insert nat_list_cmp_total n k v q)) ∙ h);
+      few = subst (λ j. len j < 2 ^ 63) (sym (put_long v long)) room;
     }
 
-    pub parted_out_short : AreParted (remove m k) n
-    parted_out_short = record { short = λ q h. parted.short q (later (eq_by_cmp bytes_cmp q k) _ (sym (has-remove m k q) ∙ h)); long = parted.long }
+    pub parted_out_short : Short k → AreParted (remove m k) n
+    parted_out_short short = record {
+      short = λ q h. parted.short q (if_kept (eq_by_cmp bytes_cmp q k) (get m q) (sym (ap is_some (get-remove nat_list_cmp_total m k q)) ∙ h));
+      long = parted.long;
+      few = subst (λ j. len j < 2 ^ 63) (sym (out_short short)) (room_after (joined m n) k parted.few);
+    }
 
-    pub parted_out_long : AreParted m (remove n k)
-    parted_out_long = record { short = parted.short; long = λ q h. parted.long q (later (eq_by_cmp bytes_cmp q k) _ (sym (has-remove n k q) ∙ h)) }
+    pub parted_out_long : Long k → AreParted m (remove n k)
+    parted_out_long long = record {
+      short = parted.short;
+      long = λ q h. parted.long q (if_kept (eq_by_cmp bytes_cmp q k) (get n q) (sym (ap is_some (get-remove nat_list_cmp_total n k q)) ∙ h));
+      few = subst (λ j. len j < 2 ^ 63) (sym (out_long long)) (room_after (joined m n) k parted.few);
+    }
+
+  -- ---- the entries as a list
+  pub entries_joined : entries (joined m n) ≡ merged (entries m) (entries n)
+  entries_joined =
+      let all = merged (entries m) (entries n) in
+      let shorts = each_found Short (entries m) (λ q h. parted.short q (ap is_some (get-entries m q) ∙ h)) in
+      let longs = each_found Long (entries n) (λ q h. parted.long q (ap is_some (get-entries n q) ∙ h)) in
+      let sorted = sorted_of all (rise-merged (entries m) (entries n) (rise_of (entries m) (entries_sorted m)) (rise_of (entries n) (entries_sorted n)) shorts longs) in
+      let is_all = same (joined m n) (from_sorted all) (λ q.
+      get-joined m n q ∙ (λ i. or_else (get-entries m q i) (get-entries n q i))
+      ∙ sym (get-from_sorted bytes_cmp all q sorted ∙ find-merged q (entries m) (entries n) shorts longs)) in
+      ap entries is_all ∙ entries-from_sorted bytes_cmp all sorted
+
+  pub len_joined : len m + len n ≡ len (joined m n)
+  len_joined =
+      (λ i. len-entries m i + len-entries n i)
+      ∙ sym (len-entries (joined m n) ∙ ap length entries_joined ∙ length-merged (entries m) (entries n))
 
 -- ---- none
-none_there : (q : List ℕ) → contains_key (empty {X = Unit {0}} {R = bytes_cmp}) q ≡ false
-none_there q = ap is_some (get-empty {X = Unit {0}} bytes_cmp q)
+never : {X : Type 0} (o : Option X) → o ≡ None → is_some o ≡ true → ⊥
+never None e h = cc
+never (Some x) e h = cc
 
-pub parted_empty : AreParted empty empty
-parted_empty = record { short = λ q h. absurd (never q h); long = λ q h. absurd (never q h) }
-  where
-    never : (q : List ℕ) → contains_key (empty {X = Unit {0}} {R = bytes_cmp}) q ≡ true → ⊥
-    never q h = let e : true ≡ false = sym h ∙ none_there q in cc
+module _ {X : Type 0} where
+  none_there : (q : List ℕ) → get (empty {X = X} {R = bytes_cmp}) q ≡ None
+  none_there q = get-empty {X = X} bytes_cmp q
 
-pub joined_empty : joined empty empty ≡ empty
-joined_empty = same_set _ _ (λ q. has-joined empty empty q ∙ (λ i. none_there q i || none_there q i) ∙ sym (none_there q))
+  pub joined_empty : joined empty empty ≡ empty {X = X} {R = bytes_cmp}
+  joined_empty = same _ _ (λ q. get-joined empty empty q ∙ (λ i. or_else (none_there q i) (none_there q i)) ∙ sym (none_there q))
 
--- ---- the keys as a list
-pub keys_joined : (m n : KeySet) → AreParted m n → keys (joined m n) ≡ merged (keys m) (keys n)
-keys_joined m n parted =
-    let all = merged (keys m) (keys n) in
-    let sorted = sorted_bare all (rise-merged (keys m) (keys n) (rise_names (entries m) (entries_sorted m)) (rise_names (entries n) (entries_sorted n))
-    (each_among (λ q. length q ≤ 16) (keys m) (λ q h. parted.short q (contains_key-keys m q ∙ h)))
-    (each_among (λ q. 16 < length q) (keys n) (λ q h. parted.long q (contains_key-keys n q ∙ h)))) in
-    let is_bare = same_set (joined m n) (from_sorted (bare all)) (λ q.
-    has-joined m n q ∙ (λ i. contains_key-keys m q i || contains_key-keys n q i) ∙ sym (among-merged q (keys m) (keys n))
-    ∙ sym (ap is_some (get-from_sorted bytes_cmp (bare all) q sorted) ∙ found_bare q all)) in
-    ap keys is_bare ∙ ap (map (λ e. e.0)) (entries-from_sorted bytes_cmp (bare all) sorted) ∙ names_bare all
+  pub parted_empty : AreParted (empty {X = X} {R = bytes_cmp}) empty
+  parted_empty = record {
+    short = λ q h. absurd (never _ (none_there q) h);
+    long = λ q h. absurd (never _ (none_there q) h);
+    few = subst (λ n. n < 2 ^ 63) (sym (ap len joined_empty ∙ len-empty bytes_cmp X)) (let h : 0 < 2 ^ 63 = omega arith in h);
+  }
 
-pub each_itself : (ks : List (List ℕ)) → map (λ k. k) ks ≡ ks
-each_itself [] = refl
-each_itself (k ∷ ks) = ap (λ l. k ∷ l) (each_itself ks)
+cut_none : {X : Type 0} (b : Bool) (o : Option X) → o ≡ None → cond b None o ≡ o
+cut_none true o e = sym e
+cut_none false o e = refl
+
+nothing : {A : Type 0} (es : List A) → length es ≡ 0 → es ≡ []
+nothing [] e = refl
+nothing (x ∷ es) e = absurd (omega arith)
+
+-- a map before its trees come
+module _ {X : Type 0} (t : Option (Box (ByteMap X))) (m : ByteMap X) (is : held t ≡ m) (none : t ≡ None) where
+  is_empty : empty ≡ m
+  is_empty = sym (ap held none) ∙ is
+
+  pub none_got : (k : List ℕ) → None ≡ get m k
+  none_got k = sym (none_there k) ∙ ap (λ m. get m k) is_empty
+
+  pub none_removed : (k : List ℕ) → m ≡ remove m k
+  none_removed k =
+      sym is_empty
+      ∙ sym (same (remove empty k) empty (λ q. get-remove nat_list_cmp_total empty k q ∙ cut_none (eq_by_cmp bytes_cmp q k) (get empty q) (none_there q)))
+      ∙ ap (λ m. remove m k) is_empty
+
+  pub none_counted : 0 ≡ len m
+  none_counted = sym (len-empty bytes_cmp X) ∙ ap len is_empty
+
+  pub none_listed : [] ≡ entries m
+  none_listed = sym (nothing (entries empty) (sym (len-entries empty) ∙ len-empty bytes_cmp X)) ∙ ap entries is_empty
+
+-- entries whose keys are their own texts
+pub as_they_are : {X : Type 0} (es : Entries X) → named_by (λ k. k) es ≡ es
+as_they_are [] = refl
+as_they_are (e ∷ es) = ap (λ l. e ∷ l) (as_they_are es)

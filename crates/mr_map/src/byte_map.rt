@@ -1,30 +1,34 @@
-// A map from byte strings, as a tree in byte order.
+// A map from byte strings, in byte order.
 ghost use Rattle.std.specs.Prelude.{◌≡◌, ◌==◌, ◌<◌, ◌^◌, OnOk, OnErr, IfOk, is_some, option_copied};
 ghost use Rattle.std.specs.FinMap as map;
 ghost use Rattle.std.specs.Option.{option_copied_mut};
 
 use crate::keys::Keys;
 use crate::pairs::Pairs;
+use crate::trees::Trees;
 use std::alloc::{AllocError, Global};
-use std::collections::BTreeMap;
 use std::marker::Model;
 
-/// A finite map from byte strings: an ordered tree. A look-up compares about log2 of the number of keys.
+/// A finite map from byte strings: ordered trees, in which short keys lie themselves. A look-up compares about log2 of the
+/// number of keys. The map itself is a pointer, and the trees come with the first key, so that a value which may be one of
+/// several kinds is no larger for it.
 #[derive(Drop)]
 pub struct ByteMap<V> {
-    tree: BTreeMap<Vec<u8>, V>,
+    alloc: Global,
+    trees: Option<Box<Trees<V>>>,
 }
 
 impl<V> Model for ByteMap<V> {
     ghost use Rattle.std.specs.FinMap as map;
     ghost use Rattle.std.specs.Coded.{coded_ℕ, coded_list};
-    ghost use Rattle.mr_map.specs.Bytes.{bytes_cmp, map_of};
+    ghost use Rattle.mr_map.specs.Bytes.{bytes_cmp};
+    ghost use Rattle.mr_map.specs.Merged.{held};
 
     ghost Value = { map.FinMap bytes_cmp V };
 
     ghost coded = { map.code (coded_list coded_ℕ) V.code };
 
-    ghost view = { λ a. map_of a.tree.entries };
+    ghost view = { λ a. held a.trees };
 }
 
 impl<V> ByteMap<V> {
@@ -32,9 +36,7 @@ impl<V> ByteMap<V> {
     pub fn new(alloc: Global) -> Self
         ensures { result ≡ map.empty }
     {
-        ByteMap {
-            tree: BTreeMap::new(alloc),
-        }
+        ByteMap { alloc, trees: None }
     }
 
     /// How many keys there are.
@@ -42,7 +44,10 @@ impl<V> ByteMap<V> {
         ensures len { result ≡ map.len self.now }
         ensures small { result < 2 ^ 63 }
     {
-        self.tree.len()
+        match &self.trees {
+            Some(trees) => trees.len(),
+            None => 0,
+        }
     }
 
     /// Whether there is no key.
@@ -56,21 +61,27 @@ impl<V> ByteMap<V> {
     pub fn keys(&self) -> Keys<'_, V>
         ensures { result ≡ map.keys self.now }
     {
-        Keys::new(None, self.tree.keys())
+        Keys::new(self.iter())
     }
 
     /// The keys with their values, in byte order. It takes no memory.
     pub fn iter(&self) -> Pairs<'_, V>
         ensures { result ≡ map.entries self.now }
     {
-        Pairs::new(self.tree.iter())
+        match &self.trees {
+            Some(trees) => trees.iter(),
+            None => Pairs::new(None, None),
+        }
     }
 
     /// The value of a key.
     pub fn get(&self, key: &[u8]) -> Option<&V>
         ensures { option_copied result ≡ map.get self.now key.now }
     {
-        self.tree.get(key)
+        match &self.trees {
+            Some(trees) => trees.get(key),
+            None => None,
+        }
     }
 
     /// Whether a key has a value.
@@ -90,8 +101,11 @@ impl<V> ByteMap<V> {
         ensures* writes_back { sem 𝓛 (lends_value V.row self.entry key.now result) }
         ensures value { option_copied_mut result ≡ map.get self.old key.now }
     {
-        match self.tree.get_mut(key) {
-            Some(value) => Some(value),
+        match &mut self.trees {
+            Some(trees) => match trees.as_mut().get_mut(key) {
+                Some(value) => Some(value),
+                None => None,
+            },
             None => None,
         }
     }
@@ -104,7 +118,28 @@ impl<V: Drop> ByteMap<V> {
         ensures ok { OnOk result (self.new ≡ map.insert self.old key.items value) }
         ensures err { OnErr result (self.new ≡ self.old) }
     {
-        Ok(self.tree.insert(key, value)?)
+        if let Some(trees) = &mut self.trees {
+            return trees.insert(key, value);
+        }
+        let mut trees = Trees::new(self.alloc);
+        let before = trees.insert(key, value)?;
+        self.trees = Some(Box::new(self.alloc, trees)?);
+        Ok(before)
+    }
+
+    /// The same with a key that lies elsewhere: only a long one is copied into memory of its own.
+    pub fn insert_copy(&mut self, key: &[u8], value: V) -> Result<Option<V>, AllocError>
+        ensures before { IfOk result (λ before. before ≡ map.get self.old key.now) }
+        ensures ok { OnOk result (self.new ≡ map.insert self.old key.now value) }
+        ensures err { OnErr result (self.new ≡ self.old) }
+    {
+        if let Some(trees) = &mut self.trees {
+            return trees.insert_copy(self.alloc, key, value);
+        }
+        let mut trees = Trees::new(self.alloc);
+        let before = trees.insert_copy(self.alloc, key, value)?;
+        self.trees = Some(Box::new(self.alloc, trees)?);
+        Ok(before)
     }
 
     /// Removes a key, and answers its value.
@@ -112,6 +147,9 @@ impl<V: Drop> ByteMap<V> {
         ensures before { result ≡ map.get self.old key.now }
         ensures removed { self.new ≡ map.remove self.old key.now }
     {
-        self.tree.remove(key)
+        if let Some(trees) = &mut self.trees {
+            return trees.remove(key);
+        }
+        None
     }
 }

@@ -3,8 +3,8 @@ ghost use Rattle.std.specs.Prelude.{◌≡◌, ◌==◌, ◌<◌, ◌^◌, OnOk,
 ghost use Rattle.std.specs.FinMap as map;
 ghost use Rattle.std.specs.Option.{option_copied_mut};
 
+use crate::byte_map::ByteMap;
 use crate::hashing::KeySeed;
-use crate::key_order::KeyOrder;
 use crate::keys::Keys;
 use std::alloc::{AllocError, Global};
 use std::collections::HashMap;
@@ -16,7 +16,7 @@ use std::marker::Model;
 pub struct KeyedMap<V> {
     alloc: Global,
     table: HashMap<Vec<u8>, V, KeySeed>,
-    order: KeyOrder,
+    order: ByteMap<()>,
 }
 
 impl<V> Model for KeyedMap<V> {
@@ -42,7 +42,7 @@ impl<V> KeyedMap<V> {
         KeyedMap {
             alloc,
             table: HashMap::with_hasher(alloc, KeySeed::of(seed)),
-            order: KeyOrder::new(alloc),
+            order: ByteMap::new(alloc),
         }
     }
 
@@ -109,7 +109,7 @@ impl<V: Drop> KeyedMap<V> {
         ensures err { OnErr result (self.new ≡ self.old) }
     {
         self.table.reserve(1)?;
-        self.order.insert(key.as_slice())?;
+        self.order.insert_copy(key.as_slice(), ())?;
         match self.table.insert(key, value) {
             Ok(before) => Ok(before),
             // Room is reserved.
@@ -133,7 +133,7 @@ impl<V: Drop> KeyedMap<V> {
         ensures removed { self.new ≡ map.remove self.old key.now }
     {
         let before = self.table.remove_entry(key)?;
-        self.order.remove(key);
+        let _ = self.order.remove(key);
         Some(before)
     }
 
@@ -142,6 +142,6 @@ impl<V: Drop> KeyedMap<V> {
         ensures { self.new ≡ map.empty }
     {
         self.table.clear();
-        self.order = KeyOrder::new(self.alloc);
+        self.order = ByteMap::new(self.alloc);
     }
 }

@@ -1,22 +1,22 @@
 // Short keys, which lie in a tree as they are.
-ghost use Rattle.std.specs.Prelude.{◌≡◌, ◌+◌, ◌≤◌, length};
+ghost use Rattle.std.specs.Prelude.{◌≡◌, ◌+◌, ◌≤◌, ◌∷◌, ◌++◌, [], IfSome, length};
 ghost use Rattle.std.specs.Slice.Scan.{big_endian};
-ghost use Rattle.std.specs.Ordering.{as_partial_cmp, eq_by_cmp};
+ghost use Rattle.std.specs.Ordering.{as_partial_cmp, eq_by_cmp, nat_cmp, ordering_then};
 ghost use Rattle.std.specs.Cmp.{eq_by_cmp_equiv, partial_equiv_from_equiv, partial_order_from_total};
 ghost use Rattle.std.specs.Cmp.Lexicographic.{nat_list_cmp_total};
 ghost use Rattle.std.proofs.Common.{refl};
 ghost use Rattle.mr_map.specs.Bytes.{bytes_cmp};
-ghost use Rattle.mr_map.specs.Short.{if_short, part};
+ghost use Rattle.mr_map.specs.Short.{if_short, part, room};
 
 use std::cmp::Ordering;
 use std::marker::Model;
 
 // How many bytes a short key has at most.
-const ROOM: usize = 16;
+const ROOM: usize = 23;
 
-/// A key of at most 16 bytes, seen as its bytes. They lie in the key itself.
+/// A key of at most 23 bytes, seen as its bytes. They lie in the key itself, and compare as numbers do.
 #[derive(Drop)]
-pub(crate) struct ShortKey {
+pub struct ShortKey {
     // The key, and zeros behind it.
     bytes: [u8; ROOM],
     len: u8,
@@ -35,8 +35,9 @@ impl Model for ShortKey {
 
 impl ShortKey {
     /// The key with these bytes, if they are few enough.
-    pub(crate) fn of(key: &[u8]) -> Option<ShortKey>
-        ensures { result ≡ if_short key.now }
+    pub fn of(key: &[u8]) -> Option<ShortKey>
+        ensures few { result ≡ if_short key.now }
+        ensures same { IfSome result (λ short. short ≡ key.now) }
     {
         if key.len() > ROOM {
             return None;
@@ -50,7 +51,7 @@ impl ShortKey {
     }
 
     /// The bytes.
-    pub(crate) fn as_slice(&self) -> &[u8]
+    pub fn as_slice(&self) -> &[u8]
         ensures { result.now ≡ self.now }
     {
         &self.bytes[..self.len as usize]
@@ -75,18 +76,33 @@ fn word_at(bytes: &[u8], at: usize) -> u64
     ])
 }
 
-// Compares sixteen bytes with sixteen others as two numbers each.
+// The number that the last bytes of a key's room spell with its length behind them.
 #[inline]
-fn order(a: &[u8], b: &[u8]) -> Ordering
-    requires left { length a.now ≡ 16 }
-    requires right { length b.now ≡ 16 }
-    ensures { result ≡ bytes_cmp a.now b.now }
+fn last_word(bytes: &[u8], len: u8) -> u64
+    requires { length bytes.now ≡ room }
+    ensures { result ≡ big_endian 0 (part 16 7 bytes.now ++ len ∷ []) }
+{
+    u64::from_be_bytes([
+        bytes[16], bytes[17], bytes[18], bytes[19], bytes[20], bytes[21], bytes[22], len,
+    ])
+}
+
+// Compares padded keys, and then their lengths, as three numbers each.
+#[inline]
+fn order(a: &[u8], a_len: u8, b: &[u8], b_len: u8) -> Ordering
+    requires left { length a.now ≡ room }
+    requires right { length b.now ≡ room }
+    ensures { result ≡ ordering_then (bytes_cmp a.now b.now) (nat_cmp a_len b_len) }
 {
     let (x, y) = (word_at(a, 0), word_at(b, 0));
     if x != y {
         return x.cmp(&y);
     }
-    word_at(a, 8).cmp(&word_at(b, 8))
+    let (z, w) = (word_at(a, 8), word_at(b, 8));
+    if z != w {
+        return z.cmp(&w);
+    }
+    last_word(a, a_len).cmp(&last_word(b, b_len))
 }
 
 impl PartialEq for ShortKey {
@@ -124,6 +140,6 @@ impl Ord for ShortKey {
 
     #[inline]
     fn cmp(&self, other: &ShortKey) -> Ordering {
-        order(&self.bytes, &other.bytes).then(self.len.cmp(&other.len))
+        order(&self.bytes, self.len, &other.bytes, other.len)
     }
 }

@@ -1,3 +1,4 @@
+pub mod Compact
 pub mod Lists
 pub mod Members
 pub mod Number

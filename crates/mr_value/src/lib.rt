@@ -2,6 +2,7 @@
 #![tactic(auto)]
 
 mod bytes;
+mod compact_bytes;
 mod ends;
 mod hash;
 mod indexes;
@@ -15,6 +16,7 @@ mod set_value;
 mod word;
 
 pub use bytes::Bytes;
+pub use compact_bytes::CompactBytes;
 pub use ends::{End, Side};
 pub use hash::Hash;
 pub use indexes::{place, window};

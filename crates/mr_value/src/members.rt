@@ -1,29 +1,28 @@
 // The members of a set, in byte order.
 ghost use Rattle.std.specs.Prelude.{◌≡◌};
 ghost use Rattle.std.specs.Iterator.{YieldsFirstRef, item_count};
-ghost use Rattle.mr_map.specs.Bytes.{texts};
 
+use crate::compact_bytes::CompactBytes;
 use mr_order::Iter;
 use std::marker::Model;
 
 /// The members that are still to come, seen as a list.
 #[derive(Drop)]
 pub struct Members<'a> {
-    inner: Iter<'a, Vec<u8>>,
+    inner: Iter<'a, CompactBytes>,
 }
 
 impl<'a> Model for Members<'a> {
     ghost use Rattle.std.specs.Prelude.{ℕ, List};
-    ghost use Rattle.mr_map.specs.Bytes.{texts};
 
     ghost Value = { List (List ℕ) };
 
-    ghost view = { λ a. texts a.inner };
+    ghost view = { λ a. a.inner };
 }
 
 impl<'a> Members<'a> {
-    pub(crate) fn new(inner: Iter<'a, Vec<u8>>) -> Self
-        ensures { result ≡ texts inner.entry }
+    pub(crate) fn new(inner: Iter<'a, CompactBytes>) -> Self
+        ensures { result ≡ inner.entry }
     {
         Members { inner }
     }

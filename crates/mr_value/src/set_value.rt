@@ -5,7 +5,10 @@ ghost use Rattle.mr_map.specs.Bytes.{bytes_cmp};
 ghost use Rattle.mr_order.specs.Changes.{IsTaken};
 
 use crate::bytes::Bytes;
+use crate::compact_bytes::CompactBytes;
 use crate::members::Members;
+use crate::word::Word;
+use mr_map::ShortKey;
 use mr_order::Ordered;
 use std::alloc::{AllocError, Global};
 use std::marker::Model;
@@ -16,7 +19,7 @@ use std::marker::Model;
 /// is found by its place without a walk over those in front. Where memory runs out, a set is as it was.
 #[derive(Drop)]
 pub struct SetValue {
-    members: Ordered<Vec<u8>>,
+    members: Ordered<CompactBytes>,
 }
 
 impl Model for SetValue {
@@ -61,7 +64,10 @@ impl SetValue {
     pub fn contains(&self, member: &[u8]) -> bool
         ensures { result ≡ map.contains_key self.now member.now }
     {
-        self.members.contains(member)
+        match ShortKey::of(member) {
+            Some(short) => self.members.contains(&short),
+            None => self.members.contains(member),
+        }
     }
 
     /// The members, in byte order. It takes no memory.
@@ -93,8 +99,25 @@ impl SetValue {
         ensures ok { OnOk result (self.new ≡ map.insert self.old member tt) }
         ensures err { OnErr result (self.new ≡ self.old) }
     {
+        self.put(CompactBytes::from_bytes(member))
+    }
+
+    /// Adds a word as a member, and answers whether it is new. A word of few bytes takes no memory of its own.
+    pub fn insert_word(&mut self, alloc: Global, member: Word<'_>) -> Result<bool, AllocError>
+        ensures new { IfOk result (λ new. new ≡ not (map.contains_key self.old member.entry)) }
+        ensures ok { OnOk result (self.new ≡ map.insert self.old member.entry tt) }
+        ensures err { OnErr result (self.new ≡ self.old) }
+    {
+        self.put(CompactBytes::from_word(alloc, member)?)
+    }
+
+    fn put(&mut self, member: CompactBytes) -> Result<bool, AllocError>
+        ensures new { IfOk result (λ new. new ≡ not (map.contains_key self.old member)) }
+        ensures ok { OnOk result (self.new ≡ map.insert self.old member tt) }
+        ensures err { OnErr result (self.new ≡ self.old) }
+    {
         let before = self.members.len();
-        self.members.insert(member.into_vec())?;
+        self.members.insert(member)?;
         Ok(before < self.members.len())
     }
 
@@ -108,8 +131,11 @@ impl SetValue {
 }
 
 // Takes a member out, if it is there.
-fn take_out(members: &mut Ordered<Vec<u8>>, member: &[u8]) -> Option<Vec<u8>>
-    ensures { IsTaken (λ x. bytes_cmp member.now x.items) members.old result members.new }
+fn take_out(members: &mut Ordered<CompactBytes>, member: &[u8]) -> Option<CompactBytes>
+    ensures { IsTaken (bytes_cmp member.now) members.old result members.new }
 {
-    members.take(member)
+    match ShortKey::of(member) {
+        Some(short) => members.take(&short),
+        None => members.take(member),
+    }
 }

@@ -109,6 +109,14 @@ module _ (m n : ByteMap ℤ) (es : List Entry) (all : AreStored m es) where
         same = last_taken m (stored x) (map stored fs) (sym all.same ∙ ap (map stored) h ∙ map-append stored fs (x ∷ []));
       })
 
+first_of_map : (es : List Entry) → option_map stored (slice_get es 0) ≡ slice_get (map stored es) 0
+first_of_map [] = refl
+first_of_map (x ∷ es) = refl
+
+-- what the first pair is
+pub first_pair : (m : ByteMap ℤ) (es : List Entry) → AreStored m es → option_map stored (slice_get es 0) ≡ slice_get (pairs_of m) 0
+first_pair m es all = first_of_map es ∙ ap (λ (ls : List (List ℕ × ℤ)). slice_get ls 0) all.same
+
 last_of : (ps : List (List ℕ × ℤ)) (p : List ℕ × ℤ) → slice_get (ps ++ p ∷ []) (length ps) ≡ Some p
 last_of [] p = refl
 last_of (q ∷ qs) p = last_of qs p

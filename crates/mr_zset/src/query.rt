@@ -1,12 +1,13 @@
 // What is looked for among stored pairs: a pair, and where a range of scores begins and ends.
 ghost use Rattle.std.specs.BTreeMap.Comparable.{le_lt_trans};
 ghost use Rattle.mr_zset.specs.Pairs.{pair_cmp, shown};
-ghost use Rattle.mr_zset.specs.Stored.{stored};
+ghost use Rattle.mr_zset.specs.Stored.{short_shown, stored};
 ghost use Rattle.mr_zset.specs.Limits.{start_cmp, end_cmp, start_below, end_below, pairs_total};
 
 use crate::bound::Bound;
 use crate::entry::Entry;
 use crate::pair::Pair;
+use mr_map::ShortKey;
 use mr_order::Query;
 use std::cmp::Ordering;
 
@@ -20,6 +21,26 @@ impl<'a> Query<Entry> for Pair<'a> {
             score: item.score,
             member: item.member.as_slice(),
         })
+    }
+}
+
+/// A pair whose member is of few bytes, which compare as numbers.
+#[derive(Clone, Copy)]
+pub(crate) struct ShortPair<'a> {
+    pub score: i64,
+    pub member: &'a ShortKey,
+}
+
+impl<'a> Query<Entry> for ShortPair<'a> {
+    ghost compare = { λ q x. pair_cmp (short_shown q) (stored x) };
+
+    ghost below_greater = { λ q x y. le_lt_trans pairs_total (short_shown q) (stored x) (stored y) };
+
+    fn compare(&self, item: &Entry) -> Ordering {
+        match self.score.cmp(&item.score) {
+            Ordering::Equal => self.member.compare(&item.member),
+            unequal => unequal,
+        }
     }
 }
 

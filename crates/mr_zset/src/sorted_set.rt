@@ -1,17 +1,18 @@
 // A sorted set.
-ghost use Rattle.std.specs.Prelude.{◌≡◌, ◌==◌, ◌+◌, ◌-◌, ◌<◌, ◌≤◌, ◌^◌, ℕ, IsTrue, OnOk, OnErr, IfOk, IfSome, Some, None, count_by, length, map, option_map, slice_get, slice_range};
+ghost use Rattle.std.specs.Prelude.{◌≡◌, ◌==◌, ◌+◌, ◌-◌, ◌<◌, ◌≤◌, ◌^◌, ℕ, IsTrue, OnOk, OnErr, IfOk, IfSome, Some, None, count_by, length, map, slice_get, slice_range};
 ghost use Rattle.std.specs.FinMap as finite;
 ghost use Rattle.mr_zset.specs.Score.{is_score};
 ghost use Rattle.mr_zset.specs.Pairs.{pair_lt, pairs_of, rank_of, range_of, shown, without};
-ghost use Rattle.mr_zset.specs.Stored.{stored};
 
 use crate::bound::Bound;
 use crate::entry::Entry;
 use crate::pair::Pair;
-use crate::stored::{pairs_between, place_of, places_of, put_in, take_out};
+use crate::stored::{
+    copied, drop_first, drop_last, pairs_between, place_of, places_of, put_in, take_out,
+};
 use mr_map::{ByteMap, Pairs};
 use mr_order::{Ordered, Steps};
-use mr_value::Bytes;
+use mr_value::{Bytes, CompactBytes};
 use std::alloc::{AllocError, Global};
 use std::marker::Model;
 
@@ -100,7 +101,7 @@ impl ZSet {
         if score == before {
             return Ok(());
         }
-        let member_copy = Vec::from_slice(self.alloc, member)?;
+        let member_copy = CompactBytes::copied(self.alloc, member)?;
         put_in(
             &mut self.pairs,
             Entry {
@@ -126,8 +127,7 @@ impl ZSet {
         ensures ok { OnOk result (self.new ≡ finite.insert self.old member.now score) }
         ensures err { OnErr result (self.new ≡ self.old) }
     {
-        let key = Vec::from_slice(self.alloc, member)?;
-        let member_copy = Vec::from_slice(self.alloc, member)?;
+        let member_copy = CompactBytes::copied(self.alloc, member)?;
         put_in(
             &mut self.pairs,
             Entry {
@@ -135,7 +135,7 @@ impl ZSet {
                 member: member_copy,
             },
         )?;
-        if self.scores.insert(key, score).is_err() {
+        if self.scores.insert_copy(member, score).is_err() {
             take_out(&mut self.pairs, Pair { score, member });
             return Err(AllocError);
         }
@@ -233,8 +233,10 @@ impl ZSet {
         ensures ok { IfOk result (λ popped. self.new ≡ without popped self.old) }
         ensures err { OnErr result (self.new ≡ self.old) }
     {
-        let first = self.pairs.pop_first();
-        Ok(forget(&mut self.scores, first))
+        let popped = copied(self.alloc, self.pairs.first())?;
+        drop_first(&mut self.pairs);
+        forget(&mut self.scores, &popped);
+        Ok(popped)
     }
 
     /// Removes the last pair in order, and answers it. Where memory runs out, the set is as it was.
@@ -243,8 +245,10 @@ impl ZSet {
         ensures ok { IfOk result (λ popped. self.new ≡ without popped self.old) }
         ensures err { OnErr result (self.new ≡ self.old) }
     {
-        let last = self.pairs.pop_last();
-        Ok(forget(&mut self.scores, last))
+        let popped = copied(self.alloc, self.pairs.last())?;
+        drop_last(&mut self.pairs);
+        forget(&mut self.scores, &popped);
+        Ok(popped)
     }
 }
 
@@ -259,12 +263,11 @@ fn write(scores: &mut ByteMap<i64>, member: &[u8], score: i64)
     *place = score;
 }
 
-// Takes out of a map what it says of the member of a pair, and answers the pair.
-fn forget(scores: &mut ByteMap<i64>, pair: Option<Entry>) -> Option<(Bytes, i64)>
-    ensures pair { result ≡ option_map stored pair }
-    ensures gone { scores.new ≡ without result scores.old }
+// Takes out of a map what it says of the member of a pair.
+fn forget(scores: &mut ByteMap<i64>, popped: &Option<(Bytes, i64)>)
+    ensures { scores.new ≡ without popped.now scores.old }
 {
-    let Entry { score, member } = pair?;
-    scores.remove(member.as_slice());
-    Some((Bytes::from_vec(member), score))
+    if let Some((member, _)) = popped {
+        scores.remove(member.as_slice());
+    }
 }

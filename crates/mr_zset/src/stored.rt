@@ -1,6 +1,7 @@
 // The pairs of a sorted set as they are stored, in order.
-ghost use Rattle.std.specs.Prelude.{◌≡◌, ◌+◌, ◌<◌, ◌≤◌, ◌^◌, ℕ, IfOk, OnErr, OnOk, count_by, filter, length, map, slice_range};
+ghost use Rattle.std.specs.Prelude.{◌≡◌, ◌+◌, ◌<◌, ◌≤◌, ◌^◌, ℕ, [], ◌∷◌, ◌++◌, ◌-◌, IfOk, MatchOption, OnErr, OnOk, count_by, filter, length, map, option_copied, option_map, slice_get, slice_range};
 ghost use Rattle.std.specs.BTreeSet.{insert_key};
+ghost use Rattle.mr_order.specs.Changes.{IsTaken};
 ghost use Rattle.mr_zset.specs.Bounds.{is_within};
 ghost use Rattle.mr_zset.specs.Pairs.{is_other, pair_cmp, pair_lt, shown};
 ghost use Rattle.mr_zset.specs.Stored.{stored};
@@ -8,8 +9,10 @@ ghost use Rattle.mr_zset.specs.Stored.{stored};
 use crate::bound::Bound;
 use crate::entry::Entry;
 use crate::pair::Pair;
-use crate::query::{End, Start};
+use crate::query::{End, ShortPair, Start};
+use mr_map::ShortKey;
 use mr_order::{Ordered, Steps};
+use mr_value::Bytes;
 use std::alloc::{AllocError, Global};
 
 // Puts a pair where it stands in order, unless it is there. Where memory runs out, all is as it was.
@@ -25,7 +28,20 @@ pub(crate) fn put_in(pairs: &mut Ordered<Entry>, entry: Entry) -> Result<(), All
 pub(crate) fn take_out(pairs: &mut Ordered<Entry>, pair: Pair<'_>)
     ensures { map stored pairs.new ≡ filter (is_other (shown pair.entry)) (map stored pairs.old) }
 {
-    pairs.take(pair);
+    taken(pairs, pair);
+}
+
+// Takes a pair out, if it is there, and answers it. A member of few bytes is looked up as a number.
+fn taken(pairs: &mut Ordered<Entry>, pair: Pair<'_>) -> Option<Entry>
+    ensures { IsTaken (λ y. pair_cmp (shown pair.entry) (stored y)) pairs.old result pairs.new }
+{
+    match ShortKey::of(pair.member) {
+        Some(short) => pairs.take(ShortPair {
+            score: pair.score,
+            member: &short,
+        }),
+        None => pairs.take(pair),
+    }
 }
 
 // How many stored pairs are less than one.
@@ -33,7 +49,16 @@ pub(crate) fn place_of(pairs: &Ordered<Entry>, pair: Pair<'_>, steps: &mut Steps
     ensures count { result ≡ count_by (λ p. pair_lt p (shown pair.entry)) (map stored pairs.now) }
     ensures steps { (digits : ℕ) → length pairs.now < 2 ^ digits → steps.new.count ≤ steps.old.count + digits }
 {
-    pairs.place(pair, steps)
+    match ShortKey::of(pair.member) {
+        Some(short) => {
+            let sought = ShortPair {
+                score: pair.score,
+                member: &short,
+            };
+            pairs.place(sought, steps)
+        }
+        None => pairs.place(pair, steps),
+    }
 }
 
 // The places between which the scores are within two bounds, the second left out.
@@ -67,4 +92,32 @@ pub(crate) fn pairs_between(
         })?;
     }
     Ok(part)
+}
+
+// A pair with a copy of its member.
+pub(crate) fn copied(
+    alloc: Global,
+    pair: Option<&Entry>,
+) -> Result<Option<(Bytes, i64)>, AllocError>
+    ensures { IfOk result (λ copy. copy ≡ option_map stored (option_copied pair.entry)) }
+{
+    let Some(pair) = pair else { return Ok(None) };
+    Ok(Some((
+        Bytes::from_slice(alloc, pair.member.as_slice())?,
+        pair.score,
+    )))
+}
+
+// Drops the first pair, if there is one.
+pub(crate) fn drop_first(pairs: &mut Ordered<Entry>)
+    ensures { MatchOption (slice_get pairs.old 0) ((pairs.old ≡ []) × (pairs.new ≡ [])) (λ pair. pairs.old ≡ pair ∷ pairs.new) }
+{
+    pairs.pop_first();
+}
+
+// Drops the last pair, if there is one.
+pub(crate) fn drop_last(pairs: &mut Ordered<Entry>)
+    ensures { MatchOption (slice_get pairs.old (length pairs.old - 1)) ((pairs.old ≡ []) × (pairs.new ≡ [])) (λ pair. pairs.old ≡ pairs.new ++ pair ∷ []) }
+{
+    pairs.pop_last();
 }

@@ -65,7 +65,7 @@ fn put_members(alloc: Global, set: &mut SetValue, members: Words<'_>) -> Result<
     ensures { OnOk result (set.new ≡ with_members members.entry set.old) }
 {
     for member in members.into_vec() {
-        set.insert(member.into_bytes(alloc)?)?;
+        set.insert_word(alloc, member)?;
     }
     Ok(())
 }

@@ -1,8 +1,9 @@
 use Rattle.std.proofs.Common.{rules, ◌≡◌, ℕ, ℤ, List, [], ◌∷◌, ◌++◌, length}
 use Rattle.std.specs.FinMap.{entries}
+use Rattle.std.specs.Prelude.{◌≢◌}
 use Rattle.mr_effect.specs.declared.effect.Effect.TheVariants as made
 use Rattle.mr_entries.specs.Cuts.{most_items}
-use Rattle.mr_data.proofs.Grouping.{writing_flushes}
+use Rattle.mr_data.proofs.Grouping.{writing_flushes, writing_goes}
 use Rattle.mr_data.proofs.rebuilding.push_sorted_set.Goals as goal
 
 pub loop-member-preserved-then-len-eq-MOST_ITEMS : goal.loop-member-preserved-then-len-eq-MOST_ITEMS
@@ -11,3 +12,10 @@ loop-member-preserved-then-len-eq-MOST_ITEMS c =
     let more : c.push.new.self ≡ c.loop-member.group ++ x ∷ [] = search rules in
     let full : length c.push.new.self ≡ most_items = search rules in
     writing_flushes (made.SetScores c.args.key.now) c.args.out.now.items c.loop-member.out.items c.loop-member.group c.loop-member.member-iterator c.next.new.self (entries c.args.scores.now) c.push.new.self x c.loop-member.invariant c.in-Some.ensures.steps more c.push_scores.new.out.items _ full c.in_ok-push_scores.ensures c.new-group-then-len-eq-MOST_ITEMS.ensures
+
+pub loop-member-preserved : goal.loop-member-preserved
+loop-member-preserved c =
+    let x : List ℕ × ℤ = (c.in-Some.member.now, c.in-Some.score.now) in
+    let more : c.push.new.self ≡ c.loop-member.group ++ x ∷ [] = search rules in
+    let room : length c.push.new.self ≢ most_items = search rules in
+    writing_goes (made.SetScores c.args.key.now) c.args.out.now.items c.loop-member.out.items c.loop-member.group c.loop-member.member-iterator c.next.new.self (entries c.args.scores.now) c.push.new.self x c.loop-member.invariant c.in-Some.ensures.steps more room

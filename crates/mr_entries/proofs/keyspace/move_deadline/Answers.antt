@@ -7,7 +7,7 @@ use Rattle.mr_entries.proofs.keyspace.move_deadline.Goals as goal
 
 pub returns-then-before-after-clause-ok : goal.returns-then-before-after-clause-ok
 returns-then-before-after-clause-ok c =
-    let k = c.args.key.items in
+    let k = c.args.key in
     let s = c.args.timed_keys.now in
     let same : c.args.before ≡ c.args.after = sym (to_z-of_z w64 c.args.before c.ranges.before) ∙ ap (to_z w64) c.if-before-after.true ∙ to_z-of_z w64 c.args.after c.ranges.after in
     unmoved k (Some c.args.after) s (subst (λ d. IsDeadlineOf k (Some d) s) same c.requires)
@@ -19,6 +19,6 @@ returns-clause-ok c =
       | false ↦ λ e. refl
     ] refl in
     moves (record { deadline = c.args.before; key = c.args.key }) (record { deadline = c.args.after; key = c.in_ok-name.name }) c.args.timed_keys.now c.insert.new.self c.remove.new.self
-    (c.in_ok-name.ensures.items ∙ c.as_slice.ensures.value) apart c.requires
+    (c.in_ok-name.ensures ∙ c.as_slice.ensures) apart c.requires
     (rw (sym (to_z-of_z w64 c.args.after c.ranges.after)) c.in_ok-insert.ensures.updates)
     (rw (sym (to_z-of_z w64 c.args.before c.ranges.before)) c.remove.ensures.updates)

@@ -5,4 +5,4 @@ use Rattle.mr_zset.proofs.PairLemmas.{pairs_total}
 use Rattle.mr_zset.proofs.stored.take_out.Goals as goal
 
 pub returns : goal.returns
-returns c = taken_out pairs_total stored (shown c.args.pair) c.args.pairs.now c.take.new.self c.take.result c.take.ensures
+returns c = taken_out pairs_total stored (shown c.args.pair) c.args.pairs.now c.taken.new.pairs c.taken.result c.taken.ensures

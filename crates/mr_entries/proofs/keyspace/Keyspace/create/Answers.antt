@@ -17,16 +17,16 @@ invariant_of-self-in-Ok c =
     let name : c.into_vec-key.result.items ≡ c.args.key = search rules in
     let fits : to_z w64 (of_z w64 c.in-Some.deadline) ≡ c.in-Some.deadline = search rules in
     comes_with m c.args.key c.into_vec-key.result.items c.args.entry c.self.inside.timed_keys c.self.invariant absent name (record { deadline = c.in-Some.deadline; key = c.in_ok-name.name }) c.insert-3.new.self c.insert-2.new.self
-    (c.in_ok-name.ensures.items ∙ c.as_slice.ensures.value ∙ name) c.in-Some.is (rw (sym fits) c.in-Ok.ensures.updates) c.in_ok-insert-2.ensures.ok
+    (c.in_ok-name.ensures ∙ c.as_slice.ensures.value ∙ name) c.in-Some.is (rw (sym fits) c.in-Ok.ensures.updates) c.in_ok-insert-2.ensures.ok
 
 pub invariant_of-self-in-Err : goal.invariant_of-self-in-Err
 invariant_of-self-in-Err c =
     let m = c.self.inside.by_key in
     let absent : get m c.args.key ≡ None = ap (λ x. get x c.args.key) c.self.view_is ∙ c.requires in
     let name : c.into_vec-key.result.items ≡ c.args.key = search rules in
-    let back : c.as_slice-in-Err.result.now ≡ c.args.key = c.as_slice-in-Err.ensures.value ∙ ap (λ x. x.key.items) c.in-Err.ensures.value_returned ∙ c.in_ok-name.ensures.items ∙ c.as_slice.ensures.value ∙ name in
-    same_index m c.remove.new.self c.self.inside.timed_keys c.insert-3.new.self c.self.invariant
-    (came_and_went m c.args.key c.into_vec-key.result.items c.args.entry c.self.inside.timed_keys c.self.invariant absent name c.as_slice-in-Err.result.now c.remove.new.self back (c.remove.ensures.removed ∙ ap (λ x. remove x c.as_slice-in-Err.result.now) c.in_ok-insert-2.ensures.ok))
+    let back : c.in-Err.refused.value.key ≡ c.args.key = ap (λ x. x.key) c.in-Err.ensures.value_returned ∙ c.in_ok-name.ensures ∙ c.as_slice.ensures.value ∙ name in
+    same_index m c.take_back.new.by_key c.self.inside.timed_keys c.insert-3.new.self c.self.invariant
+    (came_and_went m c.args.key c.into_vec-key.result.items c.args.entry c.self.inside.timed_keys c.self.invariant absent name c.in-Err.refused.value.key c.take_back.new.by_key back (c.take_back.ensures ∙ ap (λ x. remove x c.in-Err.refused.value.key) c.in_ok-insert-2.ensures.ok))
     c.in-Err.ensures.err
 
 pub returns-in-Err-clause-err : goal.returns-in-Err-clause-err
@@ -34,6 +34,6 @@ returns-in-Err-clause-err c =
     let m = c.self.inside.by_key in
     let absent : get m c.args.key ≡ None = ap (λ x. get x c.args.key) c.self.view_is ∙ c.requires in
     let name : c.into_vec-key.result.items ≡ c.args.key = search rules in
-    let back : c.as_slice-in-Err.result.now ≡ c.args.key = c.as_slice-in-Err.ensures.value ∙ ap (λ x. x.key.items) c.in-Err.ensures.value_returned ∙ c.in_ok-name.ensures.items ∙ c.as_slice.ensures.value ∙ name in
-    came_and_went m c.args.key c.into_vec-key.result.items c.args.entry c.self.inside.timed_keys c.self.invariant absent name c.as_slice-in-Err.result.now c.remove.new.self back (c.remove.ensures.removed ∙ ap (λ x. remove x c.as_slice-in-Err.result.now) c.in_ok-insert-2.ensures.ok)
+    let back : c.in-Err.refused.value.key ≡ c.args.key = ap (λ x. x.key) c.in-Err.ensures.value_returned ∙ c.in_ok-name.ensures ∙ c.as_slice.ensures.value ∙ name in
+    came_and_went m c.args.key c.into_vec-key.result.items c.args.entry c.self.inside.timed_keys c.self.invariant absent name c.in-Err.refused.value.key c.take_back.new.by_key back (c.take_back.ensures ∙ ap (λ x. remove x c.in-Err.refused.value.key) c.in_ok-insert-2.ensures.ok)
     ∙ c.self.view_is

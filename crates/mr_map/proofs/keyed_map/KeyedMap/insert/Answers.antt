@@ -8,13 +8,13 @@ use Rattle.mr_map.proofs.keyed_map.KeyedMap.insert.Goals as goal
 
 -- room is made in the table, and none in the order
 
-pub invariant_of-self-in_err-insert : goal.invariant_of-self-in_err-insert
-invariant_of-self-in_err-insert g c q =
+pub invariant_of-self-in_err-insert_copy : goal.invariant_of-self-in_err-insert_copy
+invariant_of-self-in_err-insert_copy g c q =
     let same = same_map_of c.self.inside.table c.reserve.new.self c.reserve.ensures.entries.2 in
-    ap (λ m. is_some (get m q)) c.in_err-insert.ensures.err ∙ c.self.invariant q ∙ sym (ap (λ m. is_some (get m q)) same)
+    ap (λ m. is_some (get m q)) c.in_err-insert_copy.ensures.err ∙ c.self.invariant q ∙ sym (ap (λ m. is_some (get m q)) same)
 
-pub returns-in_err-insert-clause-err : goal.returns-in_err-insert-clause-err
-returns-in_err-insert-clause-err g c = on_err c.from_residual-in_err-insert.result (same_map_of c.self.inside.table c.reserve.new.self c.reserve.ensures.entries.2 ∙ c.self.view_is)
+pub returns-in_err-insert_copy-clause-err : goal.returns-in_err-insert_copy-clause-err
+returns-in_err-insert_copy-clause-err g c = on_err c.from_residual-in_err-insert_copy.result (same_map_of c.self.inside.table c.reserve.new.self c.reserve.ensures.entries.2 ∙ c.self.view_is)
 
 -- the key is put into both
 
@@ -25,8 +25,8 @@ invariant_of-self-2 g c q =
     let r = c.reserve.new.self in
     let k = c.args.key.items in
     let same = same_map_of t r c.reserve.ensures.entries.2 in
-    let written = set_hashed r c.insert-2.new.self k c.args.value c.in-Ok.ensures.updates in
-    ap (λ m. is_some (get m q)) (c.in_ok-insert.ensures.ok ∙ ap (λ x. insert o x tt) c.as_slice.ensures.value)
+    let written = set_hashed r c.insert.new.self k c.args.value c.in-Ok.ensures.updates in
+    ap (λ m. is_some (get m q)) (c.in_ok-insert_copy.ensures.ok ∙ ap (λ x. insert o x tt) c.as_slice.ensures.value)
     ∙ put_both o (map_of r.entries) k (λ x. c.self.invariant x ∙ sym (ap (λ m. is_some (get m x)) same)) tt c.args.value q
     ∙ sym (ap (λ m. is_some (get m q)) written)
 
@@ -40,5 +40,5 @@ pub returns-clause-ok : goal.returns-clause-ok
 returns-clause-ok g c =
     let r = c.reserve.new.self in
     let k = c.args.key.items in
-    set_hashed r c.insert-2.new.self k c.args.value c.in-Ok.ensures.updates
+    set_hashed r c.insert.new.self k c.args.value c.in-Ok.ensures.updates
     ∙ ap (λ m. insert m k c.args.value) (same_map_of c.self.inside.table r c.reserve.ensures.entries.2 ∙ c.self.view_is)

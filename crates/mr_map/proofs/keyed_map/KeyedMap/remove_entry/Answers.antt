@@ -17,7 +17,7 @@ returns-in_err-before-clause-removed g c = removed_hashed c.self.inside.table c.
 pub invariant_of-self-2 : goal.invariant_of-self-2
 invariant_of-self-2 g c q =
     let t = c.self.inside.table in
-    ap (λ m. is_some (get m q)) c.remove.ensures
+    ap (λ m. is_some (get m q)) c.remove.ensures.removed
     ∙ out_both c.self.inside.order (map_of t.entries) c.args.key.now c.self.invariant q
     ∙ ap (λ m. is_some (get m q)) (sym (removed_hashed t c.remove_entry.new.self c.args.key.now c.remove_entry.ensures.updates))
 

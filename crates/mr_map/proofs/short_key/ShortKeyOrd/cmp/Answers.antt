@@ -1,11 +1,10 @@
 use Rattle.std.proofs.Common.{◌∙◌}
-use Rattle.std.specs.Ordering.{ordering_then}
 use Rattle.mr_map.specs.Bytes.{bytes_cmp}
 use Rattle.mr_map.proofs.Padded.{padded_cmp}
 use Rattle.mr_map.proofs.short_key.ShortKeyOrd.cmp.Goals as goal
 
 pub returns : goal.returns
 returns c =
-    c.then.ensures ∙ (λ i. ordering_then (c.order.ensures i) (c.cmp.ensures i))
+    c.order.ensures
     ∙ padded_cmp c.self.inside.bytes c.other.inside.bytes c.self.inside.len c.other.inside.len c.self.invariant c.other.invariant
     ∙ (λ i. bytes_cmp (c.self.view_is i) (c.other.view_is i))

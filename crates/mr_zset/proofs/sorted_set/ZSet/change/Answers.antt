@@ -19,10 +19,10 @@ returns-then-score-before-clause-ok c =
 pub invariant_of-self-2 : goal.invariant_of-self-2
 invariant_of-self-2 c =
     let member = c.args.member.now in
-    let copy = c.in_ok-member_copy.member_copy.items in
+    let copy = c.in_ok-member_copy.member_copy in
     let there : get c.self.inside.scores member ≡ Some c.args.before = ap (λ m. get m member) c.self.view_is ∙ c.requires.there in
     let apart : int_eq c.args.score c.args.before ≡ false = search (rules, Decides-int_eq) in
     let put = c.in_ok-put_in.ensures.ok ∙ ap (λ z. insert_key pair_cmp (map stored c.self.inside.pairs) (copy, z)) (to_z-of_z w64 c.args.score c.ranges.score) in
     let out : map stored c.take_out.new.pairs ≡ filter (is_other (member, c.args.before)) (map stored c.put_in.new.pairs) = first_of (search rules, grind (arith, common_steps)) in
-    AreStored-moved c.self.inside.scores c.self.inside.pairs c.self.invariant member copy c.args.score c.put_in.new.pairs c.in_ok-member_copy.ensures.items put
+    AreStored-moved c.self.inside.scores c.self.inside.pairs c.self.invariant member copy c.args.score c.put_in.new.pairs c.in_ok-member_copy.ensures put
     c.args.before _ c.write.new.scores c.take_out.new.pairs there apart c.requires.score c.write.ensures (search (rules, to_z-of_z w64 c.args.score c.ranges.score)) out
