@@ -22,7 +22,7 @@ test-by-turns:
 	python3 tests/run.py --by-turns
 
 # Processor time a request and peak memory, beside redis-server where it is installed. RUNS="SETEX tick" chooses runs by words of their
-# names; with ROUNDS=5 each is made five times, and the median told.
+# names; with ROUNDS=5 each is made five times, and the least told.
 bench:
 	python3 bench/bench.py $(RUNS)
 
