@@ -104,8 +104,8 @@ impl CompactBytes {
         ensures { result ≡ bytes_cmp short.now self.now }
     {
         match &self.kept {
-            Kept::Short(own) => short.cmp(own),
-            Kept::Long(own) => compare_slices(short.as_slice(), own.as_slice()),
+            Kept::Short(kept) => short.cmp(kept),
+            Kept::Long(kept) => compare_slices(short.as_slice(), kept.as_slice()),
         }
     }
 }
