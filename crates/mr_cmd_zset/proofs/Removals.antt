@@ -1,11 +1,12 @@
 -- Members that go.
-use Rattle.std.proofs.Common.{ℕ, zero, suc, ℤ, ◌≡◌, ◌+◌, ◌<◌, List, [], ◌∷◌, ◌++◌, map, length, take, drop, reverse, get_or, Bool, true, false, ◌&&◌, not, cond, Option, Some, None, refl, sym, ◌∙◌, ap, subst}
+use Rattle.std.proofs.Common.{ℕ, zero, suc, ℤ, ◌≡◌, ◌+◌, ◌<◌, ◌≤◌, List, [], ◌∷◌, ◌++◌, map, length, take, drop, reverse, get_or, Bool, true, false, ◌&&◌, not, cond, Option, Some, None, refl, sym, ◌∙◌, ap, subst, arith}
 use Rattle.std.proofs.lemmas.Grind.{reverse_onto}
 use Rattle.std.specs.Prelude.{◌||◌, is_some, filter, if◌then◌else◌}
 use Rattle.std.specs.List.{AllByRecursion}
 use Rattle.std.specs.Ordering.{is_lt}
-use Rattle.std.specs.FinMap.{get, empty, insert, keys, len, entries, contains_key, retain_keys, get-empty, get-insert, len-entries}
-use Rattle.std.proofs.lemmas.List.{length-map}
+use Rattle.std.specs.FinMap.{get, empty, insert, keys, len, entries, contains_key, retain_keys, get-empty, get-insert, len-empty, len-entries, entries-insert}
+use Rattle.std.specs.FinMap.Entries.{put}
+use Rattle.std.proofs.lemmas.List.{length-map, nil_from_length}
 use Rattle.std.proofs.lemmas.Cmp.{nat_list_cmp_total}
 use Rattle.mr_map.specs.Bytes.{Bytes, ByteMap, bytes_cmp}
 use Rattle.mr_map.proofs.Domains.{same_keys}
@@ -15,7 +16,8 @@ use Rattle.mr_effect.specs.declared.effect.Effect.{Effect}
 use Rattle.mr_effect.specs.declared.effect.Effect.TheVariants as effect
 use Rattle.mr_entries.specs.Cuts.{cut}
 use Rattle.mr_zset.specs.Order.{placed, in_order}
-use Rattle.mr_zset.specs.Pairs.{pair_cmp, pairs_of, range_of}
+use Rattle.mr_zset.specs.Pairs.{pair_cmp, pairs_of, range_of, shown}
+use Rattle.mr_zset.specs.declared.pair.Pair.{Pair}
 use Rattle.mr_zset.specs.Bounds.{is_within}
 use Rattle.mr_zset.specs.declared.bound.Bound.{Bound}
 use Rattle.mr_zset_options.specs.declared.choices.Order.{Order}
@@ -60,6 +62,27 @@ contains_as_set xs q = contains_with xs empty q ∙ ap (λ b. has xs q || b) (co
 
 pub len_keys : (s : ByteMap (Unit {0})) → len s ≡ length (keys s)
 len_keys s = len-entries s ∙ sym (length-map (entries s) (λ e. e.0))
+
+-- the set of one word
+pub one_key : (x : Bytes) → keys (as_set (x ∷ [])) ≡ x ∷ []
+one_key x = ap (map (λ (e : Bytes × Unit {0}). e.0)) (entries-insert nat_list_cmp_total empty x tt ∙ ap (put bytes_cmp x tt) none)
+  where
+    none : entries {X = Unit {0}} (empty {R = bytes_cmp}) ≡ []
+    none = nil_from_length (entries empty) (sym (len-entries empty) ∙ len-empty bytes_cmp (Unit {0}))
+
+one_length : (x : Bytes) → 1 ≡ len (as_set (x ∷ []))
+one_length x = sym (len_keys (as_set (x ∷ [])) ∙ ap length (one_key x))
+
+-- the only pair of a list
+pub one_pair : (ps : List Pair) (d : Pair) → 1 ≤ length ps → length ps < 2 → members_of (map shown ps) ≡ (get_or ps 0 d).member.now ∷ []
+one_pair [] d some few = absurd (omega arith)
+one_pair (p ∷ []) d some few = refl
+one_pair (p ∷ q ∷ ps) d some few = absurd (omega arith)
+
+pub one_member : (ps : List Pair) → 1 ≤ length ps → length ps < 2 → 1 ≡ len (as_set (members_of (map shown ps)))
+one_member [] some few = absurd (omega arith)
+one_member (p ∷ []) some few = one_length p.member.now
+one_member (p ∷ q ∷ ps) some few = absurd (omega arith)
 
 -- ---- the members that go are those of these words that are there
 abbrev misses : Scores → Bytes → Bool

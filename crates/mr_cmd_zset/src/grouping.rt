@@ -1,5 +1,5 @@
 // The effects of members whose scores are others than before, and of members that go.
-ghost use Rattle.std.specs.Prelude.{◌≡◌, ◌++◌, map, OnOk};
+ghost use Rattle.std.specs.Prelude.{◌≡◌, ◌∷◌, ◌++◌, [], map, OnOk};
 ghost use Rattle.std.specs.FinMap.{keys};
 ghost use Rattle.mr_effect.specs.declared.effect.Effect.TheVariants as made;
 ghost use Rattle.mr_entries.specs.Cuts.{cut};
@@ -60,6 +60,21 @@ pub fn push_lost(
     for (member, _) in members.iter() {
         group.push(member, effects)?;
     }
+    end_members(group, effects)?;
+    Ok(())
+}
+
+/// The effect that takes one member out.
+pub fn push_lost_alone(
+    alloc: Global,
+    key: &Argument<'_>,
+    lost: &[u8],
+    effects: &mut Effects,
+) -> Result<(), AllocError>
+    ensures { OnOk result (effects.new ≡ effects.old ++ map (made.RemoveScores key.now) (cut (lost.now ∷ []))) }
+{
+    let mut group = MemberGroup::new(alloc, key.as_slice());
+    group.push(lost, effects)?;
     end_members(group, effects)?;
     Ok(())
 }

@@ -1,5 +1,5 @@
 // Commands that take members out.
-ghost use Rattle.std.specs.Prelude.{◌≡◌, ◌++◌, map, take, IfOk, OnOk, Some, option_copied};
+ghost use Rattle.std.specs.Prelude.{◌≡◌, ◌++◌, ◌<◌, ◌^◌, map, take, IfOk, OnOk, Some, option_copied};
 ghost use Rattle.std.specs.FinMap as finite;
 ghost use Rattle.std.specs.FinMap.{keys};
 ghost use Rattle.mr_resp.specs.ReplyView.{view};
@@ -14,7 +14,7 @@ ghost use Rattle.mr_planning.specs.Collections.{changing};
 ghost use Rattle.mr_cmd_zset.specs.Scores.{number, pairs_in, lost, Makes};
 ghost use Rattle.mr_cmd_zset.specs.Removing.{members_of, zrem, zremrangebyrank, zremrangebyscore, as_set, take_pairs};
 
-use crate::grouping::push_lost;
+use crate::grouping::{push_lost, push_lost_alone};
 use crate::ranges::forward;
 use crate::replies::set_at;
 use mr_data::Entry;
@@ -137,9 +137,29 @@ fn remove_pairs(
     ensures reply { IfOk result (λ r. view r ≡ number (finite.len (as_set (members_of (map shown pairs.now))))) }
     ensures effects { OnOk result (effects.new ≡ effects.old ++ map (made.RemoveScores key.now) (cut (keys (as_set (members_of (map shown pairs.now)))))) }
 {
+    let removed = push_members(alloc, key, pairs, effects)?;
+    Ok(count(removed))
+}
+
+// Effects that take the members of pairs out, and how many these are.
+fn push_members(
+    alloc: Global,
+    key: &Argument<'_>,
+    pairs: &[Pair<'_>],
+    effects: &mut Effects,
+) -> Result<usize, AllocError>
+    ensures removed { IfOk result (λ n. n ≡ finite.len (as_set (members_of (map shown pairs.now)))) }
+    ensures small { IfOk result (λ n. n < 2 ^ 63) }
+    ensures effects { OnOk result (effects.new ≡ effects.old ++ map (made.RemoveScores key.now) (cut (keys (as_set (members_of (map shown pairs.now)))))) }
+{
+    if let [pair] = pairs {
+        // one member needs no order
+        push_lost_alone(alloc, key, pair.member, effects)?;
+        return Ok(1);
+    }
     let lost = in_byte_order(alloc, pairs)?;
     push_lost(alloc, key, &lost, effects)?;
-    Ok(count(lost.len()))
+    Ok(lost.len())
 }
 
 // The members of pairs in byte order. They are not copied.
@@ -183,8 +203,7 @@ fn take_from(
     ensures { IfOk result (λ r. Makes (take_pairs key.now order (Some count) set.now) (view r) effects.old effects.new) }
 {
     let pairs = first_pairs(alloc, order, count, set)?;
-    let lost = in_byte_order(alloc, &pairs)?;
-    push_lost(alloc, key, &lost, effects)?;
+    push_members(alloc, key, &pairs, effects)?;
     let reply = forward(alloc, &pairs, RangeReply::WithScores)?;
     Ok(reply)
 }

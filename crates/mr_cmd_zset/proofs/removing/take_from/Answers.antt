@@ -10,4 +10,5 @@ use Rattle.mr_cmd_zset.proofs.removing.take_from.Goals as goal
 pub returns : goal.returns
 returns c =
     let s = c.args.set.now in
-    taken_made c.args.key.now (take c.args.count (pairs_in c.args.order s)) (map shown c.in_ok-pairs.pairs.items) s _ c.in_ok-lost.lost _ _ c.in_ok-pairs.ensures (take_in s c.args.count (pairs_in c.args.order s) (turned_in s c.args.order)) (c.in_ok-lost.ensures ∙ ap (λ ps. as_set (members_of (map shown ps))) c.deref.ensures.value) (c.in_ok-reply.ensures ∙ ap (λ ps. pairs_reply WithScores (map shown ps)) c.deref-2.ensures.value) c.in_ok-push_lost.ensures
+    let there = as_set (members_of (map shown c.deref.result.now)) in
+    taken_made c.args.key.now (take c.args.count (pairs_in c.args.order s)) (map shown c.in_ok-pairs.pairs.items) s _ there _ _ c.in_ok-pairs.ensures (take_in s c.args.count (pairs_in c.args.order s) (turned_in s c.args.order)) (ap (λ ps. as_set (members_of (map shown ps))) c.deref.ensures.value) (c.in_ok-reply.ensures ∙ ap (λ ps. pairs_reply WithScores (map shown ps)) c.deref-2.ensures.value) c.in_ok-push_members.ensures.effects
