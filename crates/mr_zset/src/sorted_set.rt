@@ -17,11 +17,21 @@ use std::alloc::{AllocError, Global};
 use std::marker::Model;
 
 /// A finite map from member to score, beside which the same pairs stand in order, each at its place.
-#[derive(Drop)]
 pub struct ZSet {
     alloc: Global,
     scores: ByteMap<i64>,
     pairs: Ordered<Entry>,
+}
+
+// By hand, so that it is one call wherever a value goes (docs/PROVING.md).
+impl Drop for ZSet {
+    fn drop(self) {
+        let ZSet {
+            alloc: _,
+            scores: _,
+            pairs: _,
+        } = self;
+    }
 }
 
 impl Model for ZSet {

@@ -39,6 +39,7 @@ impl Dataset {
         ensures memory { NeedsNoMemory effect.entry → result ≢ Err ApplyFault.Memory }
     {
         if !is_possible(&effect) {
+            drop(effect);
             return Err(ApplyFault::Refused);
         }
         let outcome = self.entries.take(effect);

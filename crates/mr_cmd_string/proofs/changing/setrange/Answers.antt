@@ -45,5 +45,5 @@ returns c =
     let replied : view c.count-2.result ≡ reply.int (pos (length (overwritten c.args.offset c.args.part.now c.in-Some.text.now))) = search rules in
     let ends = small_end c.in-Some.text.now c.args.part.now c.args.offset within in
     let fits_offset : FitsSigned w64 (pos c.args.offset) = record { sfits = omega (arith, ends) } in
-    let put : c.push-2.new.self ≡ c.args.effects.now ++ effect.SetRange c.args.key.now (pos c.args.offset) c.args.part.now ∷ [] = search (rules, to_z-of_z) in
+    let put : c.push.new.self ≡ c.args.effects.now ++ effect.SetRange c.args.key.now (pos c.args.offset) c.args.part.now ∷ [] = search (rules, to_z-of_z) in
     written_over c.args.key.now c.args.part.now c.in-Some.text.now c.args.offset _ is some within _ _ _ differs replied put
