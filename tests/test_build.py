@@ -241,6 +241,21 @@ class OfATinyProgram(unittest.TestCase):
         self.assertEqual(lines[-1], "minired: proved minired, 3 of 3 crates, TIME")
         self.assertEqual(self.build(), (0, []))
 
+    def test_a_first_build_keeps_no_proofs_and_goes_on_with_kept_ones(self):
+        kept = os.path.join(self.root, "crates", "low", "out", "incremental")
+        self.assertEqual(self.build()[0], 0)
+        self.assertFalse(os.path.exists(kept))
+        self.assertIn(" statements=trusted", self.said_of("high"))
+        subprocess.run(["rt", "check"], cwd=os.path.join(self.root, "crates", "low"), stdin=subprocess.DEVNULL, capture_output=True, check=True)
+        tiny.write(self.root, {"crates/low/src/lib.rt": self.CRATES["crates/low/src/lib.rt"] + "// one line more\n"})
+        self.assertEqual(self.build()[0], 0)
+        self.assertRegex(self.said_of("low"), r"crate low: modules loaded=[1-9]")
+
+    def said_of(self, name):
+        """What the prover said of a crate, by the log of the last build."""
+        with open(os.path.join(self.root, "out", "build.log"), encoding="utf-8") as log:
+            return log.read().split(f"== {name}\n")[1].split("\n== ")[0]
+
     def test_without_the_kit_nothing_is_built(self):
         tools = os.path.join(self.root, "bin")
         os.mkdir(tools)
