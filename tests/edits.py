@@ -149,8 +149,12 @@ def verdict_alone(edit, answer):
         return Verdict(False, f"BAD EDIT {edit.name}: the prover cannot read the edited text: {answer.unread}")
     # with the rest of the crate as it was proved, whatever is refused now is refused for an edit of unknown reach
     reasons = [it for it in answer.reasons if edit.touched is None or it.function in edit.touched]
-    if not reasons and edit.touched is None:
-        reasons = answer.errors_in(edit.paths()) or answer.errors
+    if edit.touched is None:
+        without_sense = next((it for it in answer.errors_in(edit.paths()) if it.path.startswith("specs/")), None)
+        if without_sense:
+            return Verdict(False, f"BAD EDIT {edit.name}: a definition that says nothing is refused by no law: {without_sense.text[:200]}")
+        # where a lemma isn't proved, its error is the reason, and not that it is gone where it's cited
+        reasons += answer.errors
     if reasons:
         return refused(edit, reasons)
     if answer.status == 0:

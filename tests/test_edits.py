@@ -211,6 +211,28 @@ class InABatch(WithTheTinyCrate):
         self.assertTrue(self.sources.is_stated(THEOREM))
 
 
+class OfADefinition(WithTheTinyCrate):
+    """What a check tells of an edit that may reach any function."""
+
+    LOW = {"specs/Low.antt": "is_low : ℕ → Bool\nis_low n = nat_lt n 10\n", "must-fail/low.edit": "file: specs/Low.antt\nold: nat_lt n 10\nnew: n\n"}
+    GONE = "./proofs/steps/up/Answers.antt:4:5: error: 1 declaration that depends on `one_more`, which was not admitted, was not checked: returns\nlogic=not-proved\n"
+
+    def verdict(self, error):
+        tiny.write(self.folder, self.LOW)
+        (edit,), _ = read_edits(KIT, self.crate, self.folder, self.sources)
+        return verdict_alone(edit, self.answer(error + self.GONE))
+
+    def test_the_lemma_that_is_false_is_the_reason_and_not_that_it_is_gone(self):
+        verdict = self.verdict("./proofs/Sums.antt:4:12: error: `one_more`: expected type `n ≡ 3`, but this has type `n ≡ 2`\n")
+        self.assertTrue(verdict.passes and not verdict.is_weak)
+        self.assertIn("proofs/Sums.antt: `one_more`", verdict.text)
+
+    def test_a_definition_without_sense_is_a_bad_edit(self):
+        verdict = self.verdict("./specs/Low.antt:4:12: error: `is_low`: expected type `ℕ`, but this has type `Bool`\n")
+        self.assertFalse(verdict.passes)
+        self.assertIn("BAD EDIT tiny/low.edit", verdict.text)
+
+
 class Scripted(Trial):
     """A trial whose checks are answered by a script: the names of edits that don't compile, that change nothing, and that the prover knows no name for."""
 
