@@ -43,30 +43,22 @@ fn pipe_command<'a>(alloc: Global) -> Result<Command<'a>, AllocError>
     ensures shape { IfOk result (λ c. app_of c ≡ pipe_line) }
     ensures local { IfOk result (λ c. (out-Command c).has_globals ≡ false) }
 {
-    let id = text_option(alloc, "id");
-    let now = number_option(alloc, "now", 0, MOST_NOW);
-    let word = number_option(alloc, "word", 0, u64::MAX);
-    let aof = text_option(alloc, "aof");
-    let first = Command::new(alloc, "pipe").arg(id)?;
-    let second = first.arg(now)?;
-    let third = second.arg(word)?;
-    let fourth = third.arg(aof)?;
-    Ok(fourth)
+    Command::new(alloc, "pipe")
+        .arg(text_option(alloc, "id"))?
+        .arg(number_option(alloc, "now", 0, MOST_NOW))?
+        .arg(number_option(alloc, "word", 0, u64::MAX))?
+        .arg(text_option(alloc, "aof"))
 }
 
 fn serve_command<'a>(alloc: Global) -> Result<Command<'a>, AllocError>
     ensures shape { IfOk result (λ c. app_of c ≡ serve_line) }
     ensures local { IfOk result (λ c. (out-Command c).has_globals ≡ false) }
 {
-    let port = needed_number_option(alloc, "port", 1, MOST_PORT);
-    let aof = text_option(alloc, "aof");
-    let sync = text_option(alloc, "sync");
-    let turns = number_option(alloc, "turns", 0, u64::MAX);
-    let first = Command::new(alloc, "serve").arg(port)?;
-    let second = first.arg(aof)?;
-    let third = second.arg(sync)?;
-    let fourth = third.arg(turns)?;
-    Ok(fourth)
+    Command::new(alloc, "serve")
+        .arg(needed_number_option(alloc, "port", 1, MOST_PORT))?
+        .arg(text_option(alloc, "aof"))?
+        .arg(text_option(alloc, "sync"))?
+        .arg(number_option(alloc, "turns", 0, u64::MAX))
 }
 
 pub(crate) fn whole_command<'a>(alloc: Global) -> Result<Command<'a>, AllocError>
@@ -77,9 +69,6 @@ pub(crate) fn whole_command<'a>(alloc: Global) -> Result<Command<'a>, AllocError
         .disable_help_flag(true)
         .disable_help_subcommand(true)
         .subcommand_required(true);
-    let pipe = pipe_command(alloc)?;
-    let serve = serve_command(alloc)?;
-    let one = command.subcommand(pipe)?;
-    let both = one.subcommand(serve)?;
-    Ok(both)
+    let with_pipe = command.subcommand(pipe_command(alloc)?)?;
+    with_pipe.subcommand(serve_command(alloc)?)
 }
