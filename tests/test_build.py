@@ -18,14 +18,14 @@ sys.path.insert(0, os.path.join(ROOT, "tools"))
 
 from borrow import borrowed, proved_by
 from build import Progress, last_lines, length_of
-from lanes import YIELDING, Task, chains, in_lanes, share
+from lanes import YIELDING, Lanes, Run, Task, chains, in_lanes, share
 
 # each crate of a small repository, with those that it stands on and its work
 CRATES = [("sea", [], 1), ("map", [], 2), ("value", ["map"], 3), ("glob", [], 4), ("effect", ["value", "sea"], 6), ("node", ["effect", "glob"], 5)]
 LONGEST = 300
 
 
-class Lanes(unittest.TestCase):
+class SideBySide(unittest.TestCase):
     """Tasks side by side."""
 
     def setUp(self):
@@ -95,6 +95,22 @@ class Lanes(unittest.TestCase):
             tasks = [Task(name, [], work, 1, lambda jobs, name=name: run(name)) for name, work in [("long", 9), ("short", 3)]]
             list(in_lanes(tasks, 4, 90, most=most))
             self.assertEqual(weights, {"long": ours, "short": beside})
+
+    def test_what_runs_counts_for_what_is_left_of_it(self):
+        resp, zset, effect = Task("resp", [], 20, 1, None), Task("zset", [], 7, 1, None), Task("effect", ["resp", "zset"], 50, 1, None)
+        beside = Lanes([resp, zset, effect], 4, 90, 4, clock=lambda: 20.0)
+        beside.running["resp"] = Run(3, 1, leads=False, begun=0.0)
+        self.assertFalse(beside.leads(zset))
+        # as fast as these have gone, it has nearly ended
+        beside.done, beside.took = 30, 25.0
+        self.assertTrue(beside.leads(zset))
+
+    def test_chains_of_nearly_one_length_lead_side_by_side(self):
+        tasks = [Task(name, [], work, 1, None) for name, work in [("order", 100), ("map", 96), ("inline", 90)]]
+        beside = Lanes(tasks, 4, 90, 4)
+        beside.running["order"] = Run(4, 1, leads=True, begun=beside.clock())
+        self.assertEqual([beside.leads(it) for it in tasks[1:]], [True, False])
+        self.assertEqual([beside.jobs_for(it, 1) for it in tasks[1:]], [4, 4])
 
     def test_one_processor_takes_one_task_at_a_time(self):
         list(in_lanes(self.tasks(), 1, 90, most=4))

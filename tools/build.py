@@ -73,7 +73,7 @@ class Build:
 
     def task(self, crate, waiting):
         after = [it.name for it in crate.below if it.name in waiting]
-        return Task(crate.name, after, crate.lines(), crate.memory(), lambda jobs: self.prove(crate, jobs))
+        return Task(crate.name, after, crate.lines(), crate.memory_of_proof(), lambda jobs: self.prove(crate, jobs))
 
     def prove(self, crate, jobs):
         """Proves a crate and builds its library, and returns whether that went well and what the prover said."""

@@ -110,6 +110,12 @@ class Crate:
         """How many bytes of memory a check is likely to take at most."""
         return self.kit.rt.need(self.inner)
 
+    def memory_of_proof(self):
+        """How many bytes of memory `prove` is likely to take at most, at one job.
+
+        Over libraries of statements that was seen to be half of what a check of the gate may take: at most 2 GB of a crate."""
+        return self.memory() if self.inner.has_kept() else self.memory() // 2
+
     def is_library(self):
         return self.inner.makes_rlib()
 

@@ -3,13 +3,16 @@
 import os
 import queue
 import threading
+import time
 from dataclasses import dataclass
 from typing import Callable
 
 # what a second processor, and each further one, adds to the memory of a task
 OF_ANOTHER = 0.6
-# by how much a task beside the one that leads makes room for it, as `nice` counts
+# by how much a task beside those that lead makes room for them, as `nice` counts
 YIELDING = 5
+# a task leads whose chain is at least so much of the longest that runs: what a task takes is only reckoned
+ALIKE = 0.95
 
 
 @dataclass
@@ -45,25 +48,35 @@ def share(idle, ready, most):
 
 @dataclass
 class Run:
-    """What a running task takes."""
+    """What a running task takes, and since when."""
 
     jobs: int
     memory: int
-    # it has the longest chain of all that run
+    # all else waits as long for it as for any other that runs
     leads: bool
+    begun: float
 
 
 class Lanes:
     """The tasks that run, and how many processors and how much memory they leave to others."""
 
-    def __init__(self, tasks, lanes, memory, most):
-        self.behind, self.lanes, self.most = chains(tasks), lanes, min(most, lanes)
+    def __init__(self, tasks, lanes, memory, most, clock=time.monotonic):
+        self.behind, self.lanes, self.most, self.clock = chains(tasks), lanes, min(most, lanes), clock
         self.memory = memory if callable(memory) else lambda: memory
+        self.work = {it.name: it.work for it in tasks}
         self.running, self.results = {}, queue.Queue()
+        # of the tasks that have ended: their work, and how long it took
+        self.done, self.took = 0, 0.0
+
+    def left(self, name):
+        """The work of the chain that begins with a running task, without what it has done by now, if it goes on as those did that have ended."""
+        done = self.done / self.took * (self.clock() - self.running[name].begun) if self.took else 0
+        return self.behind[name] - min(done, self.work[name])
 
     def leads(self, task):
-        """Whether all else waits longest for this task, where tasks may use several processors."""
-        return self.most > 1 and not task.is_awaited and self.behind[task.name] > max((self.behind[name] for name in self.running), default=0)
+        """Whether all else waits for this task as long as for any that runs, where tasks may use several processors."""
+        longest = max((self.left(name) for name in self.running), default=0)
+        return self.most > 1 and not task.is_awaited and self.behind[task.name] >= ALIKE * longest
 
     def jobs_for(self, task, ready):
         """How many processors this task gets, of so many that are ready; none where it is to wait."""
@@ -80,15 +93,17 @@ class Lanes:
         return jobs
 
     def start(self, task, jobs):
-        leads = self.leads(task)
-        self.running[task.name] = Run(0, 0, False) if task.is_awaited else Run(jobs, memory_of(task, jobs), leads)
+        leads, begun = self.leads(task), self.clock()
+        self.running[task.name] = Run(0, 0, False, begun) if task.is_awaited else Run(jobs, memory_of(task, jobs), leads, begun)
         yielding = YIELDING if self.most > 1 and not leads else 0
         threading.Thread(target=_run, args=(task, jobs, yielding, self.results), daemon=True).start()
 
     def ended(self):
         """Waits until a task ends, and returns it with what its call returned."""
         task, value, error = self.results.get()
-        del self.running[task.name]
+        run = self.running.pop(task.name)
+        if not task.is_awaited:
+            self.done, self.took = self.done + task.work, self.took + self.clock() - run.begun
         if error:
             raise error
         return task, value
@@ -101,7 +116,7 @@ def memory_of(task, jobs):
 def in_lanes(tasks, lanes, memory, most=1):
     """Runs the tasks, and yields each with what its call returned as it ends. A task whose forerunner returned something false is not run.
 
-    A task gets up to `most` processors where there are more than ready tasks. Where `most` isn't 1, the task that has the longest chain of all that run gets
+    A task gets up to `most` processors where there are more than ready tasks. Where `most` isn't 1, a task whose chain is as long as the longest that runs gets
     so many, idle or not, and the others run beside it at a lower priority: they take what it leaves, as while it loads or ends on one processor. The memory is a number of bytes, or a call that tells how many there are by now: it is asked anew as each task ends. Where
     nothing else runs or is awaited, one runs even if it wants more memory than there is."""
     beside, well = Lanes(tasks, lanes, memory, most), set()
