@@ -358,7 +358,10 @@ class SortedSets(Rehearsing):
         rows = [
             ("ZADD z 1 e 2 d 3 c 4 b 5 a", number(5), "ZADD z 5 a 4 b 3 c 2 d 1 e"),
             ("ZREMRANGEBYRANK z 5 9", number(0)),
+            ("ZREMRANGEBYRANK z 2 2", number(1), "ZREM z c"),
             ("ZREMRANGEBYRANK z -2 -1", number(2), "ZREM z a b"),
+            ("ZREMRANGEBYRANK z 1 7", number(1), "ZREM z d"),
+            ("ZADD z 2 d 3 c", number(2), "ZADD z 3 c 2 d"),
             ("ZREMRANGEBYSCORE z (1 2", number(1), "ZREM z d"),
             ("ZREMRANGEBYSCORE z 9 1", number(0)),
             ("ZREMRANGEBYSCORE z -inf inf", number(2), "ZREM z c e"),

@@ -1,7 +1,7 @@
 -- Members that go.
-use Rattle.std.proofs.Common.{ℕ, zero, suc, ℤ, ◌≡◌, ◌+◌, ◌<◌, ◌≤◌, List, [], ◌∷◌, ◌++◌, map, length, take, drop, reverse, get_or, Bool, true, false, ◌&&◌, not, cond, Option, Some, None, refl, sym, ◌∙◌, ap, subst, arith}
+use Rattle.std.proofs.Common.{ℕ, zero, suc, ℤ, ◌≡◌, ◌+◌, ◌-◌, ◌<◌, ◌≤◌, List, [], ◌∷◌, ◌++◌, map, length, take, drop, reverse, get_or, Bool, true, false, ◌&&◌, not, cond, Option, Some, None, refl, sym, ◌∙◌, ap, subst, arith}
 use Rattle.std.proofs.lemmas.Grind.{reverse_onto}
-use Rattle.std.specs.Prelude.{◌||◌, is_some, filter, if◌then◌else◌}
+use Rattle.std.specs.Prelude.{◌||◌, is_some, filter, if◌then◌else◌, IfSome, option_map, slice_get}
 use Rattle.std.specs.List.{AllByRecursion}
 use Rattle.std.specs.Ordering.{is_lt}
 use Rattle.std.specs.FinMap.{get, empty, insert, keys, len, entries, contains_key, retain_keys, get-empty, get-insert, len-empty, len-entries, entries-insert}
@@ -70,7 +70,7 @@ one_key x = ap (map (λ (e : Bytes × Unit {0}). e.0)) (entries-insert nat_list_
     none : entries {X = Unit {0}} (empty {R = bytes_cmp}) ≡ []
     none = nil_from_length (entries empty) (sym (len-entries empty) ∙ len-empty bytes_cmp (Unit {0}))
 
-one_length : (x : Bytes) → 1 ≡ len (as_set (x ∷ []))
+pub one_length : (x : Bytes) → 1 ≡ len (as_set (x ∷ []))
 one_length x = sym (len_keys (as_set (x ∷ [])) ∙ ap length (one_key x))
 
 -- the only pair of a list
@@ -83,6 +83,18 @@ pub one_member : (ps : List Pair) → 1 ≤ length ps → length ps < 2 → 1 �
 one_member [] some few = absurd (omega arith)
 one_member (p ∷ []) some few = one_length p.member.now
 one_member (p ∷ q ∷ ps) some few = absurd (omega arith)
+
+one_at : (xs : List (Bytes × ℤ)) (i : ℕ) (x : Bytes × ℤ) → slice_get xs i ≡ Some x → take 1 (drop i xs) ≡ x ∷ []
+one_at [] i x e = cc
+one_at (y ∷ ys) zero x e = cc
+one_at (y ∷ ys) (suc i) x e = one_at ys i x e
+
+-- the window of one place is the pair there
+pub window_of_one : (xs : List (Bytes × ℤ)) (first last : ℕ) (window : Option (ℕ × ℕ)) (p : Option Pair) → window ≡ Some (first, last) → first ≡ last → option_map shown p ≡ slice_get xs first → IfSome p (λ pair. windowed window xs ≡ shown pair ∷ [])
+window_of_one xs first last window None is same there = tt
+window_of_one xs first last window (Some pair) is same there =
+    let one : last + 1 - first ≡ 1 = omega (arith, same) in
+    ap (λ w. windowed w xs) is ∙ ap (λ (n : ℕ). take n (drop first xs)) one ∙ one_at xs first (shown pair) (sym there)
 
 -- ---- the members that go are those of these words that are there
 abbrev misses : Scores → Bytes → Bool

@@ -1,5 +1,5 @@
 // Commands that take members out.
-ghost use Rattle.std.specs.Prelude.{◌≡◌, ◌++◌, ◌<◌, ◌^◌, map, take, IfOk, OnOk, Some, option_copied};
+ghost use Rattle.std.specs.Prelude.{◌≡◌, ◌∷◌, ◌++◌, ◌<◌, ◌^◌, [], map, take, IfOk, IfSome, OnOk, Some, option_copied};
 ghost use Rattle.std.specs.FinMap as finite;
 ghost use Rattle.std.specs.FinMap.{keys};
 ghost use Rattle.mr_resp.specs.ReplyView.{view};
@@ -92,9 +92,38 @@ pub fn zremrangebyrank(
     let Some(set) = set_at(live_entry, &empty) else {
         return Ok(wrong_kind());
     };
-    let pairs = pairs_at(alloc, set, first, last)?;
-    let reply = remove_pairs(alloc, key, &pairs, effects)?;
+    let reply = remove_between(alloc, key, first, last, set, effects)?;
     Ok(reply)
+}
+
+// Takes the pairs between two indexes out, and answers how many they are. One alone takes no memory but that of its effect.
+fn remove_between(
+    alloc: Global,
+    key: &Argument<'_>,
+    first: i64,
+    last: i64,
+    set: &ZSet,
+    effects: &mut Effects,
+) -> Result<Reply, AllocError>
+    ensures reply { IfOk result (λ r. view r ≡ number (finite.len (as_set (members_of (windowed (window_of first last (finite.len set.now)) (pairs_of set.now)))))) }
+    ensures effects { OnOk result (effects.new ≡ effects.old ++ map (made.RemoveScores key.now) (cut (keys (as_set (members_of (windowed (window_of first last (finite.len set.now)) (pairs_of set.now))))))) }
+{
+    if let Some(pair) = only_pair(set, first, last) {
+        push_lost_alone(alloc, key, pair.member, effects)?;
+        return Ok(count(1));
+    }
+    let pairs = pairs_at(alloc, set, first, last)?;
+    remove_pairs(alloc, key, &pairs, effects)
+}
+
+// The pair between two indexes, both included, if it is the only one.
+fn only_pair(set: &ZSet, first: i64, last: i64) -> Option<Pair<'_>>
+    ensures { IfSome result (λ pair. windowed (window_of first last (finite.len set.now)) (pairs_of set.now) ≡ shown pair ∷ []) }
+{
+    match window(first, last, set.len()) {
+        Some((first, last)) if first == last => set.nth(first),
+        _ => None,
+    }
 }
 
 // The pairs between two indexes, both included.

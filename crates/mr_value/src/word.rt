@@ -3,13 +3,22 @@ ghost use Rattle.std.specs.Prelude.{◌≡◌, IfOk};
 ghost use Rattle.mr_value.specs.Words.{fits};
 
 use crate::bytes::Bytes;
+use mr_map::ShortKey;
 use std::alloc::{AllocError, Global};
-use std::borrow::CowSlice;
 use std::marker::Model;
 
-/// A word of a request or an effect, borrowed or owned, seen as a list.
+// Where the bytes lie.
+#[derive(Drop)]
+enum Text<'a> {
+    Borrowed(&'a [u8]),
+    Short(ShortKey),
+    Long(Vec<u8>),
+}
+
+/// A word of a request or an effect, borrowed or owned, seen as a list. Few bytes that it owns lie in it, more have memory of
+/// their own.
 pub struct Word<'a> {
-    text: CowSlice<'a, u8>,
+    text: Text<'a>,
 }
 
 // By hand, so that it is one call wherever a value goes (docs/PROVING.md).
@@ -21,11 +30,11 @@ impl Drop for Word<'_> {
 
 impl<'a> Model for Word<'a> {
     ghost use Rattle.std.specs.Prelude.{List, ℕ};
-    ghost use Rattle.std.specs.Cow.{cow_slice_items};
+    ghost use Rattle.mr_value.specs.Compact.{word_bytes};
 
     ghost Value = { List ℕ };
 
-    ghost view = { λ a. cow_slice_items a.text };
+    ghost view = { λ a. word_bytes a.text };
 }
 
 impl<'a> Word<'a> {
@@ -34,17 +43,19 @@ impl<'a> Word<'a> {
         ensures { result ≡ bytes.now }
     {
         Word {
-            text: CowSlice::Borrowed(bytes),
+            text: Text::Borrowed(bytes),
         }
     }
 
-    /// A word that owns a copy of the bytes.
+    /// A word that owns a copy of the bytes. Few bytes take no memory.
     pub fn copied(alloc: Global, bytes: &[u8]) -> Result<Word<'a>, AllocError>
         ensures { IfOk result (λ w. w ≡ bytes.now) }
     {
-        Ok(Word {
-            text: CowSlice::Owned(Vec::from_slice(alloc, bytes)?),
-        })
+        let text = match ShortKey::of(bytes) {
+            Some(short) => Text::Short(short),
+            None => Text::Long(Vec::from_slice(alloc, bytes)?),
+        };
+        Ok(Word { text })
     }
 
     /// The bytes.
@@ -52,19 +63,22 @@ impl<'a> Word<'a> {
         ensures { result.now ≡ self.now }
     {
         match &self.text {
-            CowSlice::Borrowed(bytes) => bytes,
-            CowSlice::Owned(bytes) => bytes.as_slice(),
+            Text::Borrowed(bytes) => bytes,
+            Text::Short(short) => short.as_slice(),
+            Text::Long(bytes) => bytes.as_slice(),
         }
     }
 
-    /// The word's bytes with memory of their own: moved where the word owns them, copied where it borrows them.
+    /// The word's bytes with memory of their own: moved where they had it before, copied where the word borrows them or they
+    /// lie in it.
     pub fn into_bytes(self, alloc: Global) -> Result<Bytes, AllocError>
         ensures { IfOk result (λ b. b ≡ self.entry) }
     {
         let Word { text } = self;
         match text {
-            CowSlice::Borrowed(bytes) => Bytes::from_slice(alloc, bytes),
-            CowSlice::Owned(bytes) => Ok(Bytes::from_vec(bytes)),
+            Text::Borrowed(bytes) => Bytes::from_slice(alloc, bytes),
+            Text::Short(short) => Bytes::from_slice(alloc, short.as_slice()),
+            Text::Long(bytes) => Ok(Bytes::from_vec(bytes)),
         }
     }
 }

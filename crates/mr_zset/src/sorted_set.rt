@@ -1,5 +1,5 @@
 // A sorted set.
-ghost use Rattle.std.specs.Prelude.{◌≡◌, ◌==◌, ◌+◌, ◌-◌, ◌<◌, ◌≤◌, ◌^◌, ℕ, IsTrue, OnOk, OnErr, IfOk, IfSome, Some, None, count_by, length, map, slice_get, slice_range};
+ghost use Rattle.std.specs.Prelude.{◌≡◌, ◌==◌, ◌+◌, ◌-◌, ◌<◌, ◌≤◌, ◌^◌, ℕ, IsTrue, OnOk, OnErr, IfOk, IfSome, Some, None, count_by, length, map, option_map, slice_get, slice_range};
 ghost use Rattle.std.specs.FinMap as finite;
 ghost use Rattle.mr_zset.specs.Score.{is_score};
 ghost use Rattle.mr_zset.specs.Pairs.{pair_lt, pairs_of, rank_of, range_of, shown, without};
@@ -8,7 +8,7 @@ use crate::bound::Bound;
 use crate::entry::Entry;
 use crate::pair::Pair;
 use crate::stored::{
-    copied, drop_first, drop_last, pairs_between, place_of, places_of, put_in, take_out,
+    copied, drop_first, drop_last, pair_at, pairs_between, place_of, places_of, put_in, take_out,
 };
 use mr_map::{ByteMap, Pairs};
 use mr_order::{Ordered, Steps};
@@ -181,6 +181,13 @@ impl ZSet {
         ensures steps { (digits : ℕ) → finite.len self.now < 2 ^ digits → steps.new.count ≤ steps.old.count + digits }
     {
         place_of(&self.pairs, Pair { score, member }, steps)
+    }
+
+    /// The pair at a place in order, counted from 0. It takes no memory.
+    pub fn nth(&self, place: usize) -> Option<Pair<'_>>
+        ensures { option_map shown result ≡ slice_get (pairs_of self.now) place }
+    {
+        pair_at(&self.pairs, place)
     }
 
     /// The pairs from one place to another, both included and counted from 0, in order.

@@ -94,6 +94,20 @@ pub(crate) fn pairs_between(
     Ok(part)
 }
 
+// The pair at a place, counted from 0.
+pub(crate) fn pair_at(pairs: &Ordered<Entry>, place: usize) -> Option<Pair<'_>>
+    ensures { option_map shown result ≡ slice_get (map stored pairs.now) place }
+{
+    if place >= pairs.len() {
+        return None;
+    }
+    let entry = pairs.item(place);
+    Some(Pair {
+        score: entry.score,
+        member: entry.member.as_slice(),
+    })
+}
+
 // A pair with a copy of its member.
 pub(crate) fn copied(
     alloc: Global,
