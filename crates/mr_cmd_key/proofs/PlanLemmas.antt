@@ -1,5 +1,5 @@
 -- Plans from what was seen at several keys.
-use Rattle.std.proofs.Common.{◌≡◌, List, [], ◌∷◌, ◌++◌, length, true, ℤ, pos, refl, sym, ◌∙◌, ap, arith}
+use Rattle.std.proofs.Common.{◌≡◌, List, [], ◌∷◌, ◌++◌, append_assoc, length, true, ℤ, pos, refl, sym, ◌∙◌, ap, arith}
 use Rattle.std.specs.Prelude.{is_some, Option, false, Bool, ℕ, ◌+◌, ◌<◌, ◌≤◌, map, take, get_or}
 use Rattle.mr_entries.specs.declared.value.Entry.{Entry}
 use Rattle.std.specs.FinMap.{get}
@@ -10,17 +10,18 @@ use Rattle.mr_data.specs.Dataset.{live, seen}
 use Rattle.mr_data.proofs.Seeing.{get-seen}
 use Rattle.mr_effect.specs.declared.effect.Effect.{Effect}
 use Rattle.mr_planning.specs.Keys.{chosen, dels, is_stored, expired}
-use Rattle.mr_planning.specs.Commands.{IsPlan, on_keys}
+use Rattle.mr_planning.specs.Commands.{Plans, on_keys}
 use Rattle.mr_planning.proofs.KeyLists.{present_seen, present_purged, more_words}
-use Rattle.mr_planning.proofs.PlanLemmas.{keys_plan}
+use Rattle.mr_planning.proofs.PlanLemmas.{on_keys_plans}
 use Rattle.mr_cmd_key.specs.Outcomes.{one_if, present, present_at, deleted, counted}
 
-pub del_plan : (ks : List Bytes) (now : ℤ) (m : Dataset) (n : ℤ) (none first second list : List Effect) → none ≡ [] → first ≡ none ++ dels (chosen (is_stored now true) ks m) → n ≡ pos (length (chosen (is_stored now false) ks m)) → second ≡ first ++ dels (chosen (is_stored now false) ks m) → list ≡ second → IsPlan (on_keys ks (deleted ks)) now m (reply.int n) list
-del_plan ks now m n none first second list start es count more all = record {
+pub del_plans : (ks : List Bytes) (now : ℤ) (m : Dataset) (n : ℤ) (old first new : List Effect) → first ≡ old ++ dels (chosen (is_stored now true) ks m) → n ≡ pos (length (chosen (is_stored now false) ks m)) → new ≡ first ++ dels (chosen (is_stored now false) ks m) → Plans (on_keys ks (deleted ks)) now m (reply.int n) old new
+del_plans ks now m n old first new es count more = record {
   reply_is = ap reply.int (count ∙ ap (λ (xs : List Bytes). pos (length xs)) (sym (present_seen now ks m)));
-  effects_are = all ∙ more
-      ∙ ap (λ xs. xs ++ dels (chosen (is_stored now false) ks m)) (es ∙ ap (λ xs. xs ++ dels (expired now ks m)) start)
-      ∙ ap (λ (xs : List Bytes). dels (expired now ks m) ++ dels xs) (sym (present_seen now ks m) ∙ sym (present_purged now ks m));
+  effects_are = more
+      ∙ ap (λ xs. xs ++ dels (chosen (is_stored now false) ks m)) es
+      ∙ append_assoc old (dels (expired now ks m)) (dels (chosen (is_stored now false) ks m))
+      ∙ ap (λ (xs : List Bytes). old ++ (dels (expired now ks m) ++ dels xs)) (sym (present_seen now ks m) ∙ sym (present_purged now ks m));
 }
 
 live_count : (now : ℤ) (m : Dataset) (ks : List Bytes) → present_at now m ks ≡ present (seen now m) ks
@@ -47,5 +48,5 @@ module _ {A : Type 0} (f : A → Bytes) (now : ℤ) (m : Dataset) (xs : List A) 
     few = elim b as (λ c. n + one_if c ≤ i + 1) [ true ↦ omega (arith, so_far.few) | false ↦ omega (arith, so_far.few) ];
   }
 
-pub exists_plan : (ks : List Bytes) (now : ℤ) (m : Dataset) (n : ℤ) (none first list : List Effect) → none ≡ [] → first ≡ none ++ dels (expired now ks m) → n ≡ pos (present_at now m ks) → list ≡ first → IsPlan (on_keys ks (counted ks)) now m (reply.int n) list
-exists_plan ks now m n none first list start look count all = keys_plan ks (λ x. reply.int (pos (present x ks))) now m (reply.int n) none first list start look (ap reply.int (count ∙ ap pos (live_count now m ks))) all
+pub exists_plans : (ks : List Bytes) (now : ℤ) (m : Dataset) (n : ℤ) (old new : List Effect) → new ≡ old ++ dels (expired now ks m) → n ≡ pos (present_at now m ks) → Plans (on_keys ks (counted ks)) now m (reply.int n) old new
+exists_plans ks now m n old new look count = on_keys_plans ks (λ x. reply.int (pos (present x ks))) now m (reply.int n) old new look (ap reply.int (count ∙ ap pos (live_count now m ks)))

@@ -25,7 +25,7 @@ use Rattle.mr_planning.specs.Taken.{is_key, has}
 use Rattle.mr_planning.specs.Keys.{expired, purged, dels, is_stored}
 use Rattle.mr_planning.specs.Answered.{done}
 use Rattle.mr_planning.specs.Outcomes.{Outcome, answered}
-use Rattle.mr_planning.specs.Commands.{Command, on_keys, on_none, before, IsPlan}
+use Rattle.mr_planning.specs.Commands.{Command, on_keys, on_none, before, Plans}
 use Rattle.mr_entries.proofs.Maps.{same_key}
 use Rattle.mr_entries.proofs.Puts.{is_key_itself, get_remove, removed}
 use Rattle.mr_planning.proofs.KeyLists.{get_purged}
@@ -161,13 +161,14 @@ module _ (now : ℤ) (from to : Bytes) (m : Dataset) where
   looked_one h none one e = e ∙ ap (λ ks. none ++ dels ks) (sym (expired_one h))
 
   -- a command on two keys, from what is seen there
-  pub both_plan : (does : Dataset → Outcome) (o p : Option Entry) (r : Tree) (none looked own list : List Effect) → o ≡ live now (get m from) → p ≡ live now (get m to) → none ≡ [] → looked ≡ none ++ dels (expired now (from ∷ to ∷ []) m) → list ≡ own → ((n : Dataset) → get n from ≡ o → get n to ≡ p → Gives (does n) r looked own) → IsPlan (on_keys (from ∷ to ∷ []) does) now m r list
-  both_plan does o p r none looked own list source target start look all gives =
+  pub both_plans : (does : Dataset → Outcome) (o p : Option Entry) (r : Tree) (old looked new : List Effect) → o ≡ live now (get m from) → p ≡ live now (get m to) → looked ≡ old ++ dels (expired now (from ∷ to ∷ []) m) → ((n : Dataset) → get n from ≡ o → get n to ≡ p → Gives (does n) r looked new) → Plans (on_keys (from ∷ to ∷ []) does) now m r old new
+  both_plans does o p r old looked new source target look gives =
       let shown = gives (seen now m) (get-seen now m from ∙ sym source) (get-seen now m to ∙ sym target) in
       let made = gives (purged now (from ∷ to ∷ []) m) (live_first ∙ sym source) (live_second ∙ sym target) in
+      let own = (does (purged now (from ∷ to ∷ []) m)).effects in
       record {
         reply_is = shown.reply_is;
-        effects_are = all ∙ made.effects_are ∙ ap (λ es. es ++ (does (purged now (from ∷ to ∷ []) m)).effects) (look ∙ ap (λ es. es ++ dels (expired now (from ∷ to ∷ []) m)) start);
+        effects_are = made.effects_are ∙ ap (λ es. es ++ own) look ∙ append_assoc old (dels (expired now (from ∷ to ∷ []) m)) own;
       }
 
 pub gives_renamed : (from to : Bytes) (n : Dataset) (o : Option Entry) (answer r : Tree) (old new : List Effect) → get n from ≡ o → answer ≡ done → Gives (carried_if from to answer o n) r old new → Gives (renamed from to n) r old new

@@ -3,9 +3,10 @@ ghost use Rattle.std.specs.Prelude.{◌≡◌, IfOk, IsTrue, option_copied};
 ghost use Rattle.std.specs.List.{list_all};
 ghost use Rattle.mr_value.specs.Words.{fits};
 ghost use Rattle.mr_resp.specs.ReplyView.{view};
+ghost use Rattle.mr_data.specs.Dataset.{seen};
 ghost use Rattle.mr_cmd_key.specs.Carried.{key_words};
 ghost use Rattle.mr_expiry.specs.Expiry.{deadline_at};
-ghost use Rattle.mr_planning.specs.Commands.{IsPlan, IsFaithful, HasCommandTexts, on_key, on_keys, on_none};
+ghost use Rattle.mr_planning.specs.Commands.{IsPlan, Plans, IsFaithful, HasCommandTexts, on_key, on_keys, on_none};
 ghost use Rattle.mr_cmd_key.specs.Commands.{command, HasDeadline};
 ghost use Rattle.mr_cmd_key.specs.Kinds.{type_answer};
 ghost use Rattle.mr_cmd_key.specs.Expiring.{expire_answer, persist_answer, deadline_answer};
@@ -21,6 +22,7 @@ use crate::{expiring, kinds, listing};
 use mr_data::{Dataset, Effect, Given, Plan};
 use mr_expiry::Expiry;
 use mr_planning::{Effects, count, done, integer, look, push_dels};
+use mr_resp::Reply;
 use mr_words::{Argument, Words};
 use std::alloc::{AllocError, Global};
 
@@ -64,33 +66,69 @@ fn planned(
 ) -> Result<Plan, AllocError>
     ensures { IfOk result (λ p. IsPlan (command ask.now given.now) given.now held.now (view p.reply) p.effects.items) }
 {
+    let mut effects = Effects::new(alloc);
+    let reply = reply_to(alloc, held, ask, given, &mut effects)?;
+    Ok(effects.into_plan(reply))
+}
+
+// What a command is answered. Its effects are put behind those that are there.
+fn reply_to(
+    alloc: Global,
+    held: &Dataset,
+    ask: &KeyAsk<'_, '_>,
+    given: Given,
+    effects: &mut Effects,
+) -> Result<Reply, AllocError>
+    ensures { IfOk result (λ r. Plans (command ask.now given.now) given.now held.now (view r) effects.old effects.new) }
+{
     match ask {
-        KeyAsk::Del { keys } => delete(alloc, held, keys, given),
-        KeyAsk::Unlink { keys } => delete(alloc, held, keys, given),
-        KeyAsk::Exists { keys } => exists(alloc, held, keys, given),
-        KeyAsk::KeyType { key } => key_type(alloc, held, key, given),
+        KeyAsk::Del { keys } => delete(alloc, held, keys, given, effects),
+        KeyAsk::Unlink { keys } => delete(alloc, held, keys, given, effects),
+        KeyAsk::Exists { keys } => exists(alloc, held, keys, given, effects),
+        KeyAsk::KeyType { key } => key_type(alloc, held, key, given, effects),
         KeyAsk::Keys { pattern } => keys(alloc, held, pattern, given),
         KeyAsk::Scan {
             cursor,
             pattern,
             kind,
         } => scan(alloc, held, *cursor, pattern, *kind, given),
-        KeyAsk::DbSize => dbsize(alloc, held, given),
-        KeyAsk::Rename { from, to } => rename(alloc, held, from, to, given),
-        KeyAsk::RenameNx { from, to } => renamenx(alloc, held, from, to, given),
-        KeyAsk::Clear { .. } => clear(alloc, held, given),
+        KeyAsk::DbSize => Ok(dbsize(held, given)),
+        KeyAsk::Rename { from, to } => rename(alloc, held, from, to, given, effects),
+        KeyAsk::RenameNx { from, to } => renamenx(alloc, held, from, to, given, effects),
+        KeyAsk::Clear { .. } => clear(held, given, effects),
         KeyAsk::Expire {
             key,
             expiry,
             condition,
-        } => expire(alloc, held, key, *expiry, *condition, given),
-        KeyAsk::Ttl { key } => deadline(alloc, held, key, DeadlineForm::SecondsLeft, given),
-        KeyAsk::PTtl { key } => deadline(alloc, held, key, DeadlineForm::MillisecondsLeft, given),
-        KeyAsk::ExpireTime { key } => deadline(alloc, held, key, DeadlineForm::Second, given),
+        } => expire(alloc, held, key, *expiry, *condition, given, effects),
+        KeyAsk::Ttl { key } => deadline(
+            alloc,
+            held,
+            key,
+            DeadlineForm::SecondsLeft,
+            given,
+            effects,
+        ),
+        KeyAsk::PTtl { key } => deadline(
+            alloc,
+            held,
+            key,
+            DeadlineForm::MillisecondsLeft,
+            given,
+            effects,
+        ),
+        KeyAsk::ExpireTime { key } => deadline(
+            alloc,
+            held,
+            key,
+            DeadlineForm::Second,
+            given,
+            effects,
+        ),
         KeyAsk::PExpireTime { key } => {
-            deadline(alloc, held, key, DeadlineForm::Millisecond, given)
+            deadline(alloc, held, key, DeadlineForm::Millisecond, given, effects)
         }
-        KeyAsk::Persist { key } => persist(alloc, held, key, given),
+        KeyAsk::Persist { key } => persist(alloc, held, key, given, effects),
     }
 }
 
@@ -99,13 +137,13 @@ fn delete(
     held: &Dataset,
     keys: &Words<'_, '_>,
     given: Given,
-) -> Result<Plan, AllocError>
-    ensures { IfOk result (λ p. IsPlan (on_keys keys.now (deleted keys.now)) given.now held.now (view p.reply) p.effects.items) }
+    effects: &mut Effects,
+) -> Result<Reply, AllocError>
+    ensures { IfOk result (λ r. Plans (on_keys keys.now (deleted keys.now)) given.now held.now (view r) effects.old effects.new) }
 {
-    let mut effects = Effects::new(alloc);
-    push_dels(alloc, held, keys, given, true, &mut effects)?;
-    let count = push_dels(alloc, held, keys, given, false, &mut effects)?;
-    Ok(effects.into_plan(integer(count)))
+    push_dels(alloc, held, keys, given, true, effects)?;
+    let count = push_dels(alloc, held, keys, given, false, effects)?;
+    Ok(integer(count))
 }
 
 fn exists(
@@ -113,13 +151,13 @@ fn exists(
     held: &Dataset,
     keys: &Words<'_, '_>,
     given: Given,
-) -> Result<Plan, AllocError>
-    ensures { IfOk result (λ p. IsPlan (on_keys keys.now (counted keys.now)) given.now held.now (view p.reply) p.effects.items) }
+    effects: &mut Effects,
+) -> Result<Reply, AllocError>
+    ensures { IfOk result (λ r. Plans (on_keys keys.now (counted keys.now)) given.now held.now (view r) effects.old effects.new) }
 {
-    let mut effects = Effects::new(alloc);
-    push_dels(alloc, held, keys, given, true, &mut effects)?;
+    push_dels(alloc, held, keys, given, true, effects)?;
     let present = count_present(held, keys.as_slice(), given);
-    Ok(effects.into_plan(count(present)))
+    Ok(count(present))
 }
 
 fn key_type(
@@ -127,13 +165,12 @@ fn key_type(
     held: &Dataset,
     key: &Argument<'_>,
     given: Given,
-) -> Result<Plan, AllocError>
-    ensures { IfOk result (λ p. IsPlan (on_key key.now type_answer) given.now held.now (view p.reply) p.effects.items) }
+    effects: &mut Effects,
+) -> Result<Reply, AllocError>
+    ensures { IfOk result (λ r. Plans (on_key key.now type_answer) given.now held.now (view r) effects.old effects.new) }
 {
-    let mut effects = Effects::new(alloc);
-    let live_entry = look(alloc, held, key, given, &mut effects)?;
-    let reply = kinds::key_type(live_entry);
-    Ok(effects.into_plan(reply))
+    let live_entry = look(alloc, held, key, given, effects)?;
+    Ok(kinds::key_type(live_entry))
 }
 
 fn keys(
@@ -141,11 +178,10 @@ fn keys(
     held: &Dataset,
     pattern: &Argument<'_>,
     given: Given,
-) -> Result<Plan, AllocError>
-    ensures { IfOk result (λ p. IsPlan (on_none (matching pattern.now)) given.now held.now (view p.reply) p.effects.items) }
+) -> Result<Reply, AllocError>
+    ensures { IfOk result (λ r. view r ≡ (matching pattern.now (seen given.now held.now)).reply) }
 {
-    let reply = listing::list_keys(alloc, held, Some(pattern.as_slice()), None, given)?;
-    Ok(Effects::new(alloc).into_plan(reply))
+    listing::list_keys(alloc, held, Some(pattern.as_slice()), None, given)
 }
 
 fn scan(
@@ -155,11 +191,10 @@ fn scan(
     pattern: &Option<Argument<'_>>,
     kind: Option<KindName>,
     given: Given,
-) -> Result<Plan, AllocError>
-    ensures { IfOk result (λ p. IsPlan (on_none (scanned cursor pattern.now kind)) given.now held.now (view p.reply) p.effects.items) }
+) -> Result<Reply, AllocError>
+    ensures { IfOk result (λ r. view r ≡ (scanned cursor pattern.now kind (seen given.now held.now)).reply) }
 {
-    let reply = listing::scan(alloc, held, cursor, bytes_of(pattern), kind, given)?;
-    Ok(Effects::new(alloc).into_plan(reply))
+    listing::scan(alloc, held, cursor, bytes_of(pattern), kind, given)
 }
 
 fn bytes_of<'a>(word: &Option<Argument<'a>>) -> Option<&'a [u8]>
@@ -171,21 +206,19 @@ fn bytes_of<'a>(word: &Option<Argument<'a>>) -> Option<&'a [u8]>
     }
 }
 
-fn dbsize(alloc: Global, held: &Dataset, given: Given) -> Result<Plan, AllocError>
-    ensures { IfOk result (λ p. IsPlan (on_none sized) given.now held.now (view p.reply) p.effects.items) }
+fn dbsize(held: &Dataset, given: Given) -> Reply
+    ensures { view result ≡ (sized (seen given.now held.now)).reply }
 {
-    let present = count_keys(held, given);
-    Ok(Effects::new(alloc).into_plan(count(present)))
+    count(count_keys(held, given))
 }
 
-fn clear(alloc: Global, held: &Dataset, given: Given) -> Result<Plan, AllocError>
-    ensures { IfOk result (λ p. IsPlan (on_none cleared) given.now held.now (view p.reply) p.effects.items) }
+fn clear(held: &Dataset, given: Given, effects: &mut Effects) -> Result<Reply, AllocError>
+    ensures { IfOk result (λ r. Plans (on_none cleared) given.now held.now (view r) effects.old effects.new) }
 {
-    let mut effects = Effects::new(alloc);
     if !held.is_empty() {
         effects.push(Effect::Clear)?;
     }
-    Ok(effects.into_plan(done()))
+    Ok(done())
 }
 
 fn expire(
@@ -195,22 +228,13 @@ fn expire(
     expiry: Expiry,
     condition: Option<ExpireCondition>,
     given: Given,
-) -> Result<Plan, AllocError>
-    ensures { IfOk result (λ p. IsPlan (on_key key.now (expire_answer key.now condition given.now (deadline_at given.now expiry))) given.now held.now (view p.reply) p.effects.items) }
+    effects: &mut Effects,
+) -> Result<Reply, AllocError>
+    ensures { IfOk result (λ r. Plans (on_key key.now (expire_answer key.now condition given.now (deadline_at given.now expiry))) given.now held.now (view r) effects.old effects.new) }
 {
-    let mut effects = Effects::new(alloc);
-    let live_entry = look(alloc, held, key, given, &mut effects)?;
+    let live_entry = look(alloc, held, key, given, effects)?;
     let deadline = expiry.deadline(given.now());
-    let reply = expiring::expire(
-        alloc,
-        key,
-        condition,
-        deadline,
-        live_entry,
-        given,
-        &mut effects,
-    )?;
-    Ok(effects.into_plan(reply))
+    expiring::expire(alloc, key, condition, deadline, live_entry, given, effects)
 }
 
 fn persist(
@@ -218,13 +242,12 @@ fn persist(
     held: &Dataset,
     key: &Argument<'_>,
     given: Given,
-) -> Result<Plan, AllocError>
-    ensures { IfOk result (λ p. IsPlan (on_key key.now (persist_answer key.now)) given.now held.now (view p.reply) p.effects.items) }
+    effects: &mut Effects,
+) -> Result<Reply, AllocError>
+    ensures { IfOk result (λ r. Plans (on_key key.now (persist_answer key.now)) given.now held.now (view r) effects.old effects.new) }
 {
-    let mut effects = Effects::new(alloc);
-    let live_entry = look(alloc, held, key, given, &mut effects)?;
-    let reply = expiring::persist(alloc, key, live_entry, &mut effects)?;
-    Ok(effects.into_plan(reply))
+    let live_entry = look(alloc, held, key, given, effects)?;
+    expiring::persist(alloc, key, live_entry, effects)
 }
 
 fn deadline(
@@ -233,11 +256,11 @@ fn deadline(
     key: &Argument<'_>,
     form: DeadlineForm,
     given: Given,
-) -> Result<Plan, AllocError>
-    ensures { IfOk result (λ p. IsPlan (on_key key.now (deadline_answer form given.now)) given.now held.now (view p.reply) p.effects.items) }
+    effects: &mut Effects,
+) -> Result<Reply, AllocError>
+    ensures { IfOk result (λ r. Plans (on_key key.now (deadline_answer form given.now)) given.now held.now (view r) effects.old effects.new) }
 {
-    let mut effects = Effects::new(alloc);
-    let live_entry = look(alloc, held, key, given, &mut effects)?;
+    let live_entry = look(alloc, held, key, given, effects)?;
     let number = expiring::answered_in(form, given, live_entry);
-    Ok(effects.into_plan(integer(number)))
+    Ok(integer(number))
 }

@@ -6,10 +6,10 @@ ghost use Rattle.mr_resp.specs.ReplyView.{view};
 ghost use Rattle.mr_data.specs.Dataset.{live};
 ghost use Rattle.mr_entries.specs.Dataset.{Dataset as Map};
 ghost use Rattle.mr_planning.specs.Keys.{dels, expired};
-ghost use Rattle.mr_planning.specs.Commands.{IsPlan, on_keys};
+ghost use Rattle.mr_planning.specs.Commands.{Plans, on_keys};
 ghost use Rattle.mr_cmd_key.specs.Renaming.{Gives, carried_if, no_key, renamed, renamed_nx};
 
-use mr_data::{Dataset, Effect, Entry, Given, Plan};
+use mr_data::{Dataset, Effect, Entry, Given};
 use mr_planning::{Effects, count, done, look};
 use mr_resp::Reply;
 use mr_value::Word;
@@ -24,13 +24,12 @@ pub fn rename(
     from: &Argument<'_>,
     to: &Argument<'_>,
     given: Given,
-) -> Result<Plan, AllocError>
-    ensures { IfOk result (λ p. IsPlan (on_keys (from.now ∷ to.now ∷ []) (renamed from.now to.now)) given.now held.now (view p.reply) p.effects.items) }
+    effects: &mut Effects,
+) -> Result<Reply, AllocError>
+    ensures { IfOk result (λ r. Plans (on_keys (from.now ∷ to.now ∷ []) (renamed from.now to.now)) given.now held.now (view r) effects.old effects.new) }
 {
-    let mut effects = Effects::new(alloc);
-    let (source, _) = look_at_both(alloc, held, from, to, given, &mut effects)?;
-    let reply = carry(alloc, from, to, done(), source, &mut effects)?;
-    Ok(effects.into_plan(reply))
+    let (source, _) = look_at_both(alloc, held, from, to, given, effects)?;
+    carry(alloc, from, to, done(), source, effects)
 }
 
 /// `RENAMENX`
@@ -40,13 +39,12 @@ pub fn renamenx(
     from: &Argument<'_>,
     to: &Argument<'_>,
     given: Given,
-) -> Result<Plan, AllocError>
-    ensures { IfOk result (λ p. IsPlan (on_keys (from.now ∷ to.now ∷ []) (renamed_nx from.now to.now)) given.now held.now (view p.reply) p.effects.items) }
+    effects: &mut Effects,
+) -> Result<Reply, AllocError>
+    ensures { IfOk result (λ r. Plans (on_keys (from.now ∷ to.now ∷ []) (renamed_nx from.now to.now)) given.now held.now (view r) effects.old effects.new) }
 {
-    let mut effects = Effects::new(alloc);
-    let (source, target) = look_at_both(alloc, held, from, to, given, &mut effects)?;
-    let reply = carry_new(alloc, from, to, source, target, &mut effects)?;
-    Ok(effects.into_plan(reply))
+    let (source, target) = look_at_both(alloc, held, from, to, given, effects)?;
+    carry_new(alloc, from, to, source, target, effects)
 }
 
 // The live entries at two keys, which may be one. Expired ones get their DELs.

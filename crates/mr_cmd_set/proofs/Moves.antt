@@ -24,7 +24,7 @@ use Rattle.mr_effect.specs.declared.effect.Effect.TheVariants as effect
 use Rattle.mr_planning.specs.Taken.{is_key, has}
 use Rattle.mr_planning.specs.Keys.{expired, purged, dels, is_stored}
 use Rattle.mr_planning.specs.Outcomes.{answered}
-use Rattle.mr_planning.specs.Commands.{Command, before, IsPlan}
+use Rattle.mr_planning.specs.Commands.{Command, before, Plans}
 use Rattle.mr_entries.proofs.Maps.{same_key}
 use Rattle.mr_entries.proofs.Puts.{is_key_itself, get_put, get_put_other, get_remove}
 use Rattle.mr_planning.proofs.KeyLists.{get_purged}
@@ -165,13 +165,14 @@ module _ (from to x : Bytes) (now : ℤ) (m : Dataset) where
   abbrev the_move : Command
   the_move = record { keys = from ∷ to ∷ []; outcome = smove from to x }
 
-  pub move_plan : (o p : Option Entry) (r : Tree) (none looked own list : List Effect) → o ≡ live now (get m from) → p ≡ live now (get m to) → none ≡ [] → looked ≡ none ++ dels (expired now (from ∷ to ∷ []) m) → list ≡ own → ((n : Dataset) → get n from ≡ o → get n to ≡ p → Gives (smove from to x n) r looked own) → IsPlan the_move now m r list
-  move_plan o p r none looked own list source target start look all gives =
+  pub move_plans : (o p : Option Entry) (r : Tree) (old looked new : List Effect) → o ≡ live now (get m from) → p ≡ live now (get m to) → looked ≡ old ++ dels (expired now (from ∷ to ∷ []) m) → ((n : Dataset) → get n from ≡ o → get n to ≡ p → Gives (smove from to x n) r looked new) → Plans the_move now m r old new
+  move_plans o p r old looked new source target look gives =
       let shown = gives (seen now m) (get-seen now m from ∙ sym source) (get-seen now m to ∙ sym target) in
       let done = gives (purged now (from ∷ to ∷ []) m) (live_first now from to m ∙ sym source) (live_second now from to m ∙ sym target) in
+      let own = (smove from to x (purged now (from ∷ to ∷ []) m)).effects in
       record {
         reply_is = shown.reply_is;
-        effects_are = all ∙ done.effects_are ∙ ap (λ es. es ++ (smove from to x (purged now (from ∷ to ∷ []) m)).effects) (look ∙ ap (λ es. es ++ dels (expired now (from ∷ to ∷ []) m)) start);
+        effects_are = done.effects_are ∙ ap (λ es. es ++ own) look ∙ append_assoc old (dels (expired now (from ∷ to ∷ []) m)) own;
       }
 
   pub looked_two : bytes_eq from to ≡ false → (none first second : List Effect) → first ≡ none ++ dels (expired now (from ∷ []) m) → second ≡ first ++ dels (expired now (to ∷ []) m) → second ≡ none ++ dels (expired now (from ∷ to ∷ []) m)

@@ -6,7 +6,7 @@ ghost use Rattle.mr_resp.specs.ReplyView.{view};
 ghost use Rattle.mr_data.specs.Dataset.{IsDataset};
 ghost use Rattle.mr_cmd_set.specs.Carried.{set_words};
 ghost use Rattle.mr_cmd_set.specs.declared.set_ask.SetAsk.TheVariants as asks;
-ghost use Rattle.mr_planning.specs.Commands.{IsPlan, IsFaithful, HasCommandTexts};
+ghost use Rattle.mr_planning.specs.Commands.{IsPlan, Plans, IsFaithful, HasCommandTexts};
 ghost use Rattle.mr_cmd_set.specs.SetCommands.{command, RestsOn};
 
 use crate::combining::{combined, look_at_all};
@@ -15,6 +15,7 @@ use crate::set_ask::{SetAsk, SetOperation};
 use crate::{changing, drawing, telling};
 use mr_data::{Dataset, Given, Plan};
 use mr_planning::{Effects, look, wrong_kind};
+use mr_resp::Reply;
 use mr_value::SetValue;
 use mr_words::{Argument, Words};
 use std::alloc::{AllocError, Global};
@@ -46,17 +47,39 @@ fn planned(
     ensures plan { IfOk result (λ p. IsPlan (command ask.now given.word) given.now held.now (view p.reply) p.effects.items) }
     ensures rests { RestsOn ask.now held.now }
 {
+    let mut effects = Effects::new(alloc);
+    let reply = reply_to(alloc, held, ask, given, &mut effects)?;
+    Ok(effects.into_plan(reply))
+}
+
+// What a command is answered. Its effects are put behind those that are there.
+fn reply_to(
+    alloc: Global,
+    held: &Dataset,
+    ask: &SetAsk<'_, '_>,
+    given: Given,
+    effects: &mut Effects,
+) -> Result<Reply, AllocError>
+    ensures reply { IfOk result (λ r. Plans (command ask.now given.word) given.now held.now (view r) effects.old effects.new) }
+    ensures rests { RestsOn ask.now held.now }
+{
     match ask {
-        SetAsk::SAdd { key, members } => sadd(alloc, held, key, members, given),
-        SetAsk::SRem { key, members } => srem(alloc, held, key, members, given),
-        SetAsk::SIsMember { key, member } => sismember(alloc, held, key, member, given),
-        SetAsk::SMIsMember { key, members } => smismember(alloc, held, key, members, given),
-        SetAsk::SMembers { key } => smembers(alloc, held, key, given),
-        SetAsk::SCard { key } => scard(alloc, held, key, given),
-        SetAsk::SPop { key, count } => spop(alloc, held, key, *count, given),
-        SetAsk::SRandMember { key, count } => srandmember(alloc, held, key, *count, given),
-        SetAsk::SMove { from, to, member } => { smove(alloc, held, from, to, member, given) }
-        SetAsk::Combine { operation, keys } => combine(alloc, held, *operation, keys, given),
+        SetAsk::SAdd { key, members } => sadd(alloc, held, key, members, given, effects),
+        SetAsk::SRem { key, members } => srem(alloc, held, key, members, given, effects),
+        SetAsk::SIsMember { key, member } => sismember(alloc, held, key, member, given, effects),
+        SetAsk::SMIsMember { key, members } => smismember(
+            alloc, held, key, members, given, effects,
+        ),
+        SetAsk::SMembers { key } => smembers(alloc, held, key, given, effects),
+        SetAsk::SCard { key } => scard(alloc, held, key, given, effects),
+        SetAsk::SPop { key, count } => spop(alloc, held, key, *count, given, effects),
+        SetAsk::SRandMember { key, count } => srandmember(alloc, held, key, *count, given, effects),
+        SetAsk::SMove { from, to, member } => {
+            smove(alloc, held, from, to, member, given, effects)
+        }
+        SetAsk::Combine { operation, keys } => combine(
+            alloc, held, *operation, keys, given, effects,
+        ),
     }
 }
 
@@ -66,14 +89,13 @@ fn sadd(
     key: &Argument<'_>,
     members: &Words<'_, '_>,
     given: Given,
-) -> Result<Plan, AllocError>
-    ensures plan { IfOk result (λ p. IsPlan (command (asks.SAdd key.now members.now) given.word) given.now held.now (view p.reply) p.effects.items) }
+    effects: &mut Effects,
+) -> Result<Reply, AllocError>
+    ensures reply { IfOk result (λ r. Plans (command (asks.SAdd key.now members.now) given.word) given.now held.now (view r) effects.old effects.new) }
     ensures kept { IsDataset held.now }
 {
-    let mut effects = Effects::new(alloc);
-    let live_entry = look(alloc, held, key, given, &mut effects)?;
-    let reply = changing::sadd(alloc, key, members, live_entry, &mut effects)?;
-    Ok(effects.into_plan(reply))
+    let live_entry = look(alloc, held, key, given, effects)?;
+    changing::sadd(alloc, key, members, live_entry, effects)
 }
 
 fn srem(
@@ -82,14 +104,13 @@ fn srem(
     key: &Argument<'_>,
     members: &Words<'_, '_>,
     given: Given,
-) -> Result<Plan, AllocError>
-    ensures plan { IfOk result (λ p. IsPlan (command (asks.SRem key.now members.now) given.word) given.now held.now (view p.reply) p.effects.items) }
+    effects: &mut Effects,
+) -> Result<Reply, AllocError>
+    ensures reply { IfOk result (λ r. Plans (command (asks.SRem key.now members.now) given.word) given.now held.now (view r) effects.old effects.new) }
     ensures kept { IsDataset held.now }
 {
-    let mut effects = Effects::new(alloc);
-    let live_entry = look(alloc, held, key, given, &mut effects)?;
-    let reply = changing::srem(alloc, key, members, live_entry, &mut effects)?;
-    Ok(effects.into_plan(reply))
+    let live_entry = look(alloc, held, key, given, effects)?;
+    changing::srem(alloc, key, members, live_entry, effects)
 }
 
 fn sismember(
@@ -98,14 +119,13 @@ fn sismember(
     key: &Argument<'_>,
     member: &Argument<'_>,
     given: Given,
-) -> Result<Plan, AllocError>
-    ensures plan { IfOk result (λ p. IsPlan (command (asks.SIsMember key.now member.now) given.word) given.now held.now (view p.reply) p.effects.items) }
+    effects: &mut Effects,
+) -> Result<Reply, AllocError>
+    ensures reply { IfOk result (λ r. Plans (command (asks.SIsMember key.now member.now) given.word) given.now held.now (view r) effects.old effects.new) }
     ensures kept { IsDataset held.now }
 {
-    let mut effects = Effects::new(alloc);
-    let live_entry = look(alloc, held, key, given, &mut effects)?;
-    let reply = telling::sismember(alloc, member, live_entry);
-    Ok(effects.into_plan(reply))
+    let live_entry = look(alloc, held, key, given, effects)?;
+    Ok(telling::sismember(alloc, member, live_entry))
 }
 
 fn smismember(
@@ -114,14 +134,13 @@ fn smismember(
     key: &Argument<'_>,
     members: &Words<'_, '_>,
     given: Given,
-) -> Result<Plan, AllocError>
-    ensures plan { IfOk result (λ p. IsPlan (command (asks.SMIsMember key.now members.now) given.word) given.now held.now (view p.reply) p.effects.items) }
+    effects: &mut Effects,
+) -> Result<Reply, AllocError>
+    ensures reply { IfOk result (λ r. Plans (command (asks.SMIsMember key.now members.now) given.word) given.now held.now (view r) effects.old effects.new) }
     ensures kept { IsDataset held.now }
 {
-    let mut effects = Effects::new(alloc);
-    let live_entry = look(alloc, held, key, given, &mut effects)?;
-    let reply = telling::smismember(alloc, members, live_entry)?;
-    Ok(effects.into_plan(reply))
+    let live_entry = look(alloc, held, key, given, effects)?;
+    telling::smismember(alloc, members, live_entry)
 }
 
 fn smembers(
@@ -129,14 +148,13 @@ fn smembers(
     held: &Dataset,
     key: &Argument<'_>,
     given: Given,
-) -> Result<Plan, AllocError>
-    ensures plan { IfOk result (λ p. IsPlan (command (asks.SMembers key.now) given.word) given.now held.now (view p.reply) p.effects.items) }
+    effects: &mut Effects,
+) -> Result<Reply, AllocError>
+    ensures reply { IfOk result (λ r. Plans (command (asks.SMembers key.now) given.word) given.now held.now (view r) effects.old effects.new) }
     ensures kept { IsDataset held.now }
 {
-    let mut effects = Effects::new(alloc);
-    let live_entry = look(alloc, held, key, given, &mut effects)?;
-    let reply = telling::smembers(alloc, live_entry)?;
-    Ok(effects.into_plan(reply))
+    let live_entry = look(alloc, held, key, given, effects)?;
+    telling::smembers(alloc, live_entry)
 }
 
 fn scard(
@@ -144,14 +162,13 @@ fn scard(
     held: &Dataset,
     key: &Argument<'_>,
     given: Given,
-) -> Result<Plan, AllocError>
-    ensures plan { IfOk result (λ p. IsPlan (command (asks.SCard key.now) given.word) given.now held.now (view p.reply) p.effects.items) }
+    effects: &mut Effects,
+) -> Result<Reply, AllocError>
+    ensures reply { IfOk result (λ r. Plans (command (asks.SCard key.now) given.word) given.now held.now (view r) effects.old effects.new) }
     ensures kept { IsDataset held.now }
 {
-    let mut effects = Effects::new(alloc);
-    let live_entry = look(alloc, held, key, given, &mut effects)?;
-    let reply = telling::scard(alloc, live_entry);
-    Ok(effects.into_plan(reply))
+    let live_entry = look(alloc, held, key, given, effects)?;
+    Ok(telling::scard(alloc, live_entry))
 }
 
 fn spop(
@@ -160,14 +177,13 @@ fn spop(
     key: &Argument<'_>,
     count: Option<usize>,
     given: Given,
-) -> Result<Plan, AllocError>
-    ensures plan { IfOk result (λ p. IsPlan (command (asks.SPop key.now count) given.word) given.now held.now (view p.reply) p.effects.items) }
+    effects: &mut Effects,
+) -> Result<Reply, AllocError>
+    ensures reply { IfOk result (λ r. Plans (command (asks.SPop key.now count) given.word) given.now held.now (view r) effects.old effects.new) }
     ensures kept { IsDataset held.now }
 {
-    let mut effects = Effects::new(alloc);
-    let live_entry = look(alloc, held, key, given, &mut effects)?;
-    let reply = drawing::spop(alloc, key, count, given.word(), live_entry, &mut effects)?;
-    Ok(effects.into_plan(reply))
+    let live_entry = look(alloc, held, key, given, effects)?;
+    drawing::spop(alloc, key, count, given.word(), live_entry, effects)
 }
 
 fn srandmember(
@@ -176,14 +192,13 @@ fn srandmember(
     key: &Argument<'_>,
     count: Option<usize>,
     given: Given,
-) -> Result<Plan, AllocError>
-    ensures plan { IfOk result (λ p. IsPlan (command (asks.SRandMember key.now count) given.word) given.now held.now (view p.reply) p.effects.items) }
+    effects: &mut Effects,
+) -> Result<Reply, AllocError>
+    ensures reply { IfOk result (λ r. Plans (command (asks.SRandMember key.now count) given.word) given.now held.now (view r) effects.old effects.new) }
     ensures kept { IsDataset held.now }
 {
-    let mut effects = Effects::new(alloc);
-    let live_entry = look(alloc, held, key, given, &mut effects)?;
-    let reply = drawing::srandmember(alloc, count, given.word(), live_entry)?;
-    Ok(effects.into_plan(reply))
+    let live_entry = look(alloc, held, key, given, effects)?;
+    drawing::srandmember(alloc, count, given.word(), live_entry)
 }
 
 fn smove(
@@ -193,19 +208,18 @@ fn smove(
     to: &Argument<'_>,
     member: &Argument<'_>,
     given: Given,
-) -> Result<Plan, AllocError>
-    ensures plan { IfOk result (λ p. IsPlan (command (asks.SMove from.now to.now member.now) given.word) given.now held.now (view p.reply) p.effects.items) }
+    effects: &mut Effects,
+) -> Result<Reply, AllocError>
+    ensures reply { IfOk result (λ r. Plans (command (asks.SMove from.now to.now member.now) given.word) given.now held.now (view r) effects.old effects.new) }
     ensures kept { IsDataset held.now }
 {
-    let mut effects = Effects::new(alloc);
-    let source = look(alloc, held, from, given, &mut effects)?;
+    let source = look(alloc, held, from, given, effects)?;
     let target = if same(from, to) {
         source
     } else {
-        look(alloc, held, to, given, &mut effects)?
+        look(alloc, held, to, given, effects)?
     };
-    let reply = moved(alloc, from, to, member, source, target, &mut effects)?;
-    Ok(effects.into_plan(reply))
+    moved(alloc, from, to, member, source, target, effects)
 }
 
 fn combine(
@@ -214,14 +228,13 @@ fn combine(
     operation: SetOperation,
     keys: &Words<'_, '_>,
     given: Given,
-) -> Result<Plan, AllocError>
-    ensures plan { IfOk result (λ p. IsPlan (command (asks.Combine operation keys.now) given.word) given.now held.now (view p.reply) p.effects.items) }
+    effects: &mut Effects,
+) -> Result<Reply, AllocError>
+    ensures reply { IfOk result (λ r. Plans (command (asks.Combine operation keys.now) given.word) given.now held.now (view r) effects.old effects.new) }
 {
-    let mut effects = Effects::new(alloc);
     let empty = SetValue::new(alloc);
-    let reply = match look_at_all(alloc, held, keys, given, &empty, &mut effects)? {
-        Some(sets) => combined(alloc, operation, &sets)?,
-        None => wrong_kind(),
-    };
-    Ok(effects.into_plan(reply))
+    match look_at_all(alloc, held, keys, given, &empty, effects)? {
+        Some(sets) => combined(alloc, operation, &sets),
+        None => Ok(wrong_kind()),
+    }
 }

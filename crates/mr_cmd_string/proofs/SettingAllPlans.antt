@@ -1,5 +1,5 @@
 -- The plans of commands that set texts at several keys.
-use Rattle.std.proofs.Common.{ℤ, pos, ◌≡◌, List, [], ◌∷◌, ◌++◌, Bool, true, false, not, cond, Option, Some, None, refl, sym, ◌∙◌, ap}
+use Rattle.std.proofs.Common.{ℤ, pos, ◌≡◌, List, [], ◌∷◌, ◌++◌, append_assoc, Bool, true, false, not, cond, Option, Some, None, refl, sym, ◌∙◌, ap}
 use Rattle.std.specs.Prelude.{◌||◌, filter, is_some, if◌then◌else◌}
 use Rattle.std.specs.List.{AllByRecursion, list_any}
 use Rattle.std.specs.FinMap.{empty, get, insert, entries, find, get-entries, get-empty, get-insert}
@@ -17,7 +17,7 @@ use Rattle.mr_planning.specs.Taken.{is_key, has}
 use Rattle.mr_planning.specs.Keys.{chosen, dels, is_stored, expired, purged}
 use Rattle.mr_planning.specs.Answered.{done}
 use Rattle.mr_planning.specs.Outcomes.{answered}
-use Rattle.mr_planning.specs.Commands.{IsPlan, on_keys}
+use Rattle.mr_planning.specs.Commands.{Plans, on_keys}
 use Rattle.mr_entries.proofs.Maps.{same_key}
 use Rattle.mr_entries.proofs.Puts.{is_key_itself}
 use Rattle.mr_planning.proofs.KeyLists.{chosen_alike, get_purged}
@@ -124,12 +124,16 @@ filter_alike p q (x ∷ xs) a = ap (λ b. cond b (x ∷ filter p xs) (filter p x
 changed_purged : (now : ℤ) (m : Dataset) (ps : List Pair) → changed_at now (entries (last_texts ps)) m ≡ changed ps (purged now (names ps) m)
 changed_purged now m ps = filter_alike _ _ (entries (last_texts ps)) (all_map _ _ (λ x is. ap (λ o. not (is_plain x.1 o)) (sym (kept now m (names ps) x.0 (named ps x.0 x.1 is)))) (entries (last_texts ps)) (own_entries (last_texts ps)))
 
+-- effects behind those that were there and the DELs
+behind : (ks : List Bytes) (now : ℤ) (m : Dataset) (old looked own : List Effect) → looked ≡ old ++ dels (expired now ks m) → looked ++ own ≡ old ++ (dels (expired now ks m) ++ own)
+behind ks now m old looked own look = ap (λ es. es ++ own) look ∙ append_assoc old (dels (expired now ks m)) own
+
 -- MSET
-pub mset_plan : (ps : List Pair) (now : ℤ) (m : Dataset) (r : Tree) (none looked list own : List Effect) → none ≡ [] → looked ≡ none ++ dels (expired now (names ps) m) → r ≡ done → own ≡ looked ++ set_effects (changed_at now (entries (last_texts ps)) m) → list ≡ own → IsPlan (on_keys (names ps) (mset ps)) now m r list
-mset_plan ps now m r none looked list own start look replied put all = record {
+pub mset_plans : (ps : List Pair) (now : ℤ) (m : Dataset) (r : Tree) (old looked new : List Effect) → looked ≡ old ++ dels (expired now (names ps) m) → r ≡ done → new ≡ looked ++ set_effects (changed_at now (entries (last_texts ps)) m) → Plans (on_keys (names ps) (mset ps)) now m r old new
+mset_plans ps now m r old looked new look replied put = record {
   reply_is = replied;
-  effects_are = all ∙ put ∙ ap (λ es. es ++ set_effects (changed_at now (entries (last_texts ps)) m)) (look ∙ ap (λ es. es ++ dels (expired now (names ps) m)) start)
-      ∙ ap (λ xs. dels (expired now (names ps) m) ++ set_effects xs) (changed_purged now m ps);
+  effects_are = put ∙ behind (names ps) now m old looked (set_effects (changed_at now (entries (last_texts ps)) m)) look
+      ∙ ap (λ xs. old ++ (dels (expired now (names ps) m) ++ set_effects xs)) (changed_purged now m ps);
 }
 
 -- ---- MSETNX
@@ -170,19 +174,18 @@ filter_whole p (x ∷ xs) a = ap (λ b. cond b (x ∷ filter p xs) (filter p xs)
 all_changed : (now : ℤ) (m : Dataset) (ps : List Pair) → is_any_live now ps m ≡ false → entries (last_texts ps) ≡ changed ps (purged now (names ps) m)
 all_changed now m ps h = sym (filter_whole _ (entries (last_texts ps)) (all_map _ _ (λ x is. let here = named ps x.0 x.1 is in ap (λ o. not (is_plain x.1 o)) (kept now m (names ps) x.0 here ∙ named_not_there now m ps h x.0 here)) (entries (last_texts ps)) (own_entries (last_texts ps))))
 
-module _ (ps : List Pair) (now : ℤ) (m : Dataset) (r : Tree) (none looked list : List Effect) (start : none ≡ []) (look : looked ≡ none ++ dels (expired now (names ps) m)) where
-  pub some_there : is_any_live now ps m ≡ true → r ≡ reply.int (pos 0) → list ≡ looked → IsPlan (on_keys (names ps) (msetnx ps)) now m r list
-  some_there there replied all = record {
+module _ (ps : List Pair) (now : ℤ) (m : Dataset) (r : Tree) (old looked : List Effect) (look : looked ≡ old ++ dels (expired now (names ps) m)) where
+  pub some_there : is_any_live now ps m ≡ true → r ≡ reply.int (pos 0) → Plans (on_keys (names ps) (msetnx ps)) now m r old looked
+  some_there there replied = record {
     reply_is = replied ∙ ap (λ b. (if b then answered (reply.int (pos 0)) (seen now m) else put_all (reply.int (pos 1)) ps (seen now m)).reply) (sym there ∙ live_seen now m ps);
-    effects_are = all ∙ look ∙ ap (λ es. es ++ dels (expired now (names ps) m)) start ∙ sym (append_none _)
-        ∙ ap (λ b. dels (expired now (names ps) m) ++ (if b then answered (reply.int (pos 0)) (purged now (names ps) m) else put_all (reply.int (pos 1)) ps (purged now (names ps) m)).effects) (sym there ∙ live_purged now m ps);
+    effects_are = look ∙ ap (λ es. old ++ es) (sym (append_none _)
+        ∙ ap (λ b. dels (expired now (names ps) m) ++ (if b then answered (reply.int (pos 0)) (purged now (names ps) m) else put_all (reply.int (pos 1)) ps (purged now (names ps) m)).effects) (sym there ∙ live_purged now m ps));
   }
 
-  pub none_there : (own : List Effect) → is_any_live now ps m ≡ false → r ≡ reply.int (pos 1) → own ≡ looked ++ set_effects (entries (last_texts ps)) → list ≡ own → IsPlan (on_keys (names ps) (msetnx ps)) now m r list
-  none_there own there replied put all = record {
+  pub none_there : (new : List Effect) → is_any_live now ps m ≡ false → r ≡ reply.int (pos 1) → new ≡ looked ++ set_effects (entries (last_texts ps)) → Plans (on_keys (names ps) (msetnx ps)) now m r old new
+  none_there new there replied put = record {
     reply_is = replied ∙ ap (λ b. (if b then answered (reply.int (pos 0)) (seen now m) else put_all (reply.int (pos 1)) ps (seen now m)).reply) (sym there ∙ live_seen now m ps);
-    effects_are = all ∙ put
-        ∙ ap (λ es. es ++ set_effects (entries (last_texts ps))) (look ∙ ap (λ es. es ++ dels (expired now (names ps) m)) start)
-        ∙ ap (λ xs. dels (expired now (names ps) m) ++ set_effects xs) (all_changed now m ps there)
-        ∙ ap (λ b. dels (expired now (names ps) m) ++ (if b then answered (reply.int (pos 0)) (purged now (names ps) m) else put_all (reply.int (pos 1)) ps (purged now (names ps) m)).effects) (sym there ∙ live_purged now m ps);
+    effects_are = put ∙ behind (names ps) now m old looked (set_effects (entries (last_texts ps))) look
+        ∙ ap (λ es. old ++ es) (ap (λ xs. dels (expired now (names ps) m) ++ set_effects xs) (all_changed now m ps there)
+        ∙ ap (λ b. dels (expired now (names ps) m) ++ (if b then answered (reply.int (pos 0)) (purged now (names ps) m) else put_all (reply.int (pos 1)) ps (purged now (names ps) m)).effects) (sym there ∙ live_purged now m ps));
   }

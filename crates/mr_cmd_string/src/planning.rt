@@ -7,7 +7,7 @@ ghost use Rattle.mr_resp.specs.ReplyView.{view};
 ghost use Rattle.mr_resp.specs.Usual.{commands};
 ghost use Rattle.mr_data.specs.Given.{IsMoment};
 ghost use Rattle.mr_cmd_string.specs.Carried.{text_words, IsTimed};
-ghost use Rattle.mr_planning.specs.Commands.{IsPlan, IsFaithful, HasCommandTexts, on_key, on_keys};
+ghost use Rattle.mr_planning.specs.Commands.{IsPlan, Plans, IsFaithful, HasCommandTexts, on_key, on_keys};
 ghost use Rattle.mr_cmd_string.specs.Commands.{command, HasNumber, HasLimit};
 ghost use Rattle.mr_cmd_string.specs.Texts.{get_answer, strlen_answer, getrange_answer, texts};
 ghost use Rattle.mr_cmd_string.specs.Setting.{said_at, set_answer, set_for_answer, setnx_answer, getset_answer, getdel_answer};
@@ -22,6 +22,7 @@ use crate::{changing, setting, texts};
 use mr_data::{Dataset, Given, Plan};
 use mr_expiry::Expiry;
 use mr_planning::{Effects, look, push_dels};
+use mr_resp::Reply;
 use mr_words::{Argument, Words};
 use std::alloc::{AllocError, Global};
 
@@ -80,8 +81,24 @@ fn planned(
     ensures number { HasNumber ask.now }
     ensures plan { IfOk result (λ p. IsPlan (command ask.now given.now) given.now held.now (view p.reply) p.effects.items) }
 {
+    let mut effects = Effects::new(alloc);
+    let reply = reply_to(alloc, held, ask, given, &mut effects)?;
+    Ok(effects.into_plan(reply))
+}
+
+// What a command is answered. Its effects are put behind those that are there.
+fn reply_to(
+    alloc: Global,
+    held: &Dataset,
+    ask: &TextAsk<'_, '_>,
+    given: Given,
+    effects: &mut Effects,
+) -> Result<Reply, AllocError>
+    ensures number { HasNumber ask.now }
+    ensures reply { IfOk result (λ r. Plans (command ask.now given.now) given.now held.now (view r) effects.old effects.new) }
+{
     match ask {
-        TextAsk::Get { key } => get(alloc, held, key, given),
+        TextAsk::Get { key } => get(alloc, held, key, given, effects),
         TextAsk::Set {
             key,
             value,
@@ -94,13 +111,21 @@ fn planned(
                 reply: *reply,
                 deadline: NewDeadline::said(*lifetime, given),
             };
-            set(alloc, held, key, value, rules, given)
+            set(alloc, held, key, value, rules, given, effects)
         }
         TextAsk::SetEx {
             key,
             seconds,
             value,
-        } => set_for(alloc, held, key, Expiry::Seconds(*seconds), value, given),
+        } => set_for(
+            alloc,
+            held,
+            key,
+            Expiry::Seconds(*seconds),
+            value,
+            given,
+            effects,
+        ),
         TextAsk::PSetEx {
             key,
             milliseconds,
@@ -112,30 +137,37 @@ fn planned(
             Expiry::Milliseconds(*milliseconds),
             value,
             given,
+            effects,
         ),
-        TextAsk::StrLen { key } => strlen(alloc, held, key, given),
-        TextAsk::GetRange { key, first, last } => getrange(alloc, held, key, *first, *last, given),
-        TextAsk::MGet { keys } => mget(alloc, held, keys, given),
-        TextAsk::SetNx { key, value } => setnx(alloc, held, key, value, given),
-        TextAsk::GetSet { key, value } => getset(alloc, held, key, value, given),
-        TextAsk::GetDel { key } => getdel(alloc, held, key, given),
-        TextAsk::MSet { pairs } => mset(alloc, held, pairs, given),
-        TextAsk::MSetNx { pairs } => msetnx(alloc, held, pairs, given),
-        TextAsk::Append { key, value } => append(alloc, held, key, value, given),
+        TextAsk::StrLen { key } => strlen(alloc, held, key, given, effects),
+        TextAsk::GetRange { key, first, last } => getrange(
+            alloc, held, key, *first, *last, given, effects,
+        ),
+        TextAsk::MGet { keys } => mget(alloc, held, keys, given, effects),
+        TextAsk::SetNx { key, value } => setnx(alloc, held, key, value, given, effects),
+        TextAsk::GetSet { key, value } => getset(alloc, held, key, value, given, effects),
+        TextAsk::GetDel { key } => getdel(alloc, held, key, given, effects),
+        TextAsk::MSet { pairs } => mset(alloc, held, pairs, given, effects),
+        TextAsk::MSetNx { pairs } => msetnx(alloc, held, pairs, given, effects),
+        TextAsk::Append { key, value } => append(alloc, held, key, value, given, effects),
         TextAsk::SetRange { key, offset, value } => {
-            setrange(alloc, held, key, *offset, value, given)
+            setrange(alloc, held, key, *offset, value, given, effects)
         }
-        TextAsk::Increase { key, by } => increase(alloc, held, key, by.number(), given),
+        TextAsk::Increase { key, by } => increase(alloc, held, key, by.number(), given, effects),
     }
 }
 
-fn get(alloc: Global, held: &Dataset, key: &Argument<'_>, given: Given) -> Result<Plan, AllocError>
-    ensures { IfOk result (λ p. IsPlan (on_key key.now get_answer) given.now held.now (view p.reply) p.effects.items) }
+fn get(
+    alloc: Global,
+    held: &Dataset,
+    key: &Argument<'_>,
+    given: Given,
+    effects: &mut Effects,
+) -> Result<Reply, AllocError>
+    ensures { IfOk result (λ r. Plans (on_key key.now get_answer) given.now held.now (view r) effects.old effects.new) }
 {
-    let mut effects = Effects::new(alloc);
-    let live_entry = look(alloc, held, key, given, &mut effects)?;
-    let reply = texts::get(alloc, live_entry)?;
-    Ok(effects.into_plan(reply))
+    let live_entry = look(alloc, held, key, given, effects)?;
+    texts::get(alloc, live_entry)
 }
 
 fn strlen(
@@ -143,13 +175,12 @@ fn strlen(
     held: &Dataset,
     key: &Argument<'_>,
     given: Given,
-) -> Result<Plan, AllocError>
-    ensures { IfOk result (λ p. IsPlan (on_key key.now strlen_answer) given.now held.now (view p.reply) p.effects.items) }
+    effects: &mut Effects,
+) -> Result<Reply, AllocError>
+    ensures { IfOk result (λ r. Plans (on_key key.now strlen_answer) given.now held.now (view r) effects.old effects.new) }
 {
-    let mut effects = Effects::new(alloc);
-    let live_entry = look(alloc, held, key, given, &mut effects)?;
-    let reply = texts::strlen(live_entry);
-    Ok(effects.into_plan(reply))
+    let live_entry = look(alloc, held, key, given, effects)?;
+    Ok(texts::strlen(live_entry))
 }
 
 fn getrange(
@@ -159,13 +190,12 @@ fn getrange(
     first: i64,
     last: i64,
     given: Given,
-) -> Result<Plan, AllocError>
-    ensures { IfOk result (λ p. IsPlan (on_key key.now (getrange_answer first last)) given.now held.now (view p.reply) p.effects.items) }
+    effects: &mut Effects,
+) -> Result<Reply, AllocError>
+    ensures { IfOk result (λ r. Plans (on_key key.now (getrange_answer first last)) given.now held.now (view r) effects.old effects.new) }
 {
-    let mut effects = Effects::new(alloc);
-    let live_entry = look(alloc, held, key, given, &mut effects)?;
-    let reply = texts::getrange(alloc, first, last, live_entry)?;
-    Ok(effects.into_plan(reply))
+    let live_entry = look(alloc, held, key, given, effects)?;
+    texts::getrange(alloc, first, last, live_entry)
 }
 
 fn mget(
@@ -173,13 +203,12 @@ fn mget(
     held: &Dataset,
     keys: &Words<'_, '_>,
     given: Given,
-) -> Result<Plan, AllocError>
-    ensures { IfOk result (λ p. IsPlan (on_keys keys.now (texts keys.now)) given.now held.now (view p.reply) p.effects.items) }
+    effects: &mut Effects,
+) -> Result<Reply, AllocError>
+    ensures { IfOk result (λ r. Plans (on_keys keys.now (texts keys.now)) given.now held.now (view r) effects.old effects.new) }
 {
-    let mut effects = Effects::new(alloc);
-    push_dels(alloc, held, keys, given, true, &mut effects)?;
-    let reply = texts::mget(alloc, held, keys, given)?;
-    Ok(effects.into_plan(reply))
+    push_dels(alloc, held, keys, given, true, effects)?;
+    texts::mget(alloc, held, keys, given)
 }
 
 fn set(
@@ -189,13 +218,12 @@ fn set(
     value: &Argument<'_>,
     rules: SetRules,
     given: Given,
-) -> Result<Plan, AllocError>
-    ensures { IfOk result (λ p. IsPlan (on_key key.now (set_answer key.now value.now rules.condition rules.reply rules.deadline)) given.now held.now (view p.reply) p.effects.items) }
+    effects: &mut Effects,
+) -> Result<Reply, AllocError>
+    ensures { IfOk result (λ r. Plans (on_key key.now (set_answer key.now value.now rules.condition rules.reply rules.deadline)) given.now held.now (view r) effects.old effects.new) }
 {
-    let mut effects = Effects::new(alloc);
-    let live_entry = look(alloc, held, key, given, &mut effects)?;
-    let reply = setting::set(alloc, key, value, rules, live_entry, &mut effects)?;
-    Ok(effects.into_plan(reply))
+    let live_entry = look(alloc, held, key, given, effects)?;
+    setting::set(alloc, key, value, rules, live_entry, effects)
 }
 
 // SETEX, PSETEX
@@ -206,15 +234,16 @@ fn set_for(
     expiry: Expiry,
     value: &Argument<'_>,
     given: Given,
-) -> Result<Plan, AllocError>
-    ensures { IfOk result (λ p. IsPlan (on_key key.now (set_for_answer key.now value.now (said_at given.now (Until expiry)))) given.now held.now (view p.reply) p.effects.items) }
+    effects: &mut Effects,
+) -> Result<Reply, AllocError>
+    ensures { IfOk result (λ r. Plans (on_key key.now (set_for_answer key.now value.now (said_at given.now (Until expiry)))) given.now held.now (view r) effects.old effects.new) }
 {
     let rules = SetRules {
         condition: None,
         reply: SetReply::Done,
         deadline: NewDeadline::said(Lifetime::Until(expiry), given),
     };
-    set(alloc, held, key, value, rules, given)
+    set(alloc, held, key, value, rules, given, effects)
 }
 
 fn setnx(
@@ -223,13 +252,12 @@ fn setnx(
     key: &Argument<'_>,
     value: &Argument<'_>,
     given: Given,
-) -> Result<Plan, AllocError>
-    ensures { IfOk result (λ p. IsPlan (on_key key.now (setnx_answer key.now value.now)) given.now held.now (view p.reply) p.effects.items) }
+    effects: &mut Effects,
+) -> Result<Reply, AllocError>
+    ensures { IfOk result (λ r. Plans (on_key key.now (setnx_answer key.now value.now)) given.now held.now (view r) effects.old effects.new) }
 {
-    let mut effects = Effects::new(alloc);
-    let live_entry = look(alloc, held, key, given, &mut effects)?;
-    let reply = setting::setnx(alloc, key, value, live_entry, &mut effects)?;
-    Ok(effects.into_plan(reply))
+    let live_entry = look(alloc, held, key, given, effects)?;
+    setting::setnx(alloc, key, value, live_entry, effects)
 }
 
 fn getset(
@@ -238,13 +266,12 @@ fn getset(
     key: &Argument<'_>,
     value: &Argument<'_>,
     given: Given,
-) -> Result<Plan, AllocError>
-    ensures { IfOk result (λ p. IsPlan (on_key key.now (getset_answer key.now value.now)) given.now held.now (view p.reply) p.effects.items) }
+    effects: &mut Effects,
+) -> Result<Reply, AllocError>
+    ensures { IfOk result (λ r. Plans (on_key key.now (getset_answer key.now value.now)) given.now held.now (view r) effects.old effects.new) }
 {
-    let mut effects = Effects::new(alloc);
-    let live_entry = look(alloc, held, key, given, &mut effects)?;
-    let reply = setting::getset(alloc, key, value, live_entry, &mut effects)?;
-    Ok(effects.into_plan(reply))
+    let live_entry = look(alloc, held, key, given, effects)?;
+    setting::getset(alloc, key, value, live_entry, effects)
 }
 
 fn getdel(
@@ -252,13 +279,12 @@ fn getdel(
     held: &Dataset,
     key: &Argument<'_>,
     given: Given,
-) -> Result<Plan, AllocError>
-    ensures { IfOk result (λ p. IsPlan (on_key key.now (getdel_answer key.now)) given.now held.now (view p.reply) p.effects.items) }
+    effects: &mut Effects,
+) -> Result<Reply, AllocError>
+    ensures { IfOk result (λ r. Plans (on_key key.now (getdel_answer key.now)) given.now held.now (view r) effects.old effects.new) }
 {
-    let mut effects = Effects::new(alloc);
-    let live_entry = look(alloc, held, key, given, &mut effects)?;
-    let reply = setting::getdel(alloc, key, live_entry, &mut effects)?;
-    Ok(effects.into_plan(reply))
+    let live_entry = look(alloc, held, key, given, effects)?;
+    setting::getdel(alloc, key, live_entry, effects)
 }
 
 fn append(
@@ -267,13 +293,12 @@ fn append(
     key: &Argument<'_>,
     more: &Argument<'_>,
     given: Given,
-) -> Result<Plan, AllocError>
-    ensures { IfOk result (λ p. IsPlan (on_key key.now (append_answer key.now more.now)) given.now held.now (view p.reply) p.effects.items) }
+    effects: &mut Effects,
+) -> Result<Reply, AllocError>
+    ensures { IfOk result (λ r. Plans (on_key key.now (append_answer key.now more.now)) given.now held.now (view r) effects.old effects.new) }
 {
-    let mut effects = Effects::new(alloc);
-    let live_entry = look(alloc, held, key, given, &mut effects)?;
-    let reply = changing::append(alloc, key, more, live_entry, &mut effects)?;
-    Ok(effects.into_plan(reply))
+    let live_entry = look(alloc, held, key, given, effects)?;
+    changing::append(alloc, key, more, live_entry, effects)
 }
 
 fn setrange(
@@ -283,13 +308,12 @@ fn setrange(
     offset: usize,
     part: &Argument<'_>,
     given: Given,
-) -> Result<Plan, AllocError>
-    ensures { IfOk result (λ p. IsPlan (on_key key.now (setrange_answer key.now offset part.now)) given.now held.now (view p.reply) p.effects.items) }
+    effects: &mut Effects,
+) -> Result<Reply, AllocError>
+    ensures { IfOk result (λ r. Plans (on_key key.now (setrange_answer key.now offset part.now)) given.now held.now (view r) effects.old effects.new) }
 {
-    let mut effects = Effects::new(alloc);
-    let live_entry = look(alloc, held, key, given, &mut effects)?;
-    let reply = changing::setrange(alloc, key, offset, part, live_entry, &mut effects)?;
-    Ok(effects.into_plan(reply))
+    let live_entry = look(alloc, held, key, given, effects)?;
+    changing::setrange(alloc, key, offset, part, live_entry, effects)
 }
 
 fn increase(
@@ -298,12 +322,11 @@ fn increase(
     key: &Argument<'_>,
     by: i64,
     given: Given,
-) -> Result<Plan, AllocError>
+    effects: &mut Effects,
+) -> Result<Reply, AllocError>
     ensures number { IsTrue (is_i64 by) }
-    ensures plan { IfOk result (λ p. IsPlan (on_key key.now (increase_answer key.now by)) given.now held.now (view p.reply) p.effects.items) }
+    ensures reply { IfOk result (λ r. Plans (on_key key.now (increase_answer key.now by)) given.now held.now (view r) effects.old effects.new) }
 {
-    let mut effects = Effects::new(alloc);
-    let live_entry = look(alloc, held, key, given, &mut effects)?;
-    let reply = changing::increase(alloc, key, by, live_entry, &mut effects)?;
-    Ok(effects.into_plan(reply))
+    let live_entry = look(alloc, held, key, given, effects)?;
+    changing::increase(alloc, key, by, live_entry, effects)
 }

@@ -3,14 +3,15 @@ ghost use Rattle.std.specs.Prelude.{◌≡◌, ◌++◌, map, IfOk, OnOk};
 ghost use Rattle.std.specs.FinMap.{entries};
 ghost use Rattle.mr_resp.specs.ReplyView.{view};
 ghost use Rattle.mr_planning.specs.Keys.{dels, expired};
-ghost use Rattle.mr_planning.specs.Commands.{IsPlan, on_keys};
+ghost use Rattle.mr_planning.specs.Commands.{Plans, on_keys};
 ghost use Rattle.mr_cmd_string.specs.SettingAll.{names, last_texts, set_effects, mset, msetnx};
 ghost use Rattle.mr_cmd_string.specs.Finding.{is_any_live, is_any_expired, changed_at};
 
 use crate::setting::is_plain;
-use mr_data::{Dataset, Effect, Given, Pairs as Texts, Plan};
+use mr_data::{Dataset, Effect, Given, Pairs as Texts};
 use mr_map::SliceMap;
 use mr_planning::{Effects, count, done, push_dels, see};
+use mr_resp::Reply;
 use mr_value::Word;
 use mr_words::{Argument, Pairs, Words};
 use std::alloc::{AllocError, Global};
@@ -22,17 +23,17 @@ pub fn mset(
     held: &Dataset,
     pairs: &Pairs<'_, '_>,
     given: Given,
-) -> Result<Plan, AllocError>
-    ensures { IfOk result (λ p. IsPlan (on_keys (names pairs.now) (mset pairs.now)) given.now held.now (view p.reply) p.effects.items) }
+    effects: &mut Effects,
+) -> Result<Reply, AllocError>
+    ensures { IfOk result (λ r. Plans (on_keys (names pairs.now) (mset pairs.now)) given.now held.now (view r) effects.old effects.new) }
 {
     let values = last_texts(alloc, pairs)?;
     let changed = find_changed(alloc, held, &values, given)?;
-    let mut effects = Effects::new(alloc);
     if changed.expired {
-        push_expired(alloc, held, pairs, given, &mut effects)?;
+        push_expired(alloc, held, pairs, given, effects)?;
     }
-    push_texts(changed.texts, &mut effects)?;
-    Ok(effects.into_plan(done()))
+    push_texts(changed.texts, effects)?;
+    Ok(done())
 }
 
 /// `MSETNX`
@@ -41,21 +42,21 @@ pub fn msetnx(
     held: &Dataset,
     pairs: &Pairs<'_, '_>,
     given: Given,
-) -> Result<Plan, AllocError>
-    ensures { IfOk result (λ p. IsPlan (on_keys (names pairs.now) (msetnx pairs.now)) given.now held.now (view p.reply) p.effects.items) }
+    effects: &mut Effects,
+) -> Result<Reply, AllocError>
+    ensures { IfOk result (λ r. Plans (on_keys (names pairs.now) (msetnx pairs.now)) given.now held.now (view r) effects.old effects.new) }
 {
     let (there, expired) = find_any(held, pairs, given);
-    let mut effects = Effects::new(alloc);
     if expired {
-        push_expired(alloc, held, pairs, given, &mut effects)?;
+        push_expired(alloc, held, pairs, given, effects)?;
     }
     if there {
-        return Ok(effects.into_plan(count(0)));
+        return Ok(count(0));
     }
     let values = last_texts(alloc, pairs)?;
     let texts = copied(alloc, &values)?;
-    push_texts(texts, &mut effects)?;
-    Ok(effects.into_plan(count(1)))
+    push_texts(texts, effects)?;
+    Ok(count(1))
 }
 
 // The keys that pairs name, each with its last text. They are not copied.

@@ -55,6 +55,11 @@ pub record IsPlan (command : Command) (now : ℤ) (m : Dataset) (reply : Tree) (
   pub reply_is : reply ≡ answer command now m
   pub effects_are : list ≡ effects command now m
 
+-- the reply is the command's, and its effects were put behind those that were there
+pub record Plans (command : Command) (now : ℤ) (m : Dataset) (reply : Tree) (old new : List Effect) : Type 0 where
+  pub reply_is : reply ≡ answer command now m
+  pub effects_are : new ≡ old ++ effects command now m
+
 -- The effects lead to what the command leaves, and its own ones are there exactly where it changes something.
 pub record IsFaithful (command : Command) (now : ℤ) (m : Dataset) : Type 0 where
   pub leads : apply_all (effects command now m) m ≡ Some (after command now m)

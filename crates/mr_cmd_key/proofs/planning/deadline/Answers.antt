@@ -1,8 +1,7 @@
 use Rattle.std.proofs.Common.{rules, ◌≡◌, ◌∙◌, ap, refl, option_copied, FitsSigned, w64}
 use Rattle.std.proofs.lemmas.Int.{to_z-of_z}
 use Rattle.mr_resp.specs.Replies as reply
-use Rattle.mr_resp.specs.ReplyView.{view}
-use Rattle.mr_planning.proofs.PlanLemmas.{key_plan, takes_reply}
+use Rattle.mr_planning.proofs.PlanLemmas.{on_key_plans, takes_reply}
 use Rattle.mr_cmd_key.specs.Expiring.{deadline_answer, answered_in}
 use Rattle.mr_cmd_key.proofs.Deadlines.{live_lifetime}
 use Rattle.mr_cmd_key.proofs.planning.deadline.Goals as goal
@@ -14,5 +13,5 @@ pub returns : goal.returns
 returns c =
     let number_fits : FitsSigned w64 c.answered_in-number.result = search rules in
     let number : c.answered_in-number.result ≡ answered_in c.args.form c.args.given.now (option_copied c.in_ok-live_entry.live_entry) = c.answered_in-number.ensures in
-    let reply = ap view c.into_plan.ensures.reply ∙ c.integer.ensures ∙ ap reply.int (to_z-of_z w64 _ number_fits ∙ number) in
-    key_plan c.args.key.now (deadline_answer c.args.form c.args.given.now) c.args.given.now c.args.held.now _ _ _ _ _ _ c.in_ok-live_entry.ensures.live_entry c.new-effects.ensures c.in_ok-live_entry.ensures.expired c.into_plan.ensures.effects (takes_reply _ _ refl reply)
+    on_key_plans c.args.key.now (deadline_answer c.args.form c.args.given.now) _ _ _ _ _ _ _ c.in_ok-live_entry.ensures.live_entry c.in_ok-live_entry.ensures.expired
+    (takes_reply _ _ refl (c.integer.ensures ∙ ap reply.int (to_z-of_z w64 _ number_fits ∙ number)))

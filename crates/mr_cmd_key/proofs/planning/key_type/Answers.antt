@@ -1,8 +1,7 @@
-use Rattle.std.proofs.Common.{◌∙◌, ap, refl}
-use Rattle.mr_resp.specs.ReplyView.{view}
-use Rattle.mr_planning.proofs.PlanLemmas.{key_plan, takes_reply}
+use Rattle.std.proofs.Common.{refl}
+use Rattle.mr_planning.proofs.PlanLemmas.{on_key_plans, takes_reply}
 use Rattle.mr_cmd_key.specs.Kinds.{type_answer}
 use Rattle.mr_cmd_key.proofs.planning.key_type.Goals as goal
 
 pub returns : goal.returns
-returns c = key_plan c.args.key.now type_answer c.args.given.now c.args.held.now _ _ _ _ _ _ c.in_ok-live_entry.ensures.live_entry c.new-effects.ensures c.in_ok-live_entry.ensures.expired c.into_plan.ensures.effects (takes_reply _ _ refl (ap view c.into_plan.ensures.reply ∙ c.key_type-reply.ensures))
+returns c = on_key_plans c.args.key.now type_answer _ _ _ _ _ _ _ c.in_ok-live_entry.ensures.live_entry c.in_ok-live_entry.ensures.expired (takes_reply _ _ refl c.key_type.ensures)

@@ -11,20 +11,20 @@ returns-then-there c =
     let ps = c.args.pairs.now in
     let now = c.args.given.now in
     let m = c.args.held.now in
-    let looked : c.if-expired.effects ≡ c.new-effects.result ++ dels (expired now (names ps) m) = elim c.if-expired.branch [
+    let looked : c.if-expired.effects ≡ c.args.effects.now ++ dels (expired now (names ps) m) = elim c.if-expired.branch [
       | then-expired+in_ok-push_expired w ↦ w.effects-is ∙ w.in_ok-push_expired.ensures
       | else-expired w ↦ w.effects-is ∙ none_of_pairs now m ps _ (sym c.find_any-there.ensures.expired ∙ w.if-expired.false)
     ] in
-    rw c.into_plan.ensures.reply (some_there ps now m _ _ _ _ c.new-effects.ensures looked (sym c.find_any-there.ensures.there ∙ c.if-there.true) c.count.ensures c.into_plan.ensures.effects)
+    some_there ps now m _ _ _ looked (sym c.find_any-there.ensures.there ∙ c.if-there.true) c.count.ensures
 
 pub returns : goal.returns
 returns c =
     let ps = c.args.pairs.now in
     let now = c.args.given.now in
     let m = c.args.held.now in
-    let looked : c.if-expired.effects ≡ c.new-effects.result ++ dels (expired now (names ps) m) = elim c.if-expired.branch [
+    let looked : c.if-expired.effects ≡ c.args.effects.now ++ dels (expired now (names ps) m) = elim c.if-expired.branch [
       | then-expired+in_ok-push_expired w ↦ w.effects-is ∙ w.in_ok-push_expired.ensures
       | else-expired w ↦ w.effects-is ∙ none_of_pairs now m ps _ (sym c.find_any-there.ensures.expired ∙ w.if-expired.false)
     ] in
     let texts : c.in_ok-texts.texts ≡ entries (last_texts ps) = search rules in
-    rw c.into_plan-2.ensures.reply (none_there ps now m _ _ _ _ c.new-effects.ensures looked _ (sym c.find_any-there.ensures.there ∙ c.if-there.false) c.count-2.ensures (c.in_ok-push_texts.ensures ∙ ap (λ xs. c.if-expired.effects ++ set_effects xs) texts) c.into_plan-2.ensures.effects)
+    none_there ps now m _ _ _ looked _ (sym c.find_any-there.ensures.there ∙ c.if-there.false) c.count-2.ensures (c.in_ok-push_texts.ensures ∙ ap (λ xs. c.if-expired.effects ++ set_effects xs) texts)
