@@ -105,7 +105,8 @@ class Build:
     def program(self, progress):
         """Proves, compiles and links the program. rt runs what it has built: on empty input, the program ends at once."""
         how = {"cwd": os.path.join(ROOT, "crates", PROGRAM), "stdin": subprocess.DEVNULL, "stderr": subprocess.STDOUT}
-        ran = subprocess.run(["rt", "run"], stdout=subprocess.PIPE, text=True, errors="replace", **how)
+        words = ["rt", "run", "--jobs", str(min(self.lanes, MOST))]
+        ran = subprocess.run(words, stdout=subprocess.PIPE, text=True, errors="replace", **how)
         print(f"== {PROGRAM}\n{ran.stdout}", end="", file=self.log, flush=True)
         if ran.returncode:
             self.failed(PROGRAM, ran.stdout)
