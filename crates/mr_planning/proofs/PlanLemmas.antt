@@ -14,7 +14,7 @@ use Rattle.mr_effect.specs.declared.effect.Effect.{Effect}
 use Rattle.mr_planning.specs.Keys.{dels, expired, purged}
 use Rattle.mr_planning.specs.Answered.{Answered, Takes}
 use Rattle.mr_planning.specs.Outcomes.{answered}
-use Rattle.mr_planning.specs.Commands.{Command, on_key, on_keys, on_none, effects, IsPlan, Plans}
+use Rattle.mr_planning.specs.Commands.{Command, on_key, on_keys, effects, IsPlan, Plans}
 use Rattle.mr_entries.proofs.Puts.{is_key_itself}
 use Rattle.mr_planning.proofs.KeyLists.{get_purged}
 
@@ -67,7 +67,3 @@ on_keys_plans ks answer now m r old new look reply = record {
   reply_is = reply;
   effects_are = look ∙ ap (λ xs. old ++ xs) (sym (append_none (dels (expired now ks m))));
 }
-
--- a command that names no key and only tells
-pub on_none_plans : (answer : Dataset → Tree) (now : ℤ) (m : Dataset) (r : Tree) (old : List Effect) → r ≡ answer (seen now m) → Plans (on_none (λ n. answered (answer n) n)) now m r old old
-on_none_plans answer now m r old reply = record { reply_is = reply; effects_are = sym (append_none old) }
