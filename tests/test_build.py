@@ -110,7 +110,8 @@ class SideBySide(unittest.TestCase):
         beside = Lanes(tasks, 4, 90, 4)
         beside.running["order"] = Run(4, 1, leads=True, begun=beside.clock())
         self.assertEqual([beside.leads(it) for it in tasks[1:]], [True, False])
-        self.assertEqual([beside.jobs_for(it, 1) for it in tasks[1:]], [4, 4])
+        # each of the others is near enough to want a processor too
+        self.assertEqual([beside.jobs_for(tasks[1], tasks[1:]), beside.jobs_for(tasks[2], tasks[2:])], [2, 4])
 
     def test_one_processor_takes_one_task_at_a_time(self):
         list(in_lanes(self.tasks(), 1, 90, most=4))
