@@ -1,7 +1,7 @@
 -- Members that go.
 use Rattle.std.proofs.Common.{ℕ, zero, suc, ℤ, ◌≡◌, ◌+◌, ◌-◌, ◌<◌, ◌≤◌, List, [], ◌∷◌, ◌++◌, map, length, take, drop, reverse, get_or, Bool, true, false, ◌&&◌, not, cond, Option, Some, None, refl, sym, ◌∙◌, ap, subst, arith}
 use Rattle.std.proofs.lemmas.Grind.{reverse_onto}
-use Rattle.std.specs.Prelude.{◌||◌, is_some, filter, if◌then◌else◌, IfSome, option_map, slice_get}
+use Rattle.std.specs.Prelude.{◌||◌, ◌≢◌, is_some, filter, if◌then◌else◌, MatchOption, option_map, slice_get}
 use Rattle.std.specs.List.{AllByRecursion}
 use Rattle.std.specs.Ordering.{is_lt}
 use Rattle.std.specs.FinMap.{get, empty, insert, keys, len, entries, contains_key, retain_keys, get-empty, get-insert, len-empty, len-entries, entries-insert}
@@ -18,6 +18,7 @@ use Rattle.mr_entries.specs.Cuts.{cut}
 use Rattle.mr_zset.specs.Order.{placed, in_order}
 use Rattle.mr_zset.specs.Pairs.{pair_cmp, pairs_of, range_of, shown}
 use Rattle.mr_zset.specs.declared.pair.Pair.{Pair}
+use Rattle.mr_zset.proofs.Cuts.{length-slice_range}
 use Rattle.mr_zset.specs.Bounds.{is_within}
 use Rattle.mr_zset.specs.declared.bound.Bound.{Bound}
 use Rattle.mr_zset_options.specs.declared.choices.Order.{Order}
@@ -89,12 +90,37 @@ one_at [] i x e = cc
 one_at (y ∷ ys) zero x e = cc
 one_at (y ∷ ys) (suc i) x e = one_at ys i x e
 
+none_at : (xs : List (Bytes × ℤ)) (i : ℕ) → None ≡ slice_get xs i → take 1 (drop i xs) ≡ []
+none_at [] zero e = refl
+none_at [] (suc i) e = refl
+none_at (y ∷ ys) zero e = cc
+none_at (y ∷ ys) (suc i) e = none_at ys i e
+
+-- the pair is all of a window, or the window hasn't exactly one
+abbrev pub IsOnlyPair : List (Bytes × ℤ) → Option (ℕ × ℕ) → Option Pair → Type 0
+IsOnlyPair xs window p = MatchOption p (length (windowed window xs) ≢ 1) (λ pair. windowed window xs ≡ shown pair ∷ [])
+
 -- the window of one place is the pair there
-pub window_of_one : (xs : List (Bytes × ℤ)) (first last : ℕ) (window : Option (ℕ × ℕ)) (p : Option Pair) → window ≡ Some (first, last) → first ≡ last → option_map shown p ≡ slice_get xs first → IfSome p (λ pair. windowed window xs ≡ shown pair ∷ [])
-window_of_one xs first last window None is same there = tt
-window_of_one xs first last window (Some pair) is same there =
-    let one : last + 1 - first ≡ 1 = omega (arith, same) in
-    ap (λ w. windowed w xs) is ∙ ap (λ (n : ℕ). take n (drop first xs)) one ∙ one_at xs first (shown pair) (sym there)
+pub window_of_one : (xs : List (Bytes × ℤ)) (first last : ℕ) (window : Option (ℕ × ℕ)) (p : Option Pair) → window ≡ Some (first, last) → first ≡ last → option_map shown p ≡ slice_get xs first → IsOnlyPair xs window p
+window_of_one xs first last window p is same there = by_pair p there
+  where
+    cut_off : windowed window xs ≡ take 1 (drop first xs)
+    cut_off =
+        let one : last + 1 - first ≡ 1 = omega (arith, same) in
+        ap (λ w. windowed w xs) is ∙ ap (λ (n : ℕ). take n (drop first xs)) one
+
+    by_pair : (p : Option Pair) → option_map shown p ≡ slice_get xs first → IsOnlyPair xs window p
+    by_pair None there = λ one. let none : length (windowed window xs) ≡ 0 = ap length (cut_off ∙ none_at xs first there) in omega (arith, none, one)
+    by_pair (Some pair) there = cut_off ∙ one_at xs first (shown pair) (sym there)
+
+-- the window of several places has several pairs
+pub window_of_more : (xs : List (Bytes × ℤ)) (first last : ℕ) (window : Option (ℕ × ℕ)) → window ≡ Some (first, last) → first ≤ last → last < length xs → first ≢ last → length (windowed window xs) ≢ 1
+window_of_more xs first last window is ordered within other one =
+    let long : length (windowed window xs) ≡ last + 1 - first = ap (λ w. length (windowed w xs)) is ∙ length-slice_range xs first (last + 1) (omega (arith, ordered)) (omega (arith, within)) in
+    other (omega (arith, long, one, ordered))
+
+pub window_of_none : (xs : List (Bytes × ℤ)) (window : Option (ℕ × ℕ)) → window ≡ None → length (windowed window xs) ≢ 1
+window_of_none xs window is one = let none : length (windowed window xs) ≡ 0 = ap (λ w. length (windowed w xs)) is in omega (arith, none, one)
 
 -- ---- the members that go are those of these words that are there
 abbrev misses : Scores → Bytes → Bool

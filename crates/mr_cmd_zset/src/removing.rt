@@ -1,5 +1,5 @@
 // Commands that take members out.
-ghost use Rattle.std.specs.Prelude.{◌≡◌, ◌∷◌, ◌++◌, ◌<◌, ◌^◌, [], map, take, IfOk, IfSome, OnOk, Some, option_copied};
+ghost use Rattle.std.specs.Prelude.{◌≡◌, ◌≢◌, ◌∷◌, ◌++◌, ◌<◌, ◌^◌, [], length, map, take, IfOk, MatchOption, OnOk, Some, option_copied};
 ghost use Rattle.std.specs.FinMap as finite;
 ghost use Rattle.std.specs.FinMap.{keys};
 ghost use Rattle.mr_resp.specs.ReplyView.{view};
@@ -118,7 +118,7 @@ fn remove_between(
 
 // The pair between two indexes, both included, if it is the only one.
 fn only_pair(set: &ZSet, first: i64, last: i64) -> Option<Pair<'_>>
-    ensures { IfSome result (λ pair. windowed (window_of first last (finite.len set.now)) (pairs_of set.now) ≡ shown pair ∷ []) }
+    ensures { MatchOption result (length (windowed (window_of first last (finite.len set.now)) (pairs_of set.now)) ≢ 1) (λ pair. windowed (window_of first last (finite.len set.now)) (pairs_of set.now) ≡ shown pair ∷ []) }
 {
     match window(first, last, set.len()) {
         Some((first, last)) if first == last => set.nth(first),
