@@ -1,8 +1,8 @@
 -- The entries of a map whose keys pass a test.
-use Rattle.std.proofs.Common.{◌≡◌, List, Bool, cond, None, sym, ◌∙◌, ap}
+use Rattle.std.proofs.Common.{◌≡◌, Bool, cond, None, sym, ◌∙◌, ap}
 use Rattle.std.specs.Prelude.{filter}
 use Rattle.std.specs.declared.cmp.Ordering.TheVariants.{Equal}
-use Rattle.std.specs.FinMap.{get, entries, retain_keys, entries_sorted, get-entries, get-retain_keys, from_sorted, get-from_sorted, entries-from_sorted, same_map}
+use Rattle.std.specs.FinMap.{entries, retain_keys, entries_sorted, get-entries, get-retain_keys, from_sorted, get-from_sorted, entries-from_sorted, same_map}
 use Rattle.std.specs.FinMap.Entries.{where_key, is_sorted-where_key, find-where_key}
 use Rattle.std.proofs.lemmas.Cmp.{nat_list_cmp_total}
 use Rattle.std.proofs.lemmas.Map.Lookups.{exact_bytes}

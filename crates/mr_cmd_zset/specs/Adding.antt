@@ -1,5 +1,5 @@
 -- ZADD and ZINCRBY: scores are set.
-use Rattle.std.specs.Prelude.{ℕ, ℤ, pos, ◌+◌, ◌+ℤ◌, int_lt, List, [], ◌∷◌, codes, Bool, true, false, ◌&&◌, not, is_some, if◌then◌else◌, Option, Some, None}
+use Rattle.std.specs.Prelude.{ℕ, ℤ, pos, ◌+◌, ◌+ℤ◌, int_lt, List, [], ◌∷◌, codes, Bool, true, ◌&&◌, not, is_some, if◌then◌else◌, Option, Some, None}
 use Rattle.std.specs.FinMap.{get, insert}
 use Rattle.mr_map.specs.Bytes.{Bytes}
 use Rattle.mr_resp.specs.Replies as reply

@@ -1,4 +1,4 @@
-use Rattle.std.proofs.Common.{◌≡◌, ◌∙◌, ◌+◌, ◌-◌, ◌≤◌, sym, ap, map, length, arith}
+use Rattle.std.proofs.Common.{◌≡◌, ◌∙◌, ◌-◌, ◌≤◌, sym, ap, map, length, arith}
 use Rattle.std.specs.Prelude.{slice_range, option_copied}
 use Rattle.mr_zset.specs.Pairs.{pairs_of, range_of, shown}
 use Rattle.mr_zset.proofs.PairLemmas.{if_ok}
