@@ -7,7 +7,7 @@ use crate::deadline::is_deadline;
 use crate::effect::Effect;
 use crate::words::{Pairs, Scores, Words};
 use mr_value::{End, Side, Word, read_i64};
-use mr_zset::is_score;
+use mr_score::is_score;
 use std::alloc::{AllocError, Global};
 use std::borrow::CowSlice;
 

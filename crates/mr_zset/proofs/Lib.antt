@@ -3,5 +3,4 @@ pub mod PairLemmas
 pub mod Cuts
 pub mod StoredLemmas
 pub mod StoredChanges
-pub mod TextLemmas
 pub mod BoundLemmas

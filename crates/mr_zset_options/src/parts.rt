@@ -8,7 +8,8 @@ use crate::choices::{Limit, Order};
 use crate::range_options::LimitWords;
 use mr_value::read_i64;
 use mr_words::{AskFault, BadValue};
-use mr_zset::{Bound, read_bound, read_score};
+use mr_score::read_score;
+use mr_zset::{Bound, read_bound};
 use std::borrow::CowSlice;
 
 /// A score.

@@ -4,7 +4,8 @@ use crate::kind::Kind;
 use crate::step::{Step, bytes_of, number_of};
 use crate::telling::{tell, tell_before, tell_bytes, tell_shown};
 use mr_value::Bytes;
-use mr_zset::{ZSet, is_score};
+use mr_score::is_score;
+use mr_zset::ZSet;
 use std::alloc::Global;
 
 impl Kind for ZSet {
