@@ -4,5 +4,4 @@ pub mod Cuts
 pub mod ScoredLemmas
 pub mod StoredLemmas
 pub mod StoredChanges
-pub mod TextLemmas
 pub mod BoundLemmas

@@ -14,7 +14,7 @@ use Rattle.std.proofs.lemmas.List.Sorted.{sum_by-IsPermutation}
 use Rattle.mr_map.specs.Bytes.{bytes_cmp, ByteMap}
 use Rattle.mr_zset.specs.declared.entry.Entry.{Entry}
 use Rattle.mr_zset.specs.Pairs.{is_other, pair_cmp, pairs_of, without}
-use Rattle.mr_zset.specs.Score.{is_score}
+use Rattle.mr_score.specs.Score.{is_score}
 use Rattle.mr_zset.specs.Stored.{AreStored, stored}
 use Rattle.mr_zset.proofs.Cuts.{length-slice_range}
 use Rattle.mr_zset.proofs.Orders.{IsPermutation-in_order, times}

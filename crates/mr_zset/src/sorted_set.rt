@@ -1,7 +1,7 @@
 // A sorted set.
 ghost use Rattle.std.specs.Prelude.{◌≡◌, ◌==◌, ◌+◌, ◌-◌, ◌<◌, ◌≤◌, ◌^◌, ℕ, IsTrue, OnOk, OnErr, IfOk, IfSome, Some, None, count_by, length, map, option_map, slice_get, slice_range};
 ghost use Rattle.std.specs.FinMap as finite;
-ghost use Rattle.mr_zset.specs.Score.{is_score};
+ghost use Rattle.mr_score.specs.Score.{is_score};
 ghost use Rattle.mr_zset.specs.Pairs.{pair_lt, pairs_of, rank_of, range_of, shown, without};
 
 use crate::bound::Bound;

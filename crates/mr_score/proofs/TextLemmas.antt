@@ -1,6 +1,6 @@
 -- Texts of scores: where the point stands, and what is read.
-use Rattle.std.proofs.Common.{◌≡◌, ◌≢◌, ℕ, zero, suc, ℤ, pos, negsuc, ◌+◌, ◌-◌, ◌<◌, ◌^◌, List, [], ◌∷◌, ◌++◌, length, get_or, take, drop, decimal, Bool, true, false, ◌&&◌, not, cond, Option, Some, None, IsTrue, ◌⊎◌, inl, inr, refl, sym, ap, subst, ◌∙◌, arith}
-use Rattle.std.specs.Prelude.{◌==◌, ◌↔◌, nat_lt, position, replicate, option_map, option_and_then}
+use Rattle.std.proofs.Common.{◌≡◌, ℕ, zero, suc, ℤ, pos, negsuc, ◌+◌, ◌-◌, ◌<◌, ◌^◌, List, [], ◌∷◌, ◌++◌, length, get_or, take, drop, decimal, Bool, true, false, ◌&&◌, not, cond, Option, Some, None, IsTrue, ◌⊎◌, inl, inr, refl, sym, ap, subst, ◌∙◌, arith}
+use Rattle.std.specs.Prelude.{◌==◌, ◌↔◌, nat_lt, position, replicate, option_and_then}
 use Rattle.std.specs.Fmt.{signed_decimal}
 use Rattle.std.specs.List.{list_all, position_or_len, prefix_len}
 use Rattle.std.proofs.lemmas.Bool.{eqb-true, ltb-true, lt-ltb, ne_eqb}
@@ -12,9 +12,8 @@ use Rattle.std.proofs.lemmas.List.Sums.{position_or_len_is}
 use Rattle.std.proofs.Math.Seq.{drop-cons, drop-append-add, take-append_seam}
 use Rattle.mr_value.proofs.Numbers.{digit, each_is_digit, number_of-signed_decimal, number_text}
 use Rattle.mr_value.specs.Number.{is_i64, number_of}
-use Rattle.mr_zset.specs.Score.{is_score}
-use Rattle.mr_zset.specs.Texts.{IsScoreText, are_zeros, bound_of, excluding, limit_of, score_of, whole_before, whole_part, within_limit}
-use Rattle.mr_zset.specs.declared.bound.Bound.{Bound}
+use Rattle.mr_score.specs.Score.{is_score}
+use Rattle.mr_score.specs.Texts.{IsScoreText, are_zeros, score_of, whole_before, whole_part, within_limit}
 
 abbrev is_point : ℕ → Bool
 is_point b = b == 46
@@ -165,15 +164,3 @@ whole_found text o e = ap (λ p. whole_before p text) e
 pub score_found : (text : List ℕ) (o : Option (List ℕ)) → o ≡ whole_part text → option_and_then (λ whole. option_and_then within_limit (number_of whole)) o ≡ score_of text
 unfolding score_of
 score_found text o e = ap (option_and_then (λ whole. option_and_then within_limit (number_of whole))) e
-
-pub bound_excluding : (text rest : List ℕ) (o : Option Bound) → 40 ∷ rest ≡ text → o ≡ limit_of rest → option_map excluding o ≡ bound_of text
-unfolding bound_of
-bound_excluding text rest o same e = ap (option_map excluding) e ∙ ap bound_of same
-
-pub bound_plain : (text : List ℕ) → get_or text 0 0 ≢ 40 → limit_of text ≡ bound_of text
-unfolding bound_of
-bound_plain text front = sym (ap (λ b. cond b (option_map excluding (limit_of (drop 1 text))) (limit_of text)) (ne_eqb (get_or text 0 0) 40 front))
-
-pub no_byte : (text : List ℕ) → length text < 1 → get_or text 0 0 ≢ 40
-no_byte [] none e = omega arith
-no_byte (b ∷ bs) none e = omega arith

@@ -1,9 +1,9 @@
 use Rattle.std.proofs.Common.{Some, None, sym, ap, ◌∙◌, rules, w64, FitsSigned}
 use Rattle.std.specs.Prelude.{option_copied, option_and_then}
 use Rattle.std.proofs.lemmas.Int.{to_z-of_z}
-use Rattle.mr_zset.specs.Texts.{within_limit}
-use Rattle.mr_zset.proofs.TextLemmas.{score_found}
-use Rattle.mr_zset.proofs.score.read_score.Goals as goal
+use Rattle.mr_score.specs.Texts.{within_limit}
+use Rattle.mr_score.proofs.TextLemmas.{score_found}
+use Rattle.mr_score.proofs.score.read_score.Goals as goal
 
 pub returns-in_err-whole_part : goal.returns-in_err-whole_part
 returns-in_err-whole_part c = c.from_residual.ensures ∙ score_found c.args.text.now None (ap option_copied (sym c.in_err-whole_part.was) ∙ c.whole_part.ensures)

@@ -1,7 +1,7 @@
 use Rattle.std.proofs.Common.{◌≡◌, ◌+◌, true, false, cond, Some, None, take, drop, sym, ap, ◌∙◌}
-use Rattle.mr_zset.specs.Texts.{are_zeros}
-use Rattle.mr_zset.proofs.TextLemmas.{tail_is, whole_found}
-use Rattle.mr_zset.proofs.score.whole_part.Goals as goal
+use Rattle.mr_score.specs.Texts.{are_zeros}
+use Rattle.mr_score.proofs.TextLemmas.{tail_is, whole_found}
+use Rattle.mr_score.proofs.score.whole_part.Goals as goal
 
 pub returns-in_default : goal.returns-in_default
 returns-in_default c = whole_found c.args.text.now None (sym c.in_default.is ∙ c.first_point.ensures.place)

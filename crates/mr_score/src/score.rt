@@ -1,8 +1,8 @@
 // Scores and their texts.
 ghost use Rattle.std.specs.Prelude.{◌≡◌, ◌==◌, ◌<◌, IfSome, length, position, option_copied};
 ghost use Rattle.std.specs.List.{list_all};
-ghost use Rattle.mr_zset.specs.Score.{is_score};
-ghost use Rattle.mr_zset.specs.Texts.{are_zeros, score_of, whole_part, within_limit};
+ghost use Rattle.mr_score.specs.Score.{is_score};
+ghost use Rattle.mr_score.specs.Texts.{are_zeros, score_of, whole_part, within_limit};
 
 use mr_value::read_i64;
 
