@@ -1,8 +1,8 @@
 //! The append-only file of a node.
 use crate::failure::{Failure, FileFault};
-use mr_aof::{Loaded, Log, LogFault, SyncMode};
+use mr_aof::{Loaded, Log, LogFault};
 use mr_data::Dataset;
-use mr_file::SystemFile;
+use mr_file::{SyncMode, SystemFile};
 use mr_pipe::{PipeConfig, PipeFault, pipe_with};
 use std::hash::RandomState;
 use std::io::Write;

@@ -6,6 +6,6 @@ mod log;
 mod no_file;
 
 pub use fault::LogFault;
-pub use log::{Log, SyncMode};
+pub use log::Log;
 pub use mr_replay::{Loaded, load};
 pub use no_file::NoFile;

@@ -5,14 +5,7 @@ mod opening;
 
 use crate::fault::LogFault;
 use crate::no_file::NoFile;
-use mr_file::{Failed, LogFile};
-
-/// Whether each append is synced.
-#[derive(Clone, Copy, Debug, PartialEq, Eq)]
-pub enum SyncMode {
-    Always,
-    No,
-}
+use mr_file::{Failed, LogFile, SyncMode};
 
 /// A file to which texts are appended. Once the file has failed, nothing more is done to it.
 #[derive(Drop)]

@@ -14,8 +14,8 @@ use Rattle.mr_words.proofs.OptionLemmas.{all_added, each_alone, from_none, parts
 use Rattle.mr_words.proofs.PartLemmas.{with_ok, if_with, if_ok, with_pairs, found_passes, ok_found}
 use Rattle.mr_words.specs.declared.name.Name.TheVariants as name
 use Rattle.mr_words.specs.declared.fault.AskFault.TheVariants.{Integer, Syntax}
-use Rattle.mr_zset.specs.Texts.{IsScoreText, score_of}
-use Rattle.mr_zset.proofs.TextLemmas.{read_spelled}
+use Rattle.mr_score.specs.Texts.{IsScoreText, score_of}
+use Rattle.mr_score.proofs.TextLemmas.{read_spelled}
 use Rattle.mr_zset_options.specs.AddOptions.{add_also, add_option, add_options, add_text, add_word, agreeing, all_add_options, changed_also, disagree, is_add_option, no_add_options, option_count, option_words, pair_words}
 use Rattle.mr_cmd_zset.specs.Arguments.{add_scores, score_pairs, zadd}
 use Rattle.mr_zset_options.specs.Scored.{have_scores, or_0, scored, scored_of}

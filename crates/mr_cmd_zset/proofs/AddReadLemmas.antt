@@ -11,8 +11,8 @@ use Rattle.mr_words.proofs.FitLemmas.{both}
 use Rattle.mr_words.proofs.OrderedLemmas.{any_order, parts_cut, reordered}
 use Rattle.mr_words.proofs.ReadLemmas.{first_part, one_part, pairs_itself, three_parts}
 use Rattle.mr_words.specs.declared.fault.AskFault.TheVariants.{Integer, Syntax}
-use Rattle.mr_zset.specs.Texts.{score_of}
-use Rattle.mr_zset.proofs.TextLemmas.{spelled_read}
+use Rattle.mr_score.specs.Texts.{score_of}
+use Rattle.mr_score.proofs.TextLemmas.{spelled_read}
 use Rattle.mr_zset_options.specs.AddOptions.{add_also, add_option, add_options, add_text, add_word, agreeing, all_add_options, disagree, is_add_option, no_add_options, option_count, option_words, pair_words}
 use Rattle.mr_cmd_zset.specs.Arguments.{add_scores, score_pairs, zadd, zincrby}
 use Rattle.mr_zset_options.specs.Scored.{have_scores, or_0, scored, scored_of}

@@ -6,8 +6,8 @@ use Rattle.std.specs.FinMap.{get, insert, empty, get-insert}
 use Rattle.std.proofs.lemmas.Cmp.{nat_list_cmp_total}
 use Rattle.mr_map.specs.Bytes.{Bytes}
 use Rattle.mr_resp.specs.Replies.{Tree}
-use Rattle.mr_zset.specs.Score.{is_score}
-use Rattle.mr_zset.specs.Texts.{within_limit}
+use Rattle.mr_score.specs.Score.{is_score}
+use Rattle.mr_score.specs.Texts.{within_limit}
 use Rattle.mr_effect.specs.declared.effect.Effect.{Effect}
 use Rattle.mr_effect.specs.declared.effect.Effect.TheVariants as effect
 use Rattle.mr_entries.specs.Cuts.{cut}

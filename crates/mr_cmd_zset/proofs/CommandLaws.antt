@@ -6,7 +6,7 @@ use Rattle.std.specs.FinMap.{get, insert, len}
 use Rattle.mr_map.specs.Bytes.{Bytes}
 use Rattle.mr_value.specs.Words.{fits}
 use Rattle.mr_value.specs.Window.{window_of, windowed}
-use Rattle.mr_zset.specs.Score.{is_score}
+use Rattle.mr_score.specs.Score.{is_score}
 use Rattle.mr_zset.specs.Pairs.{pairs_of, range_of}
 use Rattle.mr_resp.specs.Replies.{Tree}
 use Rattle.mr_entries.specs.Dataset.{Dataset}

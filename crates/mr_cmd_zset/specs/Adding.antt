@@ -4,7 +4,7 @@ use Rattle.std.specs.FinMap.{get, insert}
 use Rattle.mr_map.specs.Bytes.{Bytes}
 use Rattle.mr_resp.specs.Replies as reply
 use Rattle.mr_resp.specs.Replies.{Tree}
-use Rattle.mr_zset.specs.Score.{is_score}
+use Rattle.mr_score.specs.Score.{is_score}
 use Rattle.mr_zset_options.specs.declared.choices.ScoreCondition.{ScoreCondition}
 use Rattle.mr_zset_options.specs.declared.choices.ScoreCondition.TheVariants as condition
 use Rattle.mr_zset_options.specs.declared.choices.Comparison.{Comparison}

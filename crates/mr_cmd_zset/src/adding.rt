@@ -2,7 +2,7 @@
 ghost use Rattle.std.specs.Prelude.{◌≡◌, ◌≢◌, ◌<◌, ◌^◌, ◌+ℤ◌, [], ◌∷◌, length, IfOk, IfSome, IfNone, OnOk, option_copied};
 ghost use Rattle.std.specs.FinMap.{get};
 ghost use Rattle.mr_resp.specs.ReplyView.{view};
-ghost use Rattle.mr_zset.specs.Texts.{within_limit};
+ghost use Rattle.mr_score.specs.Texts.{within_limit};
 ghost use Rattle.mr_entries.specs.Steps.{sorted_sets};
 ghost use Rattle.mr_planning.specs.Answered.{Takes};
 ghost use Rattle.mr_planning.specs.Collections.{changing};
@@ -16,8 +16,9 @@ use mr_data::Entry;
 use mr_map::SliceMap;
 use mr_planning::{Effects, count, wrong_kind};
 use mr_resp::Reply;
+use mr_score::is_score;
 use mr_words::Argument;
-use mr_zset::{ZSet, is_score};
+use mr_zset::ZSet;
 use mr_zset_options::ScoredMembers;
 use std::alloc::{AllocError, Global};
 

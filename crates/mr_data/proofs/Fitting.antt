@@ -11,7 +11,7 @@ use Rattle.mr_map.specs.Bytes.{Bytes, ByteMap, bytes_cmp}
 use Rattle.mr_value.specs.Words.{fits}
 use Rattle.mr_value.specs.Lists.{count_of, without, without_first, without_last}
 use Rattle.mr_effect.specs.Effects.{pair_fits, member_fits, has_score}
-use Rattle.mr_zset.specs.Score.{is_score}
+use Rattle.mr_score.specs.Score.{is_score}
 use Rattle.mr_value.specs.declared.ends.End.{End}
 use Rattle.mr_value.specs.declared.ends.End.TheVariants.{Left, Right}
 use Rattle.mr_data.specs.Dataset.{IsWord}

@@ -11,9 +11,9 @@ use Rattle.std.specs.Fmt.{signed_decimal}
 use Rattle.std.specs.Str.{bytes_eq}
 use Rattle.mr_map.specs.Bytes.{Bytes}
 use Rattle.mr_value.specs.Number.{is_i64, number_of}
-use Rattle.mr_zset.specs.Score.{is_score}
-use Rattle.mr_zset.specs.Texts.{within_limit}
-use Rattle.mr_zset.proofs.TextLemmas.{score_fits}
+use Rattle.mr_score.specs.Score.{is_score}
+use Rattle.mr_score.specs.Texts.{within_limit}
+use Rattle.mr_score.proofs.TextLemmas.{score_fits}
 use Rattle.mr_effect.specs.Effects.{has_spelling, is_place, is_deadline, is_some_of, has_score}
 use Rattle.mr_effect.specs.Names.{text_of, named}
 use Rattle.mr_effect.specs.Spelling.{words, name_of, arguments, pair_words, score_words, end_word, side_word, IsSpelled, Spells, FindsEach}

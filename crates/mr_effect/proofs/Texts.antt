@@ -13,7 +13,7 @@ use Rattle.mr_resp.specs.Spelling.{number_line, bulk, array}
 use Rattle.mr_resp.specs.Command.{IsCommandText}
 use Rattle.mr_resp.specs.Usual.{commands, commands-word, commands-words}
 use Rattle.mr_resp.proofs.Words.{line_unique, bulk_unique}
-use Rattle.mr_zset.proofs.TextLemmas.{score_fits}
+use Rattle.mr_score.proofs.TextLemmas.{score_fits}
 use Rattle.mr_effect.specs.Effects.{pair_fits, member_fits, words_fit, is_some_of, has_score, has_spelling}
 use Rattle.mr_effect.specs.Names.{text_of}
 use Rattle.mr_effect.specs.Spelling.{words, text, name_of, arguments, pair_words, score_words, end_word, side_word, IsShort}

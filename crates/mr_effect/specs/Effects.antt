@@ -4,7 +4,7 @@ use Rattle.std.specs.List.{list_all}
 use Rattle.mr_map.specs.Bytes.{Bytes}
 use Rattle.mr_value.specs.Number.{is_i64}
 use Rattle.mr_value.specs.Words.{fits}
-use Rattle.mr_zset.specs.Score.{is_score}
+use Rattle.mr_score.specs.Score.{is_score}
 use Rattle.mr_effect.specs.declared.effect.Effect.{Effect}
 use Rattle.mr_effect.specs.declared.effect.Effect.TheVariants as effect
 

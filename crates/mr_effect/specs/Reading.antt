@@ -4,7 +4,7 @@ use Rattle.std.specs.Option.{option_map, option_and_then}
 use Rattle.std.specs.Str.{bytes_eq}
 use Rattle.mr_map.specs.Bytes.{Bytes}
 use Rattle.mr_value.specs.Number.{number_of}
-use Rattle.mr_zset.specs.Texts.{within_limit}
+use Rattle.mr_score.specs.Texts.{within_limit}
 use Rattle.mr_effect.specs.Effects.{is_place, is_deadline}
 use Rattle.mr_effect.specs.Names.{named}
 use Rattle.mr_effect.specs.declared.name.EffectName.{EffectName}

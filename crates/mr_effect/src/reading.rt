@@ -6,8 +6,8 @@ ghost use Rattle.mr_effect.specs.Reading.{end_of, side_of, place_of, deadline_of
 use crate::deadline::is_deadline;
 use crate::effect::Effect;
 use crate::words::{Pairs, Scores, Words};
+use mr_score::is_score;
 use mr_value::{End, Side, Word, read_i64};
-use mr_zset::is_score;
 use std::alloc::{AllocError, Global};
 use std::borrow::CowSlice;
 

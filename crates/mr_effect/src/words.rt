@@ -5,8 +5,8 @@ ghost use Rattle.std.specs.List.{list_all};
 ghost use Rattle.mr_value.specs.Words.{fits};
 ghost use Rattle.mr_effect.specs.Effects.{pair_fits, member_fits, has_score};
 
+use mr_score::is_score;
 use mr_value::{Word, fits};
-use mr_zset::is_score;
 use std::alloc::{AllocError, Global};
 use std::borrow::CowSlice;
 use std::marker::Model;

@@ -3,8 +3,10 @@
 
 mod log_file;
 mod mem_file;
+mod sync_mode;
 mod system_file;
 
 pub use log_file::{Failed, LogFile};
 pub use mem_file::MemFile;
+pub use sync_mode::SyncMode;
 pub use system_file::{OpenFault, SystemFile};

@@ -2,7 +2,7 @@
 use Rattle.std.proofs.Common.{Bool, ℕ, List, Option, Err, refl}
 use Rattle.mr_links.specs.Links.{Links}
 use Rattle.mr_links.specs.declared.link_id.LinkId.{LinkId}
-use Rattle.mr_aof.specs.declared.log.SyncMode.{SyncMode}
+use Rattle.mr_file.specs.declared.sync_mode.SyncMode.{SyncMode}
 use Rattle.mr_data.specs.declared.given.Given.{Given}
 use Rattle.mr_node.specs.State.{NodeState}
 use Rattle.mr_node.specs.Outs.{OutsState}

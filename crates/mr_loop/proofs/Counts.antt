@@ -1,6 +1,6 @@
 -- What a turn counts, part by part.
 use Rattle.std.proofs.Common.{◌≡◌, Bool, ℕ, ◌+◌, ◌≤◌, ◌-◌, ◌^◌, zero, suc, arith, Result, Err, refl, sym, ap, subst, ◌∙◌}
-use Rattle.mr_aof.specs.declared.log.SyncMode.{SyncMode}
+use Rattle.mr_file.specs.declared.sync_mode.SyncMode.{SyncMode}
 use Rattle.mr_loop.specs.declared.fault.LoopFault.{LoopFault}
 use Rattle.mr_loop.specs.declared.told.Turn.{Turn}
 use Rattle.mr_loop.specs.Stage.{Stage}

@@ -1,6 +1,6 @@
 -- That the loop knows of each SHUTDOWN.
 use Rattle.std.proofs.Common.{◌≡◌, ℕ, List, [], ◌∷◌, Bool, true, false, ◌||◌, Option, None, Some, refl, ap, ◌∙◌}
-use Rattle.mr_aof.specs.declared.log.SyncMode.{SyncMode}
+use Rattle.mr_file.specs.declared.sync_mode.SyncMode.{SyncMode}
 use Rattle.mr_loop.specs.Stage.{Stage, LoopState}
 use Rattle.mr_loop.specs.Rows.{Event, fault_of, Happens, Run, behind_replacing, queued, joins, turns_away, takes, finds_none, hears_end, loses, is_refused, is_deaf, hangs_up, steps, idles, spills, tears, spills_tick, writes, appends, fails, ticks, closes, stops}
 use Rattle.mr_loop.specs.Counting.{halts_by, halts_in, KnowsShutdown}

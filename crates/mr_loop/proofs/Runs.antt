@@ -1,6 +1,6 @@
 -- Events one after another, and what a fault leaves.
 use Rattle.std.proofs.Common.{◌≡◌, Bool, List, [], ◌∷◌, ◌++◌, ℕ, ◌+◌, arith, Option, None, Some, Result, Ok, Err, refl, sym, ap, subst, ◌∙◌}
-use Rattle.mr_aof.specs.declared.log.SyncMode.{SyncMode}
+use Rattle.mr_file.specs.declared.sync_mode.SyncMode.{SyncMode}
 use Rattle.mr_links.specs.Links.{Links}
 use Rattle.mr_node.specs.State.{NodeState}
 use Rattle.mr_wire.specs.Wire.{LinkState}

@@ -7,9 +7,9 @@ use Rattle.std.proofs.lemmas.Map.Views.{tells_apart}
 use Rattle.mr_links.specs.LinkId.{id_cmp}
 use Rattle.mr_links.specs.declared.link_id.LinkId.{LinkId}
 use Rattle.mr_links.proofs.LinkRows.{ids_total, exact_ids}
-use Rattle.mr_aof.specs.declared.log.SyncMode.{SyncMode}
+use Rattle.mr_file.specs.declared.sync_mode.SyncMode.{SyncMode}
 use Rattle.mr_data.specs.declared.given.Given.{Given}
-use Rattle.mr_aof.specs.declared.log.SyncMode.TheVariants as sync
+use Rattle.mr_file.specs.declared.sync_mode.SyncMode.TheVariants as sync
 use Rattle.mr_file.specs.LogFile.{Appends, IsSynced}
 use Rattle.mr_node.specs.Outs.{OutsState}
 use Rattle.mr_wire.specs.Wire.{count_of}

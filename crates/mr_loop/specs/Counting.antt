@@ -1,6 +1,6 @@
 -- How often a turn asks the node for a step, how often that uses something, and whether it ends the program.
 use Rattle.std.specs.Prelude.{◌≡◌, ℕ, ◌+◌, ◌-◌, ◌^◌, zero, suc, min, List, [], ◌∷◌, Bool, false, ◌||◌}
-use Rattle.mr_aof.specs.declared.log.SyncMode.{SyncMode}
+use Rattle.mr_file.specs.declared.sync_mode.SyncMode.{SyncMode}
 use Rattle.mr_loop.specs.declared.told.Turn.{Turn}
 use Rattle.mr_loop.specs.Stage.{Stage}
 use Rattle.mr_loop.specs.Rows.{Event, Run, Went, is_refused, steps, idles, spills, tears}

@@ -6,7 +6,7 @@ use Rattle.mr_file.specs.LogFile.{IsOldOrNew}
 use Rattle.mr_node.specs.State.{NodeState}
 use Rattle.mr_node.specs.Outs.{OutsState}
 use Rattle.mr_wire.specs.Wire.{LinkState}
-use Rattle.mr_aof.specs.declared.log.SyncMode.{SyncMode}
+use Rattle.mr_file.specs.declared.sync_mode.SyncMode.{SyncMode}
 use Rattle.mr_loop.specs.declared.fault.LoopFault.{LoopFault}
 use Rattle.mr_loop.specs.declared.fault.LoopFault.TheVariants as fault
 use Rattle.mr_loop.specs.Stage.{LoopState, client_of, stage}

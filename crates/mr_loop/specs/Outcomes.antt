@@ -1,6 +1,6 @@
 -- What a turn and its parts did, by what they answer.
 use Rattle.std.specs.Prelude.{◌≡◌, Bool, Some, Result, Ok, Err}
-use Rattle.mr_aof.specs.declared.log.SyncMode.{SyncMode}
+use Rattle.mr_file.specs.declared.sync_mode.SyncMode.{SyncMode}
 use Rattle.mr_loop.specs.declared.fault.LoopFault.{LoopFault}
 use Rattle.mr_loop.specs.declared.fault.LoopFault.TheVariants as fault
 use Rattle.mr_loop.specs.declared.told.Turn.{Turn}

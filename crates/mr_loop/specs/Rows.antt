@@ -11,8 +11,8 @@ use Rattle.mr_node.specs.Ticks.{TickRow}
 use Rattle.mr_node.specs.declared.step.Step.{Step}
 use Rattle.mr_node.specs.declared.step.Step.TheVariants as step
 use Rattle.mr_file.specs.LogFile.{Appends, AppendsSome, Replaces, IsOldOrNew, IsSynced}
-use Rattle.mr_aof.specs.declared.log.SyncMode.{SyncMode}
-use Rattle.mr_aof.specs.declared.log.SyncMode.TheVariants as sync
+use Rattle.mr_file.specs.declared.sync_mode.SyncMode.{SyncMode}
+use Rattle.mr_file.specs.declared.sync_mode.SyncMode.TheVariants as sync
 use Rattle.mr_wire.specs.Wire.{LinkState, Accepts, AcceptsNone, ChangesLink, behind_read, behind_write, count_of, is_over}
 use Rattle.mr_wire.specs.declared.wire.Moved.{Moved}
 use Rattle.mr_wire.specs.declared.wire.Moved.TheVariants as moved

@@ -7,8 +7,8 @@ use Rattle.mr_links.specs.declared.link_id.LinkId.{LinkId}
 use Rattle.mr_links.specs.Links.{Links}
 use Rattle.mr_wire.specs.Wire.{LinkState}
 use Rattle.mr_file.specs.LogFile.{IsSynced}
-use Rattle.mr_aof.specs.declared.log.SyncMode.{SyncMode}
-use Rattle.mr_aof.specs.declared.log.SyncMode.TheVariants as sync
+use Rattle.mr_file.specs.declared.sync_mode.SyncMode.{SyncMode}
+use Rattle.mr_file.specs.declared.sync_mode.SyncMode.TheVariants as sync
 use Rattle.mr_loop.specs.declared.fault.LoopFault.{LoopFault}
 use Rattle.mr_loop.specs.Stage.{Stage, ClientState, client_of}
 use Rattle.mr_loop.specs.Rows.{Event, steps, ticks, writes, closes, Run}

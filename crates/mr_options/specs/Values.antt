@@ -4,8 +4,8 @@ use Rattle.std.specs.Str.Parse.{ParsesUnsigned}
 use Rattle.std.specs.declared.num.ParseIntError.{ParseIntError}
 use Rattle.clap.specs.Words.{Row, Text, first_of, one_of}
 use Rattle.mr_repl.specs.ReplId.{IsId, digits_of}
-use Rattle.mr_aof.specs.declared.log.SyncMode.{SyncMode}
-use Rattle.mr_aof.specs.declared.log.SyncMode.TheVariants.{Always, No}
+use Rattle.mr_file.specs.declared.sync_mode.SyncMode.{SyncMode}
+use Rattle.mr_file.specs.declared.sync_mode.SyncMode.TheVariants.{Always, No}
 use Rattle.mr_options.specs.declared.line.Options.{Options}
 use Rattle.mr_options.specs.declared.line.Options.TheVariants.{Pipe, Serve}
 use Rattle.mr_options.specs.declared.line.PipeOptions.{PipeOptions}

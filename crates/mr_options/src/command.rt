@@ -1,8 +1,8 @@
 //! The command line as a command of clap.
 ghost use Rattle.std.specs.Prelude.{◌≡◌, IfOk, false};
 ghost use Rattle.clap.specs.declared.builder.command.Command.TheViews.{out-Command};
-ghost use Rattle.clap.specs.Words.{app_of, rule_of};
-ghost use Rattle.mr_options.specs.Lines.{line, needed, pipe_line, serve_line, number_rule, text_rule};
+ghost use Rattle.clap.specs.Words.{app_of, rule_of, with_rule, with_subcommand};
+ghost use Rattle.mr_options.specs.Lines.{bare, line, needed, number_rule, pipe_line, serve_line, text_rule};
 
 use clap::builder::ValueParser;
 use clap::{Arg, Command};
@@ -14,13 +14,6 @@ const MOST_NOW: u64 = 1 << 61;
 /// The greatest port.
 const MOST_PORT: u64 = 65_535;
 
-fn text_option<'a>(alloc: Global, name: &'a str) -> Arg<'a>
-    ensures rule { rule_of result ≡ text_rule name.entry.now }
-    ensures local { result.global ≡ false }
-{
-    Arg::new(alloc, name).long(name)
-}
-
 /// A number from `least` to `most`.
 fn number_option<'a>(alloc: Global, name: &'a str, least: u64, most: u64) -> Arg<'a>
     ensures rule { rule_of result ≡ number_rule name.entry.now least most }
@@ -31,44 +24,85 @@ fn number_option<'a>(alloc: Global, name: &'a str, least: u64, most: u64) -> Arg
         .value_parser(ValueParser::unsigned(least, most))
 }
 
-/// A number from `least` to `most` that every line names.
-fn needed_number_option<'a>(alloc: Global, name: &'a str, least: u64, most: u64) -> Arg<'a>
-    ensures rule { rule_of result ≡ needed (number_rule name.entry.now least most) }
-    ensures local { result.global ≡ false }
+/// The command with one more option, a text.
+fn with_text<'a>(
+    command: Command<'a>,
+    alloc: Global,
+    name: &'a str,
+) -> Result<Command<'a>, AllocError>
+    requires { (out-Command command).has_globals ≡ false }
+    ensures shape { IfOk result (λ c. app_of c ≡ with_rule (app_of command.entry) (text_rule name.entry.now)) }
+    ensures local { IfOk result (λ c. (out-Command c).has_globals ≡ false) }
 {
-    number_option(alloc, name, least, most).required(true)
+    command.arg(Arg::new(alloc, name).long(name))
+}
+
+/// The command with one more option, a number from `least` to `most`.
+fn with_number<'a>(
+    command: Command<'a>,
+    alloc: Global,
+    name: &'a str,
+    least: u64,
+    most: u64,
+) -> Result<Command<'a>, AllocError>
+    requires { (out-Command command).has_globals ≡ false }
+    ensures shape { IfOk result (λ c. app_of c ≡ with_rule (app_of command.entry) (number_rule name.entry.now least most)) }
+    ensures local { IfOk result (λ c. (out-Command c).has_globals ≡ false) }
+{
+    command.arg(number_option(alloc, name, least, most))
+}
+
+/// The command with one more option, a number from `least` to `most` that every line names.
+fn with_needed_number<'a>(
+    command: Command<'a>,
+    alloc: Global,
+    name: &'a str,
+    least: u64,
+    most: u64,
+) -> Result<Command<'a>, AllocError>
+    requires { (out-Command command).has_globals ≡ false }
+    ensures shape { IfOk result (λ c. app_of c ≡ with_rule (app_of command.entry) (needed (number_rule name.entry.now least most))) }
+    ensures local { IfOk result (λ c. (out-Command c).has_globals ≡ false) }
+{
+    command.arg(number_option(alloc, name, least, most).required(true))
 }
 
 fn pipe_command<'a>(alloc: Global) -> Result<Command<'a>, AllocError>
     ensures shape { IfOk result (λ c. app_of c ≡ pipe_line) }
     ensures local { IfOk result (λ c. (out-Command c).has_globals ≡ false) }
 {
-    Command::new(alloc, "pipe")
-        .arg(text_option(alloc, "id"))?
-        .arg(number_option(alloc, "now", 0, MOST_NOW))?
-        .arg(number_option(alloc, "word", 0, u64::MAX))?
-        .arg(text_option(alloc, "aof"))
+    let named = with_text(Command::new(alloc, "pipe"), alloc, "id")?;
+    let timed = with_number(named, alloc, "now", 0, MOST_NOW)?;
+    let drawn = with_number(timed, alloc, "word", 0, u64::MAX)?;
+    with_text(drawn, alloc, "aof")
 }
 
 fn serve_command<'a>(alloc: Global) -> Result<Command<'a>, AllocError>
     ensures shape { IfOk result (λ c. app_of c ≡ serve_line) }
     ensures local { IfOk result (λ c. (out-Command c).has_globals ≡ false) }
 {
-    Command::new(alloc, "serve")
-        .arg(needed_number_option(alloc, "port", 1, MOST_PORT))?
-        .arg(text_option(alloc, "aof"))?
-        .arg(text_option(alloc, "sync"))?
-        .arg(number_option(alloc, "turns", 0, u64::MAX))
+    let met = with_needed_number(Command::new(alloc, "serve"), alloc, "port", 1, MOST_PORT)?;
+    let kept = with_text(met, alloc, "aof")?;
+    let synced = with_text(kept, alloc, "sync")?;
+    with_number(synced, alloc, "turns", 0, u64::MAX)
+}
+
+/// The program with its subcommand `pipe` alone.
+fn with_pipe<'a>(alloc: Global) -> Result<Command<'a>, AllocError>
+    ensures shape { IfOk result (λ c. app_of c ≡ with_subcommand bare pipe_line.top) }
+{
+    let pipe = pipe_command(alloc)?;
+    Command::new(alloc, "minired")
+        .no_binary_name(true)
+        .disable_help_flag(true)
+        .disable_help_subcommand(true)
+        .subcommand_required(true)
+        .subcommand(pipe)
 }
 
 pub(crate) fn whole_command<'a>(alloc: Global) -> Result<Command<'a>, AllocError>
     ensures { IfOk result (λ c. app_of c ≡ line) }
 {
-    let command = Command::new(alloc, "minired")
-        .no_binary_name(true)
-        .disable_help_flag(true)
-        .disable_help_subcommand(true)
-        .subcommand_required(true);
-    let with_pipe = command.subcommand(pipe_command(alloc)?)?;
-    with_pipe.subcommand(serve_command(alloc)?)
+    let serve = serve_command(alloc)?;
+    with_pipe(alloc)?.subcommand(serve)
 }

@@ -1,5 +1,5 @@
 //! What a command line says.
-use mr_aof::SyncMode;
+use mr_file::SyncMode;
 use mr_repl::ReplId;
 
 /// The options of `pipe`: one node, asked by one client on standard input.

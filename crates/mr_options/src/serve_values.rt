@@ -7,7 +7,7 @@ ghost use Rattle.mr_options.specs.declared.line.Options.TheVariants.{Serve};
 use crate::line::ServeOptions;
 use crate::values::{needed_number_of, number_of, path_of};
 use clap::ArgMatches;
-use mr_aof::SyncMode;
+use mr_file::SyncMode;
 
 /// After so many turns `serve` ends, where the line doesn't say.
 const USUAL_TURNS: u64 = 1_000_000_000_000;

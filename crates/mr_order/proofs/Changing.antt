@@ -1,7 +1,7 @@
 -- What is put into a part or taken from it is put into all or taken from all.
 use Rattle.std.proofs.Common.{◌≡◌, ℕ, ◌+◌, ◌-◌, ◌<◌, ◌≤◌, ◌^◌, List, Bool, true, false, Option, Some, None, length, get_or, take, set, refl, sym, subst, ap, ◌∙◌, arith}
-use Rattle.std.specs.Prelude.{IfOk, OnErr, OnOk, Result, Ok, Err, if◌then◌else◌}
-use Rattle.std.specs.Result.{is_err}
+use Rattle.std.specs.Prelude.{IfOk, OnErr, OnOk, Result, Ok, Err, if◌then◌else◌, is_some}
+use Rattle.std.specs.Result.{is_err, is_ok}
 use Rattle.std.specs.declared.cmp.Ordering.{Ordering}
 use Rattle.std.specs.BTreeSet.{insert_key}
 use Rattle.std.specs.Cmp.{IsTotalOrder}
@@ -9,9 +9,9 @@ use Rattle.std.specs.List.{All, flat_map, insert, remove}
 use Rattle.std.specs.List.Sorted.{IsStrictlySortedBy}
 use Rattle.std.proofs.lemmas.List.Concat.{get_or-flat_map}
 use Rattle.std.proofs.lemmas.List.Edits.{length-insert, length-remove}
-use Rattle.mr_order.specs.Changes.{IsItemAt, IsPut, IsTaken, left_at, put_at}
-use Rattle.mr_order.specs.Parts.{AreCounted, IsLevel, IsSound}
-use Rattle.mr_order.specs.Standing.{IsBetween, IsPlaceOf, shifted}
+use Rattle.mr_order.specs.Changes.{IsFound, IsItemAt, IsPut, IsTaken, left_at, put_at}
+use Rattle.mr_order.specs.Parts.{AreCounted, IsSound}
+use Rattle.mr_order.specs.Standing.{IsBetween, IsPlaceOf, Tells, shifted}
 use Rattle.mr_order.proofs.Flat.{flat_insert, flat_remove, flat_same, flat_take}
 use Rattle.mr_order.proofs.Kept.{insert_absent, insert_present, sorted_insert, sorted_remove}
 use Rattle.mr_order.proofs.Levels.{counted_insert, counted_remove, counted_same}
@@ -58,6 +58,13 @@ module _ {X A : Type 0} (compare : A → Ordering) (f : X → List A) (xs : List
       put = put_news y p.place p.is p.put;
     }
 
+    pub found_in : (t : Option A) → IsFound compare (f d) t → IsFound compare (flat_map f xs) t
+    found_in t k = record {
+      place = shifted (length (flat_map f (take i xs))) k.place;
+      is = place_of_all k.place k.is;
+      item = taken_item k.place t k.is k.item;
+    }
+
     pub taken_in : (t : Option A) → IsTaken compare (f d) t (f v) → IsTaken compare (flat_map f xs) t (flat_map f (set xs i v))
     taken_in t k = record {
       place = shifted (length (flat_map f (take i xs))) k.place;
@@ -87,6 +94,23 @@ module _ {A : Type 0} (compare : A → Ordering) (items : List A) where
     by : (r : Result ℕ ℕ) → IsItemAt r items None → rest ≡ left_at r items → rest ≡ items
     by (Ok at) h e = absurd h
     by (Err at) h e = e
+
+  -- nothing is found where there is none
+  pub found_nothing : length items ≡ 0 → IsFound compare items None
+  found_nothing none = record {
+    place = Err 0;
+    is = record { within = omega arith; front = λ k d lo lt. absurd (omega arith); back = λ k d lo lt. absurd (omega arith) };
+    item = tt;
+  }
+
+  -- whether one is found says whether there is one
+  pub found_tells : (t : Option A) → IsFound compare items t → Tells compare items (is_some t)
+  found_tells t k = record { place = k.place; is = k.is; told = by k.place t k.item } where
+    by : (r : Result ℕ ℕ) (s : Option A) → IsItemAt r items s → is_ok r ≡ is_some s
+    by (Ok at) None h = absurd h
+    by (Ok at) (Some x) h = refl
+    by (Err at) None h = refl
+    by (Err at) (Some x) h = absurd h
 
   -- nothing is taken where there is none
   pub taken_nothing : length items ≡ 0 → IsTaken compare items None items

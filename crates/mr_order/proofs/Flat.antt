@@ -1,7 +1,7 @@
 -- Edits of one part of a list of parts, as edits of the joined list.
 use Rattle.std.proofs.Common.{◌≡◌, ℕ, zero, suc, ◌+◌, ◌-◌, ◌<◌, ◌≤◌, List, [], ◌∷◌, ◌++◌, length, get_or, set, take, drop, refl, sym, ap, ap₂, ◌∙◌, arith, append_assoc, length-append, add-one, inl, inr}
 use Rattle.std.specs.List.{flat_map, insert, remove}
-use Rattle.std.proofs.lemmas.List.{take_all}
+use Rattle.std.proofs.lemmas.List.{set-append_left, set-append_right, take_all}
 use Rattle.std.proofs.lemmas.List.Concat.{get_or-flat_map}
 use Rattle.std.proofs.lemmas.Bool.{cases_lt}
 use Rattle.std.proofs.lemmas.List.Edits.{insert-append_left, insert-append_right, length-remove, remove-append_left, remove-append_right}
@@ -59,6 +59,18 @@ module _ {X A : Type 0} (f : X → List A) where
       flat_set xs c v within ∙ ap (λ l. front ++ (l ++ back)) is ∙ ap (λ l. front ++ l) (sym (insert-append_left part back o y inside))
       ∙ ap (λ n. front ++ insert (part ++ back) n y) (sym rest) ∙ sym (insert-append_right front (part ++ back) (length front) k y refl (omega arith))
       ∙ ap (λ l. insert l k y) (sym (flat_at xs c d within))
+
+  -- an item of the part c, in whose place another comes
+  pub flat_replace : (xs : List X) (c o k : ℕ) (v d : X) (y : A) → c < length xs → length (flat_map f (take c xs)) + o ≡ k → o < length (f (get_or xs c d)) → f v ≡ set (f (get_or xs c d)) o y
+      → flat_map f (set xs c v) ≡ set (flat_map f xs) k y
+  flat_replace xs c o k v d y within place inside is =
+      let front = flat_map f (take c xs) in
+      let back = flat_map f (drop (suc c) xs) in
+      let part = f (get_or xs c d) in
+      let rest : k - length front ≡ o = omega arith in
+      flat_set xs c v within ∙ ap (λ l. front ++ (l ++ back)) is ∙ ap (λ l. front ++ l) (sym (set-append_left part back o y inside))
+      ∙ ap (λ n. front ++ set (part ++ back) n y) (sym rest) ∙ sym (set-append_right front (part ++ back) (length front) k y refl (omega arith))
+      ∙ ap (λ l. set l k y) (sym (flat_at xs c d within))
 
   -- an item taken from the part c
   pub flat_remove : (xs : List X) (c o k : ℕ) (v d : X) → c < length xs → length (flat_map f (take c xs)) + o ≡ k → o < length (f (get_or xs c d)) → f v ≡ remove (f (get_or xs c d)) o

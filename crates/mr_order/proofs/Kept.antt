@@ -1,5 +1,5 @@
 -- What keeps a list in strict order, and what an insert at an item's place is.
-use Rattle.std.proofs.Common.{◌≡◌, ℕ, zero, suc, ◌+◌, ◌-◌, ◌<◌, ◌≤◌, List, [], ◌∷◌, length, get_or, true, false, refl, sym, ap, ap₂, ◌∙◌, inl, inr, arith}
+use Rattle.std.proofs.Common.{◌≡◌, ℕ, zero, suc, ◌+◌, ◌-◌, ◌<◌, ◌≤◌, List, [], ◌∷◌, length, get_or, set, true, false, refl, sym, ap, ap₂, ◌∙◌, inl, inr, arith}
 use Rattle.std.specs.Prelude.{IsTrue}
 use Rattle.std.specs.declared.cmp.Ordering.{Ordering}
 use Rattle.std.specs.declared.cmp.Ordering.TheVariants.{Less, Equal, Greater}
@@ -9,6 +9,7 @@ use Rattle.std.specs.List.{AllWithin, insert, remove}
 use Rattle.std.specs.List.Sorted.{IsStrictlySortedBy}
 use Rattle.std.specs.BTreeSet.{insert_key}
 use Rattle.std.proofs.lemmas.Bool.{cases_order}
+use Rattle.std.proofs.lemmas.List.{get_or-set_other, get_or-set_same, length-set}
 use Rattle.std.proofs.lemmas.List.Edits.{length-insert, length-remove, get_or-insert_below, get_or-insert_at, get_or-insert_above, get_or-remove_below, get_or-remove_above}
 use Rattle.std.proofs.lemmas.Map.Keys.{Less-from_sorted, sorted_from_all_adjacent}
 use Rattle.mr_order.specs.Standing.{IsDivided, StandsAt, StandsBefore}
@@ -73,6 +74,23 @@ module _ {K : Type 0} (R : K → K → Ordering) (total : IsTotalOrder R) where
         | inl same ↦ ap₂ R (get_or-remove_below xs i x k (omega arith) within) (get_or-remove_above xs i x (k + 1) (omega arith) within) ∙ Less-from_sorted R xs k (k + 1 + 1) x sorted (omega arith) (omega arith)
         | inr (inl less) ↦ ap₂ R (get_or-remove_below xs i x k (omega arith) within) (get_or-remove_below xs i x (k + 1) less within) ∙ Less-from_sorted R xs k (k + 1) x sorted (omega arith) (omega arith)
         | inr (inr more) ↦ ap₂ R (get_or-remove_above xs i x k (omega arith) within) (get_or-remove_above xs i x (k + 1) (omega arith) within) ∙ Less-from_sorted R xs (k + 1) (k + 1 + 1) x sorted (omega arith) (omega arith)
+      ])
+
+  -- an item in the place of an equal one
+  pub sorted_set : (x : K) (xs : List K) (i : ℕ) → IsStrictlySortedBy R xs → i < length xs → R x (get_or xs i x) ≡ Equal → IsStrictlySortedBy R (set xs i x)
+  sorted_set x xs i sorted within tied =
+      let long = length-set xs i x in
+      let alike : (y : K) → R x y ≡ R (get_or xs i x) y = λ y. total.congr x (get_or xs i x) y tied in
+      sorted_from_all_adjacent total (set xs i x) x (λ k lt. elim (cases_order (k + 1) i) [
+        | inl same ↦ ap₂ R (get_or-set_other xs i k x x (λ e. absurd (omega (arith, e)))) (ap (λ n. get_or (set xs i x) n x) same ∙ get_or-set_same xs i x x within)
+            ∙ total.antisymm _ _ ∙ ap ordering_reverse (alike (get_or xs k x)) ∙ sym (total.antisymm _ _) ∙ Less-from_sorted R xs k i x sorted (omega arith) within
+        | inr (inl less) ↦ ap₂ R (get_or-set_other xs i k x x (λ e. absurd (omega (arith, e)))) (get_or-set_other xs i (k + 1) x x (λ e. absurd (omega (arith, e)))) ∙ Less-from_sorted R xs k (k + 1) x sorted (omega arith) (omega arith)
+        | inr (inr more) ↦ elim (cases_order k i) [
+          | inl same ↦ ap₂ R (ap (λ n. get_or (set xs i x) n x) same ∙ get_or-set_same xs i x x within) (get_or-set_other xs i (k + 1) x x (λ e. absurd (omega (arith, e))))
+              ∙ alike (get_or xs (k + 1) x) ∙ Less-from_sorted R xs i (k + 1) x sorted (omega arith) (omega arith)
+          | inr (inl less) ↦ absurd (omega arith)
+          | inr (inr above) ↦ ap₂ R (get_or-set_other xs i k x x (λ e. absurd (omega (arith, e)))) (get_or-set_other xs i (k + 1) x x (λ e. absurd (omega (arith, e)))) ∙ Less-from_sorted R xs k (k + 1) x sorted (omega arith) (omega arith)
+        ]
       ])
 
 pub sorted_none : {K : Type 0} (R : K → K → Ordering) → IsStrictlySortedBy R []

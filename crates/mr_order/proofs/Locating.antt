@@ -1,16 +1,14 @@
 -- A search that tells parts apart by their first items.
-use Rattle.std.proofs.Common.{◌≡◌, ℕ, zero, suc, ◌+◌, ◌<◌, ◌≤◌, List, [], ◌∷◌, Bool, true, false, length, get_or, take, drop, refl, sym, subst, ap, ◌∙◌, arith, length-append, add-one}
-use Rattle.std.specs.Prelude.{Result, Ok, Err}
-use Rattle.std.specs.Result.{is_ok}
+use Rattle.std.proofs.Common.{◌≡◌, ℕ, zero, suc, ◌+◌, ◌<◌, ◌≤◌, List, [], ◌∷◌, true, false, length, get_or, take, drop, refl, sym, subst, ap, ◌∙◌, arith, length-append, add-one}
 use Rattle.std.specs.declared.cmp.Ordering.{Ordering}
 use Rattle.std.specs.declared.cmp.Ordering.TheVariants.{Less, Equal, Greater}
 use Rattle.std.specs.Ordering.{is_lt, is_ge}
 use Rattle.std.specs.List.{AllWithin, flat_map}
 use Rattle.std.proofs.lemmas.List.{get_or_default, take_all}
 use Rattle.mr_order.specs.Runs.{IsIn}
-use Rattle.mr_order.specs.Standing.{IsDivided, IsBetween, Tells, shifted}
-use Rattle.mr_order.proofs.Flat.{flat_bound, flat_cut, flat_take}
-use Rattle.mr_order.proofs.Narrow.{in_flat, less_back, place_in}
+use Rattle.mr_order.specs.Standing.{IsDivided, IsBetween}
+use Rattle.mr_order.proofs.Flat.{flat_bound, flat_cut}
+use Rattle.mr_order.proofs.Narrow.{in_flat, less_back}
 
 less_told : (o : Ordering) → is_lt o ≡ true → o ≡ Less
 less_told Less e = refl
@@ -21,10 +19,6 @@ not_less_told : (o : Ordering) → is_lt o ≡ false → is_ge o ≡ true
 not_less_told Less e = cc
 not_less_told Equal e = refl
 not_less_told Greater e = refl
-
-ok_shifted : (start : ℕ) (found : Result ℕ ℕ) → is_ok (shifted start found) ≡ is_ok found
-ok_shifted start (Ok at) = refl
-ok_shifted start (Err at) = refl
 
 module _ {X A : Type 0} (f : X → List A) where
   -- where there is an item there is a part
@@ -108,22 +102,3 @@ module _ {X A : Type 0} (compare : A → Ordering) (f : X → List A) (xs : List
         front = among.front;
         back = subst (λ n. AllWithin (λ y. compare y ≡ Less) (flat_map f xs) (length (flat_map f (take n xs))) (length (flat_map f xs))) is among.back;
       }
-
-  -- what is told of a part is told of all
-  pub tells_in : (i : ℕ) (e : X) (b : Bool) → i < length xs → e ≡ get_or xs i e → IsBetween compare (flat_map f xs) (length (flat_map f (take i xs))) (length (flat_map f (take (i + 1) xs))) → Tells compare (f e) b → Tells compare (flat_map f xs) b
-  tells_in i e b within is between tells =
-      let start : ℕ = length (flat_map f (take i xs)) in
-      let ends : length (flat_map f (take (i + 1) xs)) ≤ start + length (f e) = let more = flat_take f xs i e within in let same = ap (λ p. length (f p)) is in omega arith in
-      record {
-        place = shifted start tells.place;
-        is = place_in compare (flat_map f xs) (f e) start (in_named f xs i e within is) start _ between (omega arith) ends tells.place tells.is;
-        told = ok_shifted start tells.place ∙ tells.told;
-      }
-
--- nothing is equal to an item where there is none
-pub tells_nothing : {A : Type 0} (compare : A → Ordering) (xs : List A) → length xs ≡ 0 → Tells compare xs false
-tells_nothing compare xs none = record {
-  place = Err 0;
-  is = record { within = omega arith; front = λ k d lo lt. absurd (omega arith); back = λ k d lo lt. absurd (omega arith) };
-  told = refl;
-}

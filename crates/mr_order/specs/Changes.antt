@@ -1,4 +1,4 @@
--- What comes of putting an item in, or taking one out, where a query stands.
+-- What comes of looking an item up, putting one in, or taking one out, where a query stands.
 use Rattle.std.specs.Prelude.{◌≡◌, ℕ, Bool, List, Option, Result, Ok, Err, MatchOption, slice_index_or}
 use Rattle.std.specs.List.{insert, remove}
 use Rattle.std.specs.Result.{is_err}
@@ -28,6 +28,12 @@ module _ {A : Type 0} where
       pub is : IsPlaceOf compare items place
       pub told : is_err place ≡ added
       pub put : news ≡ put_at place item items
+
+    -- the item to which the query is equal is found, if there is one
+    pub record IsFound (found : Option A) : Type 0 where
+      pub place : Result ℕ ℕ
+      pub is : IsPlaceOf compare items place
+      pub item : IsItemAt place items found
 
     -- the item to which the query is equal is taken, if there is one
     pub record IsTaken (taken : Option A) (rest : List A) : Type 0 where

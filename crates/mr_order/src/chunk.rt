@@ -64,6 +64,10 @@ impl<T: Ord + Drop> Part for Vec<T> {
         }
     }
 
+    fn set(&mut self, at: usize, item: T) {
+        self[at] = item;
+    }
+
     fn remove(&mut self, at: usize) -> T {
         Vec::remove(self, at)
     }
@@ -103,8 +107,11 @@ impl<T: Ord + Drop> Part for Vec<T> {
         seek(self, query, 0, Vec::len(self), &mut steps)
     }
 
-    fn contains<Q: Query<T>>(&self, query: Q) -> bool {
-        self.locate(query).is_ok()
+    fn get<Q: Query<T>>(&self, query: Q) -> Option<&T> {
+        match self.locate(query) {
+            Ok(at) => Some(&self[at]),
+            Err(_) => None,
+        }
     }
 
     fn run_from(&self, at: usize) -> &[T] {

@@ -5,10 +5,11 @@ ghost use Rattle.mr_order.specs.Parts.{IsLevel};
 
 use crate::descent::{put_into, take_out};
 use crate::grow::insert_into;
-use crate::locate::{contains, first, locate};
+use crate::locate::{first, get, locate};
 use crate::part::Part;
 use crate::parts::{item, run_from, run_to, search, total};
 use crate::query::{Query, Steps};
+use crate::replace::set;
 use crate::shrink::remove_from;
 use std::alloc::{AllocError, Global};
 
@@ -87,6 +88,10 @@ impl<P: Part> Part for Level<P> {
         }
     }
 
+    fn set(&mut self, at: usize, item: P::Item) {
+        set(&mut self.parts, at, item);
+    }
+
     fn remove(&mut self, at: usize) -> P::Item {
         let item = remove_from(&mut self.parts, at);
         self.len -= 1;
@@ -132,8 +137,8 @@ impl<P: Part> Part for Level<P> {
         locate(&self.parts, query)
     }
 
-    fn contains<Q: Query<P::Item>>(&self, query: Q) -> bool {
-        contains(&self.parts, query)
+    fn get<Q: Query<P::Item>>(&self, query: Q) -> Option<&P::Item> {
+        get(&self.parts, query)
     }
 
     fn run_from(&self, at: usize) -> &[P::Item] {

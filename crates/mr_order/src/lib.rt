@@ -16,6 +16,7 @@ mod part;
 mod parts;
 mod places;
 mod query;
+mod replace;
 mod seek;
 mod shrink;
 

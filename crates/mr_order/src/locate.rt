@@ -1,8 +1,9 @@
 // The search that tells parts apart by their first items.
-ghost use Rattle.std.specs.Prelude.{◌≡◌, ◌+◌, ◌<◌, ◌^◌, length, slice_index_or, take};
+ghost use Rattle.std.specs.Prelude.{◌≡◌, ◌+◌, ◌<◌, ◌^◌, length, option_copied, slice_index_or, take};
 ghost use Rattle.std.specs.List.{All, flat_map};
+ghost use Rattle.mr_order.specs.Changes.{IsFound};
 ghost use Rattle.mr_order.specs.Parts.{IsSound};
-ghost use Rattle.mr_order.specs.Standing.{IsBetween, IsDivided, IsPlaceOf, Tells};
+ghost use Rattle.mr_order.specs.Standing.{IsBetween, IsDivided, IsPlaceOf};
 
 use crate::part::Part;
 use crate::parts::{shifted, total};
@@ -32,17 +33,17 @@ pub(crate) fn locate<P: Part, Q: Query<P::Item>>(parts: &[P], query: Q) -> Resul
     shifted(found, total(&parts[..part]))
 }
 
-/// Whether a query is equal to an item. What stands in front of its part isn't counted.
-pub(crate) fn contains<P: Part, Q: Query<P::Item>>(parts: &[P], query: Q) -> bool
+/// The item to which a query is equal, if there is one. What stands in front of its part isn't counted.
+pub(crate) fn get<P: Part, Q: Query<P::Item>>(parts: &[P], query: Q) -> Option<&P::Item>
     requires sound { All (IsSound P.items P.is_kept) parts.now }
     requires divided { IsDivided (Q.compare query) (flat_map P.items parts.now) }
-    ensures { Tells (Q.compare query) (flat_map P.items parts.now) result }
+    ensures { IsFound (Q.compare query) (flat_map P.items parts.now) (option_copied result) }
 {
     if parts.is_empty() {
-        return false;
+        return None;
     }
     let part = part_of(parts, query);
-    parts[part].contains(query)
+    parts[part].get(query)
 }
 
 /// The part in which a query stands, or would stand: the last one whose first item isn't greater than it, or else the first one.

@@ -1,11 +1,11 @@
 // Items in strict order.
-ghost use Rattle.std.specs.Prelude.{◌≡◌, ◌==◌, ◌+◌, ◌-◌, ◌∷◌, ◌++◌, ◌<◌, ◌≤◌, ◌^◌, ℕ, [], IfOk, IsTrue, MatchOption, OnErr, OnOk, drop, if◌then◌else◌, length, option_copied, slice_get, slice_index_or, slice_range};
-ghost use Rattle.std.specs.declared.cmp.Ordering.TheVariants.{Greater};
+ghost use Rattle.std.specs.Prelude.{◌≡◌, ◌==◌, ◌+◌, ◌-◌, ◌∷◌, ◌++◌, ◌<◌, ◌≤◌, ◌^◌, ℕ, [], IfOk, IsTrue, MatchOption, OnErr, OnOk, drop, if◌then◌else◌, length, option_copied, set, slice_get, slice_index_or, slice_range};
+ghost use Rattle.std.specs.declared.cmp.Ordering.TheVariants.{Equal, Greater};
 ghost use Rattle.std.specs.BTreeSet.{insert_key};
 ghost use Rattle.std.specs.List.{insert, remove};
 ghost use Rattle.std.specs.List.Sorted.{IsPartitionPoint, IsStrictlySortedBy};
 ghost use Rattle.std.specs.Ordering.{is_le};
-ghost use Rattle.mr_order.specs.Changes.{IsTaken};
+ghost use Rattle.mr_order.specs.Changes.{IsFound, IsTaken};
 ghost use Rattle.mr_order.specs.Standing.{IsPlaceOf, StandsBefore, Tells};
 
 use crate::iter::Iter;
@@ -111,7 +111,14 @@ impl<T: Ord + Drop> Ordered<T> {
         self.places.locate(query)
     }
 
-    /// Whether a query is equal to an item, found as `locate` does, and nothing is counted.
+    /// The item to which a query is equal, if there is one. It is found as `locate` finds it, and nothing is counted.
+    pub fn get<Q: Query<T>>(&self, query: Q) -> Option<&T>
+        ensures { IsFound (Q.compare query) self.now (option_copied result) }
+    {
+        self.places.get(query)
+    }
+
+    /// Whether a query is equal to an item.
     pub fn contains<Q: Query<T>>(&self, query: Q) -> bool
         ensures { Tells (Q.compare query) self.now result }
     {
@@ -150,6 +157,15 @@ impl<T: Ord + Drop> Ordered<T> {
     {
         self.places.insert(at, item)?;
         Ok(())
+    }
+
+    /// Puts an item in the place of an equal one. It takes no memory.
+    pub fn replace_at(&mut self, at: usize, item: T)
+        requires within { at < length self.old }
+        requires equal { T.cmp item (slice_index_or self.old at item) ≡ Equal }
+        ensures { self.new ≡ set self.old at item }
+    {
+        self.places.set(at, item);
     }
 
     /// Takes the item from a place.

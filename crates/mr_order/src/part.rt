@@ -1,10 +1,10 @@
 // What a list of items is made of.
-ghost use Rattle.std.specs.Prelude.{◌≡◌, ◌+◌, ◌-◌, ◌++◌, ◌∷◌, ◌<◌, ◌≤◌, ◌^◌, [], Bool, List, ℕ, IfErr, IfOk, OnErr, OnOk, false, length, slice_index_or, true};
+ghost use Rattle.std.specs.Prelude.{◌≡◌, ◌+◌, ◌-◌, ◌++◌, ◌∷◌, ◌<◌, ◌≤◌, ◌^◌, [], Bool, List, ℕ, IfErr, IfOk, OnErr, OnOk, false, length, option_copied, set, slice_index_or, true};
 ghost use Rattle.std.specs.List.{insert, remove};
-ghost use Rattle.mr_order.specs.Changes.{IsPut, IsTaken};
+ghost use Rattle.mr_order.specs.Changes.{IsFound, IsPut, IsTaken};
 ghost use Rattle.mr_order.specs.Parts.{IsSound};
 ghost use Rattle.mr_order.specs.Runs.{IsIn};
-ghost use Rattle.mr_order.specs.Standing.{IsBetween, IsDivided, IsPlaceOf, Tells};
+ghost use Rattle.mr_order.specs.Standing.{IsBetween, IsDivided, IsPlaceOf};
 
 use crate::query::{Query, Steps};
 use std::alloc::{AllocError, Global};
@@ -77,6 +77,13 @@ pub(crate) trait Part: Drop {
         ensures ok { IfOk result (λ added. IsPut (Self.Item.cmp item) (items self.old) item (items self.new) added) }
         ensures err { OnErr result (items self.new ≡ items self.old) };
 
+    /// Puts an item in the place of another.
+    fn set(&mut self, at: usize, item: Self::Item)
+        requires kept { is_kept self.old }
+        requires within { at < length (items self.old) }
+        ensures kept { is_kept self.new }
+        ensures set { items self.new ≡ set (items self.old) at item };
+
     /// Takes the item from a place.
     fn remove(&mut self, at: usize) -> Self::Item
         requires kept { is_kept self.old }
@@ -134,11 +141,11 @@ pub(crate) trait Part: Drop {
         requires divided { IsDivided (Q.compare query) (items self.now) }
         ensures { IsPlaceOf (Q.compare query) (items self.now) result };
 
-    /// Whether a query is equal to an item. Nothing is counted.
-    fn contains<Q: Query<Self::Item>>(&self, query: Q) -> bool
+    /// The item to which a query is equal, if there is one. Nothing is counted.
+    fn get<Q: Query<Self::Item>>(&self, query: Q) -> Option<&Self::Item>
         requires kept { is_kept self.now }
         requires divided { IsDivided (Q.compare query) (items self.now) }
-        ensures { Tells (Q.compare query) (items self.now) result };
+        ensures { IsFound (Q.compare query) (items self.now) (option_copied result) };
 
     /// The items from a place to the end of its chunk.
     fn run_from(&self, at: usize) -> &[Self::Item]

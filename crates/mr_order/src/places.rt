@@ -1,7 +1,7 @@
 // A list of items with places.
-ghost use Rattle.std.specs.Prelude.{◌≡◌, ◌==◌, ◌+◌, ◌-◌, ◌<◌, ◌≤◌, ◌^◌, ℕ, [], IfOk, OnErr, OnOk, length, slice_index_or, slice_range};
+ghost use Rattle.std.specs.Prelude.{◌≡◌, ◌==◌, ◌+◌, ◌-◌, ◌<◌, ◌≤◌, ◌^◌, ℕ, [], IfOk, OnErr, OnOk, length, option_copied, set, slice_index_or, slice_range};
 ghost use Rattle.std.specs.List.{insert, remove};
-ghost use Rattle.mr_order.specs.Changes.{IsPut, IsTaken};
+ghost use Rattle.mr_order.specs.Changes.{IsFound, IsPut, IsTaken};
 ghost use Rattle.mr_order.specs.Runs.{IsIn};
 ghost use Rattle.mr_order.specs.Standing.{IsDivided, IsPlaceOf, Tells};
 
@@ -9,10 +9,11 @@ use crate::descent::{put_into, take_out};
 use crate::grow::insert_into;
 use crate::iter::Iter;
 use crate::level::{Level, MOST};
-use crate::locate::{contains, locate};
+use crate::locate::{get, locate};
 use crate::part::Part;
 use crate::parts;
 use crate::query::{Query, Steps};
+use crate::replace::set;
 use crate::shrink::remove_from;
 use std::alloc::{AllocError, Global};
 use std::marker::Model;
@@ -106,6 +107,14 @@ impl<T: Ord + Drop> Places<T> {
         }
     }
 
+    /// Puts an item in the place of another. It takes no memory.
+    pub fn set(&mut self, at: usize, item: T)
+        requires { at < length self.old }
+        ensures { self.new ≡ set self.old at item }
+    {
+        set(&mut self.parts, at, item);
+    }
+
     /// Takes the item from a place.
     pub fn remove(&mut self, at: usize) -> T
         requires { at < length self.old }
@@ -155,12 +164,20 @@ impl<T: Ord + Drop> Places<T> {
         locate(&self.parts, query)
     }
 
-    /// Whether a query is equal to an item, found as `locate` does, and nothing is counted.
+    /// The item to which a query is equal, if there is one. It is found as `locate` finds it, and nothing is counted.
+    pub fn get<Q: Query<T>>(&self, query: Q) -> Option<&T>
+        requires { IsDivided (Q.compare query) self.now }
+        ensures { IsFound (Q.compare query) self.now (option_copied result) }
+    {
+        get(&self.parts, query)
+    }
+
+    /// Whether a query is equal to an item.
     pub fn contains<Q: Query<T>>(&self, query: Q) -> bool
         requires { IsDivided (Q.compare query) self.now }
         ensures { Tells (Q.compare query) self.now result }
     {
-        contains(&self.parts, query)
+        self.get(query).is_some()
     }
 
     /// The items from one place to another, the second left out.

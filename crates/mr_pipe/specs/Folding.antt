@@ -10,7 +10,7 @@ use Rattle.mr_data.specs.Meaning.{apply_all}
 use Rattle.mr_data.specs.declared.given.Given.{Given}
 use Rattle.mr_node.specs.State.{Core}
 use Rattle.mr_file.specs.LogFile.{IsSynced}
-use Rattle.mr_aof.specs.declared.log.SyncMode.TheVariants.{Always}
+use Rattle.mr_file.specs.declared.sync_mode.SyncMode.TheVariants.{Always}
 use Rattle.mr_pipe.specs.Outside.{Outside}
 use Rattle.mr_pipe.specs.Piped.{Session, Broken}
 use Rattle.mr_pipe.specs.declared.fault.PipeFault.{PipeFault}

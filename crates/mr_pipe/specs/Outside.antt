@@ -3,8 +3,8 @@ use Rattle.std.specs.Prelude.{◌≡◌, ◌⊎◌, ℕ, ◌≤◌, List, [], �
 use Rattle.std.specs.Io.KnownBytes as known
 use Rattle.mr_file.specs.LogFile.{Rose, AppendsSome, IsOldOrNew, IsSynced}
 use Rattle.mr_aof.specs.declared.log.Log.{Log}
-use Rattle.mr_aof.specs.declared.log.SyncMode.{SyncMode}
-use Rattle.mr_aof.specs.declared.log.SyncMode.TheVariants as mode
+use Rattle.mr_file.specs.declared.sync_mode.SyncMode.{SyncMode}
+use Rattle.mr_file.specs.declared.sync_mode.SyncMode.TheVariants as mode
 
 -- a log and its file, as far as the file tells
 pub record Kept : Type 0 where

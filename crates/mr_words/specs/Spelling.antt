@@ -2,7 +2,8 @@
 use Rattle.std.specs.Prelude.{◌≡◌, ◌<◌, ◌^◌, ℕ, ℤ, pos, List, [], ◌∷◌, ◌++◌, IsPermutation, Option, Some, None}
 use Rattle.std.specs.Fmt.{signed_decimal}
 use Rattle.mr_zset.specs.declared.bound.Bound.{Bound}
-use Rattle.mr_zset.specs.Texts.{IsScoreText, bound_of}
+use Rattle.mr_score.specs.Texts.{IsScoreText}
+use Rattle.mr_zset.specs.Texts.{bound_of}
 use Rattle.mr_words.specs.Names.{lowered}
 use Rattle.mr_words.specs.declared.name.Name.{Name}
 

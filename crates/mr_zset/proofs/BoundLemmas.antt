@@ -5,14 +5,29 @@ use Rattle.std.specs.Fmt.{signed_decimal}
 use Rattle.std.specs.Str.{bytes_eq, str_eq_ignore_ascii_case, str_to_ascii_lowercase}
 use Rattle.std.specs.Char.{to_ascii_lowercase}
 use Rattle.std.proofs.lemmas.List.{append-nil}
-use Rattle.std.proofs.lemmas.Bool.{eqb-true, ltb-true}
+use Rattle.std.proofs.lemmas.Bool.{eqb-true, ltb-true, ne_eqb}
 use Rattle.std.proofs.lemmas.Bool.Decides.{nat_tests}
 use Rattle.mr_value.proofs.Numbers.{bounds, digit, each_is_digit, same_bytes}
 use Rattle.mr_value.specs.Number.{is_i64}
+use Rattle.mr_score.specs.Texts.{IsScoreText, score_of}
+use Rattle.mr_score.proofs.TextLemmas.{read_spelled, score_fits, spelled_read}
 use Rattle.mr_zset.specs.declared.bound.Bound.{Bound}
 use Rattle.mr_zset.specs.declared.bound.Bound.TheVariants.{NegativeInfinity, Included, Excluded, PositiveInfinity}
-use Rattle.mr_zset.specs.Texts.{IsScoreText, bound_of, excluding, limit_of, score_of}
-use Rattle.mr_zset.proofs.TextLemmas.{bound_excluding, bound_plain, read_spelled, score_fits, spelled_read}
+use Rattle.mr_zset.specs.Texts.{bound_of, excluding, limit_of}
+
+-- The calls' results, as the definitions have them.
+
+pub bound_excluding : (text rest : List ℕ) (o : Option Bound) → 40 ∷ rest ≡ text → o ≡ limit_of rest → option_map excluding o ≡ bound_of text
+unfolding bound_of
+bound_excluding text rest o same e = ap (option_map excluding) e ∙ ap bound_of same
+
+pub bound_plain : (text : List ℕ) → get_or text 0 0 ≢ 40 → limit_of text ≡ bound_of text
+unfolding bound_of
+bound_plain text front = sym (ap (λ b. cond b (option_map excluding (limit_of (drop 1 text))) (limit_of text)) (ne_eqb (get_or text 0 0) 40 front))
+
+pub no_byte : (text : List ℕ) → length text < 1 → get_or text 0 0 ≢ 40
+no_byte [] none e = omega arith
+no_byte (b ∷ bs) none e = omega arith
 
 front_of_append : (xs ys : List ℕ) → 0 < length xs → get_or (xs ++ ys) 0 0 ≡ get_or xs 0 0
 front_of_append [] ys some = absurd (omega arith)

@@ -11,7 +11,8 @@ use Rattle.std.proofs.lemmas.Map.Lookups.{exact_signed, exact_bytes, exact_pairs
 use Rattle.std.proofs.lemmas.List.Sorted.{length_permutation}
 use Rattle.std.proofs.lemmas.Option.{slice_get_within}
 use Rattle.mr_map.specs.Bytes.{bytes_cmp, ByteMap}
-use Rattle.mr_zset.specs.Score.{is_score, HasScores}
+use Rattle.mr_score.specs.Score.{is_score}
+use Rattle.mr_zset.specs.Score.{HasScores}
 pub use Rattle.mr_zset.specs.Limits.{pairs_total}
 use Rattle.mr_zset.specs.Pairs.{pair_cmp, pairs_of, rank_of}
 use Rattle.mr_zset.proofs.Orders.{IsPermutation-in_order, one, times, times-cons, times-itself, place-in_order}

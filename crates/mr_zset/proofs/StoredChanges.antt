@@ -14,12 +14,12 @@ use Rattle.std.proofs.lemmas.List.Sorted.{sum_by-IsPermutation}
 use Rattle.mr_map.specs.Bytes.{bytes_cmp, ByteMap}
 use Rattle.mr_zset.specs.declared.entry.Entry.{Entry}
 use Rattle.mr_zset.specs.Pairs.{is_other, pair_cmp, pairs_of, without}
-use Rattle.mr_zset.specs.Score.{is_score}
+use Rattle.mr_score.specs.Score.{is_score}
 use Rattle.mr_zset.specs.Stored.{AreStored, stored}
 use Rattle.mr_zset.proofs.Cuts.{length-slice_range}
-use Rattle.mr_zset.proofs.Orders.{IsPermutation-in_order}
+use Rattle.mr_zset.proofs.Orders.{IsPermutation-in_order, times}
 use Rattle.mr_zset.proofs.PairLemmas.{HasScores-empty, HasScores-insert, HasScores-remove, length-pairs_of}
-use Rattle.mr_zset.proofs.StoredLemmas.{first_taken, last_taken, pairs_none, put_back, put_moved, put_new, same_key, taken_out}
+use Rattle.mr_zset.proofs.StoredLemmas.{first_taken, last_taken, pairs_none, filtered_itself, pair_of_map, put_back, put_moved, put_new, same_key, taken_out, times_more}
 
 -- maps changed at one key
 
@@ -72,6 +72,15 @@ module _ (m : ByteMap ℤ) (es : List Entry) (all : AreStored m es) (k copy : Li
     within = HasScores-insert m k z fits all.within;
     same = out ∙ ap (filter (is_other (k, old))) (same_pairs m es all k copy z fs same put) ∙ put_moved m k old z there apart;
   })
+
+  -- the pair that it had stands there still
+  pub pair_there : (old : ℤ) (gs : List Entry) → get m k ≡ Some old → map stored gs ≡ filter (is_other (k, old)) (map stored fs) → gs ≡ fs → ⊥
+  pair_there old gs there out kept =
+      let none = ap (times pair_cmp (k, old)) (ap (map stored) (sym kept) ∙ out) ∙ filtered_itself (k, old) (map stored fs) in
+      let more = times_more (k, old) (k, z) (pairs_of m) in
+      let one_is = pair_of_map m k old there in
+      let same_list = ap (times pair_cmp (k, old)) (same_pairs m es all k copy z fs same put) in
+      omega arith
 
 module _ (m n : ByteMap ℤ) (es : List Entry) (all : AreStored m es) where
   -- a member goes that isn't there

@@ -1,7 +1,7 @@
 -- A list of pairs beside a map: when it is the map's, before and after a change.
 use Rattle.std.proofs.Common.{◌≡◌, ℕ, suc, ◌+◌, ◌-◌, ◌<◌, ◌≤◌, max, length, get_or, take, drop, map, append_assoc, List, [], ◌∷◌, ◌++◌, Option, Some, None, Bool, true, false, ◌&&◌, not, cond, refl, sym, ◌∙◌, ap, subst, arith}
 use Rattle.std.specs.Prelude.{T, ℤ, filter, count_by, slice_range, if◌then◌else◌}
-use Rattle.std.specs.Ordering.{int_eq, is_eq, is_le, is_lt, eq_by_cmp, ordering_reverse}
+use Rattle.std.specs.Ordering.{int_eq, is_eq, is_le, is_lt, eq_by_cmp, match_ordering, ordering_reverse}
 use Rattle.std.specs.declared.cmp.Ordering.{Ordering}
 use Rattle.std.specs.declared.cmp.Ordering.TheVariants.{Less, Equal, Greater}
 use Rattle.std.specs.Cmp.{tied_then}
@@ -106,6 +106,23 @@ times_pairs m q =
     times-permutation pair_cmp q (entries m) (pairs_of m) (IsPermutation-in_order pair_cmp (entries m))
     ∙ times_found (entries m) (entries_sorted m) q ∙ ap (holds q.1) (sym (get-entries m q.0))
 
+-- a pair of a map stands once among its pairs
+pub pair_of_map : (m : ByteMap ℤ) (k : List ℕ) (z : ℤ) → get m k ≡ Some z → times pair_cmp (k, z) (pairs_of m) ≡ 1
+pair_of_map m k z there = times_pairs m (k, z) ∙ ap (holds z) there ∙ sym (tie_here (k, z) (k, z) (ap is_eq (tied_itself nat_list_cmp_total k))) ∙ tie_itself (k, z)
+
+-- an insert takes no pair out
+pub times_more : (q p : List ℕ × ℤ) (ls : Pairs) → times pair_cmp q ls ≤ times pair_cmp q (insert_key pair_cmp ls p)
+times_more q p [] = let none = times-nil pair_cmp q in omega arith
+times_more q p (l ∷ ls) = elim (pair_cmp p l) as (λ r. times pair_cmp q (l ∷ ls) ≤ times pair_cmp q (match_ordering r (p ∷ l ∷ ls) (l ∷ ls) (l ∷ insert_key pair_cmp ls p))) [
+  | Less ↦ (let all = times-cons pair_cmp q p (l ∷ ls) in omega arith)
+  | Equal ↦ omega arith
+  | Greater ↦ (
+      let was = times-cons pair_cmp q l ls in
+      let is = times-cons pair_cmp q l (insert_key pair_cmp ls p) in
+      let rest = times_more q p ls in
+      omega arith)
+]
+
 pub pairs_ascend : (m : ByteMap ℤ) → Ascends pair_cmp (pairs_of m)
 pairs_ascend m = Ascends-in_order pairs_total (entries m)
 
@@ -186,6 +203,10 @@ other_yes q p e = ap not e
 
 other_no : (q p : List ℕ × ℤ) → is_eq (pair_cmp q p) ≡ false → is_other p q ≡ true
 other_no q p e = ap not e
+
+-- .. and isn't among the others
+pub filtered_itself : (p : List ℕ × ℤ) (ls : Pairs) → times pair_cmp p (filter (is_other p) ls) ≡ 0
+filtered_itself p ls = filtered_no pairs_total exact_pair (is_other p) p (other_yes p p (ap is_eq (tied_itself pairs_total p))) ls
 
 gone_count : (p q : List ℕ × ℤ) (ls : Pairs) → times pair_cmp p ls ≡ 1 → times pair_cmp q (filter (is_other p) ls) + tie q p ≡ times pair_cmp q ls
 gone_count p q ls once = elim (is_eq (pair_cmp q p)) as (λ b. is_eq (pair_cmp q p) ≡ b → times pair_cmp q (filter (is_other p) ls) + one b ≡ times pair_cmp q ls) [

@@ -3,5 +3,6 @@ pub mod Limits
 pub mod Order
 pub mod Pairs
 pub mod Score
+pub mod Scored
 pub mod Stored
 pub mod Texts

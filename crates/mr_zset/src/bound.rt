@@ -4,7 +4,7 @@ ghost use Rattle.std.specs.Str.{str_eq_ignore_ascii_case};
 ghost use Rattle.mr_zset.specs.Bounds.{is_from, is_to};
 ghost use Rattle.mr_zset.specs.Texts.{bound_of, excluding, limit_of};
 
-use crate::score::read_score;
+use mr_score::read_score;
 
 /// Where a range of scores begins or ends.
 #[derive(Clone, Copy, Debug, PartialEq, Eq)]

@@ -3,8 +3,9 @@ ghost use Rattle.std.specs.Prelude.{◌≡◌, ◌↔◌, ◌⊎◌, ◌∷◌, 
 ghost use Rattle.std.specs.FinMap.{entries};
 ghost use Rattle.std.specs.List.Sorted.{IsPermutation, IsSorted};
 ghost use Rattle.std.specs.Str.{str_to_ascii_lowercase};
+ghost use Rattle.mr_score.specs.Texts.{IsScoreText};
 ghost use Rattle.mr_zset.specs.Pairs.{pair_cmp, pairs_of};
-ghost use Rattle.mr_zset.specs.Texts.{IsScoreText, bound_of, score_of};
+ghost use Rattle.mr_zset.specs.Texts.{bound_of};
 ghost use Rattle.mr_zset.specs.declared.bound.Bound.TheVariants.{Excluded, Included, NegativeInfinity, PositiveInfinity};
 
 use crate::sorted_set::ZSet;
@@ -13,11 +14,6 @@ use crate::sorted_set::ZSet;
 pub fn all_pairs_in_order(_set: &ZSet)
     ensures same_pairs { IsPermutation (entries _set.now) (pairs_of _set.now) }
     ensures ascending { IsSorted pair_cmp (pairs_of _set.now) }
-{}
-
-/// A text is read as a score exactly where it spells that score.
-pub fn score_texts()
-    ensures { (text : List ℕ) (n : ℤ) → (score_of text ≡ Some n) ↔ IsScoreText text n }
 {}
 
 /// A text is read as a bound on a score exactly where it spells that score, behind a `(` where what lies on the bound is left out. It is read as an

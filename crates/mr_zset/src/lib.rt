@@ -5,15 +5,17 @@
 mod bound;
 mod entry;
 mod laws;
+mod member_scores;
 mod pair;
 mod query;
-mod score;
+mod scored;
+mod scores;
 mod sorted_set;
 mod stored;
 
 pub use bound::{Bound, read_bound};
-pub use laws::{all_pairs_in_order, bound_texts, score_texts};
+pub use laws::{all_pairs_in_order, bound_texts};
+pub use member_scores::MemberScores;
 pub use mr_order::Steps;
 pub use pair::Pair;
-pub use score::{is_score, read_score};
 pub use sorted_set::ZSet;

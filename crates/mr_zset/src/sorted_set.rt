@@ -1,16 +1,17 @@
 // A sorted set.
 ghost use Rattle.std.specs.Prelude.{◌≡◌, ◌==◌, ◌+◌, ◌-◌, ◌<◌, ◌≤◌, ◌^◌, ℕ, IsTrue, OnOk, OnErr, IfOk, IfSome, Some, None, count_by, length, map, option_map, slice_get, slice_range};
 ghost use Rattle.std.specs.FinMap as finite;
-ghost use Rattle.mr_zset.specs.Score.{is_score};
+ghost use Rattle.mr_score.specs.Score.{is_score};
 ghost use Rattle.mr_zset.specs.Pairs.{pair_lt, pairs_of, rank_of, range_of, shown, without};
 
 use crate::bound::Bound;
 use crate::entry::Entry;
+use crate::member_scores::MemberScores;
 use crate::pair::Pair;
+use crate::scores::Scores;
 use crate::stored::{
     copied, drop_first, drop_last, pair_at, pairs_between, place_of, places_of, put_in, take_out,
 };
-use mr_map::{ByteMap, Pairs};
 use mr_order::{Ordered, Steps};
 use mr_value::{Bytes, CompactBytes};
 use std::alloc::{AllocError, Global};
@@ -19,7 +20,7 @@ use std::marker::Model;
 /// A finite map from member to score, beside which the same pairs stand in order, each at its place.
 pub struct ZSet {
     alloc: Global,
-    scores: ByteMap<i64>,
+    scores: Scores,
     pairs: Ordered<Entry>,
 }
 
@@ -57,7 +58,7 @@ impl ZSet {
     {
         ZSet {
             alloc,
-            scores: ByteMap::new(alloc),
+            scores: Scores::new(alloc),
             pairs: Ordered::new(alloc),
         }
     }
@@ -82,7 +83,7 @@ impl ZSet {
         ensures value { result ≡ finite.get self.now member.now }
         ensures within { IfSome result (λ score. IsTrue (is_score score)) }
     {
-        self.scores.get(member).copied()
+        self.scores.get(member)
     }
 
     /// Sets the score of a member, and answers the one before. All memory is taken before the first change: where it
@@ -119,14 +120,17 @@ impl ZSet {
                 member: member_copy,
             },
         )?;
-        write(&mut self.scores, member, score);
-        take_out(
+        let taken = take_out(
             &mut self.pairs,
             Pair {
                 score: before,
                 member,
             },
         );
+        match taken {
+            Some(entry) => self.scores.set(entry.member, score),
+            None => unreachable!(),
+        }
         Ok(())
     }
 
@@ -137,6 +141,7 @@ impl ZSet {
         ensures ok { OnOk result (self.new ≡ finite.insert self.old member.now score) }
         ensures err { OnErr result (self.new ≡ self.old) }
     {
+        let name = CompactBytes::copied(self.alloc, member)?;
         let member_copy = CompactBytes::copied(self.alloc, member)?;
         put_in(
             &mut self.pairs,
@@ -145,7 +150,7 @@ impl ZSet {
                 member: member_copy,
             },
         )?;
-        if self.scores.insert_copy(member, score).is_err() {
+        if self.scores.insert(name, score).is_err() {
             take_out(&mut self.pairs, Pair { score, member });
             return Err(AllocError);
         }
@@ -238,7 +243,7 @@ impl ZSet {
     }
 
     /// The members with their scores, in the order of the members' bytes. It takes no memory.
-    pub fn iter(&self) -> Pairs<'_, i64>
+    pub fn iter(&self) -> MemberScores<'_>
         ensures { result ≡ finite.entries self.now }
     {
         self.scores.iter()
@@ -269,19 +274,8 @@ impl ZSet {
     }
 }
 
-// Sets the score of a member that is there.
-fn write(scores: &mut ByteMap<i64>, member: &[u8], score: i64)
-    requires { IsTrue (finite.contains_key scores.old member.now) }
-    ensures { scores.new ≡ finite.insert scores.old member.now score }
-{
-    let Some(place) = scores.get_mut(member) else {
-        unreachable!()
-    };
-    *place = score;
-}
-
 // Takes out of a map what it says of the member of a pair.
-fn forget(scores: &mut ByteMap<i64>, popped: &Option<(Bytes, i64)>)
+fn forget(scores: &mut Scores, popped: &Option<(Bytes, i64)>)
     ensures { scores.new ≡ without popped.now scores.old }
 {
     if let Some((member, _)) = popped {

@@ -24,11 +24,12 @@ pub(crate) fn put_in(pairs: &mut Ordered<Entry>, entry: Entry) -> Result<(), All
     Ok(())
 }
 
-// Takes a pair out, if it is there.
-pub(crate) fn take_out(pairs: &mut Ordered<Entry>, pair: Pair<'_>)
-    ensures { map stored pairs.new ≡ filter (is_other (shown pair.entry)) (map stored pairs.old) }
+// Takes a pair out, if it is there, and answers it.
+pub(crate) fn take_out(pairs: &mut Ordered<Entry>, pair: Pair<'_>) -> Option<Entry>
+    ensures answer { MatchOption result (pairs.new ≡ pairs.old) (λ entry. stored entry ≡ shown pair.entry) }
+    ensures rest { map stored pairs.new ≡ filter (is_other (shown pair.entry)) (map stored pairs.old) }
 {
-    taken(pairs, pair);
+    taken(pairs, pair)
 }
 
 // Takes a pair out, if it is there, and answers it. A member of few bytes is looked up as a number.

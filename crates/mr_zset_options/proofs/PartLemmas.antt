@@ -11,8 +11,9 @@ use Rattle.mr_words.specs.declared.fault.AskFault.{AskFault}
 use Rattle.mr_words.specs.declared.fault.AskFault.TheVariants.{Integer, Other}
 use Rattle.mr_words.specs.declared.fault.BadValue.TheVariants as bad
 use Rattle.mr_zset.specs.declared.bound.Bound.{Bound}
-use Rattle.mr_zset.specs.Texts.{IsScoreText, bound_of, score_of}
-use Rattle.mr_zset.proofs.TextLemmas.{read_spelled}
+use Rattle.mr_score.specs.Texts.{IsScoreText, score_of}
+use Rattle.mr_zset.specs.Texts.{bound_of}
+use Rattle.mr_score.proofs.TextLemmas.{read_spelled}
 use Rattle.mr_zset_options.specs.Parts.{bound, bounds, limit, limit_if_any, score}
 use Rattle.mr_zset_options.specs.RangeOptions.{limit_text}
 use Rattle.mr_zset_options.specs.Spelled.{bound_parts, limit_option}

@@ -10,8 +10,8 @@ use Rattle.mr_value.specs.Number.{is_i64}
 use Rattle.mr_value.proofs.Numbers.{same_bytes}
 use Rattle.mr_words.specs.Names.{lowered, lowered_byte}
 use Rattle.mr_words.proofs.PartLemmas.{found_passes}
-use Rattle.mr_zset.specs.Texts.{IsScoreText}
-use Rattle.mr_zset.proofs.TextLemmas.{score_fits}
+use Rattle.mr_score.specs.Texts.{IsScoreText}
+use Rattle.mr_score.proofs.TextLemmas.{score_fits}
 use Rattle.mr_zset_options.specs.AddOptions.{add_option, add_text, all_add_options, is_add_option}
 use Rattle.mr_zset_options.specs.declared.add_options.AddOption.{AddOption}
 use Rattle.mr_zset_options.specs.declared.add_options.AddOption.TheVariants as add

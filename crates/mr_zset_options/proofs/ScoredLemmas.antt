@@ -3,9 +3,9 @@ use Rattle.std.proofs.Common.{ℕ, ◌≡◌, List, [], ◌∷◌, map, Some, No
 use Rattle.std.specs.Prelude.{IsTrue}
 use Rattle.std.specs.List.{list_all}
 use Rattle.std.specs.Option.{is_some}
-use Rattle.mr_zset.specs.Score.{is_score}
-use Rattle.mr_zset.specs.Texts.{score_of}
-use Rattle.mr_zset.proofs.TextLemmas.{read_spelled}
+use Rattle.mr_score.specs.Score.{is_score}
+use Rattle.mr_score.specs.Texts.{score_of}
+use Rattle.mr_score.proofs.TextLemmas.{read_spelled}
 use Rattle.mr_zset_options.specs.Scored.{have_scores, or_0, scored, is_scored}
 use Rattle.mr_words.proofs.FitLemmas.{first, second, both}
 

@@ -6,7 +6,8 @@ use Rattle.mr_words.specs.declared.fault.AskFault.{AskFault}
 use Rattle.mr_words.specs.declared.fault.AskFault.TheVariants.{Integer, Other}
 use Rattle.mr_words.specs.declared.fault.BadValue.TheVariants as bad
 use Rattle.mr_zset.specs.declared.bound.Bound.{Bound}
-use Rattle.mr_zset.specs.Texts.{bound_of, score_of}
+use Rattle.mr_score.specs.Texts.{score_of}
+use Rattle.mr_zset.specs.Texts.{bound_of}
 use Rattle.mr_zset_options.specs.declared.range_options.LimitWords.{LimitWords}
 use Rattle.mr_zset_options.specs.declared.choices.Limit.{Limit}
 use Rattle.mr_zset_options.specs.declared.choices.Order.{Order}

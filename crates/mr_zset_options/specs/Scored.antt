@@ -3,8 +3,8 @@ use Rattle.std.specs.Prelude.{ℕ, ℤ, pos, List, Bool, if◌then◌else◌, Op
 use Rattle.std.specs.Borrow.{Bor}
 use Rattle.std.specs.List.{list_all}
 use Rattle.std.specs.Option.{is_some}
-use Rattle.mr_zset.specs.Score.{is_score}
-use Rattle.mr_zset.specs.Texts.{score_of}
+use Rattle.mr_score.specs.Score.{is_score}
+use Rattle.mr_score.specs.Texts.{score_of}
 
 -- the text is read as a score
 abbrev pub has_score : List ℕ → Bool

@@ -6,9 +6,10 @@ ghost use Rattle.mr_zset_options.specs.Parts.{bound, bounds, limit, limit_if_any
 
 use crate::choices::{Limit, Order};
 use crate::range_options::LimitWords;
+use mr_score::read_score;
 use mr_value::read_i64;
 use mr_words::{AskFault, BadValue};
-use mr_zset::{Bound, read_bound, read_score};
+use mr_zset::{Bound, read_bound};
 use std::borrow::CowSlice;
 
 /// A score.

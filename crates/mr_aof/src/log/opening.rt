@@ -6,8 +6,8 @@ ghost use Rattle.mr_replay.specs.Effects.{Loads};
 ghost use Rattle.mr_aof.specs.ReadThrough.{IsReadThrough};
 
 use crate::fault::LogFault;
-use crate::log::{Log, SyncMode};
-use mr_file::{Failed, LogFile};
+use crate::log::Log;
+use mr_file::{Failed, LogFile, SyncMode};
 use mr_replay::{Loaded, Replay, Rest};
 use std::alloc::Global;
 use std::hash::RandomState;

@@ -1,5 +1,0 @@
-use Rattle.mr_zset.proofs.TextLemmas.{score_texts}
-use Rattle.mr_zset.proofs.laws.score_texts.Goals as goal
-
-pub returns : goal.returns
-returns c = score_texts
