@@ -63,6 +63,7 @@ fn add_to(
 // The pair, where there is one alone.
 fn only_pair<'a>(pairs: &ScoredMembers<'a, '_>) -> Option<(i64, &'a [u8])>
     ensures one { IfSome result (λ p. pairs.now ≡ (p.0, p.1.now) ∷ []) }
+    ensures other { IfNone result (length pairs.now ≢ 1) }
     ensures small { length pairs.now < 2 ^ 63 }
 {
     if pairs.len() != 1 {
