@@ -55,7 +55,7 @@ Grows L old new = (i : L.Id) (start : L.Dataset) (es : List L.Effect) → old i 
 
 -- a new id, which begins with this dataset
 pub record Draws (L : Language) (old new : Book L) (i : L.Id) (m : L.Dataset) : Type 0 where
-  pub new_id : old i ≡ None
+  pub new_id : old i ≡ None  -- a node that starts draws what no node has drawn
   pub book : SetAt old new i (record { start = m; effects = [] })
 
 -- effects at the end of an id's history
@@ -66,7 +66,7 @@ pub record Extends (L : Language) (old new : Book L) (i : L.Id) (es : List L.Eff
 
 -- a new id, whose history is that of another cut at an offset
 pub record Branches (L : Language) (old new : Book L) (i : L.Id) (from : L.Id) (o : ℕ) : Type 0 where
-  pub new_id : old i ≡ None
+  pub new_id : old i ≡ None  -- and so does one that becomes a master
   pub start : L.Dataset
   pub earlier : List L.Effect
   pub later : List L.Effect
