@@ -4,7 +4,6 @@ What is proved stays in crates/NAME/out/, so that a build that was interrupted g
 
 import os
 import signal
-import subprocess
 import sys
 import tempfile
 import time
@@ -76,45 +75,39 @@ class Build:
         return Task(crate.name, after, crate.lines(), crate.memory_of_proof(), lambda jobs: self.prove(crate, jobs))
 
     def prove(self, crate, jobs):
-        """Proves a crate and builds its library, and returns whether that went well and what the prover said."""
+        """Proves a crate and builds its library, or the program of one, and returns whether that went well and what the prover said."""
+        step = crate.prove if crate.is_library() else crate.build_program
         with tempfile.TemporaryFile("w+", errors="replace") as said:
-            status = crate.prove(jobs, said)
+            status = step(jobs, said)
             if status == -signal.SIGKILL:
                 print("minired: killed, most likely for want of memory: once more", file=said, flush=True)
-                status = crate.prove(1, said)
+                status = step(1, said)
             said.seek(0)
             return Outcome(status == 0, said.read())
 
     def libraries(self, crates):
         """Proves the libraries that the program stands on, and returns how far the build is then, or None where one isn't proved."""
-        held = self.kit.lock(crates)
         waiting = {it.name: it for it in crates if it.is_library() and not it.is_proved()}
         progress = Progress(len(crates), len(crates) - len(waiting) - 1)
         say(progress.begins(self.lanes))
         tasks = [self.task(it, waiting) for it in waiting.values()]
         for task, outcome in in_lanes(tasks, self.lanes, self.kit.memory(), MOST):
-            print(f"== {task.name}\n{outcome.said}", end="", file=self.log, flush=True)
-            if not outcome:
-                self.failed(task.name, outcome.said)
+            if not self.ended(task.name, outcome, progress):
                 return None
-            say(progress.after(task.name))
-        for it in held:
-            os.close(it)
         return progress
 
-    def program(self, progress):
-        """Proves, compiles and links the program. rt runs what it has built: on empty input, the program ends at once."""
-        how = {"cwd": os.path.join(ROOT, "crates", PROGRAM), "stdin": subprocess.DEVNULL, "stderr": subprocess.STDOUT}
-        words = ["rt", "run", "--jobs", str(min(self.lanes, MOST))]
-        ran = subprocess.run(words, stdout=subprocess.PIPE, text=True, errors="replace", **how)
-        print(f"== {PROGRAM}\n{ran.stdout}", end="", file=self.log, flush=True)
-        if ran.returncode:
-            self.failed(PROGRAM, ran.stdout)
-            return False
-        say(progress.after(PROGRAM))
-        # rt leaves a program that comes out the same as it was
-        os.utime(os.path.join(ROOT, "crates", PROGRAM, "out", PROGRAM))
-        return True
+    def program(self, crate, progress):
+        """Proves, compiles and links the program, and returns whether that went well."""
+        return self.ended(crate.name, self.prove(crate, min(self.lanes, MOST)), progress)
+
+    def ended(self, name, outcome, progress):
+        """Tells how the proof of a crate ended, and returns whether that was well."""
+        print(f"== {name}\n{outcome.said}", end="", file=self.log, flush=True)
+        if outcome:
+            say(progress.after(name))
+        else:
+            self.failed(name, outcome.said)
+        return outcome.well
 
     def failed(self, name, said):
         print(last_lines(said), file=sys.stderr)
@@ -131,9 +124,14 @@ def main():
         return 1
     os.makedirs(os.path.dirname(LOG), exist_ok=True)
     with open(LOG, "w", encoding="utf-8") as log:
-        build = Build(kit, log)
-        progress = build.libraries(kit.crates(os.path.join(ROOT, "crates", PROGRAM)))
-        return 0 if progress and build.program(progress) else 1
+        build, crates = Build(kit, log), kit.crates(os.path.join(ROOT, "crates", PROGRAM))
+        # until we end: no other run works in these crates meanwhile
+        held = kit.lock(crates)
+        progress = build.libraries(crates)
+        ends_well = progress is not None and build.program(crates[-1], progress)
+        for it in held:
+            os.close(it)
+        return 0 if ends_well else 1
 
 
 if __name__ == "__main__":

@@ -10,6 +10,8 @@ import shutil
 import sys
 import types
 
+# the machine that programs are for
+TARGET = "x86_64-unknown-linux-gnu"
 # what a check is likely to take at most, in bytes; one crate's takes twice as much
 OF_A_CHECK = 3 << 30
 
@@ -154,6 +156,19 @@ class Crate:
         if status == 0 and stamp == self.inner.stamp():
             self._write_stamp(stamp)
         return status
+
+    def build_program(self, jobs, log):
+        """Proves the program, compiles it and links it. It writes to `log`, and returns the exit status, which is negative where a signal ended it.
+
+        `rt run` does so too, but has copies of the prover write their work, and reads all of it once more: for a first proof that takes longer than it spares."""
+        self.inner.out = log
+        rtlib, made = self.kit.rt.rtlib, os.path.join("out", self.name)
+        os.makedirs(os.path.join(self.folder, "out"), exist_ok=True)
+        words = self.inner.words(["--jobs", str(jobs)], keeps=False) + (rtlib.KEPT if self.inner.has_kept() else [])
+        tools = ["--toolchain", os.path.join(rtlib.KIT, "toolchain")]
+        status = self.inner.call(rtlib.RATTLE, "build", *words, *tools, "--backend", "llvm", "-o", f"{made}.o")
+        libraries = [os.path.join(rtlib.KIT, "c", it) for it in ("libos_c.a", "liblibc_c.a")]
+        return status or self.inner.call(os.path.join(rtlib.KIT, "bin", "rattle-link"), "--target", TARGET, *tools, "-o", made, f"{made}.o", *libraries)
 
     def _write_stamp(self, stamp):
         with open(os.path.join(os.path.dirname(self.inner.rlib), "stamp"), "w", encoding="utf-8") as it:
