@@ -268,6 +268,17 @@ class OfATinyProgram(unittest.TestCase):
         self.assertEqual(self.build()[0], 0)
         self.assertRegex(self.said_of("low"), r"crate low: modules loaded=[1-9]")
 
+    def test_a_program_is_not_proved_again_where_only_the_times_of_its_sources_are_new(self):
+        self.assertEqual(self.build()[0], 0)
+        later = time.time() + 2
+        os.utime(os.path.join(self.root, "crates", "low", "src", "lib.rt"), (later, later))
+        time.sleep(2.1)
+        status, lines = self.build()
+        self.assertEqual((status, lines[1:]), (0, ["minired: proved minired, 3 of 3 crates, TIME"]))
+        self.assertRegex(lines[0], r"^minired: building: 3 crates, 2 of them proved already, on \d+ processors$")
+        self.assertEqual(self.said_of("minired"), "minired: nothing has changed since the program was proved and built\n")
+        self.assertEqual(self.build(), (0, []))
+
     def said_of(self, name):
         """What the prover said of a crate, by the log of the last build."""
         with open(os.path.join(self.root, "out", "build.log"), encoding="utf-8") as log:

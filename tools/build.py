@@ -98,7 +98,11 @@ class Build:
 
     def program(self, crate, progress):
         """Proves, compiles and links the program, and returns whether that went well."""
-        return self.ended(crate.name, self.prove(crate, min(self.lanes, MOST)), progress)
+        ends_well = self.ended(crate.name, self.prove(crate, min(self.lanes, MOST)), progress)
+        if ends_well:
+            # the launcher tells by the time, also where the program has stayed as it was
+            os.utime(os.path.join(crate.folder, "out", PROGRAM))
+        return ends_well
 
     def ended(self, name, outcome, progress):
         """Tells how the proof of a crate ended, and returns whether that was well."""

@@ -30,7 +30,7 @@ def _load():
     try:
         loader.exec_module(made)
         # where such a name is missing, the script is another kit's
-        (made.need, made.processors, made.free, made.edits_of, made.read_edit, made.unread, made.rtlib.Crate)
+        (made.need, made.processors, made.free, made.edits_of, made.read_edit, made.unread, made.rtlib.Crate, made.rtlib.KEPT, made.rtlib.KIT, made.rtlib.sum_of, made.rtlib.text_of)
     except (OSError, SyntaxError, AttributeError) as error:
         raise NoKit(f"the command rt of this Rattle kit isn't the one that tools/kit.py knows ({error})")
     finally:
@@ -158,17 +158,36 @@ class Crate:
         return status
 
     def build_program(self, jobs, log):
-        """Proves the program, compiles it and links it. It writes to `log`, and returns the exit status, which is negative where a signal ended it.
+        """Proves the program, compiles it and links it, unless it is built from the text as it is. It writes to `log`, and returns the exit status, which is negative where a signal ended it.
 
-        `rt run` does so too, but has copies of the prover write their work, and reads all of it once more: for a first proof that takes longer than it spares."""
+        `rt run` does so too, but has copies of the prover write their work, and reads all of it once more: for a first proof that takes longer than it spares.
+        The stamp is the one of `rt run`, so that each knows what the other has built."""
         self.inner.out = log
-        rtlib, made = self.kit.rt.rtlib, os.path.join("out", self.name)
-        os.makedirs(os.path.join(self.folder, "out"), exist_ok=True)
+        rtlib, made = self.kit.rt.rtlib, os.path.join(self.folder, "out", self.name)
+        stamp = self.inner.stamp()
+        if rtlib.text_of(f"{made}.stamp") == stamp + rtlib.sum_of(made):
+            print("minired: nothing has changed since the program was proved and built", file=log, flush=True)
+            return 0
+        os.makedirs(os.path.dirname(made), exist_ok=True)
+        status = self._compile(made, jobs) or self._link(made)
+        # not of a text that has changed meanwhile
+        if status == 0 and stamp == self.inner.stamp() and all(it.is_proved() for it in self.below):
+            with open(f"{made}.stamp", "w", encoding="utf-8") as it:
+                it.write(stamp + rtlib.sum_of(made))
+        return status
+
+    def _compile(self, made, jobs):
+        rtlib = self.kit.rt.rtlib
         words = self.inner.words(["--jobs", str(jobs)], keeps=False) + (rtlib.KEPT if self.inner.has_kept() else [])
-        tools = ["--toolchain", os.path.join(rtlib.KIT, "toolchain")]
-        status = self.inner.call(rtlib.RATTLE, "build", *words, *tools, "--backend", "llvm", "-o", f"{made}.o")
-        libraries = [os.path.join(rtlib.KIT, "c", it) for it in ("libos_c.a", "liblibc_c.a")]
-        return status or self.inner.call(os.path.join(rtlib.KIT, "bin", "rattle-link"), "--target", TARGET, *tools, "-o", made, f"{made}.o", *libraries)
+        return self.inner.call(rtlib.RATTLE, "build", *words, *self._tools(), "--backend", "llvm", "-o", f"{made}.o")
+
+    def _link(self, made):
+        kit = self.kit.rt.rtlib.KIT
+        libraries = [os.path.join(kit, "c", it) for it in ("libos_c.a", "liblibc_c.a")]
+        return self.inner.call(os.path.join(kit, "bin", "rattle-link"), "--target", TARGET, *self._tools(), "-o", made, f"{made}.o", *libraries)
+
+    def _tools(self):
+        return ["--toolchain", os.path.join(self.kit.rt.rtlib.KIT, "toolchain")]
 
     def _write_stamp(self, stamp):
         with open(os.path.join(os.path.dirname(self.inner.rlib), "stamp"), "w", encoding="utf-8") as it:

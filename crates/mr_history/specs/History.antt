@@ -66,7 +66,7 @@ pub record Extends (L : Language) (old new : Book L) (i : L.Id) (es : List L.Eff
 
 -- a new id, whose history is that of another cut at an offset
 pub record Branches (L : Language) (old new : Book L) (i : L.Id) (from : L.Id) (o : ℕ) : Type 0 where
-  pub new_id : old i ≡ None  -- and so does one that becomes a master
+  pub new_id : old i ≡ None  -- a node that becomes a master draws what no node has drawn
   pub start : L.Dataset
   pub earlier : List L.Effect
   pub later : List L.Effect
