@@ -22,9 +22,9 @@ module _ {P A : Type 0} (items : P → List A) (is_kept : P → Type 0) where
   IsKeptLevel level = IsLevel items is_kept level.parts.items level.len
 
 module _ {A : Type 0} where
-  -- the same of a block, which has two levels
-  abbrev pub block_items : Level (Level (Vec A)) → List A
-  block_items = level_items (level_items chunk_items)
+  -- the same of a block, which has three levels
+  abbrev pub block_items : Level (Level (Level (Vec A))) → List A
+  block_items = level_items (level_items (level_items chunk_items))
 
-  abbrev pub IsBlock : Level (Level (Vec A)) → Type 0
-  IsBlock = IsKeptLevel (level_items chunk_items) (IsKeptLevel chunk_items IsChunk)
+  abbrev pub IsBlock : Level (Level (Level (Vec A))) → Type 0
+  IsBlock = IsKeptLevel (level_items (level_items chunk_items)) (IsKeptLevel (level_items chunk_items) (IsKeptLevel chunk_items IsChunk))

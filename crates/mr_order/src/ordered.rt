@@ -139,6 +139,16 @@ impl<T: Ord + Drop> Ordered<T> {
         }
     }
 
+    /// How many items a query is greater than, found as `locate` finds it.
+    pub fn count_below<Q: Query<T>>(&self, query: Q) -> usize
+        ensures within { result ≤ length self.now }
+        ensures place { IsPartitionPoint (λ y. Q.compare query y ≡ Greater) (λ y. IsTrue (is_le (Q.compare query y))) self.now result }
+    {
+        match self.locate(query) {
+            Ok(at) | Err(at) => at,
+        }
+    }
+
     /// Puts an item where it stands in order, unless an equal one is there, and answers whether it is new. Where memory
     /// runs out, all is as it was.
     pub fn insert(&mut self, item: T) -> Result<bool, AllocError>

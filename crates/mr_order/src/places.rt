@@ -18,8 +18,8 @@ use crate::shrink::remove_from;
 use std::alloc::{AllocError, Global};
 use std::marker::Model;
 
-// Two levels of chunks, some hundred thousand items.
-type Block<T> = Level<Level<Vec<T>>>;
+// Three levels of chunks, some million items: what is above them is gone through part by part.
+type Block<T> = Level<Level<Level<Vec<T>>>>;
 
 /// A list of items. An item is found by its place, put in and taken without a walk over all items.
 #[derive(Drop)]

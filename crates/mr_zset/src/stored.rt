@@ -68,9 +68,8 @@ pub(crate) fn places_of(pairs: &Ordered<Entry>, from: Bound, to: Bound) -> (usiz
     ensures within { result.1 ≤ length pairs.now }
     ensures range { filter (λ p. is_within from to p.1) (map stored pairs.now) ≡ slice_range (map stored pairs.now) result.0 result.1 }
 {
-    let mut steps = Steps { count: 0 };
-    let first = pairs.place(Start(from), &mut steps);
-    let past = pairs.place(End(to), &mut steps);
+    let first = pairs.count_below(Start(from));
+    let past = pairs.count_below(End(to));
     (first, past.max(first))
 }
 
