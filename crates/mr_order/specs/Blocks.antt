@@ -1,9 +1,11 @@
--- The parts of which a list of places is made: levels of chunks.
-use Rattle.std.specs.Prelude.{◌≤◌, List, length}
+-- The parts of which a list of places is made: one chunk, or levels of chunks.
+use Rattle.std.specs.Prelude.{◌≡◌, ℕ, ◌<◌, ◌≤◌, ◌^◌, List, length}
 use Rattle.std.specs.Global.{Vec}
-use Rattle.std.specs.List.{flat_map}
-use Rattle.mr_order.specs.Parts.{IsLevel}
+use Rattle.std.specs.List.{All, flat_map}
+use Rattle.mr_order.specs.Parts.{IsLevel, IsSound}
 use Rattle.mr_order.specs.declared.level.Level.{Level}
+use Rattle.mr_order.specs.declared.root.Root.{Root}
+use Rattle.mr_order.specs.declared.root.Root.TheVariants.{Chunk, Blocks}
 
 module _ {A : Type 0} where
   -- the items of a chunk, and how many it may have
@@ -28,3 +30,23 @@ module _ {A : Type 0} where
 
   abbrev pub IsBlock : Level (Level (Level (Vec A))) → Type 0
   IsBlock = IsKeptLevel (level_items (level_items chunk_items)) (IsKeptLevel (level_items chunk_items) (IsKeptLevel chunk_items IsChunk))
+
+  -- the same of all that a list is made of
+  abbrev pub root_items : Root A → List A
+  root_items (Chunk chunk) = chunk.items
+  root_items (Blocks blocks) = flat_map block_items blocks.items
+
+  abbrev pub IsKeptRoot : Root A → Type 0
+  IsKeptRoot (Chunk chunk) = IsChunk chunk
+  IsKeptRoot (Blocks blocks) = All (IsSound block_items IsBlock) blocks.items
+
+  -- a further item needs no other chunk at once, or finds blocks
+  abbrev pub HasRoom : Root A → Type 0
+  HasRoom (Chunk chunk) = length chunk.items < 64
+  HasRoom (Blocks blocks) = Unit {0}
+
+  -- what a list is made of, and how many items it has
+  pub record IsRoot (root : Root A) (len : ℕ) : Type 0 where
+    pub kept : IsKeptRoot root
+    pub counted : len ≡ length (root_items root)
+    pub small : len ≤ 2 ^ 62

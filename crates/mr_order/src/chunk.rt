@@ -24,7 +24,7 @@ impl<T: Ord + Drop> Part for Vec<T> {
     ghost fits = { λ c next. nat_le (length c.items + length next.items) 32 };
 
     fn one(alloc: Global, item: T) -> Result<Self, AllocError> {
-        let mut chunk = Vec::with_capacity(alloc, 1)?;
+        let mut chunk = Vec::new(alloc);
         chunk.push(item)?;
         Ok(chunk)
     }

@@ -44,7 +44,7 @@ fn has_room_behind<P: Part>(parts: &[P]) -> bool
     }
 }
 
-// Puts an item behind all others, in a part of its own. The first part takes memory for itself alone: most lists are small.
+// Puts an item behind all others, in a part of its own.
 fn push_one<P: Part>(parts: &mut Vec<P>, item: P::Item) -> Result<(), AllocError>
     requires { All (IsSound P.items P.is_kept) parts.old.items }
     ensures sound { All (IsSound P.items P.is_kept) parts.new.items }
@@ -54,9 +54,6 @@ fn push_one<P: Part>(parts: &mut Vec<P>, item: P::Item) -> Result<(), AllocError
 {
     let alloc = *parts.allocator();
     let part = P::one(alloc, item)?;
-    if parts.is_empty() {
-        parts.reserve_exact(1)?;
-    }
     parts.push(part)?;
     Ok(())
 }

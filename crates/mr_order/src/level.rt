@@ -1,7 +1,8 @@
 // A part of smaller parts.
-ghost use Rattle.std.specs.Prelude.{◌&&◌, ◌+◌, ◌^◌, length, nat_le};
+ghost use Rattle.std.specs.Prelude.{◌&&◌, ◌≡◌, ◌+◌, ◌<◌, ◌^◌, [], length, nat_le, vec_capacity, vec_len};
 ghost use Rattle.std.specs.List.{flat_map};
-ghost use Rattle.mr_order.specs.Parts.{IsLevel};
+ghost use Rattle.mr_order.specs.Blocks.{level_items, IsKeptLevel};
+ghost use Rattle.mr_order.specs.Parts.{IsLevel, IsSound};
 
 use crate::descent::{put_into, take_out};
 use crate::grow::insert_into;
@@ -10,7 +11,7 @@ use crate::part::Part;
 use crate::parts::{item, run_from, run_to, search, total};
 use crate::query::{Query, Steps};
 use crate::replace::set;
-use crate::shrink::remove_from;
+use crate::shrink::{put_back, remove_from};
 use std::alloc::{AllocError, Global};
 
 // A level has no more parts.
@@ -27,6 +28,22 @@ pub(crate) const MOST: usize = 1 << 62;
 pub(crate) struct Level<P> {
     parts: Vec<P>,
     len: usize,
+}
+
+impl<P: Part> Level<P> {
+    /// A level of one part, in memory that is there.
+    pub(crate) fn of(room: Vec<P>, part: P) -> Self
+        requires empty { room.items ≡ [] }
+        requires room { vec_len room < vec_capacity room }
+        requires sound { IsSound P.items P.is_kept part }
+        ensures sound { IsSound (level_items P.items) (IsKeptLevel P.items P.is_kept) result }
+        ensures same { level_items P.items result ≡ P.items part }
+    {
+        let len = part.len();
+        let mut parts = room;
+        put_back(&mut parts, 0, part);
+        Level { parts, len }
+    }
 }
 
 impl<P: Part> Part for Level<P> {

@@ -17,6 +17,7 @@ mod parts;
 mod places;
 mod query;
 mod replace;
+mod root;
 mod seek;
 mod shrink;
 

@@ -5,40 +5,36 @@ ghost use Rattle.mr_order.specs.Changes.{IsFound, IsPut, IsTaken};
 ghost use Rattle.mr_order.specs.Runs.{IsIn};
 ghost use Rattle.mr_order.specs.Standing.{IsDivided, IsPlaceOf, Tells};
 
-use crate::descent::{put_into, take_out};
+use crate::descent::put_into;
 use crate::grow::insert_into;
 use crate::iter::Iter;
-use crate::level::{Level, MOST};
+use crate::level::MOST;
 use crate::locate::{get, locate};
 use crate::part::Part;
 use crate::parts;
 use crate::query::{Query, Steps};
 use crate::replace::set;
+use crate::root::{Root, make_room, take_from};
 use crate::shrink::remove_from;
 use std::alloc::{AllocError, Global};
 use std::marker::Model;
 
-// Three levels of chunks, some million items: what is above them is gone through part by part.
-type Block<T> = Level<Level<Level<Vec<T>>>>;
-
 /// A list of items. An item is found by its place, put in and taken without a walk over all items.
 #[derive(Drop)]
 pub struct Places<T: Ord + Drop> {
-    parts: Vec<Block<T>>,
+    root: Root<T>,
     len: usize,
 }
 
 impl<T: Ord + Drop> Model for Places<T> {
     ghost use Rattle.std.specs.Prelude.{List};
-    ghost use Rattle.std.specs.List.{flat_map};
-    ghost use Rattle.mr_order.specs.Blocks.{block_items, IsBlock};
-    ghost use Rattle.mr_order.specs.Parts.{AreCounted};
+    ghost use Rattle.mr_order.specs.Blocks.{root_items, IsRoot};
 
     ghost Value = { List T };
 
-    ghost view = { λ p. flat_map block_items p.parts.items };
+    ghost view = { λ p. root_items p.root };
 
-    ghost invariant = { λ p. AreCounted block_items IsBlock p.parts.items p.len };
+    ghost invariant = { λ p. IsRoot p.root p.len };
 }
 
 impl<T: Ord + Drop> Places<T> {
@@ -47,7 +43,7 @@ impl<T: Ord + Drop> Places<T> {
         ensures { result ≡ [] }
     {
         Places {
-            parts: Vec::new(alloc),
+            root: Root::Chunk(Vec::new(alloc)),
             len: 0,
         }
     }
@@ -72,7 +68,10 @@ impl<T: Ord + Drop> Places<T> {
         requires { at < length self.now }
         ensures { result.now ≡ slice_index_or self.now at result.now }
     {
-        parts::item(&self.parts, at)
+        match &self.root {
+            Root::Chunk(chunk) => &chunk[at],
+            Root::Blocks(blocks) => parts::item(blocks, at),
+        }
     }
 
     /// Puts an item where it stands at a place. Where memory runs out, the list is as it was.
@@ -84,7 +83,11 @@ impl<T: Ord + Drop> Places<T> {
         if self.len == MOST {
             return Err(AllocError);
         }
-        insert_into(&mut self.parts, self.len, at, item)?;
+        make_room(&mut self.root)?;
+        match &mut self.root {
+            Root::Chunk(chunk) => Part::insert(chunk, at, item)?,
+            Root::Blocks(blocks) => insert_into(blocks, self.len, at, item)?,
+        }
         self.len += 1;
         Ok(())
     }
@@ -99,12 +102,15 @@ impl<T: Ord + Drop> Places<T> {
         if self.len == MOST {
             return Err(AllocError);
         }
-        if put_into(&mut self.parts, self.len, item)? {
+        make_room(&mut self.root)?;
+        let added = match &mut self.root {
+            Root::Chunk(chunk) => chunk.put(item)?,
+            Root::Blocks(blocks) => put_into(blocks, self.len, item)?,
+        };
+        if added {
             self.len += 1;
-            Ok(true)
-        } else {
-            Ok(false)
         }
+        Ok(added)
     }
 
     /// Puts an item in the place of another. It takes no memory.
@@ -112,7 +118,10 @@ impl<T: Ord + Drop> Places<T> {
         requires { at < length self.old }
         ensures { self.new ≡ set self.old at item }
     {
-        set(&mut self.parts, at, item);
+        match &mut self.root {
+            Root::Chunk(chunk) => chunk[at] = item,
+            Root::Blocks(blocks) => set(blocks, at, item),
+        }
     }
 
     /// Takes the item from a place.
@@ -121,7 +130,10 @@ impl<T: Ord + Drop> Places<T> {
         ensures removed { self.new ≡ remove self.old at }
         ensures value { result ≡ slice_index_or self.old at result }
     {
-        let item = remove_from(&mut self.parts, at);
+        let item = match &mut self.root {
+            Root::Chunk(chunk) => Vec::remove(chunk, at),
+            Root::Blocks(blocks) => remove_from(blocks, at),
+        };
         self.len -= 1;
         item
     }
@@ -131,7 +143,7 @@ impl<T: Ord + Drop> Places<T> {
         requires { IsDivided (Q.compare query) self.old }
         ensures { IsTaken (Q.compare query) self.old result self.new }
     {
-        let item = take_out(&mut self.parts, query)?;
+        let item = take_from(&mut self.root, query)?;
         self.len -= 1;
         Some(item)
     }
@@ -140,7 +152,10 @@ impl<T: Ord + Drop> Places<T> {
     pub fn clear(&mut self)
         ensures { self.new ≡ [] }
     {
-        self.parts.clear();
+        match &mut self.root {
+            Root::Chunk(chunk) => chunk.clear(),
+            Root::Blocks(blocks) => blocks.clear(),
+        }
         self.len = 0;
     }
 
@@ -152,7 +167,10 @@ impl<T: Ord + Drop> Places<T> {
         ensures steps { (digits : ℕ) → length self.now < 2 ^ digits → steps.new.count ≤ steps.old.count + digits }
         ensures rising { steps.old.count ≤ steps.new.count }
     {
-        parts::search(&self.parts, query, 0, self.len, steps)
+        match &self.root {
+            Root::Chunk(chunk) => chunk.search(query, 0, self.len, steps),
+            Root::Blocks(blocks) => parts::search(blocks, query, 0, self.len, steps),
+        }
     }
 
     /// The same place, found the quickest way: chunks are told apart by their first items, and only what stands in front of
@@ -161,7 +179,10 @@ impl<T: Ord + Drop> Places<T> {
         requires { IsDivided (Q.compare query) self.now }
         ensures { IsPlaceOf (Q.compare query) self.now result }
     {
-        locate(&self.parts, query)
+        match &self.root {
+            Root::Chunk(chunk) => chunk.locate(query),
+            Root::Blocks(blocks) => locate(blocks, query),
+        }
     }
 
     /// The item to which a query is equal, if there is one. It is found as `locate` finds it, and nothing is counted.
@@ -169,7 +190,10 @@ impl<T: Ord + Drop> Places<T> {
         requires { IsDivided (Q.compare query) self.now }
         ensures { IsFound (Q.compare query) self.now (option_copied result) }
     {
-        get(&self.parts, query)
+        match &self.root {
+            Root::Chunk(chunk) => Part::get(chunk, query),
+            Root::Blocks(blocks) => get(blocks, query),
+        }
     }
 
     /// Whether a query is equal to an item.
@@ -195,7 +219,10 @@ impl<T: Ord + Drop> Places<T> {
         ensures some { 0 < length result.now }
         ensures run { IsIn self.now result.now at }
     {
-        parts::run_from(&self.parts, at)
+        match &self.root {
+            Root::Chunk(chunk) => chunk.run_from(at),
+            Root::Blocks(blocks) => parts::run_from(blocks, at),
+        }
     }
 
     // Some items in front of a place.
@@ -206,6 +233,9 @@ impl<T: Ord + Drop> Places<T> {
         ensures fits { length result.now ≤ at }
         ensures run { IsIn self.now result.now (at - length result.now) }
     {
-        parts::run_to(&self.parts, at)
+        match &self.root {
+            Root::Chunk(chunk) => chunk.run_to(at),
+            Root::Blocks(blocks) => parts::run_to(blocks, at),
+        }
     }
 }

@@ -88,8 +88,8 @@ fn join_next<P: Part>(parts: &mut Vec<P>, part: usize)
     }
 }
 
-// Puts a part back where one was taken: there is room.
-fn put_back<P: Part>(parts: &mut Vec<P>, part: usize, next: P)
+/// Puts a part where there is room for one.
+pub(crate) fn put_back<P: Part>(parts: &mut Vec<P>, part: usize, next: P)
     requires part { part ≤ length parts.old.items }
     requires room { vec_len parts.old < vec_capacity parts.old }
     ensures { parts.new.items ≡ insert parts.old.items part next }

@@ -1,7 +1,6 @@
-use Rattle.mr_order.specs.Blocks.{block_items, IsBlock}
-use Rattle.mr_order.proofs.Changing.{counted_taken}
+use Rattle.mr_order.proofs.Changing.{root_taken}
 use Rattle.mr_order.proofs.places.Places.take.Goals as goal
 
 pub invariant_of-self-2 : goal.invariant_of-self-2
 invariant_of-self-2 g c =
-    counted_taken (g.Q.Query.compare c.args.query) block_items IsBlock c.self.inside.parts.items c.take_out.new.parts.items c.self.inside.len c.self.invariant c.take_out.ensures.sound c.in_ok-item.item c.in_ok-item.ensures.taken
+    root_taken (g.Q.Query.compare c.args.query) c.self.inside.root c.take_from.new.root c.self.inside.len c.in_ok-item.item c.self.invariant c.take_from.ensures.kept c.in_ok-item.ensures.taken
