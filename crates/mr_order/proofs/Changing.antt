@@ -9,8 +9,6 @@ use Rattle.std.specs.List.{All, flat_map, insert, remove}
 use Rattle.std.specs.List.Sorted.{IsStrictlySortedBy}
 use Rattle.std.proofs.lemmas.List.Concat.{get_or-flat_map}
 use Rattle.std.proofs.lemmas.List.Edits.{length-insert, length-remove}
-use Rattle.mr_order.specs.declared.root.Root.{Root}
-use Rattle.mr_order.specs.Blocks.{root_items, IsKeptRoot, IsRoot}
 use Rattle.mr_order.specs.Changes.{IsFound, IsItemAt, IsPut, IsTaken, left_at, put_at}
 use Rattle.mr_order.specs.Parts.{AreCounted, IsSound}
 use Rattle.mr_order.specs.Standing.{IsBetween, IsPlaceOf, Tells, shifted}
@@ -151,13 +149,6 @@ module _ {P A : Type 0} (compare : A → Ordering) (items : P → List A) (is_ke
     by : (r : Result ℕ ℕ) → IsPlaceOf compare (flat_map items parts) r → IsItemAt r (flat_map items parts) (Some x) → 0 < len
     by (Ok at) stands h = let within = stands.within in omega (arith, c.counted)
     by (Err at) stands h = absurd h
-
--- what a list is made of has one item less where one was taken
-pub root_taken : {A : Type 0} (compare : A → Ordering) (root next : Root A) (len : ℕ) (x : A) → IsRoot root len → IsKeptRoot next → IsTaken compare (root_items root) (Some x) (root_items next) → IsRoot next (len - 1)
-root_taken compare root next len x c kept k = by k.place k.is k.item k.left where
-  by : (r : Result ℕ ℕ) → IsPlaceOf compare (root_items root) r → IsItemAt r (root_items root) (Some x) → root_items next ≡ left_at r (root_items root) → IsRoot next (len - 1)
-  by (Ok at) stands h e = let less = length-remove (root_items root) at stands.within in record { kept = kept; counted = omega (arith, c.counted, ap length e, less); small = omega (arith, c.small) }
-  by (Err at) stands h e = absurd h
 
 -- what is put in order, and what is left in order
 module _ {K : Type 0} (R : K → K → Ordering) (x : K) (xs ys : List K) (b : Bool) (p : IsPut (R x) xs x ys b) where

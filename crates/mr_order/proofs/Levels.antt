@@ -1,5 +1,5 @@
 -- Parts that are counted stay counted.
-use Rattle.std.proofs.Common.{◌≡◌, ℕ, ◌+◌, ◌-◌, ◌/◌, ◌<◌, ◌≤◌, ◌^◌, List, [], ◌∷◌, ◌++◌, length, take, drop, true, false, refl, sym, ap, ◌∙◌, arith, length-append}
+use Rattle.std.proofs.Common.{◌≡◌, ℕ, ◌+◌, ◌-◌, ◌/◌, ◌<◌, ◌≤◌, ◌^◌, List, [], ◌∷◌, ◌++◌, length, take, drop, true, false, sym, ap, ◌∙◌, arith, length-append}
 use Rattle.std.specs.Prelude.{nat_le}
 use Rattle.std.specs.List.{All, flat_map, insert, remove}
 use Rattle.std.proofs.lemmas.Bool.Decides.{nat_tests}
@@ -24,9 +24,6 @@ module _ {P A : Type 0} (items : P → List A) (is_kept : P → Type 0) where
       let here = (All-head (IsSound items is_kept) p ps sound).some in
       let long = length-append (items p) (flat_map items ps) in
       omega arith
-
-  pub counted_none : AreCounted items is_kept [] 0
-  counted_none = record { sound = All-nil (IsSound items is_kept); counted = refl; small = omega arith }
 
   pub level_one : (p : P) (x : A) → is_kept p → items p ≡ x ∷ [] → IsLevel items is_kept (p ∷ []) 1
   level_one p x kept is = record {

@@ -1,5 +1,5 @@
 -- The parts of which a list of places is made: one chunk, or levels of chunks.
-use Rattle.std.specs.Prelude.{◌≡◌, ℕ, ◌<◌, ◌≤◌, ◌^◌, List, length}
+use Rattle.std.specs.Prelude.{◌<◌, ◌≤◌, ◌^◌, List, length}
 use Rattle.std.specs.Global.{Vec}
 use Rattle.std.specs.List.{All, flat_map}
 use Rattle.mr_order.specs.Parts.{IsLevel, IsSound}
@@ -31,22 +31,27 @@ module _ {A : Type 0} where
   abbrev pub IsBlock : Level (Level (Level (Vec A))) → Type 0
   IsBlock = IsKeptLevel (level_items (level_items chunk_items)) (IsKeptLevel (level_items chunk_items) (IsKeptLevel chunk_items IsChunk))
 
-  -- the same of all that a list is made of
+  -- the items of a list, whichever it is made of
   abbrev pub root_items : Root A → List A
-  root_items (Chunk chunk) = chunk.items
+  root_items (Chunk chunk) = chunk_items chunk
   root_items (Blocks blocks) = flat_map block_items blocks.items
 
+  -- what holds of it between two calls
   abbrev pub IsKeptRoot : Root A → Type 0
   IsKeptRoot (Chunk chunk) = IsChunk chunk
   IsKeptRoot (Blocks blocks) = All (IsSound block_items IsBlock) blocks.items
 
-  -- a further item needs no other chunk at once, or finds blocks
+  -- a further item finds a place in the one chunk, or blocks, which make their own room
   abbrev pub HasRoom : Root A → Type 0
   HasRoom (Chunk chunk) = length chunk.items < 64
   HasRoom (Blocks blocks) = Unit {0}
 
-  -- what a list is made of, and how many items it has
-  pub record IsRoot (root : Root A) (len : ℕ) : Type 0 where
+  -- it is one chunk
+  abbrev pub IsSingle : Root A → Type 0
+  IsSingle (Chunk chunk) = Unit {0}
+  IsSingle (Blocks blocks) = ⊥
+
+  -- what a list may be made of
+  pub record IsRoot (root : Root A) : Type 0 where
     pub kept : IsKeptRoot root
-    pub counted : len ≡ length (root_items root)
-    pub small : len ≤ 2 ^ 62
+    pub small : length (root_items root) ≤ 2 ^ 62

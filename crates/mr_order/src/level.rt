@@ -11,7 +11,7 @@ use crate::part::Part;
 use crate::parts::{item, run_from, run_to, search, total};
 use crate::query::{Query, Steps};
 use crate::replace::set;
-use crate::shrink::{put_back, remove_from};
+use crate::shrink::{put_in_room, remove_from};
 use std::alloc::{AllocError, Global};
 
 // A level has no more parts.
@@ -32,16 +32,17 @@ pub(crate) struct Level<P> {
 
 impl<P: Part> Level<P> {
     /// A level of one part, in memory that is there.
-    pub(crate) fn of(room: Vec<P>, part: P) -> Self
-        requires empty { room.items ≡ [] }
-        requires room { vec_len room < vec_capacity room }
+    pub(crate) fn of(parts: Vec<P>, part: P) -> Self
+        requires empty { parts.items ≡ [] }
+        requires capacity { vec_len parts < vec_capacity parts }
         requires sound { IsSound P.items P.is_kept part }
         ensures sound { IsSound (level_items P.items) (IsKeptLevel P.items P.is_kept) result }
         ensures same { level_items P.items result ≡ P.items part }
+        ensures one { length result.parts.items ≡ 1 }
     {
         let len = part.len();
-        let mut parts = room;
-        put_back(&mut parts, 0, part);
+        let mut parts = parts;
+        put_in_room(&mut parts, 0, part);
         Level { parts, len }
     }
 }

@@ -14,7 +14,7 @@ use crate::part::Part;
 use crate::parts;
 use crate::query::{Query, Steps};
 use crate::replace::set;
-use crate::root::{Root, make_room, take_from};
+use crate::root::Root;
 use crate::shrink::remove_from;
 use std::alloc::{AllocError, Global};
 use std::marker::Model;
@@ -23,7 +23,6 @@ use std::marker::Model;
 #[derive(Drop)]
 pub struct Places<T: Ord + Drop> {
     root: Root<T>,
-    len: usize,
 }
 
 impl<T: Ord + Drop> Model for Places<T> {
@@ -34,7 +33,7 @@ impl<T: Ord + Drop> Model for Places<T> {
 
     ghost view = { λ p. root_items p.root };
 
-    ghost invariant = { λ p. IsRoot p.root p.len };
+    ghost invariant = { λ p. IsRoot p.root };
 }
 
 impl<T: Ord + Drop> Places<T> {
@@ -44,7 +43,6 @@ impl<T: Ord + Drop> Places<T> {
     {
         Places {
             root: Root::Chunk(Vec::new(alloc)),
-            len: 0,
         }
     }
 
@@ -53,7 +51,7 @@ impl<T: Ord + Drop> Places<T> {
         ensures len { result ≡ length self.now }
         ensures small { result ≤ 2 ^ 62 }
     {
-        self.len
+        self.root.len()
     }
 
     /// Whether there is no item.
@@ -69,7 +67,7 @@ impl<T: Ord + Drop> Places<T> {
         ensures { result.now ≡ slice_index_or self.now at result.now }
     {
         match &self.root {
-            Root::Chunk(chunk) => &chunk[at],
+            Root::Chunk(chunk) => Part::item(chunk, at),
             Root::Blocks(blocks) => parts::item(blocks, at),
         }
     }
@@ -80,16 +78,15 @@ impl<T: Ord + Drop> Places<T> {
         ensures ok { OnOk result (self.new ≡ insert self.old at item) }
         ensures err { OnErr result (self.new ≡ self.old) }
     {
-        if self.len == MOST {
+        let len = self.len();
+        if len == MOST {
             return Err(AllocError);
         }
-        make_room(&mut self.root)?;
+        self.root.make_room()?;
         match &mut self.root {
-            Root::Chunk(chunk) => Part::insert(chunk, at, item)?,
-            Root::Blocks(blocks) => insert_into(blocks, self.len, at, item)?,
+            Root::Chunk(chunk) => Part::insert(chunk, at, item),
+            Root::Blocks(blocks) => insert_into(blocks, len, at, item),
         }
-        self.len += 1;
-        Ok(())
     }
 
     /// Puts an item where it stands, in a list that it divides, unless an equal one is there, and answers whether it is new.
@@ -99,18 +96,29 @@ impl<T: Ord + Drop> Places<T> {
         ensures ok { IfOk result (λ added. IsPut (T.cmp item) self.old item self.new added) }
         ensures err { OnErr result (self.new ≡ self.old) }
     {
-        if self.len == MOST {
+        let len = self.len();
+        if len == MOST {
             return Err(AllocError);
         }
-        make_room(&mut self.root)?;
-        let added = match &mut self.root {
-            Root::Chunk(chunk) => chunk.put(item)?,
-            Root::Blocks(blocks) => put_into(blocks, self.len, item)?,
-        };
-        if added {
-            self.len += 1;
+        match &mut self.root {
+            Root::Chunk(_) => self.put_by_place(item),
+            Root::Blocks(blocks) => put_into(blocks, len, item),
         }
-        Ok(added)
+    }
+
+    // Puts an item where a search has found its place: one that is there takes no memory.
+    fn put_by_place(&mut self, item: T) -> Result<bool, AllocError>
+        requires { IsDivided (T.cmp item) self.old }
+        ensures ok { IfOk result (λ added. IsPut (T.cmp item) self.old item self.new added) }
+        ensures err { OnErr result (self.new ≡ self.old) }
+    {
+        match self.locate(&item) {
+            Ok(_) => Ok(false),
+            Err(at) => {
+                self.insert(at, item)?;
+                Ok(true)
+            }
+        }
     }
 
     /// Puts an item in the place of another. It takes no memory.
@@ -119,7 +127,7 @@ impl<T: Ord + Drop> Places<T> {
         ensures { self.new ≡ set self.old at item }
     {
         match &mut self.root {
-            Root::Chunk(chunk) => chunk[at] = item,
+            Root::Chunk(chunk) => Part::set(chunk, at, item),
             Root::Blocks(blocks) => set(blocks, at, item),
         }
     }
@@ -130,12 +138,10 @@ impl<T: Ord + Drop> Places<T> {
         ensures removed { self.new ≡ remove self.old at }
         ensures value { result ≡ slice_index_or self.old at result }
     {
-        let item = match &mut self.root {
-            Root::Chunk(chunk) => Vec::remove(chunk, at),
+        match &mut self.root {
+            Root::Chunk(chunk) => Part::remove(chunk, at),
             Root::Blocks(blocks) => remove_from(blocks, at),
-        };
-        self.len -= 1;
-        item
+        }
     }
 
     /// Takes the item to which a query is equal, if there is one, from a list that the query divides.
@@ -143,9 +149,7 @@ impl<T: Ord + Drop> Places<T> {
         requires { IsDivided (Q.compare query) self.old }
         ensures { IsTaken (Q.compare query) self.old result self.new }
     {
-        let item = take_from(&mut self.root, query)?;
-        self.len -= 1;
-        Some(item)
+        self.root.take(query)
     }
 
     /// Takes all items.
@@ -156,7 +160,6 @@ impl<T: Ord + Drop> Places<T> {
             Root::Chunk(chunk) => chunk.clear(),
             Root::Blocks(blocks) => blocks.clear(),
         }
-        self.len = 0;
     }
 
     /// The place of the item to which a query is equal, or else the place where it would stand, in a list that the query
@@ -167,9 +170,10 @@ impl<T: Ord + Drop> Places<T> {
         ensures steps { (digits : ℕ) → length self.now < 2 ^ digits → steps.new.count ≤ steps.old.count + digits }
         ensures rising { steps.old.count ≤ steps.new.count }
     {
+        let len = self.len();
         match &self.root {
-            Root::Chunk(chunk) => chunk.search(query, 0, self.len, steps),
-            Root::Blocks(blocks) => parts::search(blocks, query, 0, self.len, steps),
+            Root::Chunk(chunk) => chunk.search(query, 0, len, steps),
+            Root::Blocks(blocks) => parts::search(blocks, query, 0, len, steps),
         }
     }
 

@@ -84,12 +84,12 @@ fn join_next<P: Part>(parts: &mut Vec<P>, part: usize)
     }
     let next = parts.remove(part + 1);
     if let Err(next) = parts[part].join(next) {
-        put_back(parts, part + 1, next);
+        put_in_room(parts, part + 1, next);
     }
 }
 
 /// Puts a part where there is room for one.
-pub(crate) fn put_back<P: Part>(parts: &mut Vec<P>, part: usize, next: P)
+pub(crate) fn put_in_room<P: Part>(parts: &mut Vec<P>, part: usize, next: P)
     requires part { part ≤ length parts.old.items }
     requires room { vec_len parts.old < vec_capacity parts.old }
     ensures { parts.new.items ≡ insert parts.old.items part next }
