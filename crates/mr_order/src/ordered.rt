@@ -139,7 +139,7 @@ impl<T: Ord + Drop> Ordered<T> {
         }
     }
 
-    /// How many items a query is greater than, found as `locate` finds it.
+    /// The same count as `place`, found as `locate` finds it: it may compare some items more.
     pub fn count_below<Q: Query<T>>(&self, query: Q) -> usize
         ensures within { result ≤ length self.now }
         ensures place { IsPartitionPoint (λ y. Q.compare query y ≡ Greater) (λ y. IsTrue (is_le (Q.compare query y))) self.now result }
