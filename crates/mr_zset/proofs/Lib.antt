@@ -5,3 +5,4 @@ pub mod ScoredLemmas
 pub mod StoredLemmas
 pub mod StoredChanges
 pub mod BoundLemmas
+pub mod NoMember

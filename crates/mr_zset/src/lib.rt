@@ -8,6 +8,7 @@ mod laws;
 mod member_scores;
 mod pair;
 mod query;
+mod ranked;
 mod scored;
 mod scores;
 mod sorted_set;

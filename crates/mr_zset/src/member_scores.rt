@@ -2,6 +2,7 @@
 ghost use Rattle.std.specs.Prelude.{◌≡◌, map};
 ghost use Rattle.std.specs.Iterator.{YieldsFirstBy, item_count};
 ghost use Rattle.mr_map.specs.Bytes.{deref_pair};
+ghost use Rattle.mr_map.specs.Merged.{listed};
 ghost use Rattle.mr_zset.specs.Scored.{named};
 
 use crate::scored::Scored;
@@ -11,21 +12,22 @@ use std::marker::Model;
 /// The members that are still to come with their scores, seen as a list.
 #[derive(Drop)]
 pub struct MemberScores<'a> {
-    inner: Iter<'a, Scored>,
+    inner: Option<Iter<'a, Scored>>,
 }
 
 impl<'a> Model for MemberScores<'a> {
     ghost use Rattle.std.specs.Prelude.{ℕ, ℤ, List, map};
+    ghost use Rattle.mr_map.specs.Merged.{listed};
     ghost use Rattle.mr_zset.specs.Scored.{named};
 
     ghost Value = { List (List ℕ × ℤ) };
 
-    ghost view = { λ a. map named a.inner };
+    ghost view = { λ a. map named (listed a.inner) };
 }
 
 impl<'a> MemberScores<'a> {
-    pub(crate) fn new(inner: Iter<'a, Scored>) -> Self
-        ensures { result ≡ map named inner.entry }
+    pub(crate) fn new(inner: Option<Iter<'a, Scored>>) -> Self
+        ensures { result ≡ map named (listed inner.entry) }
     {
         MemberScores { inner }
     }
@@ -39,8 +41,11 @@ impl<'a> Iterator for MemberScores<'a> {
     ghost remaining = { item_count (λ s. s) };
 
     fn next(&mut self) -> Option<(&'a [u8], &'a i64)> {
-        match self.inner.next() {
-            Some(scored) => Some((scored.member.as_slice(), &scored.score)),
+        match &mut self.inner {
+            Some(inner) => match inner.next() {
+                Some(scored) => Some((scored.member.as_slice(), &scored.score)),
+                None => None,
+            },
             None => None,
         }
     }

@@ -98,7 +98,7 @@ impl Scores {
     pub(crate) fn iter(&self) -> MemberScores<'_>
         ensures { result ≡ finite.entries self.now }
     {
-        MemberScores::new(self.members.range(0, self.members.len()))
+        MemberScores::new(Some(self.members.range(0, self.members.len())))
     }
 }
 

@@ -1,27 +1,23 @@
 // A sorted set.
-ghost use Rattle.std.specs.Prelude.{◌≡◌, ◌==◌, ◌+◌, ◌-◌, ◌<◌, ◌≤◌, ◌^◌, ℕ, IsTrue, OnOk, OnErr, IfOk, IfSome, Some, None, count_by, length, map, option_map, slice_get, slice_range};
+ghost use Rattle.std.specs.Prelude.{◌≡◌, ◌==◌, ◌+◌, ◌-◌, ◌<◌, ◌≤◌, ◌^◌, ℕ, IsTrue, OnOk, OnErr, IfOk, IfSome, count_by, length, map, option_map, slice_get, slice_range};
 ghost use Rattle.std.specs.FinMap as finite;
 ghost use Rattle.mr_score.specs.Score.{is_score};
 ghost use Rattle.mr_zset.specs.Pairs.{pair_lt, pairs_of, rank_of, range_of, shown, without};
 
 use crate::bound::Bound;
-use crate::entry::Entry;
 use crate::member_scores::MemberScores;
 use crate::pair::Pair;
-use crate::scores::Scores;
-use crate::stored::{
-    copied, drop_first, drop_last, pair_at, pairs_between, place_of, places_of, put_in, take_out,
-};
-use mr_order::{Ordered, Steps};
-use mr_value::{Bytes, CompactBytes};
+use crate::ranked::Ranked;
+use mr_order::Steps;
+use mr_value::Bytes;
 use std::alloc::{AllocError, Global};
 use std::marker::Model;
 
-/// A finite map from member to score, beside which the same pairs stand in order, each at its place.
+/// A finite map from member to score, beside which the same pairs stand in order, each at its place. The set itself is a
+/// pointer, and the rest comes with the first member, so that a value which may be one of several kinds is no larger for it.
 pub struct ZSet {
     alloc: Global,
-    scores: Scores,
-    pairs: Ordered<Entry>,
+    ranked: Option<Box<Ranked>>,
 }
 
 // By hand, so that it is one call wherever a value goes (docs/PROVING.md).
@@ -29,8 +25,7 @@ impl Drop for ZSet {
     fn drop(self) {
         let ZSet {
             alloc: _,
-            scores: _,
-            pairs: _,
+            ranked: _,
         } = self;
     }
 }
@@ -40,15 +35,13 @@ impl Model for ZSet {
     ghost use Rattle.std.specs.Prelude.{ℤ};
     ghost use Rattle.std.specs.Coded.{coded_ℕ, coded_ℤ, coded_list};
     ghost use Rattle.mr_map.specs.Bytes.{bytes_cmp};
-    ghost use Rattle.mr_zset.specs.Stored.{AreStored};
+    ghost use Rattle.mr_map.specs.Merged.{held};
 
     ghost Value = { finite.FinMap bytes_cmp ℤ };
 
     ghost coded = { finite.code (coded_list coded_ℕ) coded_ℤ };
 
-    ghost view = { λ a. a.scores };
-
-    ghost invariant = { λ a. AreStored a.scores a.pairs };
+    ghost view = { λ a. held a.ranked };
 }
 
 impl ZSet {
@@ -58,8 +51,7 @@ impl ZSet {
     {
         ZSet {
             alloc,
-            scores: Scores::new(alloc),
-            pairs: Ordered::new(alloc),
+            ranked: None,
         }
     }
 
@@ -68,7 +60,10 @@ impl ZSet {
         ensures len { result ≡ finite.len self.now }
         ensures small { result < 2 ^ 63 }
     {
-        self.scores.len()
+        match &self.ranked {
+            Some(ranked) => ranked.len(),
+            None => 0,
+        }
     }
 
     /// Whether there is no member.
@@ -83,7 +78,10 @@ impl ZSet {
         ensures value { result ≡ finite.get self.now member.now }
         ensures within { IfSome result (λ score. IsTrue (is_score score)) }
     {
-        self.scores.get(member)
+        match &self.ranked {
+            Some(ranked) => ranked.score(member),
+            None => None,
+        }
     }
 
     /// Sets the score of a member, and answers the one before. All memory is taken before the first change: where it
@@ -94,67 +92,13 @@ impl ZSet {
         ensures ok { OnOk result (self.new ≡ finite.insert self.old member.now score) }
         ensures err { OnErr result (self.new ≡ self.old) }
     {
-        let before = self.score(member);
-        match before {
-            Some(before) => self.change(member, before, score)?,
-            None => self.add(member, score)?,
+        if let Some(ranked) = &mut self.ranked {
+            return ranked.put(member, score);
         }
+        let mut ranked = Ranked::new(self.alloc);
+        let before = ranked.put(member, score)?;
+        self.ranked = Some(Box::new(self.alloc, ranked)?);
         Ok(before)
-    }
-
-    // Gives a member that is there another score. The new pair is put in before the first one goes.
-    fn change(&mut self, member: &[u8], before: i64, score: i64) -> Result<(), AllocError>
-        requires there { finite.get self.old member.now ≡ Some before }
-        requires score { IsTrue (is_score score) }
-        ensures ok { OnOk result (self.new ≡ finite.insert self.old member.now score) }
-        ensures err { OnErr result (self.new ≡ self.old) }
-    {
-        if score == before {
-            return Ok(());
-        }
-        let member_copy = CompactBytes::copied(self.alloc, member)?;
-        put_in(
-            &mut self.pairs,
-            Entry {
-                score,
-                member: member_copy,
-            },
-        )?;
-        let taken = take_out(
-            &mut self.pairs,
-            Pair {
-                score: before,
-                member,
-            },
-        );
-        match taken {
-            Some(entry) => self.scores.set(entry.member, score),
-            None => unreachable!(),
-        }
-        Ok(())
-    }
-
-    // Adds a member that isn't there.
-    fn add(&mut self, member: &[u8], score: i64) -> Result<(), AllocError>
-        requires absent { finite.get self.old member.now ≡ None }
-        requires score { IsTrue (is_score score) }
-        ensures ok { OnOk result (self.new ≡ finite.insert self.old member.now score) }
-        ensures err { OnErr result (self.new ≡ self.old) }
-    {
-        let name = CompactBytes::copied(self.alloc, member)?;
-        let member_copy = CompactBytes::copied(self.alloc, member)?;
-        put_in(
-            &mut self.pairs,
-            Entry {
-                score,
-                member: member_copy,
-            },
-        )?;
-        if self.scores.insert(name, score).is_err() {
-            take_out(&mut self.pairs, Pair { score, member });
-            return Err(AllocError);
-        }
-        Ok(())
     }
 
     /// Removes a member, and answers its score.
@@ -162,9 +106,10 @@ impl ZSet {
         ensures before { result ≡ finite.get self.old member.now }
         ensures removed { self.new ≡ finite.remove self.old member.now }
     {
-        let score = self.scores.remove(member)?;
-        take_out(&mut self.pairs, Pair { score, member });
-        Some(score)
+        if let Some(ranked) = &mut self.ranked {
+            return ranked.remove(member);
+        }
+        None
     }
 
     /// The number of lesser pairs, which is the member's place among all pairs in order, counted from 0. It takes no
@@ -185,14 +130,20 @@ impl ZSet {
         ensures count { result ≡ count_by (λ p. pair_lt p (member.now, score)) (finite.entries self.now) }
         ensures steps { (digits : ℕ) → finite.len self.now < 2 ^ digits → steps.new.count ≤ steps.old.count + digits }
     {
-        place_of(&self.pairs, Pair { score, member }, steps)
+        match &self.ranked {
+            Some(ranked) => ranked.place(score, member, steps),
+            None => 0,
+        }
     }
 
     /// The pair at a place in order, counted from 0. It takes no memory.
     pub fn nth(&self, place: usize) -> Option<Pair<'_>>
         ensures { option_map shown result ≡ slice_get (pairs_of self.now) place }
     {
-        pair_at(&self.pairs, place)
+        match &self.ranked {
+            Some(ranked) => ranked.nth(place),
+            None => None,
+        }
     }
 
     /// The pairs from one place to another, both included and counted from 0, in order.
@@ -211,7 +162,10 @@ impl ZSet {
         requires within { past ≤ finite.len self.now }
         ensures { IfOk result (λ pairs. map shown pairs.items ≡ slice_range (pairs_of self.now) first past) }
     {
-        pairs_between(self.alloc, &self.pairs, first, past)
+        match &self.ranked {
+            Some(ranked) => ranked.between(first, past),
+            None => Ok(Vec::new(self.alloc)),
+        }
     }
 
     /// The pairs whose scores are within two bounds, in order.
@@ -229,7 +183,10 @@ impl ZSet {
         ensures within { result.1 ≤ finite.len self.now }
         ensures range { range_of from to self.now ≡ slice_range (pairs_of self.now) result.0 result.1 }
     {
-        places_of(&self.pairs, from, to)
+        match &self.ranked {
+            Some(ranked) => ranked.places(from, to),
+            None => (0, 0),
+        }
     }
 
     /// How many scores are within two bounds. It takes no memory.
@@ -246,7 +203,10 @@ impl ZSet {
     pub fn iter(&self) -> MemberScores<'_>
         ensures { result ≡ finite.entries self.now }
     {
-        self.scores.iter()
+        match &self.ranked {
+            Some(ranked) => ranked.iter(),
+            None => MemberScores::new(None),
+        }
     }
 
     /// Removes the first pair in order, and answers it. Where memory runs out, the set is as it was.
@@ -255,10 +215,10 @@ impl ZSet {
         ensures ok { IfOk result (λ popped. self.new ≡ without popped self.old) }
         ensures err { OnErr result (self.new ≡ self.old) }
     {
-        let popped = copied(self.alloc, self.pairs.first())?;
-        drop_first(&mut self.pairs);
-        forget(&mut self.scores, &popped);
-        Ok(popped)
+        if let Some(ranked) = &mut self.ranked {
+            return ranked.pop_min();
+        }
+        Ok(None)
     }
 
     /// Removes the last pair in order, and answers it. Where memory runs out, the set is as it was.
@@ -267,18 +227,9 @@ impl ZSet {
         ensures ok { IfOk result (λ popped. self.new ≡ without popped self.old) }
         ensures err { OnErr result (self.new ≡ self.old) }
     {
-        let popped = copied(self.alloc, self.pairs.last())?;
-        drop_last(&mut self.pairs);
-        forget(&mut self.scores, &popped);
-        Ok(popped)
-    }
-}
-
-// Takes out of a map what it says of the member of a pair.
-fn forget(scores: &mut Scores, popped: &Option<(Bytes, i64)>)
-    ensures { scores.new ≡ without popped.now scores.old }
-{
-    if let Some((member, _)) = popped {
-        scores.remove(member.as_slice());
+        if let Some(ranked) = &mut self.ranked {
+            return ranked.pop_max();
+        }
+        Ok(None)
     }
 }

@@ -1,6 +1,8 @@
-use Rattle.std.proofs.Common.{arith}
-use Rattle.mr_zset.proofs.StoredChanges.{stored_len}
+use Rattle.std.proofs.Common.{◌∙◌, ap, map}
+use Rattle.std.specs.Prelude.{slice_range}
+use Rattle.mr_zset.specs.Pairs.{shown}
+use Rattle.mr_zset.proofs.NoMember.{no_pairs, no_part}
 use Rattle.mr_zset.proofs.sorted_set.ZSet.between.Goals as goal
 
-pub pairs_between-requires-clause-within : goal.pairs_between-requires-clause-within
-pairs_between-requires-clause-within c = omega (arith, c.requires.within, stored_len c.self.inside.scores c.args.self.now c.self.inside.pairs c.self.invariant c.self.view_is)
+pub returns-in-None : goal.returns-in-None
+returns-in-None c = ap (map shown) c.«new».ensures.items ∙ no_part c.args.first c.args.past ∙ ap (λ l. slice_range l c.args.first c.args.past) (no_pairs c.self.inside.ranked c.args.self.now c.self.view_is c.in-None.is)

@@ -1,6 +1,8 @@
-use Rattle.std.proofs.Common.{arith}
-use Rattle.mr_zset.proofs.StoredChanges.{stored_len}
+use Rattle.std.proofs.Common.{sym, ap}
+use Rattle.std.specs.Prelude.{filter}
+use Rattle.mr_zset.specs.Bounds.{is_within}
+use Rattle.mr_zset.proofs.NoMember.{no_pairs}
 use Rattle.mr_zset.proofs.sorted_set.ZSet.places.Goals as goal
 
-pub returns-clause-within : goal.returns-clause-within
-returns-clause-within c = omega (arith, c.places_of.ensures.within, stored_len c.self.inside.scores c.args.self.now c.self.inside.pairs c.self.invariant c.self.view_is)
+pub returns-in-None-clause-range : goal.returns-in-None-clause-range
+returns-in-None-clause-range c = sym (ap (filter (λ p. is_within c.args.from c.args.to p.1)) (no_pairs c.self.inside.ranked c.args.self.now c.self.view_is c.in-None.is))

@@ -1,15 +1,9 @@
-use Rattle.std.proofs.Common.{◌≡◌, ◌∙◌, sym, map, rules, arith}
-use Rattle.std.specs.Prelude.{filter}
-use Rattle.std.proofs.lemmas.Grind.{common_steps}
-use Rattle.mr_zset.specs.Pairs.{is_other}
-use Rattle.mr_zset.specs.Stored.{stored}
-use Rattle.mr_zset.proofs.StoredChanges.{AreStored-absent, AreStored-removed}
+use Rattle.std.proofs.Common.{◌∙◌}
+use Rattle.mr_map.proofs.Parted.{none_got, none_removed}
 use Rattle.mr_zset.proofs.sorted_set.ZSet.remove.Goals as goal
 
-pub invariant_of-self : goal.invariant_of-self
-invariant_of-self c = AreStored-absent c.self.inside.scores c.remove.new.self c.self.inside.pairs c.self.invariant c.args.member.now (sym c.remove.ensures.before ∙ c.in_err-score.was) c.remove.ensures.removed
+pub returns-clause-before : goal.returns-clause-before
+returns-clause-before c = none_got c.self.inside.ranked c.args.self.now c.self.view_is c.in_default.is c.args.member.now
 
-pub invariant_of-self-2 : goal.invariant_of-self-2
-invariant_of-self-2 c =
-    let out : map stored c.take_out.new.pairs ≡ filter (is_other (c.args.member.now, c.in_ok-score.score)) (map stored c.self.inside.pairs) = first_of (search rules, grind (arith, common_steps)) in
-    AreStored-removed c.self.inside.scores c.remove.new.self c.self.inside.pairs c.self.invariant c.args.member.now c.in_ok-score.score c.take_out.new.pairs (sym c.remove.ensures.before ∙ c.in_ok-score.was) c.remove.ensures.removed out
+pub returns-clause-removed : goal.returns-clause-removed
+returns-clause-removed c = c.self.view_is ∙ none_removed c.self.inside.ranked c.args.self.now c.self.view_is c.in_default.is c.args.member.now

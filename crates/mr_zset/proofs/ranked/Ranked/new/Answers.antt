@@ -1,5 +1,5 @@
 use Rattle.mr_zset.proofs.StoredChanges.{AreStored-empty}
-use Rattle.mr_zset.proofs.sorted_set.ZSet.new.Goals as goal
+use Rattle.mr_zset.proofs.ranked.Ranked.new.Goals as goal
 
 pub invariant_of-result : goal.invariant_of-result
 invariant_of-result c = AreStored-empty _ _ c.«new».ensures c.new-2.ensures

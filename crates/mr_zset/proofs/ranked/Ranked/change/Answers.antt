@@ -9,7 +9,7 @@ use Rattle.std.proofs.lemmas.Int.{to_z-of_z}
 use Rattle.mr_zset.specs.Pairs.{is_other, pair_cmp}
 use Rattle.mr_zset.specs.Stored.{stored}
 use Rattle.mr_zset.proofs.StoredChanges.{AreStored-moved, insert_same, pair_there}
-use Rattle.mr_zset.proofs.sorted_set.ZSet.change.Goals as goal
+use Rattle.mr_zset.proofs.ranked.Ranked.change.Goals as goal
 
 pub returns-then-score-before-clause-ok : goal.returns-then-score-before-clause-ok
 returns-then-score-before-clause-ok c =

@@ -8,7 +8,7 @@ use Rattle.std.proofs.lemmas.Int.{to_z-of_z}
 use Rattle.mr_zset.specs.Pairs.{is_other, pair_cmp}
 use Rattle.mr_zset.specs.Stored.{stored}
 use Rattle.mr_zset.proofs.StoredChanges.{AreStored-added, AreStored-back, failed, succeeded}
-use Rattle.mr_zset.proofs.sorted_set.ZSet.add.Goals as goal
+use Rattle.mr_zset.proofs.ranked.Ranked.add.Goals as goal
 
 pub invariant_of-self-then-is_err : goal.invariant_of-self-then-is_err
 invariant_of-self-then-is_err c =
