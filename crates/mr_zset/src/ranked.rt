@@ -1,4 +1,4 @@
-// The pairs of a sorted set with a member at least, twice.
+// What a sorted set holds once it has a member: its pairs, twice.
 ghost use Rattle.std.specs.Prelude.{◌≡◌, ◌==◌, ◌+◌, ◌-◌, ◌<◌, ◌≤◌, ◌^◌, ℕ, IsTrue, OnOk, OnErr, IfOk, IfSome, Some, None, count_by, length, map, option_map, slice_get, slice_range};
 ghost use Rattle.std.specs.FinMap as finite;
 ghost use Rattle.mr_score.specs.Score.{is_score};
