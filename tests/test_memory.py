@@ -124,7 +124,8 @@ class Memory(unittest.TestCase):
 
     def test_replies_of_what_outgrows_one_chunk_are_too(self):
         names = ["%02d" % it for it in range(66)]
-        rows = [("SADD s " + " ".join(names), number(66)), ("ZADD z " + " ".join(f"{name} {name}" for name in names), number(66)), ("SCARD s", number(66)), ("ZRANK z 65", number(65))]
+        pairs = " ".join(f"{score} {name}" for score, name in enumerate(names))
+        rows = [("SADD s " + " ".join(names), number(66)), ("ZADD z " + pairs, number(66)), ("SCARD s", number(66)), ("ZRANK z 65", number(65))]
         self.beginnings(asked(line for line, _ in rows), b"".join(reply for _, reply in rows))
 
     def test_a_file_has_what_was_answered_and_at_most_what_comes_next(self):
