@@ -1,0 +1,6 @@
+//! Bytes that come and are used in order: what was fed to a link and is unread, what waits to be sent.
+#![tactic(auto)]
+
+mod buffer;
+
+pub use buffer::Buffer;

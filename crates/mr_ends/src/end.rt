@@ -1,0 +1,192 @@
+// A node's end of a link.
+ghost use Rattle.std.specs.Prelude.{◌≡◌, ◌≤◌, ◌↔◌, ℕ, List, [], true, IsTrue, length, Some, OnOk, OnErr};
+ghost use Rattle.mr_ends.specs.State.{EndState, serves, streams, unread_in, full};
+ghost use Rattle.mr_ends.specs.State.EndState.{client, replica, upstream, shut};
+ghost use Rattle.mr_ends.specs.Ending.{kind_of, HasUnread, Takes, AgreesAt, IsRoom, used_of, heard_of};
+
+use crate::introduction::Introduction;
+use crate::kind::Kind;
+use mr_buffer::Buffer;
+use mr_resp::Progress;
+use std::alloc::{AllocError, Global};
+use std::marker::Model;
+
+/// The most unread bytes of an end that the node serves.
+const FULL: usize = 33_554_432;
+
+/// Whose it is, what was fed there and not used, how far the reader has gone over it, and what a replica told of itself.
+#[derive(Drop)]
+pub struct End {
+    kind: Kind,
+    unread: Buffer,
+    progress: Progress,
+    introduction: Introduction,
+    acknowledged: i64,
+}
+
+impl Model for End {
+    ghost use Rattle.mr_ends.specs.State.{EndState, end_code};
+    ghost use Rattle.mr_ends.specs.Ending.{end_as};
+    ghost use Rattle.mr_ends.specs.Progresses.{Fits};
+
+    ghost Value = { EndState };
+
+    ghost coded = { end_code };
+
+    ghost view = { λ e. end_as e.kind e.unread };
+
+    ghost invariant = { λ e. Fits e.unread e.progress };
+}
+
+// What is asked of it.
+impl End {
+    /// Whose it is.
+    pub fn kind(&self) -> Kind
+        ensures { result ≡ kind_of self.now }
+    {
+        self.kind
+    }
+
+    /// Whether the node serves it: it is a client's or a replica's, and open.
+    pub fn serves(&self) -> bool
+        ensures { result ≡ serves self.now }
+    {
+        match self.kind {
+            Kind::Client | Kind::Replica => true,
+            Kind::Upstream | Kind::Shut => false,
+        }
+    }
+
+    /// Whether the stream is sent there.
+    pub fn streams(&self) -> bool
+        ensures { result ≡ streams (Some self.now) }
+    {
+        match self.kind {
+            Kind::Replica => true,
+            Kind::Client | Kind::Upstream | Kind::Shut => false,
+        }
+    }
+
+    /// The bytes that were fed and not used.
+    pub fn unread(&self) -> &[u8]
+        requires { serves self.now ≡ true }
+        ensures { unread_in self.now ≡ result.now }
+    {
+        self.unread.left()
+    }
+
+    /// How far the reader has gone over the unread bytes.
+    pub fn progress(&self) -> Progress
+        requires { serves self.now ≡ true }
+        ensures { AgreesAt result self.now }
+    {
+        self.progress
+    }
+
+    /// How many bytes may come.
+    pub fn room(&self) -> usize
+        requires { serves self.now ≡ true }
+        ensures { IsRoom result self.now }
+    {
+        FULL - self.unread.len()
+    }
+
+    /// What it said of itself by REPLCONF.
+    pub fn introduction(&self) -> &Introduction {
+        &self.introduction
+    }
+
+    /// The offset that it acknowledged last, 0 before it did.
+    pub fn acknowledged(&self) -> i64 {
+        self.acknowledged
+    }
+}
+
+// What becomes of it.
+impl End {
+    #[tactic(auto, using(crate::proofs::Progressing::fresh_along))]
+    fn of(alloc: Global, kind: Kind) -> End
+        ensures client { kind ≡ Kind.Client → result ≡ client [] }
+        ensures upstream { kind ≡ Kind.Upstream → result ≡ upstream }
+    {
+        End {
+            kind,
+            unread: Buffer::new(alloc),
+            progress: Progress::new(),
+            introduction: Introduction::none(),
+            acknowledged: 0,
+        }
+    }
+
+    pub(crate) fn client(alloc: Global) -> End
+        ensures { result ≡ client [] }
+    {
+        End::of(alloc, Kind::Client)
+    }
+
+    pub(crate) fn upstream(alloc: Global) -> End
+        ensures { result ≡ upstream }
+    {
+        End::of(alloc, Kind::Upstream)
+    }
+
+    /// Keeps how far the reader has gone.
+    pub(crate) fn keep(&mut self, progress: Progress)
+        requires { AgreesAt progress self.old }
+        ensures { self.new ≡ self.old }
+    {
+        self.progress = progress;
+    }
+
+    /// Uses so many of the unread bytes.
+    #[tactic(auto, using(crate::proofs::Progressing::fresh_along))]
+    pub(crate) fn take(&mut self, count: usize)
+        requires { HasUnread count self.old }
+        ensures { self.new ≡ used_of count self.old }
+    {
+        self.unread.take(count);
+        self.progress = Progress::new();
+    }
+
+    /// Puts bytes behind the unread ones.
+    pub(crate) fn hear(&mut self, bytes: &[u8]) -> Result<(), AllocError>
+        requires { Takes (length bytes.now) self.old }
+        ensures ok { OnOk result (self.new ≡ heard_of bytes.now self.old) }
+        ensures err { OnErr result (self.new ≡ self.old) }
+    {
+        self.unread.push(bytes)?;
+        Ok(())
+    }
+
+    /// A client's becomes a replica's.
+    pub(crate) fn turn(&mut self)
+        ensures { (unread : List ℕ) → self.old ≡ client unread → self.new ≡ replica unread }
+    {
+        self.kind = Kind::Replica;
+    }
+
+    /// Closes it. What was fed goes, with its memory.
+    #[tactic(auto, using(crate::proofs::Progressing::fresh_along))]
+    pub(crate) fn shut(&mut self)
+        ensures { self.new ≡ shut }
+    {
+        self.kind = Kind::Shut;
+        self.unread.release();
+        self.progress = Progress::new();
+        self.introduction = Introduction::none();
+    }
+
+    /// It said this of itself.
+    pub(crate) fn introduce(&mut self, introduction: Introduction)
+        ensures { self.new ≡ self.old }
+    {
+        self.introduction.renew(introduction);
+    }
+
+    /// It acknowledged this offset.
+    pub(crate) fn acknowledge(&mut self, offset: i64)
+        ensures { self.new ≡ self.old }
+    {
+        self.acknowledged = offset;
+    }
+}

@@ -1,0 +1,227 @@
+ghost use Rattle.std.specs.Prelude.{◌≡◌, ◌<◌, ◌^◌, None, Some, [], length, false, IfOk, not, filter, OnOk, OnErr, IsSome, option_copied};
+ghost use Rattle.std.specs.FinMap as map;
+ghost use Rattle.std.specs.Ordering.{eq_by_cmp};
+ghost use Rattle.mr_links.specs.LinkId.{id_cmp};
+ghost use Rattle.mr_ends.specs.State.{end_at, put_end, without, opened_as, streams};
+ghost use Rattle.mr_ends.specs.State.EndState.{client, upstream, shut};
+ghost use Rattle.mr_ends.specs.Replicas.{Lists, ShutsReplicas};
+ghost use Rattle.mr_ends.specs.Parts.{HasAhead, HasRoom, KeepsOn, IsClient, UsesAt, HearsAt, TurnsAt};
+
+use crate::end::End;
+use crate::introduction::Introduction;
+use crate::shutting::shut_all;
+use mr_links::{LinkId, Links};
+use mr_resp::Progress;
+use std::alloc::{AllocError, Global};
+use std::marker::Model;
+
+/// The ends of a node's links by their names. Beside them stand the names of the replicas', so that what is sent to these costs
+/// nothing more with more clients.
+#[derive(Drop)]
+pub struct Ends {
+    alloc: Global,
+    links: Links<End>,
+    replicas: Vec<LinkId>,
+}
+
+impl Model for Ends {
+    ghost use Rattle.mr_links.specs.Links.{Links, links_code};
+    ghost use Rattle.mr_ends.specs.State.{EndState, end_code};
+    ghost use Rattle.mr_ends.specs.Replicas.{Lists};
+
+    ghost Value = { Links EndState };
+
+    ghost coded = { links_code end_code };
+
+    ghost view = { λ e. e.links };
+
+    ghost invariant = { λ e. Lists e.replicas.items e.links.open_links };
+}
+
+// What is asked of them.
+impl Ends {
+    /// No ends.
+    pub fn new(alloc: Global) -> Ends
+        ensures none { result.open_links ≡ map.empty }
+        ensures opened { result.opened ≡ 0 }
+    {
+        Ends {
+            alloc,
+            links: Links::new(alloc),
+            replicas: Vec::new(alloc),
+        }
+    }
+
+    /// How many ends were ever opened.
+    pub fn opened(&self) -> u64
+        ensures { result ≡ self.now.opened }
+    {
+        self.links.opened()
+    }
+
+    /// The end of this name, if it is there.
+    pub fn get(&self, link: LinkId) -> Option<&End>
+        ensures { option_copied result ≡ end_at self.now link }
+    {
+        self.links.get(link)
+    }
+
+    /// The names of the ends that the stream is sent to, in the order in which they became replicas'.
+    pub fn replicas(&self) -> &[LinkId]
+        ensures { Lists result.now self.now.open_links }
+    {
+        self.replicas.as_slice()
+    }
+}
+
+// What becomes of one.
+impl Ends {
+    fn insert(&mut self, end: End) -> Result<LinkId, AllocError>
+        requires few { self.old.opened < 2 ^ 62 }
+        requires quiet { streams (Some end) ≡ false }
+        ensures fresh { IfOk result (λ id. end_at self.old id ≡ None) }
+        ensures generation { IfOk result (λ id. id.generation ≡ self.old.opened) }
+        ensures opens { IfOk result (λ id. self.new ≡ opened_as self.old id end) }
+        ensures err { OnErr result (self.new ≡ self.old) }
+    {
+        let Ok(link) = self.links.insert(end) else {
+            return Err(AllocError);
+        };
+        Ok(link)
+    }
+
+    /// Opens a client's end under a new name. Where memory is lacking nothing has changed.
+    pub fn open(&mut self) -> Result<LinkId, AllocError>
+        requires { self.old.opened < 2 ^ 62 }
+        ensures fresh { IfOk result (λ id. end_at self.old id ≡ None) }
+        ensures generation { IfOk result (λ id. id.generation ≡ self.old.opened) }
+        ensures opens { IfOk result (λ id. self.new ≡ opened_as self.old id (client [])) }
+        ensures err { OnErr result (self.new ≡ self.old) }
+    {
+        self.insert(End::client(self.alloc))
+    }
+
+    /// Opens the end of a link to a master under a new name. Where memory is lacking nothing has changed.
+    pub fn dial(&mut self) -> Result<LinkId, AllocError>
+        requires { self.old.opened < 2 ^ 62 }
+        ensures fresh { IfOk result (λ id. end_at self.old id ≡ None) }
+        ensures generation { IfOk result (λ id. id.generation ≡ self.old.opened) }
+        ensures opens { IfOk result (λ id. self.new ≡ opened_as self.old id upstream) }
+        ensures err { OnErr result (self.new ≡ self.old) }
+    {
+        self.insert(End::upstream(self.alloc))
+    }
+
+    /// Puts bytes behind the unread ones.
+    pub fn hear(&mut self, link: LinkId, bytes: &[u8]) -> Result<(), AllocError>
+        requires { HasRoom self.old link (length bytes.now) }
+        ensures ok { OnOk result (HearsAt self.old link bytes.now self.new) }
+        ensures err { OnErr result (self.new ≡ self.old) }
+    {
+        let Some(end) = self.links.get_mut(link) else {
+            unreachable!()
+        };
+        end.hear(bytes)?;
+        Ok(())
+    }
+
+    /// Keeps how far the reader has gone over the unread bytes.
+    pub fn keep(&mut self, link: LinkId, progress: Progress)
+        requires { KeepsOn self.old link progress }
+        ensures { self.new ≡ self.old }
+    {
+        let Some(end) = self.links.get_mut(link) else {
+            unreachable!()
+        };
+        end.keep(progress);
+    }
+
+    /// Uses so many unread bytes.
+    pub fn take(&mut self, link: LinkId, count: usize)
+        requires { HasAhead self.old link count }
+        ensures { UsesAt self.old link count self.new }
+    {
+        let Some(end) = self.links.get_mut(link) else {
+            unreachable!()
+        };
+        end.take(count);
+    }
+
+    /// A client's end becomes a replica's, behind so many bytes that are used. Where memory is lacking nothing has changed.
+    pub fn turn(&mut self, link: LinkId, count: usize) -> Result<(), AllocError>
+        requires { IsClient self.old link count }
+        ensures ok { OnOk result (TurnsAt self.old link count self.new) }
+        ensures err { OnErr result (self.new ≡ self.old) }
+    {
+        if self.replicas.push(link).is_err() {
+            return Err(AllocError);
+        }
+        let Some(end) = self.links.get_mut(link) else {
+            unreachable!()
+        };
+        end.take(count);
+        end.turn();
+        Ok(())
+    }
+
+    /// A client said this of itself by REPLCONF, which no claim speaks of. Where the link isn't there nothing changes.
+    pub fn introduce(&mut self, link: LinkId, introduction: Introduction)
+        ensures { self.new ≡ self.old }
+    {
+        let Some(end) = self.links.get_mut(link) else {
+            return;
+        };
+        end.introduce(introduction);
+    }
+
+    /// A replica acknowledged this offset, which no claim speaks of. Where the link isn't there nothing changes.
+    pub fn acknowledge(&mut self, link: LinkId, offset: i64)
+        ensures { self.new ≡ self.old }
+    {
+        let Some(end) = self.links.get_mut(link) else {
+            return;
+        };
+        end.acknowledge(offset);
+    }
+
+    /// Closes an end. What is fed to it from now on is dropped.
+    pub fn shut(&mut self, link: LinkId)
+        requires { IsSome (end_at self.old link) }
+        ensures { self.new ≡ put_end self.old link shut }
+    {
+        forget(&mut self.replicas, link);
+        let Some(end) = self.links.get_mut(link) else {
+            unreachable!()
+        };
+        end.shut();
+    }
+
+    /// Takes an end out, if it is there.
+    pub fn remove(&mut self, link: LinkId)
+        ensures { self.new ≡ without self.old link }
+    {
+        forget(&mut self.replicas, link);
+        let _ = self.links.remove(link);
+    }
+
+    /// Closes all ends that the stream was sent to.
+    pub fn shut_replicas(&mut self)
+        ensures { ShutsReplicas self.old self.new }
+    {
+        shut_all(&mut self.links, self.replicas.as_slice());
+        self.replicas.clear();
+    }
+}
+
+fn is_another(name: LinkId, link: LinkId) -> bool
+    ensures { result ≡ not (eq_by_cmp id_cmp name link) }
+{
+    !(name.index == link.index && name.generation == link.generation)
+}
+
+/// Takes a name out of the list.
+fn forget(names: &mut Vec<LinkId>, link: LinkId)
+    ensures { names.new.items ≡ filter (λ n. not (eq_by_cmp id_cmp n link)) names.old.items }
+{
+    names.retain(|name| is_another(*name, link));
+}

@@ -1,0 +1,13 @@
+//! A node's ends of its links: clients', replicas', that of the link to its master, and those that it closed.
+#![tactic(auto)]
+
+mod end;
+mod ends;
+mod introduction;
+mod kind;
+mod shutting;
+
+pub use end::End;
+pub use ends::Ends;
+pub use introduction::Introduction;
+pub use kind::Kind;

@@ -1,0 +1,388 @@
+// What a step gives out.
+ghost use Rattle.std.specs.Prelude.{◌≡◌, ◌++◌, [], ◌+◌, true, false, length, nat_le, if◌then◌else◌, IfOk, OnOk, Some};
+ghost use Rattle.std.specs.Option.{option_map, option_copied};
+ghost use Rattle.mr_resp.specs.Replies.{reply_text};
+ghost use Rattle.mr_resp.specs.ReplyView.{view};
+ghost use Rattle.mr_effect.specs.Spelling.{size, text, texts};
+ghost use Rattle.mr_effect.specs.declared.effect.Effect.TheVariants as effect;
+ghost use Rattle.mr_outs.specs.Outs.{no_outs, outs_of};
+
+use crate::address::Address;
+use crate::out::OutsIter;
+use mr_effect::{Effect, encode, encode_all};
+use mr_links::LinkId;
+use mr_repl::ReplId;
+use mr_resp::{Reply, write_reply};
+use std::alloc::{AllocError, Global};
+use std::marker::Model;
+use std::mem;
+
+/// What a step gives out. A node uses its room again.
+pub struct Outs {
+    alloc: Global,
+    link: Option<LinkId>,
+    /// The texts of effects: those that a master's stream grew by, or those that a replica applied.
+    texts: Vec<u8>,
+    /// How many of them go behind the append-only file: those in front.
+    filed: usize,
+    /// Whether a master's stream grew by them.
+    grows: bool,
+    replaced: Option<Vec<u8>>,
+    fed: Vec<LinkId>,
+    reply: Vec<u8>,
+    closes: bool,
+    closed: Vec<LinkId>,
+    used: Option<ReplId>,
+    follows: Option<Address>,
+    halts: bool,
+}
+
+// By hand, so that it is one call wherever a value goes (docs/PROVING.md).
+impl Drop for Outs {
+    fn drop(self) {
+        let Outs {
+            alloc: _,
+            link: _,
+            texts: _,
+            filed: _,
+            grows: _,
+            replaced: _,
+            fed: _,
+            reply: _,
+            closes: _,
+            closed: _,
+            used: _,
+            follows: _,
+            halts: _,
+        } = self;
+    }
+}
+
+impl Model for Outs {
+    ghost use Rattle.std.specs.Prelude.{◌≤◌, length, take, [], if◌then◌else◌};
+    ghost use Rattle.std.specs.Option.{option_map};
+    ghost use Rattle.mr_outs.specs.Outs.{OutsState, outs_code};
+
+    ghost Value = { OutsState };
+
+    ghost coded = { outs_code };
+
+    ghost view = { λ o. record {
+      link = o.link;
+      grown = if o.grows then o.texts.items else [];
+      appended = take o.filed o.texts.items;
+      replaced = option_map (λ bytes. bytes.items) o.replaced;
+      fed = o.fed.items;
+      reply = o.reply.items;
+      closes = o.closes;
+      closed = o.closed.items;
+      used = o.used;
+      follows = o.follows;
+      halts = o.halts;
+    } };
+
+    ghost invariant = { λ o. o.filed ≤ length o.texts.items };
+}
+
+// What it holds.
+impl Outs {
+    /// What the step gives out, in the order in which it is to be carried out.
+    pub fn iter(&self) -> OutsIter<'_>
+        ensures { result ≡ outs_of self.now }
+    {
+        OutsIter::new(self)
+    }
+
+    /// The link that the step was made on, none where it was a tick.
+    pub fn link(&self) -> Option<LinkId>
+        ensures { result ≡ self.now.link }
+    {
+        self.link
+    }
+
+    /// The texts of the effects that a master's stream grew by, in order.
+    pub fn grown(&self) -> &[u8]
+        ensures { result.now ≡ self.now.grown }
+    {
+        if self.grows {
+            return self.texts.as_slice();
+        }
+        &[]
+    }
+
+    /// What goes behind the append-only file.
+    pub fn appended(&self) -> &[u8]
+        ensures { result.now ≡ self.now.appended }
+    {
+        &self.texts[..self.filed]
+    }
+
+    /// What the append-only file is replaced by.
+    pub fn replaced(&self) -> Option<&[u8]>
+        ensures { option_map (λ bytes. bytes.now) result ≡ self.now.replaced }
+    {
+        match &self.replaced {
+            None => None,
+            Some(bytes) => Some(bytes.as_slice()),
+        }
+    }
+
+    /// The links of replicas, to each of which is sent what the stream grew by.
+    pub fn fed(&self) -> &[LinkId]
+        ensures { result.now ≡ self.now.fed }
+    {
+        self.fed.as_slice()
+    }
+
+    /// What is sent on the link.
+    pub fn reply(&self) -> &[u8]
+        ensures { result.now ≡ self.now.reply }
+    {
+        self.reply.as_slice()
+    }
+
+    /// Whether the node closed the link.
+    pub fn closes(&self) -> bool
+        ensures { result ≡ self.now.closes }
+    {
+        self.closes
+    }
+
+    /// The links of replicas that the node closed.
+    pub fn closed(&self) -> &[LinkId]
+        ensures { result.now ≡ self.now.closed }
+    {
+        self.closed.as_slice()
+    }
+
+    /// The fresh id that the step took.
+    pub fn used(&self) -> Option<ReplId>
+        ensures { result ≡ self.now.used }
+    {
+        self.used
+    }
+
+    /// Whom the node follows from now on.
+    pub fn follows(&self) -> Option<&Address>
+        ensures { option_copied result ≡ self.now.follows }
+    {
+        self.follows.as_ref()
+    }
+
+    /// Whether a client asked that the program end.
+    pub fn halts(&self) -> bool
+        ensures { result ≡ self.now.halts }
+    {
+        self.halts
+    }
+}
+
+// What is put into it. Where memory is lacking it may hold anything.
+impl Outs {
+    /// Nothing. It takes no memory.
+    pub fn new(alloc: Global) -> Outs
+        ensures { result ≡ no_outs }
+    {
+        Outs {
+            alloc,
+            link: None,
+            texts: Vec::new(alloc),
+            filed: 0,
+            grows: false,
+            replaced: None,
+            fed: Vec::new(alloc),
+            reply: Vec::new(alloc),
+            closes: false,
+            closed: Vec::new(alloc),
+            used: None,
+            follows: None,
+            halts: false,
+        }
+    }
+
+    /// Empties it, for a step on this link. It keeps its room.
+    pub fn reset(&mut self, link: Option<LinkId>)
+        ensures { self.new ≡ record no_outs { link = link } }
+    {
+        self.link = link;
+        self.filed = 0;
+        self.texts.clear();
+        self.grows = false;
+        self.replaced = None;
+        self.fed.clear();
+        self.reply.clear();
+        self.closes = false;
+        self.closed.clear();
+        self.used = None;
+        self.follows = None;
+        self.halts = false;
+    }
+
+    /// A master's stream grows by these effects, and so does the file.
+    pub fn grow(&mut self, effects: &[Effect<'_>]) -> Result<(), AllocError>
+        requires { (self.old.grown ≡ []) × (self.old.appended ≡ []) }
+        ensures { OnOk result (self.new ≡ record self.old { grown = texts effects.now; appended = texts effects.now }) }
+    {
+        self.filed = 0;
+        self.texts.clear();
+        encode_all(effects, &mut self.texts)?;
+        self.filed = self.texts.len();
+        self.grows = true;
+        Ok(())
+    }
+
+    /// A master's stream grows by the text of an effect, and so does the file, if all of them together have no more bytes than this. It answers
+    /// whether.
+    pub fn grow_within(&mut self, effect: &Effect<'_>, room: u64) -> Result<bool, AllocError>
+        requires { self.old.appended ≡ self.old.grown }
+        ensures fits { IfOk result (λ fits. fits ≡ nat_le (length self.old.grown + size effect.now) room) }
+        ensures outs { IfOk result (λ fits. self.new ≡ if fits then record self.old { grown = self.old.grown ++ text effect.now; appended = self.old.appended ++ text effect.now } else self.old) }
+    {
+        if !self.grows {
+            self.texts.clear();
+            self.grows = true;
+        }
+        let start = self.texts.len();
+        encode(effect, &mut self.texts)?;
+        if self.texts.len() as u64 > room {
+            self.texts.truncate(start);
+            return Ok(false);
+        }
+        self.filed = self.texts.len();
+        Ok(true)
+    }
+
+    /// A master's stream grows by a heartbeat, and the file doesn't, if all of it together has no more bytes than this. It answers whether.
+    pub fn beat(&mut self, room: u64) -> Result<bool, AllocError>
+        requires { self.old.appended ≡ self.old.grown }
+        ensures fits { IfOk result (λ fits. fits ≡ nat_le (length self.old.grown + size effect.Ping) room) }
+        ensures outs { IfOk result (λ fits. self.new ≡ if fits then record self.old { grown = self.old.grown ++ text effect.Ping } else self.old) }
+    {
+        if !self.grows {
+            self.filed = 0;
+            self.texts.clear();
+            self.grows = true;
+        }
+        let start = self.texts.len();
+        encode(&Effect::Ping, &mut self.texts)?;
+        if self.texts.len() as u64 > room {
+            self.texts.truncate(start);
+            return Ok(false);
+        }
+        Ok(true)
+    }
+
+    /// Takes back what the stream grows by.
+    pub fn drop_grown(&mut self)
+        ensures { self.new ≡ record self.old { grown = []; appended = [] } }
+    {
+        self.filed = 0;
+        self.texts.clear();
+        self.grows = false;
+    }
+
+    /// What the stream grows by is sent on these links.
+    pub fn feed(&mut self, links: &[LinkId]) -> Result<(), AllocError>
+        requires { self.old.fed ≡ [] }
+        ensures { OnOk result (self.new ≡ record self.old { fed = links.now }) }
+    {
+        self.fed.extend_from_slice(links)?;
+        Ok(())
+    }
+
+    /// Puts a reply behind what is sent on the link.
+    pub fn say(&mut self, reply: &Reply) -> Result<(), AllocError>
+        ensures { OnOk result (self.new ≡ record self.old { reply = self.old.reply ++ reply_text (view reply.now) }) }
+    {
+        write_reply(reply, &mut self.reply)
+    }
+
+    /// Puts bytes behind what is sent on the link.
+    pub fn say_bytes(&mut self, bytes: &[u8]) -> Result<(), AllocError>
+        ensures { OnOk result (self.new ≡ record self.old { reply = self.old.reply ++ bytes.now }) }
+    {
+        self.reply.extend_from_slice(bytes)
+    }
+
+    /// The append-only file is replaced by these bytes.
+    pub fn replace(&mut self, bytes: Vec<u8>)
+        ensures { self.new ≡ record self.old { replaced = Some bytes.items } }
+    {
+        self.replaced = Some(bytes);
+    }
+
+    /// The link is closed.
+    pub fn close(&mut self)
+        ensures { self.new ≡ record self.old { closes = true } }
+    {
+        self.closes = true;
+    }
+
+    /// These links are closed.
+    pub fn close_all(&mut self, links: &[LinkId]) -> Result<(), AllocError>
+        requires { self.old.closed ≡ [] }
+        ensures { OnOk result (self.new ≡ record self.old { closed = links.now }) }
+    {
+        self.closed.extend_from_slice(links)?;
+        Ok(())
+    }
+
+    /// The fresh id was taken.
+    pub fn take_id(&mut self, id: ReplId)
+        ensures { self.new ≡ record self.old { used = Some id } }
+    {
+        self.used = Some(id);
+    }
+
+    /// The node follows another from now on.
+    pub fn follow(&mut self, address: Address)
+        ensures { self.new ≡ record self.old { follows = Some address } }
+    {
+        self.follows = Some(address);
+    }
+
+    /// It is of a step on this link.
+    pub fn bind(&mut self, link: LinkId)
+        ensures { self.new ≡ record self.old { link = Some link } }
+    {
+        self.link = Some(link);
+    }
+
+    /// A client asked that the program end.
+    pub fn halt(&mut self)
+        ensures { self.new ≡ record self.old { halts = true } }
+    {
+        self.halts = true;
+    }
+}
+
+// What a replica does at the link to its master.
+impl Outs {
+    /// Gives its room away, for what comes of a step there. Of its own texts nothing is left.
+    pub fn take_room(&mut self) -> Vec<u8>
+        ensures room { result.items ≡ [] }
+        ensures rest { self.new ≡ record self.old { grown = []; appended = [] } }
+    {
+        self.filed = 0;
+        self.grows = false;
+        let mut room = mem::replace(&mut self.texts, Vec::new(self.alloc));
+        room.clear();
+        room
+    }
+
+    /// A line is sent there.
+    pub fn tell(&mut self, line: Vec<u8>)
+        ensures { self.new ≡ record self.old { reply = line.items } }
+    {
+        self.reply = line;
+    }
+
+    /// The text of an effect was applied, which goes behind the file, or doesn't.
+    pub fn apply(&mut self, text: Vec<u8>, files: bool)
+        ensures { self.new ≡ record self.old { grown = []; appended = if files then text.items else [] } }
+    {
+        self.filed = if files { text.len() } else { 0 };
+        self.texts = text;
+        self.grows = false;
+    }
+}
