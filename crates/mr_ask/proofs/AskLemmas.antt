@@ -1,5 +1,5 @@
 -- What is read is spelled by the words, and carries no others.
-use Rattle.std.proofs.Common.{ℕ, ◌≡◌, List, [], ◌∷◌, Option, Some, None, refl}
+use Rattle.std.proofs.Common.{ℕ, ◌≡◌, List, [], ◌∷◌, Option, Some, None, inl, inr, refl}
 use Rattle.std.specs.Prelude.{IsTrue, IfOk, Result, Ok, Err}
 use Rattle.std.specs.List.{list_all}
 use Rattle.mr_value.specs.Words.{fits}
@@ -32,6 +32,9 @@ use Rattle.mr_cmd_server.proofs.ArgumentLemmas.{ping_carries, echo_carries, sele
 use Rattle.mr_cmd_string.proofs.FitLemmas.{texts_fit}
 use Rattle.mr_cmd_key.proofs.FitLemmas.{keys_fit}
 use Rattle.mr_cmd_server.proofs.FitLemmas.{carried_server}
+use Rattle.mr_cmd_node.specs.Arguments.{psync, replconf, replicaof}
+use Rattle.mr_cmd_node.proofs.ArgumentLemmas.{psync_spells, replconf_spells, replicaof_spells}
+use Rattle.mr_cmd_node.proofs.FitLemmas.{node_fits}
 use Rattle.mr_words.specs.declared.name.Name.{Name}
 use Rattle.mr_words.specs.declared.name.Name.TheVariants as name
 use Rattle.mr_expiry.specs.declared.expiry.ExpiryUnit.TheVariants as unit
@@ -151,6 +154,10 @@ reading_carries name.Role ws = of_kind_carries (role ws) ask.Server (SpellsNamed
 reading_carries name.Shutdown ws = of_kind_carries (shutdown ws) ask.Server (SpellsNamed name.Shutdown ws) (shutdown_carries ws)
 reading_carries name.Command ws = of_kind_carries (command ws) ask.Server (SpellsNamed name.Command ws) (command_carries ws)
 reading_carries name.Client ws = of_kind_carries (client ws) ask.Server (SpellsNamed name.Client ws) (client_carries ws)
+reading_carries name.Psync ws = of_kind_carries (psync ws) ask.Node (SpellsNamed name.Psync ws) (psync_spells ws)
+reading_carries name.ReplConf ws = of_kind_carries (replconf ws) ask.Node (SpellsNamed name.ReplConf ws) (replconf_spells ws)
+reading_carries name.ReplicaOf ws = of_kind_carries (replicaof name.ReplicaOf ws) ask.Node (SpellsNamed name.ReplicaOf ws) (replicaof_spells name.ReplicaOf (inl refl) ws)
+reading_carries name.SlaveOf ws = of_kind_carries (replicaof name.SlaveOf ws) ask.Node (SpellsNamed name.SlaveOf ws) (replicaof_spells name.SlaveOf (inr refl) ws)
 
 carried_by : (w : List ℕ) (o : Option Name) (ws : List (List ℕ)) → named (lowered w) ≡ o → IfOk (asked_by o ws) (Spells (w ∷ ws))
 carried_by w None ws h = tt
@@ -172,6 +179,7 @@ arguments_fit n ws (ask.Lists a) s t h = list_fits n ws a s h
 arguments_fit n ws (ask.Sets a) s t h = set_fits n ws a s h
 arguments_fit n ws (ask.SortedSets a) s t h = zset_fits n ws a s h
 arguments_fit n ws (ask.Server a) s t h = of_parts_fit ws _ _ (carried_server a) s.parts h
+arguments_fit n ws (ask.Node a) s t h = node_fits n ws a s h
 
 fitting_words : (n : Name) (ws : List (List ℕ)) (r : Result Ask AskFault) → reading n ws ≡ r → IfOk r (SpellsNamed n ws) → IsTrue (list_all fits ws) → IfOk r AskFits
 fitting_words n ws (Err f) is s h = tt

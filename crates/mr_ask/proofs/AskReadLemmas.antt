@@ -8,6 +8,7 @@ use Rattle.mr_ask.specs.Asks.{asked, asked_by, reading}
 use Rattle.mr_ask.specs.Spelled.{Spells, SpellsNamed}
 use Rattle.mr_ask.proofs.CollReadLemmas.{hash_read, list_read, server_read, set_read, zset_read}
 use Rattle.mr_ask.proofs.KeyReadLemmas.{key_read}
+use Rattle.mr_ask.proofs.NodeReadLemmas.{node_read}
 use Rattle.mr_ask.proofs.TextReadLemmas.{text_read}
 use Rattle.mr_ask.specs.declared.ask.Ask.{Ask}
 use Rattle.mr_ask.specs.declared.ask.Ask.TheVariants as ask
@@ -20,6 +21,7 @@ named_read n ws (ask.Lists a) h s = ap (λ x. reading x ws) (sym s.name_is) ∙ 
 named_read n ws (ask.Sets a) h s = ap (λ x. reading x ws) (sym s.name_is) ∙ set_read ws a h s.parts
 named_read n ws (ask.SortedSets a) h s = zset_read n ws a h s
 named_read n ws (ask.Server a) h s = ap (λ x. reading x ws) (sym s.name_is) ∙ server_read ws a s.parts
+named_read n ws (ask.Node a) h s = node_read n ws a h s
 
 pub spelled_read : (ws : List (List ℕ)) (a : Ask) → IsAskable a → Spells ws a → asked ws ≡ Ok a
 spelled_read [] a h s = absurd s

@@ -38,6 +38,9 @@ use Rattle.mr_cmd_string.specs.declared.text_ask.Amount.TheVariants as amount
 use Rattle.mr_cmd_string.specs.declared.text_ask.TextAsk.TheVariants as text
 use Rattle.mr_cmd_server.specs.declared.server_ask.ServerAsk.{ServerAsk}
 use Rattle.mr_cmd_server.specs.declared.server_ask.ServerAsk.TheVariants as server
+use Rattle.mr_cmd_node.specs.Arguments.{replconf, replicaof}
+use Rattle.mr_cmd_node.specs.declared.node_ask.NodeAsk.TheVariants as node
+use Rattle.mr_cmd_node.proofs.FaultLemmas.{replconf_first, replicaof_first}
 use Rattle.mr_ask.specs.declared.ask.Ask.{Ask}
 use Rattle.mr_ask.specs.declared.ask.Ask.TheVariants as ask
 use Rattle.mr_cmd_string.specs.Arguments.{set}
@@ -319,6 +322,11 @@ argument_first name.Command ws = refl
 argument_first name.Client (o ∷ l ∷ []) = if_named (server.ClientSetName l) (bytes_eq (lowered o) setname)
 argument_first name.Client (o ∷ a ∷ v ∷ []) = if_named (server.ClientSetInfo a v) (bytes_eq (lowered o) setinfo)
 argument_first name.Client _ = refl
+argument_first name.Psync (i ∷ a ∷ []) = one ask.Node (λ n. node.Psync i n) (integer a)
+argument_first name.Psync _ = refl
+argument_first name.ReplConf ws = of_its_kind ask.Node (replconf ws) ∙ replconf_first ws
+argument_first name.ReplicaOf ws = of_its_kind ask.Node (replicaof name.ReplicaOf ws) ∙ replicaof_first name.ReplicaOf ws
+argument_first name.SlaveOf ws = of_its_kind ask.Node (replicaof name.SlaveOf ws) ∙ replicaof_first name.SlaveOf ws
 
 behind_first : (o : Option Name) (ws : List (List ℕ)) → answered_fault (asked_by o ws) ≡ first_of (faults_behind o ws)
 behind_first None ws = refl

@@ -4,6 +4,7 @@ pub mod AskLemmas
 pub mod CollReadLemmas
 pub mod TextReadLemmas
 pub mod KeyReadLemmas
+pub mod NodeReadLemmas
 pub mod AskReadLemmas
 pub mod FaultLemmas
 pub mod LeastLemmas

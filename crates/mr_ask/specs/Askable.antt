@@ -7,6 +7,7 @@ use Rattle.mr_cmd_key.specs.Askable.{KeyIsAskable}
 use Rattle.mr_cmd_hash.specs.Askable.{HashIsAskable}
 use Rattle.mr_cmd_list.specs.Askable.{ListIsAskable}
 use Rattle.mr_cmd_set.specs.Askable.{SetIsAskable}
+use Rattle.mr_cmd_node.specs.Askable.{NodeIsAskable}
 
 abbrev pub IsAskable : Ask → Type 0
 IsAskable (ask.Texts command) = TextIsAskable command
@@ -16,3 +17,4 @@ IsAskable (ask.Lists command) = ListIsAskable command
 IsAskable (ask.Sets command) = SetIsAskable command
 IsAskable (ask.SortedSets command) = ZSetIsAskable command
 IsAskable (ask.Server command) = Unit {0}
+IsAskable (ask.Node command) = NodeIsAskable command

@@ -10,6 +10,7 @@ use Rattle.mr_cmd_list.specs.Arguments.{push, pop, llen, lrange, lindex, lset, l
 use Rattle.mr_cmd_set.specs.Arguments.{sadd, srem, sismember, smismember, smembers, scard, spop, srandmember, smove, combine}
 use Rattle.mr_cmd_zset.specs.Arguments.{zadd, zincrby, zrem, zcard, zcount, zscore, zmscore, zrank, zrange, zrevrange, range_by_score, zpop, zremrangebyrank, zremrangebyscore}
 use Rattle.mr_cmd_server.specs.Arguments.{ping, echo, select, quit, bgrewriteaof, info, role, shutdown, command, client}
+use Rattle.mr_cmd_node.specs.Arguments.{psync, replconf, replicaof}
 use Rattle.mr_words.specs.declared.name.Name.{Name}
 use Rattle.mr_words.specs.declared.name.Name.TheVariants as name
 use Rattle.mr_words.specs.declared.fault.AskFault.{AskFault}
@@ -138,6 +139,10 @@ reading name.Role arguments = of_kind ask.Server (role arguments)
 reading name.Shutdown arguments = of_kind ask.Server (shutdown arguments)
 reading name.Command arguments = of_kind ask.Server (command arguments)
 reading name.Client arguments = of_kind ask.Server (client arguments)
+reading name.Psync arguments = of_kind ask.Node (psync arguments)
+reading name.ReplConf arguments = of_kind ask.Node (replconf arguments)
+reading name.ReplicaOf arguments = of_kind ask.Node (replicaof name.ReplicaOf arguments)
+reading name.SlaveOf arguments = of_kind ask.Node (replicaof name.SlaveOf arguments)
 
 abbrev pub asked_by : Option Name → List (List ℕ) → Result Ask AskFault
 asked_by None arguments = Err Unknown
@@ -148,7 +153,7 @@ abbrev pub asked : List (List ℕ) → Result Ask AskFault
 asked [] = Err Unknown
 asked (name ∷ arguments) = asked_by (named (lowered name)) arguments
 
--- what a command is about: strings and keys, collections, or the server itself
+-- what a command is about: strings and keys, collections, or the server itself and the node
 abbrev pub group_of : Ask → Group
 group_of (ask.Texts command) = group.Keys
 group_of (ask.Keys command) = group.Keys
@@ -157,3 +162,4 @@ group_of (ask.Lists command) = group.Collections
 group_of (ask.Sets command) = group.Collections
 group_of (ask.SortedSets command) = group.Collections
 group_of (ask.Server command) = group.Server
+group_of (ask.Node command) = group.Server

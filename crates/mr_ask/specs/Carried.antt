@@ -11,6 +11,7 @@ use Rattle.mr_ask.specs.declared.ask.Ask.TheVariants as ask
 use Rattle.mr_cmd_string.specs.Carried.{text_words, IsTimed}
 use Rattle.mr_cmd_key.specs.Carried.{key_words}
 use Rattle.mr_cmd_server.specs.Carried.{server_words}
+use Rattle.mr_cmd_node.specs.Carried.{node_words}
 
 abbrev pub words_of : Ask → List (List ℕ)
 words_of (ask.Texts command) = text_words command
@@ -20,6 +21,7 @@ words_of (ask.Lists command) = list_words command
 words_of (ask.Sets command) = set_words command
 words_of (ask.SortedSets command) = zset_words command
 words_of (ask.Server command) = server_words command
+words_of (ask.Node command) = node_words command
 
 -- what every command keeps that was read from words within the word limit: its words are within the limit, and its time is long enough
 abbrev pub AskFits : Ask → Type 0

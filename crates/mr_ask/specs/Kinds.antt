@@ -13,6 +13,8 @@ pub data Kind : Type 0 where
   sorted_sets : Kind
   -- the server itself
   server : Kind
+  -- the node: its replicas, and whom it follows
+  node : Kind
 
 abbrev pub kind_of : Name → Kind
 kind_of name.Get = texts
@@ -120,3 +122,7 @@ kind_of name.Role = server
 kind_of name.Shutdown = server
 kind_of name.Command = server
 kind_of name.Client = server
+kind_of name.Psync = node
+kind_of name.ReplConf = node
+kind_of name.ReplicaOf = node
+kind_of name.SlaveOf = node

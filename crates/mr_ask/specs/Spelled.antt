@@ -5,6 +5,7 @@ use Rattle.mr_words.specs.declared.name.Name.{Name}
 use Rattle.mr_cmd_string.specs.Spelled.{TextSpells}
 use Rattle.mr_cmd_key.specs.Spelled.{KeySpells}
 use Rattle.mr_cmd_server.specs.Spelled.{ServerSpells}
+use Rattle.mr_cmd_node.specs.Spelled.{NodeSpells}
 use Rattle.mr_cmd_hash.specs.Spelled.{HashSpells}
 use Rattle.mr_cmd_list.specs.Spelled.{ListSpells}
 use Rattle.mr_cmd_set.specs.Spelled.{SetSpells}
@@ -21,6 +22,7 @@ SpellsNamed called words (ask.Lists command) = ListSpells called words command
 SpellsNamed called words (ask.Sets command) = SetSpells called words command
 SpellsNamed called words (ask.SortedSets command) = ZSetSpells called words command
 SpellsNamed called words (ask.Server command) = ServerSpells called words command
+SpellsNamed called words (ask.Node command) = NodeSpells called words command
 
 -- These words spell the command: its name in any case, and behind it its arguments.
 abbrev pub Spells : List (List ℕ) → Ask → Type 0

@@ -17,6 +17,7 @@ use Rattle.mr_expiry.specs.declared.expiry.ExpiryUnit.TheVariants as unit
 use Rattle.mr_cmd_string.specs.ArgumentFaults.{key_value_options}
 use Rattle.mr_cmd_key.specs.ArgumentFaults.{cursor_and_options, time_and_condition, timing_alone}
 use Rattle.mr_cmd_server.specs.ArgumentFaults.{of_client, saving_alone}
+use Rattle.mr_cmd_node.specs.ArgumentFaults.{following_faults, replconf_faults}
 
 -- ---- the faults of a word
 abbrev pub Check : Type 0
@@ -196,6 +197,10 @@ argument_faults name.Role words = counted name.Role (each [] words)
 argument_faults name.Shutdown words = saving_alone words
 argument_faults name.Command words = []
 argument_faults name.Client words = of_client words
+argument_faults name.Psync words = counted name.Psync (each (any_word ∷ integer_check ∷ []) words)
+argument_faults name.ReplConf words = replconf_faults words
+argument_faults name.ReplicaOf words = counted name.ReplicaOf (following_faults words)
+argument_faults name.SlaveOf words = counted name.SlaveOf (following_faults words)
 
 abbrev pub faults_behind : Option Name → List (List ℕ) → List AskFault
 faults_behind None words = Unknown ∷ []

@@ -2,6 +2,7 @@
 use mr_cmd_hash::HashAsk;
 use mr_cmd_key::KeyAsk;
 use mr_cmd_list::ListAsk;
+use mr_cmd_node::NodeAsk;
 use mr_cmd_server::ServerAsk;
 use mr_cmd_set::SetAsk;
 use mr_cmd_string::TextAsk;
@@ -21,4 +22,6 @@ pub enum Ask<'a, 't> {
     SortedSets(ZSetAsk<'a, 't>),
     /// To the server itself.
     Server(ServerAsk<'a, 't>),
+    /// To the node: of its replicas, and whom it follows.
+    Node(NodeAsk<'a, 't>),
 }

@@ -11,7 +11,7 @@ pub enum Group {
     Keys,
     /// Hashes, lists, sets and sorted sets.
     Collections,
-    /// The server itself. No key is looked at.
+    /// The server itself, or the node. No key is looked at.
     Server,
 }
 
@@ -25,7 +25,7 @@ impl Ask<'_, '_> {
             Ask::Hashes(_) | Ask::Lists(_) | Ask::Sets(_) | Ask::SortedSets(_) => {
                 Group::Collections
             }
-            Ask::Server(_) => Group::Server,
+            Ask::Server(_) | Ask::Node(_) => Group::Server,
         }
     }
 }

@@ -14,6 +14,7 @@ use crate::ask::Ask;
 use mr_cmd_hash::{FieldsReply, HashAsk, HashPart, arguments as hashes};
 use mr_cmd_key::{Databases, KeyAsk, arguments as keys};
 use mr_cmd_list::{ListAsk, PushTo, arguments as lists};
+use mr_cmd_node::{NodeAsk, arguments as node};
 use mr_cmd_server::{ServerAsk, arguments as server};
 use mr_cmd_set::{SetAsk, SetOperation, arguments as sets};
 use mr_cmd_string::{Amount, TextAsk, arguments as texts};
@@ -159,6 +160,9 @@ fn read_arguments<'a, 't>(name: Name, arguments: Arguments<'a, 't>) -> Reading<'
         | Name::Shutdown
         | Name::Command
         | Name::Client => read_server(name, arguments),
+        Name::Psync | Name::ReplConf | Name::ReplicaOf | Name::SlaveOf => {
+            read_node(name, arguments)
+        }
     }
 }
 
@@ -345,6 +349,20 @@ fn read_server<'a, 't>(name: Name, arguments: Arguments<'a, 't>) -> Reading<'a, 
     }
 }
 
+#[inline(never)]
+fn read_node<'a, 't>(name: Name, arguments: Arguments<'a, 't>) -> Reading<'a, 't>
+    requires { kind_of name ≡ kind.node }
+    ensures { result ≡ reading name (map cow_slice_items arguments.now) }
+{
+    match name {
+        Name::Psync => of_node(node::psync(arguments)),
+        Name::ReplConf => of_node(node::replconf(arguments)),
+        Name::ReplicaOf => of_node(node::replicaof(name, arguments)),
+        Name::SlaveOf => of_node(node::replicaof(name, arguments)),
+        _ => unreachable!(),
+    }
+}
+
 fn of_texts<'a, 't>(reading: Result<TextAsk<'a, 't>, AskFault>) -> Reading<'a, 't>
     ensures { result ≡ of_kind ask.Texts reading.entry }
 {
@@ -385,4 +403,10 @@ fn of_server<'a, 't>(reading: Result<ServerAsk<'a, 't>, AskFault>) -> Reading<'a
     ensures { result ≡ of_kind ask.Server reading.entry }
 {
     Ok(Ask::Server(reading?))
+}
+
+fn of_node<'a, 't>(reading: Result<NodeAsk<'a, 't>, AskFault>) -> Reading<'a, 't>
+    ensures { result ≡ of_kind ask.Node reading.entry }
+{
+    Ok(Ask::Node(reading?))
 }

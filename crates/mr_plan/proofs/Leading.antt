@@ -1,6 +1,6 @@
 -- The effects of a plan lead somewhere, and their texts are command texts.
 use Rattle.std.proofs.Common.{◌≡◌, List, [], Bool, true, false, Some, ◌∙◌, ap, refl, sym, subst}
-use Rattle.std.specs.Prelude.{All, Result, Ok, Err, IfOk}
+use Rattle.std.specs.Prelude.{Result, Ok, Err, IfOk}
 use Rattle.std.proofs.lemmas.List.Elements.{All-same, All-nil}
 use Rattle.std.specs.Prelude.{ℤ}
 use Rattle.mr_resp.specs.Replies.{Tree}
@@ -8,13 +8,13 @@ use Rattle.mr_resp.specs.Command.{IsCommandText}
 use Rattle.mr_resp.specs.Usual.{commands}
 use Rattle.mr_entries.specs.Dataset.{Dataset}
 use Rattle.mr_data.specs.Meaning.{apply_all}
-use Rattle.mr_effect.specs.Spelling.{text}
+use Rattle.mr_effect.specs.Spelling.{text, IsShort}
 use Rattle.mr_effect.specs.declared.effect.Effect.{Effect}
 use Rattle.mr_data.specs.declared.given.Given.{Given}
 use Rattle.mr_ask.specs.Carried.{AskFits}
 use Rattle.mr_ask.specs.declared.ask.Ask.{Ask}
 use Rattle.mr_plan.specs.PlannedCommands.{command_of}
-use Rattle.mr_plan.specs.Requests.{IsPlannedAs, Leads, is_rewriting, is_shutdown, left_by, question_asked, replica_reply}
+use Rattle.mr_plan.specs.Requests.{AreSent, IsPlannedAs, Leads, is_rewriting, is_shutdown, left_by, question_asked, replica_reply}
 use Rattle.mr_ask.specs.declared.ask.Ask.TheVariants as ask
 use Rattle.mr_cmd_server.specs.declared.server_ask.ServerAsk.TheVariants as server
 use Rattle.mr_cmd_server.specs.declared.question.Question.{Question}
@@ -24,8 +24,11 @@ use Rattle.mr_planning.specs.Commands.{Command, effects, after, IsPlan, IsFaithf
 pub planned_leads : (c : Command) (now : ℤ) (m : Dataset) (r : Tree) (list : List Effect) → IsPlan c now m r list → IsFaithful c now m → apply_all list m ≡ Some (after c now m)
 planned_leads c now m r list p f = ap (λ (xs : List Effect). apply_all xs m) p.effects_are ∙ f.leads
 
-pub planned_texts : (c : Command) (now : ℤ) (m : Dataset) (r : Tree) (list : List Effect) → IsPlan c now m r list → HasCommandTexts c now m → All (λ e. IsCommandText commands (text e)) list
-planned_texts c now m r list p h = All-same (λ e. IsCommandText commands (text e)) list (effects c now m) p.effects_are h.each
+pub planned_texts : (c : Command) (now : ℤ) (m : Dataset) (r : Tree) (list : List Effect) → IsPlan c now m r list → HasCommandTexts c now m → AreSent list
+planned_texts c now m r list p h = record {
+  texts = All-same (λ e. IsCommandText commands (text e)) list (effects c now m) p.effects_are h.each;
+  short = All-same IsShort list (effects c now m) p.effects_are h.short;
+}
 
 -- a master's plan is the command's
 pub on_master : (replica : Bool) (a : Ask) (given : Given) (m : Dataset) (reply : Tree) (es : List Effect) → replica ≡ false → IsPlan (command_of a given) given.now m reply es → IsPlannedAs (Ok a) replica given m reply es
@@ -42,8 +45,8 @@ on_replica replica a given m reply es is r none = subst (λ b. IsPlannedAs (Ok a
 pub leads_on_replica : (replica : Bool) (a : Ask) (given : Given) (m : Dataset) (es : List Effect) → replica ≡ true → es ≡ [] → apply_all es m ≡ Some (left_by (Ok a) replica given m)
 leads_on_replica replica a given m es is none = ap (λ (xs : List Effect). apply_all xs m) none ∙ ap (λ b. Some (left_by (Ok a) b given m)) (sym is)
 
-pub no_texts : (es : List Effect) → es ≡ [] → All (λ e. IsCommandText commands (text e)) es
-no_texts es none = subst (λ (xs : List Effect). All (λ e. IsCommandText commands (text e)) xs) (sym none) (All-nil (λ e. IsCommandText commands (text e)))
+pub no_texts : (es : List Effect) → es ≡ [] → AreSent es
+no_texts es none = subst AreSent (sym none) (record { texts = All-nil (λ e. IsCommandText commands (text e)); short = All-nil IsShort })
 
 -- what holds of the command that words are holds of the words
 pub with_fits : {E : Type 0} (r : Result Answer E) (a : Ask) (A : Type 0) (m n p : Dataset) → n ≡ p → (A → AskFits a) → IfOk r (λ x. AskFits a → Leads x m n) → IfOk r (λ x. A → Leads x m p)

@@ -46,6 +46,7 @@ room (w ∷ ws) (ask.Lists c) s few = tt
 room (w ∷ ws) (ask.Sets c) s few = tt
 room (w ∷ ws) (ask.SortedSets c) s few = tt
 room (w ∷ ws) (ask.Server c) s few = tt
+room (w ∷ ws) (ask.Node c) s few = tt
 
 -- for words that lie in memory
 pub room_of : {X : Type 0} (f : X → List ℕ) (ws : List X) (a : Ask) → Spells (map f ws) a → length ws ≤ commands.words → HasRoom a

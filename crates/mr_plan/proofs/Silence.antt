@@ -108,3 +108,4 @@ others_are_silent (ask.Lists command) given m is = in_lists command given m is
 others_are_silent (ask.Sets command) given m is = in_sets command given m is
 others_are_silent (ask.SortedSets command) given m is = in_sorted_sets command given m is
 others_are_silent (ask.Server command) given m is = refl
+others_are_silent (ask.Node command) given m is = refl

@@ -2,7 +2,12 @@
 use Rattle.std.specs.Prelude.{◌<◌, length}
 use Rattle.mr_resp.specs.Usual.{commands}
 use Rattle.mr_data.specs.declared.given.Given.{Given}
-use Rattle.mr_planning.specs.Commands.{Command}
+use Rattle.mr_resp.specs.Replies.{error}
+use Rattle.mr_words.specs.Faults.{fault_text}
+use Rattle.mr_words.specs.declared.fault.AskFault.TheVariants.{Unknown}
+use Rattle.mr_planning.specs.Outcomes.{answered}
+use Rattle.mr_planning.specs.Commands.{Command, on_none}
+use Rattle.mr_cmd_node.specs.declared.node_ask.NodeAsk.{NodeAsk}
 use Rattle.mr_cmd_string.specs.Carried.{text_words}
 use Rattle.mr_ask.specs.declared.ask.Ask.{Ask}
 use Rattle.mr_ask.specs.declared.ask.Ask.TheVariants as ask
@@ -14,6 +19,10 @@ use Rattle.mr_cmd_list.specs.Commands as lists
 use Rattle.mr_cmd_set.specs.SetCommands as sets
 use Rattle.mr_cmd_zset.specs.Commands as scores
 
+-- A command to the node is answered as one that isn't there: no node has replicas yet, or follows another.
+abbrev pub to_node : NodeAsk → Command
+to_node command = on_none (answered (error (fault_text Unknown)))
+
 -- by its kind; a command that speaks of time takes the moment, and one that draws members a random word
 abbrev pub command_of : Ask → Given → Command
 command_of (ask.Texts command) given = texts.command command given.now
@@ -23,6 +32,7 @@ command_of (ask.Lists command) given = lists.command command
 command_of (ask.Sets command) given = sets.command command given.word
 command_of (ask.SortedSets command) given = scores.command command
 command_of (ask.Server command) given = server.command command
+command_of (ask.Node command) given = to_node command
 
 -- A command text has room for the words that the command carries. (Only MSET and MSETNX have an effect that isn't cut.)
 abbrev pub HasRoom : Ask → Type 0

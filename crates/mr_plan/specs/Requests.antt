@@ -7,7 +7,7 @@ use Rattle.mr_resp.specs.Usual.{commands}
 use Rattle.mr_entries.specs.Dataset.{Dataset}
 use Rattle.mr_data.specs.Meaning.{apply_all}
 use Rattle.mr_data.specs.declared.given.Given.{Given}
-use Rattle.mr_effect.specs.Spelling.{text}
+use Rattle.mr_effect.specs.Spelling.{text, IsShort}
 use Rattle.mr_effect.specs.declared.effect.Effect.{Effect}
 use Rattle.mr_ask.specs.Asks.{asked}
 use Rattle.mr_words.specs.Faults.{fault_text}
@@ -125,10 +125,24 @@ Leads answer.Rewrite m n = m ≡ n
 Leads (answer.Tell question) m n = m ≡ n
 Leads answer.Halt m n = m ≡ n
 
--- the text of each of its effects is a command text
+-- The text of each effect is a command text, of no more words than a command may have.
+pub record AreSent (effects : List Effect) : Type 0 where
+  pub texts : All (λ e. IsCommandText commands (text e)) effects
+  pub short : All IsShort effects
+
 abbrev pub HasTexts : Answer → Type 0
-HasTexts (answer.Run plan) = All (λ e. IsCommandText commands (text e)) plan.effects.items
+HasTexts (answer.Run plan) = AreSent plan.effects.items
 HasTexts answer.Quit = Unit {0}
 HasTexts answer.Rewrite = Unit {0}
 HasTexts (answer.Tell question) = Unit {0}
 HasTexts answer.Halt = Unit {0}
+
+-- A request other than QUIT: its answer at this dataset, on a master (false) or a replica (true), and its effects there. They lead to
+-- what it leaves, and the text of each is a command text of no more words than a command may have, so that whoever reads their texts finds
+-- them again.
+pub record HasPlan (replica : Bool) (m : Dataset) (words : List (List ℕ)) (given : Given) (reply : Tree) (effects : List Effect) : Type 0 where
+  pub goes_on : quits words ≡ false
+  pub planned : IsPlanned replica words given m reply effects
+  pub leads : apply_all effects m ≡ Some (left replica words given m)
+  pub texts : All (λ e. IsCommandText commands (text e)) effects
+  pub short : All IsShort effects

@@ -71,7 +71,7 @@ zset_writes (zset.ZRemRangeByRank k first last) = true
 zset_writes (zset.ZRemRangeByScore k min max) = true
 zset_writes _ = false
 
--- by its kind; no command to the server itself is one
+-- by its kind; no command to the server itself or to the node is one
 abbrev pub writes : Ask → Bool
 writes (ask.Texts command) = text_writes command
 writes (ask.Keys command) = key_writes command
@@ -80,6 +80,7 @@ writes (ask.Lists command) = list_writes command
 writes (ask.Sets command) = set_writes command
 writes (ask.SortedSets command) = zset_writes command
 writes (ask.Server command) = false
+writes (ask.Node command) = false
 
 -- a command that is no write has no effect of its own
 abbrev pub OthersHaveNoEffects : Type 0

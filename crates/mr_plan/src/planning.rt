@@ -3,10 +3,12 @@ ghost use Rattle.std.specs.Prelude.{◌≡◌, IfOk};
 ghost use Rattle.mr_resp.specs.ReplyView.{view};
 ghost use Rattle.mr_ask.specs.Carried.{AskFits};
 ghost use Rattle.mr_planning.specs.Commands.{IsPlan, IsFaithful, HasCommandTexts};
-ghost use Rattle.mr_plan.specs.PlannedCommands.{command_of, HasRoom};
+ghost use Rattle.mr_plan.specs.PlannedCommands.{command_of, to_node, HasRoom};
 
 use mr_ask::Ask;
+use mr_cmd_node::NodeAsk;
 use mr_data::{Dataset, Given, Plan};
+use mr_words::AskFault;
 use std::alloc::{AllocError, Global};
 
 /// What a command is answered, and its effects. The dataset isn't changed, and the plan owns what it holds.
@@ -32,5 +34,18 @@ pub fn plan(
         Ask::Sets(ask) => mr_cmd_set::plan(alloc, held, ask, given),
         Ask::SortedSets(ask) => mr_cmd_zset::plan(alloc, held, ask, given),
         Ask::Server(ask) => mr_cmd_server::plan(alloc, held, ask, given),
+        Ask::Node(ask) => Ok(to_node(alloc, held, ask, given)),
+    }
+}
+
+// What a command to the node is answered: that there is none such, since no node has replicas yet, or follows another.
+fn to_node(alloc: Global, _held: &Dataset, _ask: &NodeAsk<'_, '_>, _given: Given) -> Plan
+    ensures plan { IsPlan (to_node _ask.now) _given.now _held.now (view result.reply) result.effects.items }
+    ensures faithful { IsFaithful (to_node _ask.now) _given.now _held.now }
+    ensures texts { HasCommandTexts (to_node _ask.now) _given.now _held.now }
+{
+    Plan {
+        reply: AskFault::Unknown.reply(),
+        effects: Vec::new(alloc),
     }
 }

@@ -21,7 +21,7 @@ pub fn writes(ask: &Ask<'_, '_>) -> bool
         Ask::Lists(ask) => list_writes(ask),
         Ask::Sets(ask) => set_writes(ask),
         Ask::SortedSets(ask) => zset_writes(ask),
-        Ask::Server(_) => false,
+        Ask::Server(_) | Ask::Node(_) => false,
     }
 }
 

@@ -239,6 +239,10 @@ fn wrong_count(name: Name) -> &'static [u8]
         Name::Shutdown => b"ERR wrong number of arguments for 'shutdown' command",
         Name::Command => b"ERR wrong number of arguments for 'command' command",
         Name::Client => b"ERR wrong number of arguments for 'client' command",
+        Name::Psync => b"ERR wrong number of arguments for 'psync' command",
+        Name::ReplConf => b"ERR wrong number of arguments for 'replconf' command",
+        Name::ReplicaOf => b"ERR wrong number of arguments for 'replicaof' command",
+        Name::SlaveOf => b"ERR wrong number of arguments for 'slaveof' command",
     }
 }
 

@@ -116,6 +116,11 @@ pub enum Name {
     Shutdown,
     Command,
     Client,
+    // to the node: of its replicas, and whom it follows
+    Psync,
+    ReplConf,
+    ReplicaOf,
+    SlaveOf,
 }
 
 impl Name {
@@ -184,6 +189,7 @@ impl Name {
                 Name::SDiff,
                 Name::ZCard,
                 Name::ZRank,
+                Name::Psync,
             ],
             6 => &[
                 Name::Unlink,
@@ -226,6 +232,7 @@ impl Name {
                 Name::ZPopMin,
                 Name::ZPopMax,
                 Name::Command,
+                Name::SlaveOf,
             ],
             8 => &[
                 Name::GetRange,
@@ -236,12 +243,14 @@ impl Name {
                 Name::SMembers,
                 Name::ZRevRank,
                 Name::Shutdown,
+                Name::ReplConf,
             ],
             9 => &[
                 Name::PExpireAt,
                 Name::RPopLPush,
                 Name::SIsMember,
                 Name::ZRevRange,
+                Name::ReplicaOf,
             ],
             10 => &[Name::ExpireTime, Name::SMIsMember],
             11 => &[Name::PExpireTime, Name::SRandMember],
@@ -374,6 +383,10 @@ impl Name {
             Name::Shutdown => "shutdown",
             Name::Command => "command",
             Name::Client => "client",
+            Name::Psync => "psync",
+            Name::ReplConf => "replconf",
+            Name::ReplicaOf => "replicaof",
+            Name::SlaveOf => "slaveof",
         }
     }
 }

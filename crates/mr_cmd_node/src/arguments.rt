@@ -1,0 +1,106 @@
+// Commands to the node.
+ghost use Rattle.std.specs.Prelude.{◌≡◌, map};
+ghost use Rattle.std.specs.Cow.{cow_slice_items};
+ghost use Rattle.std.specs.Str.{bytes_eq};
+ghost use Rattle.mr_words.specs.Names.{lowered};
+ghost use Rattle.mr_cmd_node.specs.Arguments.{psync, replconf, replicaof, acknowledgement, telling, ack, no, one, port, port_of};
+
+use crate::node_ask::NodeAsk;
+use crate::told::Told;
+use mr_value::read_i64;
+use mr_words::{Argument, Arguments, AskFault, Name, integer};
+use std::borrow::CowSlice;
+
+type Reading<'a, 't> = Result<NodeAsk<'a, 't>, AskFault>;
+
+/// `PSYNC id offset`
+pub fn psync<'a, 't>(arguments: Arguments<'a, 't>) -> Reading<'a, 't>
+    ensures { result ≡ psync (map cow_slice_items arguments.now) }
+{
+    match arguments {
+        [id, offset] => Ok(NodeAsk::Psync {
+            wanted: integer(offset)?,
+            id: Argument::of(id),
+        }),
+        _ => Err(AskFault::Arity(Name::Psync)),
+    }
+}
+
+/// `REPLCONF option value ..`, `REPLCONF ACK offset`
+pub fn replconf<'a, 't>(arguments: Arguments<'a, 't>) -> Reading<'a, 't>
+    ensures { result ≡ replconf (map cow_slice_items arguments.now) }
+{
+    match arguments {
+        [] => Err(AskFault::Syntax),
+        [option, offset] => {
+            if is_ack(option) {
+                return acknowledgement(offset);
+            }
+            telling(arguments)
+        }
+        _ => telling(arguments),
+    }
+}
+
+/// `REPLICAOF host port`, `REPLICAOF NO ONE`, or under its other name
+pub fn replicaof<'a, 't>(name: Name, arguments: Arguments<'a, 't>) -> Reading<'a, 't>
+    ensures { result ≡ replicaof name (map cow_slice_items arguments.now) }
+{
+    match arguments {
+        [no, one] if is_no(no) && is_one(one) => Ok(NodeAsk::NoOne),
+        [host, word] => Ok(NodeAsk::ReplicaOf {
+            port: port(word)?,
+            host: Argument::of(host),
+        }),
+        _ => Err(AskFault::Arity(name)),
+    }
+}
+
+// The offset that a replica holds. It is a syntax fault where it is no number.
+fn acknowledgement<'a, 't>(word: &CowSlice<'_, u8>) -> Reading<'a, 't>
+    ensures { result ≡ acknowledgement (cow_slice_items word.now) }
+{
+    let offset = read_i64(word.as_slice()).ok_or(AskFault::Syntax)?;
+    Ok(NodeAsk::Ack { offset })
+}
+
+fn telling<'a, 't>(arguments: Arguments<'a, 't>) -> Reading<'a, 't>
+    ensures { result ≡ telling (map cow_slice_items arguments.now) }
+{
+    let told = Told::of(arguments).ok_or(AskFault::Syntax)?;
+    Ok(NodeAsk::ReplConf { told })
+}
+
+fn port(word: &CowSlice<'_, u8>) -> Result<u16, AskFault>
+    ensures { result ≡ port (cow_slice_items word.now) }
+{
+    port_of(integer(word)?)
+}
+
+fn port_of(number: i64) -> Result<u16, AskFault>
+    ensures { result ≡ port_of number }
+{
+    if number < 1 || number > 65535 {
+        Err(AskFault::Integer)
+    } else {
+        Ok(number as u16)
+    }
+}
+
+fn is_ack(word: &CowSlice<'_, u8>) -> bool
+    ensures { result ≡ bytes_eq (lowered (cow_slice_items word.now)) ack }
+{
+    word.as_slice().eq_ignore_ascii_case(b"ack")
+}
+
+fn is_no(word: &CowSlice<'_, u8>) -> bool
+    ensures { result ≡ bytes_eq (lowered (cow_slice_items word.now)) no }
+{
+    word.as_slice().eq_ignore_ascii_case(b"no")
+}
+
+fn is_one(word: &CowSlice<'_, u8>) -> bool
+    ensures { result ≡ bytes_eq (lowered (cow_slice_items word.now)) one }
+{
+    word.as_slice().eq_ignore_ascii_case(b"one")
+}
