@@ -1,22 +1,15 @@
 -- A follower in its stream.
-use Rattle.std.proofs.Common.{◌≡◌, ℕ, ◌+◌, ◌<◌, ◌≤◌, ◌⊎◌, inl, inr, List, [], ◌∷◌, ◌++◌, length, Some, Ok, refl, sym, ap, ◌∙◌, subst, arith, append_assoc, append-nil, length-append}
+use Rattle.std.proofs.Common.{◌≡◌, ℕ, ◌+◌, ◌⊎◌, inl, inr, List, [], ◌∷◌, ◌++◌, length, Some, Ok, refl, sym, ap, ◌∙◌, subst, arith, append_assoc, append-nil, length-append}
 use Rattle.std.specs.Option.{option_and_then}
 use Rattle.std.proofs.lemmas.List.Elements.{All-head, All-tail}
-use Rattle.mr_inline.specs.Language.{IsDoomed}
-use Rattle.mr_resp.specs.Command.{IsCommand, IsCommandText}
-use Rattle.mr_resp.specs.Usual.{commands}
 use Rattle.mr_data.specs.Meaning.{apply, apply_all}
 use Rattle.mr_effect.specs.Spelling.{text, texts, IsShort}
 use Rattle.mr_effect.specs.declared.effect.Effect.{Effect}
-use Rattle.mr_effect.specs.declared.effect.Effect.TheVariants as effect
-use Rattle.mr_effect.proofs.Texts.{one_text, command_text, short_effect}
+use Rattle.mr_effect.proofs.Texts.{one_text}
 use Rattle.mr_entries.specs.Dataset.{Dataset}
 use Rattle.mr_lines.specs.Lines.{most_counted}
 use Rattle.mr_follow.specs.Handshake.{IsGreeting}
 use Rattle.mr_replay.specs.Effects.{IsGoodEffect}
-use Rattle.mr_replay.specs.Steps.{DoesWords}
-use Rattle.mr_replay.proofs.Commands.{refuses_first}
-use Rattle.std.proofs.Math.Seq.{take-append_seam}
 use Rattle.mr_follow.specs.State.{FollowState, heard}
 use Rattle.mr_follow.specs.Rows.{FollowRow, Stays, Follows}
 use Rattle.mr_follow.specs.Following.{Call, feed, step, fed_by, Runs, IsStream, HasFollowed, FollowsBy, FollowsTheStream, StreamIsTaken}
@@ -25,6 +18,8 @@ use Rattle.mr_follow.specs.declared.phase.Phase.TheVariants as phase
 use Rattle.mr_follow.specs.declared.heard.Heard.{Heard}
 use Rattle.mr_follow.specs.declared.heard.Heard.TheVariants as told
 use Rattle.mr_follow.specs.declared.heard.FollowFault.TheVariants as fault
+use Rattle.mr_follow.specs.Stream.{IsRefusedFront}
+use Rattle.mr_follow.proofs.Stepping.{stream_plain}
 use Rattle.mr_follow.proofs.Loadings.{possible, then_some, text_of_words, short_of_words, some_text, short_small}
 
 asked_no : (p : Phase) → p ≡ phase.Stream → p ≡ phase.Psync → ⊥
@@ -35,7 +30,7 @@ announced_no p id o streams announced = let wrong : phase.Snapshot id o ≡ phas
 
 -- in the stream a step waits, or applies an effect
 stream_step : (a c : FollowState) (m k : Dataset) (offset : ℕ) (said : List ℕ) (outcome : Heard) → a.phase ≡ phase.Stream
-    → FollowRow a a.kept m offset (Ok outcome) c k said → Stays a m c k said ⊎ Follows a a.kept m offset c k said
+    → FollowRow a a.kept m offset (Ok outcome) c k said → Stays a a.kept m c k said ⊎ Follows a a.kept m offset c k said
 stream_step a c m k offset said told.Idle streams row = inl row.1
 stream_step a c m k offset said told.Say streams row = absurd (subst IsGreeting streams row.0.greeting)
 stream_step a c m k offset said (told.Full id o) streams row = absurd (asked_no a.phase streams row.0.asked)
@@ -69,9 +64,8 @@ one_more calls follow a b c m n k offset mid end said (e ∷ es) later s split h
     let parts = then_some (apply e m) (apply_all es) s.last s.applied in
     let p = possible e m parts.0 parts.1.0 in let q = possible f m k h.applies.applied in
     let fed = fed_by calls in
-    let state = h.state.is in
-    let kept : c.kept ≡ h.rest = ap (λ (x : FollowState). x.kept) state in
-    let phase_is : c.phase ≡ phase.Stream = ap (λ (x : FollowState). x.phase) state in
+    let phase_is : c.phase ≡ phase.Stream = h.state.waits in
+    let kept : c.kept ≡ h.rest = sym (stream_plain c h.rest phase_is h.state.agrees).1 in
     let front : a.kept ++ fed ≡ said ++ (h.rest ++ fed) = ap (λ (l : List ℕ). l ++ fed) h.begins.is ∙ append_assoc said h.rest fed in
     let all : text e ++ texts es ≡ text f ++ ((h.rest ++ fed) ++ later) =
     split ∙ ap (λ (l : List ℕ). l ++ later) front ∙ append_assoc said (h.rest ++ fed) later ∙ ap (λ (l : List ℕ). l ++ ((h.rest ++ fed) ++ later)) (sym is_text) in
@@ -110,8 +104,11 @@ follows (step ∷ calls) a b m n offset end es later streams s split (c, (k, (mi
     elim (stream_step a c m k offset one.told one.outcome streams one.row) [
       | inl waits ↦
           let at : mid ≡ offset = omega (arith, one.counted, ap length waits.silent) in
-          let same = subst (λ (x : ℕ). Runs calls a m x b n end) at (subst (λ (x : Dataset). Runs calls a x mid b n end) waits.held (subst (λ (x : FollowState). Runs calls x k mid b n end) waits.state runs)) in
-          follows calls a b m n offset end es later streams s split same
+          let waited : c.phase ≡ phase.Stream = waits.state.waits ∙ streams in
+          let kept : a.kept ≡ c.kept = (stream_plain c a.kept waited waits.state.agrees).1 in
+          let same = subst (λ (x : ℕ). Runs calls c m x b n end) at (subst (λ (x : Dataset). Runs calls c x mid b n end) waits.held runs) in
+          let rest : texts es ≡ (c.kept ++ fed_by calls) ++ later = split ∙ ap (λ (l : List ℕ). (l ++ fed_by calls) ++ later) kept in
+          subst (λ (l : List ℕ). HasFollowed es (l ++ fed_by calls) m offset b n end) (sym kept) (follows calls c b m n offset end es later waited s rest same)
       | inr applied ↦ one_more calls (follows calls) a b c m n k offset mid end one.told es later s split applied one.counted runs
     ]
 
@@ -120,41 +117,19 @@ no_front : (xs ys : List ℕ) → xs ++ ys ≡ [] → xs ≡ []
 no_front [] ys e = refl
 no_front (x ∷ xs) ys e = absurd (omega (arith, ap length e))
 
-not_doomed : (es : List Effect) (kept later : List ℕ) (m : Dataset) (offset : ℕ) → IsStream es m offset → texts es ≡ kept ++ later → IsDoomed (IsCommandText commands) kept → ⊥
-not_doomed [] kept later m offset s split d =
-    let ping = command_text effect.Ping refl refl (short_effect effect.Ping (omega arith)) in
-    let none = no_front kept later (sym split) in
-    d.never (text effect.Ping) (text effect.Ping) [] ping (ap (λ (l : List ℕ). l ++ text effect.Ping) none ∙ sym (append-nil (text effect.Ping)))
-not_doomed (e ∷ es) kept later m offset s split d =
-    let parts = then_some (apply e m) (apply_all es) s.last s.applied in
-    let p = possible e m parts.0 parts.1.0 in
-    d.never later (text e) (texts es) (command_text e p.0 p.1 (All-head IsShort e es s.short)) (sym split)
-
-no_longer : (t rest xs : List ℕ) → 0 < length t → [] ≡ t ++ (rest ++ xs) → ⊥
-no_longer t rest xs some e = omega (arith, ap length e, length-append t (rest ++ xs), some)
-
-not_bad : (es : List Effect) (kept later : List ℕ) (m : Dataset) (offset : ℕ) (ws : List (List ℕ)) (t rest : List ℕ) → IsStream es m offset → texts es ≡ kept ++ later → kept ≡ t ++ rest → IsCommand commands t ws
-    → ((n : Dataset) → offset + length t ≤ most_counted → DoesWords ws m n → ⊥) → ⊥
-not_bad [] kept later m offset ws t rest s split front c bad =
-    no_longer t rest later (some_text t ws c) (split ∙ ap (λ (l : List ℕ). l ++ later) front ∙ append_assoc t rest later)
-not_bad (e ∷ es) kept later m offset ws t rest s split front c bad =
-    let all : text e ++ texts es ≡ (t ++ rest) ++ later = split ∙ ap (λ (l : List ℕ). l ++ later) front in
-    let sizes = ap length all in let size = length-append t rest in let whole = length-append (t ++ rest) later in
+not_refused : (es : List Effect) (kept later : List ℕ) (m : Dataset) (offset room : ℕ) → IsStream es m offset → texts es ≡ kept ++ later → offset + room ≡ most_counted → IsRefusedFront room m kept → ⊥
+not_refused [] kept later m offset room s split limit r = let some = r.some in omega (arith, some, ap length (no_front kept later (sym split)))
+not_refused (e ∷ es) kept later m offset room s split limit r =
     let parts = then_some (apply e m) (apply_all es) s.last s.applied in
     let p = possible e m parts.0 parts.1.0 in
     let good : IsGoodEffect e = record { spelled = p.0; fits = p.1; short = All-head IsShort e es s.short } in
-    let few : offset + length t ≤ most_counted = omega (arith, s.within, sizes, size, whole) in
-    let command = subst (λ (l : List ℕ). IsCommand commands l ws) (sym (take-append_seam t rest)) c in
-    let stuck = refuses_first (t ++ rest) (length t) ws m (omega (arith, size)) (omega (arith, few)) command (λ f n spelled applied. bad n few (record { effect = f; spelled = spelled; applied = applied })) in
-    stuck later e parts.0 (texts es) good parts.1.0 (sym all)
+    let few = s.within in
+    r.stuck e parts.0 later (texts es) good parts.1.0 (omega (arith, few, limit, length-append (text e) (texts es))) (sym split)
 
 pub taken : StreamIsTaken
 taken a b m n offset es later said fault.BadLine streams s split row = row.0.wants streams
 taken a b m n offset es later said fault.Refused streams s split row = row.0.wants streams
 taken a b m n offset es later said fault.Undecodable streams s split (inl bad, stays) = announced_no a.phase bad.id bad.offset streams bad.announced
-taken a b m n offset es later said fault.Undecodable streams s split (inr bad, stays) = elim bad.cause [
-  | inl doomed ↦ not_doomed es a.kept later m offset s split doomed
-  | inr command ↦ not_bad es a.kept later m offset command.words command.text command.rest s split command.begins.is command.begins.command command.bad
-]
+taken a b m n offset es later said fault.Undecodable streams s split (inr bad, stays) = not_refused es a.kept later m offset bad.room s split bad.limit bad.refused
 taken a b m n offset es later said fault.Memory streams s split row = tt
 taken a b m n offset es later said fault.Spent streams s split row = tt

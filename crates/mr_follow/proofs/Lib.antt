@@ -1,3 +1,4 @@
 pub mod Loadings
 pub mod Stepping
 pub mod Followings
+pub mod Honest

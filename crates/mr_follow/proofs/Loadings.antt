@@ -1,29 +1,35 @@
--- Effects by their words, and whole snapshots.
-use Rattle.std.proofs.Common.{◌≡◌, ◌≢◌, ◌↔◌, ℕ, ◌+◌, ◌<◌, ◌≤◌, ◌^◌, inr, Bool, true, false, cond, ◌&&◌, List, [], ◌++◌, length, take, Option, Some, None, Result, Ok, Err, refl, sym, ap, ◌∙◌, subst, arith, append-nil, take_all}
+-- Effects by their words, and snapshots piece by piece.
+use Rattle.std.proofs.Common.{◌≡◌, ◌≢◌, ℕ, ◌+◌, ◌-◌, ◌<◌, ◌≤◌, ◌^◌, ◌⊎◌, zero, suc, inl, inr, Bool, true, false, cond, ◌&&◌, List, [], ◌∷◌, ◌++◌, length, take, drop, Option, Some, None, Result, Ok, Err, All, refl, sym, ap, ◌∙◌, subst, arith, append-nil, append_assoc, length-append, take_all}
 use Rattle.std.specs.FinMap.{empty}
 use Rattle.std.specs.Option.{option_and_then}
 use Rattle.std.proofs.lemmas.Bool.{and_parts}
-use Rattle.std.proofs.lemmas.List.{length-take-le}
+use Rattle.std.proofs.lemmas.List.{append_cancel_left, length-take-le, length-take, length-drop, take-append-drop, take-take, drop-take}
+use Rattle.std.proofs.lemmas.List.Elements.{All-head, All-tail}
 use Rattle.std.proofs.Math.Seq.{take-append_seam}
-use Rattle.mr_inline.specs.Language.{Continues, IsDoomed}
-use Rattle.mr_resp.specs.Command.{IsCommand, IsCommandText, HasCommandFault, ReadsCommand}
+use Rattle.mr_inline.specs.Language.{Continues, IsDoomed, Fails}
+use Rattle.mr_resp.proofs.OneFault.{fails_doomed}
+use Rattle.mr_resp.specs.Command.{IsCommand, IsCommandText, HasCommandFault, BeginsWithCommand, ReadsCommand}
 use Rattle.mr_resp.specs.declared.fault.Fault.{Fault}
 use Rattle.mr_resp.specs.declared.request.Scan.{Scan}
 use Rattle.mr_resp.specs.declared.request.Scan.TheVariants as scan
 use Rattle.mr_resp.specs.Spelling.{array}
 use Rattle.mr_resp.specs.Usual.{commands, commands-words}
-use Rattle.mr_resp.proofs.OneFault.{fails_doomed}
+use Rattle.mr_resp.proofs.Commands.{command_wants_no_more}
 use Rattle.mr_effect.specs.Effects.{has_spelling, words_fit}
-use Rattle.mr_effect.specs.Spelling.{words, text, IsShort, IsSpelled, FindsEach}
+use Rattle.mr_effect.specs.Spelling.{words, text, texts, IsShort}
 use Rattle.mr_effect.specs.declared.effect.Effect.{Effect}
+use Rattle.mr_effect.proofs.Texts.{one_text, command_text}
 use Rattle.mr_entries.specs.Dataset.{Dataset}
 use Rattle.mr_entries.specs.Changes.{change}
-use Rattle.mr_entries.specs.declared.fault.ApplyFault.{ApplyFault}
-use Rattle.mr_entries.specs.declared.fault.ApplyFault.TheVariants.{Refused, Memory}
-use Rattle.mr_data.specs.Meaning.{apply}
-use Rattle.mr_replay.specs.Effects.{Makes, Loads}
-use Rattle.mr_follow.specs.Loading.{AppliesEffect, AppliesWords}
-use Rattle.mr_follow.specs.Stream.{AppliesText, AppliesFront}
+use Rattle.mr_data.specs.Meaning.{apply, apply_all}
+use Rattle.mr_replay.specs.Effects.{IsGoodEffect, Leads, Makes, IsStuck, IsStuckForGood}
+use Rattle.mr_replay.specs.Steps.{RefusesWords, SpendsFirst, IsHalt, Replays}
+use Rattle.mr_replay.specs.declared.replaying.Halt.{Halt}
+use Rattle.mr_replay.specs.declared.replaying.Halt.TheVariants as halt
+use Rattle.mr_replay.proofs.Commands.{refuses_first, stops}
+use Rattle.mr_follow.specs.Loading.{HasCommandWithin, HasEffectWithin, IsDeadEnd, pause_of, Pauses, GoesOn}
+use Rattle.mr_follow.specs.Stream.{HasCommand, IsStuckWithin, IsRefusedFront, AppliesText, AppliesFront}
+use Rattle.mr_follow.specs.declared.taking.Taking.{Taking}
 use Rattle.mr_follow.specs.declared.heard.FollowFault.{FollowFault}
 use Rattle.mr_follow.specs.declared.heard.FollowFault.TheVariants as fault
 
@@ -53,83 +59,300 @@ some_text t ws c = rw c.spelled (omega arith)
 pub short_small : (e : Effect) → IsShort e → length (words e) < 2 ^ 64
 short_small e h = omega (arith, commands-words)
 
--- ---- a whole snapshot
--- all of it was read
-pub whole_read : (bytes : List ℕ) (used : ℕ) (n : Dataset) → Loads bytes used n → length bytes ≤ used → Makes bytes n
-whole_read bytes used n h all = subst (λ (l : List ℕ). Makes l n) (take_all used bytes all) h.made
+-- ---- parts of lists
+-- the shorter of two beginnings begins the longer
+pub split_longer : (xs ys zs ws : List ℕ) → xs ++ ys ≡ zs ++ ws → length zs ≤ length xs → (r : List ℕ) × ((xs ≡ zs ++ r) × (r ++ ys ≡ ws))
+split_longer xs ys [] ws e h = (xs, (refl, e))
+split_longer [] ys (z ∷ zs) ws e h = absurd (omega (arith, h))
+split_longer (x ∷ xs) ys (z ∷ zs) ws e h =
+    let tails : xs ++ ys ≡ zs ++ ws = cc in
+    let heads : x ≡ z = cc in
+    let r = split_longer xs ys zs ws tails (omega (arith, h)) in
+    (r.0, ((λ i. heads i ∷ r.1.0 i), r.1.1))
 
--- a part of it was read, and nothing longer makes a dataset
-pub part_read : (bytes : List ℕ) (used : ℕ) (m n : Dataset) → Loads bytes used m → used < length bytes → Makes bytes n → ⊥
-part_read bytes used m n h part made = omega (arith, h.longest bytes [] n (sym (append-nil bytes)) made, part)
+-- a beginning of a beginning
+pub two_fronts : (n k : ℕ) (u : List ℕ) → k ≤ n → take k (take n u) ≡ take k u
+two_fronts n k u h = take-take k n u h
 
--- ---- one effect after another
-some_of : (o : Option Dataset) → o ≢ None → (k : Dataset) × (o ≡ Some k)
-some_of None h = absurd (h refl)
-some_of (Some k) h = (k, refl)
+pub few_taken : (n : ℕ) (u : List ℕ) → (length (take n u) ≤ n) × (length (take n u) ≤ length u)
+few_taken zero u = (omega arith, omega arith)
+few_taken (suc n) [] = (omega arith, omega arith)
+few_taken (suc n) (x ∷ u) = let r = few_taken n u in (omega (arith, r.0), omega (arith, r.1))
 
--- memory ran out within an effect, which isn't refused
-pub effect_spent : (e : Effect) (m n : Dataset) (r : Result (Unit {0}) ApplyFault) → ((r ≡ Err Refused) ↔ (apply e m ≡ None)) → (r ≡ Err Memory → n ≡ empty) → r ≡ Err Memory → (apply e m ≢ None) × (n ≡ empty)
-effect_spent e m n r refused emptied is = ((λ none. not_both r is (refused.1 none)), emptied is)
+pub taken_or : (n : ℕ) (u : List ℕ) → (length (take n u) ≡ n) ⊎ (length (take n u) ≡ length u)
+taken_or zero u = inl refl
+taken_or (suc n) [] = inr refl
+taken_or (suc n) (x ∷ u) = elim (taken_or n u) [
+  | inl is ↦ inl (ap suc is)
+  | inr is ↦ inr (ap suc is)
+]
+
+-- a beginning of what there is of so many bytes
+pub within_parts : (u : List ℕ) (left k : ℕ) → k ≤ length (take left u) → (u ≡ take k (take left u) ++ (drop k (take left u) ++ drop left u)) × (length (take k (take left u)) ≤ left)
+within_parts u left k h =
+    let one = take-append-drop k (take left u) in
+    let two = take-append-drop left u in (
+      sym two ∙ ap (λ (l : List ℕ). l ++ drop left u) (sym one) ∙ append_assoc (take k (take left u)) (drop k (take left u)) (drop left u),
+      omega (arith, length-take-le k (take left u) h, h, (few_taken left u).0),
+    )
+
+-- ---- effects that go on from a dataset
+some_one : (x y : Dataset) → Some x ≡ Some y → x ≡ y
+some_one x y e = cc
+
+-- what leads somewhere begins with an effect that can be applied
+pub dead_end : (m n : Dataset) (all : List ℕ) → 0 < length all → Leads all m n → IsStuck m all → ⊥
+dead_end m n all some led stuck = none led.effects led.good led.are_texts led.applied
   where
-    not_both : (o : Result (Unit {0}) ApplyFault) → o ≡ Err Memory → o ≡ Err Refused → ⊥
-    not_both o p q = let wrong = sym p ∙ q in cc
+    none : (es : List Effect) → All IsGoodEffect es → all ≡ texts es → apply_all es m ≡ Some n → ⊥
+    none [] g is applied = omega (arith, some, ap length is)
+    none (e ∷ es) g is applied =
+        let one = then_some (apply e m) (apply_all es) n applied in
+        stuck e one.0 (texts es) (All-head IsGoodEffect e es g) one.1.0 is
 
--- the effect with a command's words is done as it is, or there is none that can be
-pub words_applied : (e : Effect) (ws : List (List ℕ)) (m n : Dataset) (r : Result (Unit {0}) FollowFault) → AppliesEffect e m r n → IsSpelled ws e → FindsEach ws (Some e) → AppliesWords ws m r n
-words_applied e ws m n (Ok done) h spelled each = record { effect = e; spelled = spelled; applied = h }
-words_applied e ws m n (Err fault.BadLine) h spelled each = absurd h
-words_applied e ws m n (Err fault.Refused) h spelled each = absurd h
-words_applied e ws m n (Err fault.Undecodable) h spelled each = (
-  λ k a. let same : Some e ≡ Some a.effect = each a.effect a.spelled in
-      let one : e ≡ a.effect = cc in
-      let both : None ≡ Some k = sym h.0 ∙ ap (λ (x : Effect). apply x m) one ∙ a.applied in
-      cc,
-  h.1,
-)
-words_applied e ws m n (Err fault.Memory) h spelled each = absurd h
-words_applied e ws m n (Err fault.Spent) h spelled each =
-    let k = some_of (apply e m) h.0 in
-    ((k.0, record { effect = e; spelled = spelled; applied = k.1 }), h.1)
+one_good : (e f : Effect) (x y : List ℕ) → IsGoodEffect e → IsGoodEffect f → text e ++ x ≡ text f ++ y → (e ≡ f) × (x ≡ y)
+one_good e f x y g h q = one_text e f x y g.spelled h.spelled g.fits h.fits (short_small e g.short) (short_small f h.short) q
+
+-- of two lists of effects, the one with the longer texts goes on from where the other led
+cancel : (es fs : List Effect) (old mid n : Dataset) (x y : List ℕ) → All IsGoodEffect es → All IsGoodEffect fs → apply_all es old ≡ Some mid → apply_all fs old ≡ Some n
+    → texts es ++ x ≡ texts fs ++ y → length (texts es) ≤ length (texts fs) → (gs : List Effect) × (All IsGoodEffect gs × ((apply_all gs mid ≡ Some n) × (texts fs ≡ texts es ++ texts gs)))
+cancel [] fs old mid n x y g h p q e few = (fs, (h, (subst (λ (k : Dataset). apply_all fs k ≡ Some n) (some_one old mid p) q, refl)))
+cancel (a ∷ es) [] old mid n x y g h p q e few = absurd (omega (arith, few, length-append (text a) (texts es)))
+cancel (a ∷ es) (f ∷ fs) old mid n x y g h p q e few =
+    let split : text a ++ (texts es ++ x) ≡ text f ++ (texts fs ++ y) = sym (append_assoc (text a) (texts es) x) ∙ (e ∙ append_assoc (text f) (texts fs) y) in
+    let both = one_good a f (texts es ++ x) (texts fs ++ y) (All-head IsGoodEffect a es g) (All-head IsGoodEffect f fs h) split in
+    let one = then_some (apply a old) (apply_all es) mid p in
+    let two = then_some (apply f old) (apply_all fs) n q in
+    let same : two.0 ≡ one.0 = some_one two.0 one.0 (sym two.1.0 ∙ (ap (λ (k : Effect). apply k old) (sym both.0) ∙ one.1.0)) in
+    let few_rest : length (texts es) ≤ length (texts fs) = omega (arith, few, length-append (text a) (texts es), length-append (text f) (texts fs), ap (λ (k : Effect). length (text k)) both.0) in
+    let rest = cancel es fs one.0 mid n x y (All-tail IsGoodEffect a es g) (All-tail IsGoodEffect f fs h) one.1.1 (subst (λ (k : Dataset). apply_all fs k ≡ Some n) same two.1.1) both.1 few_rest in
+    (rest.0, (rest.1.0, (rest.1.1.0, (λ i. text (sym both.0 i) ++ rest.1.1.1 i) ∙ sym (append_assoc (text a) (texts es) (texts rest.0)))))
+
+-- of two beginnings that make datasets, the longer goes on from where the other led
+pub leads_behind : (front all x y : List ℕ) (mid n : Dataset) → Makes front mid → Makes all n → front ++ x ≡ all ++ y → length front ≤ length all → (tail : List ℕ) × ((all ≡ front ++ tail) × Leads tail mid n)
+leads_behind front all x y mid n one two e few =
+    let whole : texts one.effects ++ x ≡ texts two.effects ++ y = ap (λ (t : List ℕ). t ++ x) (sym one.are_texts) ∙ (e ∙ ap (λ (t : List ℕ). t ++ y) two.are_texts) in
+    let less : length (texts one.effects) ≤ length (texts two.effects) = omega (arith, few, ap length one.are_texts, ap length two.are_texts) in
+    let c = cancel one.effects two.effects empty mid n x y one.good two.good one.applied two.applied whole less in (
+      texts c.0,
+      (
+        two.are_texts ∙ (c.1.1.1 ∙ ap (λ (t : List ℕ). t ++ texts c.0) (sym one.are_texts)),
+        record { effects = c.0; good = c.1.0; are_texts = refl; applied = c.1.1.0 },
+      ),
+    )
+
+-- no bytes lead nowhere else
+some_leads : (m n : Dataset) → Leads [] m n → m ≡ n
+some_leads m n led = of_effects led.effects led.are_texts led.applied
+  where
+    of_effects : (es : List Effect) → [] ≡ texts es → apply_all es m ≡ Some n → m ≡ n
+    of_effects [] is applied = some_one m n applied
+    of_effects (e ∷ es) is applied = absurd (omega (arith, ap length is))
+
+-- the same bytes make one dataset
+pub one_made : (bytes : List ℕ) (m n : Dataset) → Makes bytes m → Makes bytes n → m ≡ n
+one_made bytes m n one two =
+    let r = leads_behind bytes bytes [] [] m n one two refl (omega arith) in
+    let none : [] ≡ r.0 = append_cancel_left bytes [] r.0 (append-nil bytes ∙ r.1.0) in
+    some_leads m n (subst (λ (l : List ℕ). Leads l m n) (sym none) r.1.1)
+
+-- ---- why no more is taken of a snapshot
+-- all bytes that are to come are there, and begin with no effect that can be applied
+there_stuck : (m : Dataset) (left : ℕ) (kept : List ℕ) → left ≤ length kept → 0 < left → IsStuck m (take left kept) → IsDeadEnd m left kept
+there_stuck m left kept there some stuck all more behind n size e led =
+    let r = split_longer kept more all behind e (omega (arith, size, there)) in
+    let front : take left kept ≡ all = (λ i. take (sym size i) (r.1.0 i)) ∙ take-append_seam all r.0 in
+    dead_end m n all (omega (arith, size, some)) led (subst (λ (l : List ℕ). IsStuck m l) front stuck)
+
+-- some are there, and nothing good comes of them
+begun_stuck : (m : Dataset) (left : ℕ) (kept : List ℕ) → length kept < left → IsStuckForGood m (take left kept) → IsDeadEnd m left kept
+begun_stuck m left kept few stuck all more behind n size e led =
+    let r = split_longer all behind kept more (sym e) (omega (arith, size, few)) in
+    let whole : take left kept ≡ kept = take_all left kept (omega (arith, few)) in
+    let here : take left kept ++ r.0 ≡ all = ap (λ (l : List ℕ). l ++ r.0) whole ∙ sym r.1.0 in
+    dead_end m n all (omega (arith, size, few)) led (subst (λ (l : List ℕ). IsStuck m l) here (stuck r.0))
+
+command_within : (left : ℕ) (kept : List ℕ) → BeginsWithCommand commands (take left kept) → HasCommandWithin left kept
+command_within left kept h =
+    let parts = within_parts kept left h.used h.inside in record {
+      words = h.words;
+      front = take h.used (take left kept);
+      behind = drop h.used (take left kept) ++ drop left kept;
+      is = parts.0;
+      inside = parts.1;
+      command = h.command;
+    }
+
+effect_within : (m n : Dataset) (left : ℕ) (kept : List ℕ) → SpendsFirst (take left kept) m n → HasEffectWithin m left kept
+effect_within m n left kept s =
+    let d = s.does in
+    let parts = within_parts kept left s.used d.within in record {
+      effect = d.effect;
+      good = d.good;
+      behind = drop s.used (take left kept) ++ drop left kept;
+      is = parts.0 ∙ ap (λ (l : List ℕ). l ++ (drop s.used (take left kept) ++ drop left kept)) d.is_text;
+      inside = subst (λ (l : List ℕ). length l ≤ left) d.is_text parts.1;
+      can = s.can;
+      applies = d.applied;
+      heavy = s.heavy;
+    }
+
+pauses_by : (h : Halt) (there ended : Bool) (left : ℕ) (kept : List ℕ) (m n : Dataset) → IsHalt m (take left kept) h n → (there ≡ true → left ≤ length kept) → (there ≡ false → length kept < left)
+    → (ended ≡ true → left ≡ 0) → (ended ≡ false → 0 < left) → Pauses m left kept (pause_of h there ended) n
+pauses_by halt.Open there true left kept m n h all few end some = (h.0, end refl)
+pauses_by halt.Open true false left kept m n h all few end some = (h.0, there_stuck m left kept (all refl) (some refl) h.1.stuck)
+pauses_by halt.Open false false left kept m n h all few end some =
+    let short = few refl in
+    (h.0, (short, subst (λ (l : List ℕ). Continues (IsCommandText commands) l) (take_all left kept (omega (arith, short))) h.1.begun))
+pauses_by halt.Bad there true left kept m n h all few end some = (h.0, end refl)
+pauses_by halt.Bad true false left kept m n h all few end some = (h.0, there_stuck m left kept (all refl) (some refl) (subst (IsStuck m) (append-nil (take left kept)) (h.1 [])))
+pauses_by halt.Bad false false left kept m n h all few end some = (h.0, begun_stuck m left kept (few refl) h.1)
+pauses_by halt.Lack there true left kept m n h all few end some = (h.0, end refl)
+pauses_by halt.Lack there false left kept m n h all few end some = (h.0, command_within left kept h.1)
+pauses_by halt.Spent there ended left kept m n h all few end some = effect_within m n left kept h
+
+pub gone_on : (t : Taking) (unread : List ℕ) (used : ℕ) (made : Dataset) (h : Halt) (there ended : Bool) → t.done ≤ t.size → Replays (take (t.size - t.done) unread) used t.made made h
+    → (there ≡ true → length (take (t.size - t.done) unread) ≡ t.size - t.done) → (there ≡ false → length (take (t.size - t.done) unread) ≢ t.size - t.done)
+    → (ended ≡ true → t.done + used ≡ t.size) → (ended ≡ false → t.done + used ≢ t.size)
+    → GoesOn t unread used (pause_of h there ended) (record { head = t.head; size = t.size; done = t.done + used; made = made })
+gone_on t unread used made h there ended fits r all few end some =
+    let total = t.size - t.done in
+    let left = t.size - (t.done + used) in
+    let cut = few_taken total unread in
+    let size = length-take total unread in
+    let inside = r.within in
+    let parts : total ≡ used + left = omega (arith, inside, cut.0, fits) in
+    let few_used : used ≤ total = omega (arith, parts) in
+    let behind : drop used (take total unread) ≡ take left (drop used unread) = ap (λ (k : ℕ). drop used (take k unread)) parts ∙ drop-take used left unread in
+    let long = length-drop used unread in
+    record {
+      head = refl;
+      size = refl;
+      done = refl;
+      within = omega (arith, inside, cut.0, fits);
+      inside = omega (arith, inside, cut.1);
+      made = r.mid;
+      led = subst (λ (l : List ℕ). Leads l t.made r.mid) (two_fronts total used unread few_used) r.led;
+      pauses = pauses_by h there ended left (drop used unread) r.mid made (subst (λ (l : List ℕ). IsHalt r.mid l h made) behind r.left)
+          (λ e. omega (arith, all e, cut.1, long, parts)) (λ e. short_of (few e)) (λ e. omega (arith, end e)) (λ e. some_left (some e));
+    }
+  where
+    fewer : (length (take (t.size - t.done) unread) ≡ t.size - t.done) ⊎ (length (take (t.size - t.done) unread) ≡ length unread) → length (take (t.size - t.done) unread) ≢ t.size - t.done → length (drop used unread) < t.size - (t.done + used)
+    fewer (inl is) other = absurd (other is)
+    fewer (inr is) other =
+        let few = r.within in let cut = (few_taken (t.size - t.done) unread).0 in
+        omega (arith, other, is, cut, few, length-drop used unread, fits)
+
+    short_of : length (take (t.size - t.done) unread) ≢ t.size - t.done → length (drop used unread) < t.size - (t.done + used)
+    short_of other = fewer (taken_or (t.size - t.done) unread) other
+
+    some_left : t.done + used ≢ t.size → 0 < t.size - (t.done + used)
+    some_left other = let few = r.within in let cut = (few_taken (t.size - t.done) unread).0 in omega (arith, other, few, cut, fits)
+
+-- ---- the effect at the front of the stream
+stuck_front : (room : ℕ) (m : Dataset) (u : List ℕ) → IsStuckForGood m (take room u) → IsStuckWithin room m u
+stuck_front room m u stuck e n more behind good applied few q =
+    stuck (drop room u ++ more) e n behind good applied (sym (append_assoc (take room u) (drop room u) more) ∙ (ap (λ (l : List ℕ). l ++ more) (take-append-drop room u) ∙ q))
+
+-- what is doomed begins no command text
+doomed_front : (u : List ℕ) (room : ℕ) → IsDoomed (IsCommandText commands) (take room u) → Continues (IsCommandText commands) u → ⊥
+doomed_front u room d c =
+    let whole : take room u ++ (drop room u ++ c.more) ≡ (u ++ c.more) ++ [] =
+    sym (append_assoc (take room u) (drop room u) c.more) ∙ (ap (λ (l : List ℕ). l ++ c.more) (take-append-drop room u) ∙ sym (append-nil (u ++ c.more))) in
+    d.never (drop room u ++ c.more) (u ++ c.more) [] c.whole whole
+
+-- what a reader finds doomed is refused
+pub bad_stuck : (u : List ℕ) (room : ℕ) (m : Dataset) (found : Scan) (f : Fault) → found ≡ scan.Bad f → ReadsCommand commands (take room u) found → IsRefusedFront room m u
+bad_stuck u room m found f is h =
+    let fails : Fails (IsCommandText commands) (HasCommandFault commands f) (take room u) = subst (λ (s : Scan). ReadsCommand commands (take room u) s) is h in
+    let cut = few_taken room u in
+    record {
+      some = omega (arith, ap length fails.is, length-append fails.front (fails.byte ∷ fails.rest), cut.1);
+      past = λ c. absurd (doomed_front u room (fails_doomed (IsCommandText commands) (HasCommandFault commands f) (take room u) fails) c);
+      stuck = stuck_front room m u (stops (take room u) m f fails);
+    }
+
+-- a command text that isn't whole yet and has more bytes already is no effect's of at most so many
+pub long_stuck : (u : List ℕ) (room : ℕ) (m : Dataset) (found : Scan) → found ≡ scan.More → ReadsCommand commands (take room u) found → length (take room u) < length u → IsRefusedFront room m u
+long_stuck u room m found is h long =
+    let full = full_of (taken_or room u) in
+    record { some = omega (arith, long); past = λ c. omega (arith, full, long); stuck = λ e n more behind good applied few q. too_long e more behind good few full q }
+  where
+    full_of : (length (take room u) ≡ room) ⊎ (length (take room u) ≡ length u) → length (take room u) ≡ room
+    full_of (inl is_room) = is_room
+    full_of (inr is_all) = absurd (omega (arith, is_all, long))
+
+    too_long : (e : Effect) (more behind : List ℕ) → IsGoodEffect e → length (text e) ≤ room → length (take room u) ≡ room → u ++ more ≡ text e ++ behind → ⊥
+    too_long e more behind good few full q =
+        let all : take room u ++ (drop room u ++ more) ≡ text e ++ behind = sym (append_assoc (take room u) (drop room u) more) ∙ (ap (λ (l : List ℕ). l ++ more) (take-append-drop room u) ∙ q) in
+        let r = split_longer (take room u) (drop room u ++ more) (text e) behind all (omega (arith, few, full)) in
+        command_wants_no_more commands (text e) r.0 (command_text e good.spelled good.fits good.short)
+        (subst (λ (l : List ℕ). Continues (IsCommandText commands) l) r.1.0 (subst (λ (s : Scan). ReadsCommand commands (take room u) s) is h))
+
+pub more_wanted : (u : List ℕ) (room : ℕ) (found : Scan) → found ≡ scan.More → ReadsCommand commands (take room u) found → length u ≤ length (take room u) → Continues (IsCommandText commands) u
+more_wanted u room found is h all = subst (λ (l : List ℕ). Continues (IsCommandText commands) l) (whole_of (taken_or room u)) (subst (λ (s : Scan). ReadsCommand commands (take room u) s) is h)
+  where
+    whole_of : (length (take room u) ≡ room) ⊎ (length (take room u) ≡ length u) → take room u ≡ u
+    whole_of (inl is_room) = take_all room u (omega (arith, is_room, all))
+    whole_of (inr is_all) = take_all room u (omega (arith, all, (few_taken room u).0))
+
+pub lacks : (u : List ℕ) (room : ℕ) → BeginsWithCommand commands (take room u) → HasCommand u room
+lacks u room h =
+    let parts = within_parts u room h.used h.inside in record {
+      words = h.words;
+      front = take h.used (take room u);
+      behind = drop h.used (take room u) ++ drop room u;
+      is = parts.0;
+      within = parts.1;
+      command = h.command;
+    }
+
+-- a command text whose words are refused is
+text_stuck : (u : List ℕ) (used room : ℕ) (ws : List (List ℕ)) (m : Dataset) → used ≤ length (take room u) → used < 2 ^ 64 → IsCommand commands (take used (take room u)) ws → RefusesWords ws m → IsRefusedFront room m u
+text_stuck u used room ws m inside small c refused =
+    let parts = within_parts u room used inside in
+    let front = take used (take room u) in
+    let behind = drop used (take room u) ++ drop room u in
+    record {
+      some = omega (arith, ap length parts.0, length-append front behind, some_text front ws c);
+      past = λ k. absurd (command_wants_no_more commands front behind (ws, c) (subst (λ (l : List ℕ). Continues (IsCommandText commands) l) parts.0 k));
+      stuck = stuck_front room m u (refuses_first (take room u) used ws m inside small c refused);
+    }
 
 -- a whole command text stands in front, whose words are applied or aren't
-pub text_in_front : (u : List ℕ) (used room : ℕ) (ws : List (List ℕ)) (m n : Dataset) (r : Result (Option ℕ) FollowFault) (before after : List ℕ) → used ≤ length u → IsCommand commands (take used u) ws
-    → AppliesText (take used u) ws room m r n before after → AppliesFront u room m r n before after
-text_in_front u used room ws m n (Ok None) before after inside c h = absurd h
-text_in_front u used room ws m n (Ok (Some k)) before after inside c h =
-    let size : k ≡ used = h.0 ∙ length-take-le used u inside in (
+pub text_in_front : (u : List ℕ) (used room : ℕ) (ws : List (List ℕ)) (m n : Dataset) (r : Result (Option ℕ) FollowFault) (before after : List ℕ) → used ≤ length (take room u) → used < 2 ^ 64 → IsCommand commands (take used (take room u)) ws
+    → AppliesText (take used (take room u)) ws m r n before after → AppliesFront u room m r n before after
+text_in_front u used room ws m n (Ok None) before after inside small c h = absurd h
+text_in_front u used room ws m n (Ok (Some k)) before after inside small c h =
+    let cut = few_taken room u in
+    let size : k ≡ used = h.0 ∙ length-take-le used (take room u) inside in
+    let front : take used (take room u) ≡ take k u = two_fronts room used u (omega (arith, inside, cut.0)) ∙ ap (λ (x : ℕ). take x u) (sym size) in (
       record {
-        inside = omega (arith, size, inside);
-        within = omega (arith, h.0, h.1.0);
+        inside = omega (arith, size, inside, cut.1);
+        within = omega (arith, size, inside, cut.0);
         words = ws;
-        command = subst (λ (x : ℕ). IsCommand commands (take x u) ws) (sym size) c;
-        applies = h.1.1.0;
+        command = subst (λ (l : List ℕ). IsCommand commands l ws) front c;
+        applies = h.1.0;
       },
-      h.1.1.1 ∙ ap (λ (x : ℕ). before ++ take x u) (sym size),
+      h.1.1 ∙ ap (λ (l : List ℕ). before ++ l) front,
     )
-text_in_front u used room ws m n (Err fault.BadLine) before after inside c h = absurd h
-text_in_front u used room ws m n (Err fault.Refused) before after inside c h = absurd h
-text_in_front u used room ws m n (Err fault.Undecodable) before after inside c h =
-    (inr (record { used = used; words = ws; inside = inside; command = c; bad = λ k few. h.0 k (omega (arith, few, length-take-le used u inside)) }), h.1)
-text_in_front u used room ws m n (Err fault.Memory) before after inside c h = (record { words = ws; used = used; inside = inside; command = c }, h)
-text_in_front u used room ws m n (Err fault.Spent) before after inside c h =
-    let few = h.0.0 in
-    ((used, (h.0.1.0, record { inside = inside; within = omega (arith, few, length-take-le used u inside); words = ws; command = c; applies = h.0.1.1 })), h.1)
-
--- what a reader finds doomed is
-pub bad_doomed : (u : List ℕ) (found : Scan) (f : Fault) → found ≡ scan.Bad f → ReadsCommand commands u found → IsDoomed (IsCommandText commands) u
-bad_doomed u found f is h = fails_doomed (IsCommandText commands) (HasCommandFault commands f) u (subst (λ (s : Scan). ReadsCommand commands u s) is h)
-
-pub more_wanted : (u : List ℕ) (found : Scan) → found ≡ scan.More → ReadsCommand commands u found → Continues (IsCommandText commands) u
-more_wanted u found is h = subst (λ (s : Scan). ReadsCommand commands u s) is h
+text_in_front u used room ws m n (Err fault.BadLine) before after inside small c h = absurd h
+text_in_front u used room ws m n (Err fault.Refused) before after inside small c h = absurd h
+text_in_front u used room ws m n (Err fault.Undecodable) before after inside small c h = (text_stuck u used room ws m inside small c h.0, h.1)
+text_in_front u used room ws m n (Err fault.Memory) before after inside small c h = (lacks u room (record { words = ws; used = used; inside = inside; command = c }), h)
+text_in_front u used room ws m n (Err fault.Spent) before after inside small c h =
+    let cut = few_taken room u in (
+      record {
+        used = used;
+        inside = omega (arith, inside, cut.1);
+        within = omega (arith, inside, cut.0);
+        words = ws;
+        command = subst (λ (l : List ℕ). IsCommand commands l ws) (two_fronts room used u (omega (arith, inside, cut.0))) c;
+        spends = h.0;
+      },
+      h.1,
+    )
 
 -- what was put behind the others is cut off
 pub cut_back : (xs ys zs all : List ℕ) (k : ℕ) → all ≡ xs ++ ys → k ≡ length xs → zs ≡ take k all → zs ≡ xs
 cut_back xs ys zs all k put at cut = cut ∙ (λ i. take (at i) (put i)) ∙ take-append_seam xs ys
-
--- the text was put out and taken back
-pub text_refused : (text : List ℕ) (ws : List (List ℕ)) (room : ℕ) (m n : Dataset) (f : FollowFault) (before after : List ℕ) → after ≡ before → length text ≤ room → AppliesWords ws m (Err f) n → AppliesText text ws room m (Err f) n before after
-text_refused text ws room m n fault.BadLine before after same fits h = absurd h
-text_refused text ws room m n fault.Refused before after same fits h = absurd h
-text_refused text ws room m n fault.Undecodable before after same fits h = (λ k few. h.0 k, (h.1, same))
-text_refused text ws room m n fault.Memory before after same fits h = (h, same)
-text_refused text ws room m n fault.Spent before after same fits h = ((fits, h.0), (h.1, same))

@@ -4,11 +4,13 @@ use Rattle.mr_data.specs.Meaning.{apply_all}
 use Rattle.mr_effect.specs.Spelling.{texts, IsShort}
 use Rattle.mr_effect.specs.declared.effect.Effect.{Effect}
 use Rattle.mr_entries.specs.Dataset.{Dataset}
-use Rattle.mr_lines.specs.Lines.{most_counted}
+use Rattle.mr_lines.specs.Lines.{most_counted, size, IsPeerLine}
 use Rattle.mr_follow.specs.State.{FollowState, heard}
 use Rattle.mr_follow.specs.Rows.{FollowRow}
 use Rattle.mr_follow.specs.declared.phase.Phase.TheVariants as phase
+use Rattle.mr_replay.specs.Effects.{Makes}
 use Rattle.mr_follow.specs.declared.heard.Heard.{Heard}
+use Rattle.mr_follow.specs.declared.heard.Heard.TheVariants as heard_of
 use Rattle.mr_follow.specs.declared.heard.FollowFault.{FollowFault}
 use Rattle.mr_follow.specs.declared.heard.FollowFault.TheVariants.{BadLine, Refused, Undecodable, Memory, Spent}
 
@@ -76,3 +78,22 @@ abbrev pub StreamIsTaken : Type 0
 StreamIsTaken = (a b : FollowState) (m n : Dataset) (offset : ℕ) (effects : List Effect) (later told : List ℕ) (fault : FollowFault)
     → a.phase ≡ phase.Stream → IsStream effects m offset → texts effects ≡ a.kept ++ later
     → FollowRow a a.kept m offset (Err fault) b n told → IsWant fault
+
+-- The bytes begin a snapshot that makes a dataset, or they are one with something behind it.
+pub record BeginsSnapshot (u later : List ℕ) (made : Dataset) : Type 0 where
+  pub line : List ℕ
+  pub bytes : List ℕ
+  pub behind : List ℕ
+  pub is : u ++ later ≡ line ++ (bytes ++ behind)
+  pub says : IsPeerLine line (size (length bytes))
+  pub makes : Makes bytes made
+
+-- then no step is refused but for want of memory
+abbrev pub SnapshotIsTaken : Type 0
+SnapshotIsTaken = (a b : FollowState) (m n made : Dataset) (offset o : ℕ) (id u later told : List ℕ) (fault : FollowFault)
+    → a.phase ≡ phase.Snapshot id o → BeginsSnapshot u later made → FollowRow a u m offset (Err fault) b n told → IsWant fault
+
+-- and where it is all there, it is handed over
+abbrev pub SnapshotIsHandedOver : Type 0
+SnapshotIsHandedOver = (a b : FollowState) (m n made : Dataset) (offset o : ℕ) (id u told : List ℕ) (outcome : Heard)
+    → a.phase ≡ phase.Snapshot id o → BeginsSnapshot u [] made → FollowRow a u m offset (Ok outcome) b n told → outcome ≡ heard_of.Snapshot made

@@ -1,5 +1,5 @@
 -- The lines that are waited for before the stream.
-use Rattle.std.specs.Prelude.{◌≡◌, ℕ, ◌<◌, ◌≤◌, ◌⊎◌, List, ◌++◌, length, take, drop, Option, Some, None, Result, Ok, Err}
+use Rattle.std.specs.Prelude.{◌≡◌, ℕ, ◌<◌, ◌≤◌, ◌⊎◌, List, ◌++◌, length, take, Option, Some, None, Result, Ok, Err}
 use Rattle.mr_inline.specs.Language.{Continues, IsDoomed}
 use Rattle.mr_lines.specs.Lines.{Line, status, refusal, size, IsLineText, IsPeerLine, SaysNothing}
 use Rattle.mr_lines.specs.Replies.{IsReplyText}
@@ -9,7 +9,6 @@ use Rattle.mr_follow.specs.declared.heard.FollowFault.TheVariants.{BadLine, Refu
 use Rattle.mr_follow.specs.declared.status.Status.{Status}
 use Rattle.mr_follow.specs.declared.status.Answered.{Answered}
 use Rattle.mr_follow.specs.declared.status.Announced.{Announced}
-use Rattle.mr_follow.specs.declared.snapshot.Snapshot.{Snapshot}
 
 -- The bytes begin with a line that says this, and the rest is left.
 pub record Begins (u : List ℕ) (line : Line) (rest : List ℕ) : Type 0 where
@@ -84,18 +83,3 @@ pub record IsShortOf (u : List ℕ) : Type 0 where
   pub rest : List ℕ
   pub begins : Begins u (size length_of) rest
   pub missing : length rest < length_of
-
--- a length stands at the front, and so many bytes behind it
-pub record HasSnapshot (u bytes : List ℕ) (used : ℕ) : Type 0 where
-  pub inside : used ≤ length u
-  pub begins : Begins u (size (length bytes)) (bytes ++ drop used u)
-
--- a whole snapshot
-abbrev pub HearsSnapshot : List ℕ → Result (Option Snapshot) FollowFault → Type 0
-HearsSnapshot u (Ok None) = Continues IsLineText u ⊎ IsShortOf u
-HearsSnapshot u (Ok (Some s)) = HasSnapshot u s.bytes.now s.used
-HearsSnapshot u (Err BadLine) = IsNoLine u ⊎ HasStatus u
-HearsSnapshot u (Err Refused) = HasRefusal u
-HearsSnapshot u (Err Undecodable) = ⊥
-HearsSnapshot u (Err Memory) = ⊥
-HearsSnapshot u (Err Spent) = ⊥

@@ -1,8 +1,11 @@
 -- What a step of a follower may do, one row for each outcome.
 use Rattle.std.specs.Prelude.{◌≡◌, ◌≢◌, ℕ, ◌+◌, ◌≤◌, ◌⊎◌, List, [], ◌++◌, length, Option, None, IsSome, Result, Ok, Err}
-use Rattle.mr_inline.specs.Language.{Continues, IsDoomed}
+use Rattle.mr_inline.specs.Language.{Continues}
+use Rattle.mr_effect.specs.Spelling.{texts}
+use Rattle.mr_entries.specs.Changes.{NeedsNoMemory}
+use Rattle.mr_data.specs.Rebuilding.{rebuilding}
 use Rattle.std.specs.FinMap.{empty}
-use Rattle.mr_resp.specs.Command.{IsCommand, IsCommandText, BeginsWithCommand}
+use Rattle.mr_resp.specs.Command.{IsCommand, IsCommandText}
 use Rattle.mr_resp.specs.Usual.{commands}
 use Rattle.mr_entries.specs.Dataset.{Dataset}
 use Rattle.mr_lines.specs.Lines.{Line, status, refusal, size, IsLineText, most_counted}
@@ -12,8 +15,10 @@ use Rattle.mr_lines.specs.declared.psync.PsyncReply.TheVariants as reply
 use Rattle.mr_replay.specs.Effects.{Makes}
 use Rattle.mr_replay.specs.Steps.{DoesWords}
 use Rattle.mr_follow.specs.Handshake.{IsGreeting, next_of, line_after}
-use Rattle.mr_follow.specs.Lines.{Begins, IsNoLine, IsShortOf, HasStatus, HasSnapshot}
-use Rattle.mr_follow.specs.State.{FollowState, Moves}
+use Rattle.mr_follow.specs.Lines.{Begins, IsNoLine, IsShortOf, HasStatus}
+use Rattle.mr_follow.specs.Loading.{HasCommandWithin, HasEffectWithin}
+use Rattle.mr_follow.specs.Stream.{HasCommand, IsRefusedFront}
+use Rattle.mr_follow.specs.State.{FollowState, Agrees, Moves}
 use Rattle.mr_follow.specs.declared.phase.Phase.{Phase}
 use Rattle.mr_follow.specs.declared.phase.Phase.TheVariants as phase
 use Rattle.mr_follow.specs.declared.heard.Heard.{Heard}
@@ -30,14 +35,14 @@ pub record Commands (u : List ℕ) (words : List (List ℕ)) (text rest : List �
 abbrev pub WantsLine : Phase → Type 0
 WantsLine p = p ≢ phase.Stream
 
--- nothing whole is there
-abbrev pub Waits : Phase → List ℕ → Type 0
-Waits phase.Ping u = Continues IsLineText u
-Waits phase.Port u = Continues IsLineText u
-Waits phase.Capabilities u = Continues IsLineText u
-Waits phase.Psync u = Continues IsLineText u
-Waits (phase.Snapshot id offset) u = Continues IsLineText u ⊎ IsShortOf u
-Waits phase.Stream u = Continues (IsCommandText commands) u
+-- nothing whole is there; of a snapshot that isn't whole, the beginning of one command text is kept, and nothing else
+abbrev pub Waits : Phase → List ℕ → List ℕ → Type 0
+Waits phase.Ping u kept = Continues IsLineText u
+Waits phase.Port u kept = Continues IsLineText u
+Waits phase.Capabilities u kept = Continues IsLineText u
+Waits phase.Psync u kept = Continues IsLineText u
+Waits (phase.Snapshot id offset) u kept = Continues IsLineText u ⊎ (IsShortOf u × Continues (IsCommandText commands) kept)
+Waits phase.Stream u kept = Continues (IsCommandText commands) u
 
 -- An answer to a line of the handshake is used, and the next line is put out.
 pub record Greets (a : FollowState) (u : List ℕ) (b : FollowState) (told : List ℕ) : Type 0 where
@@ -57,8 +62,8 @@ pub record Answers (a : FollowState) (u : List ℕ) (reply : PsyncReply) (next :
   pub reads : IsReplyText text reply
   pub state : Moves a next rest b
 
--- A whole snapshot is used, with the line of its length.
-pub record Installs (a : FollowState) (u : List ℕ) (loaded : Dataset) (b : FollowState) : Type 0 where
+-- A whole snapshot is used, with the line of its length. The commands that rebuild its dataset are put out.
+pub record Installs (a : FollowState) (u : List ℕ) (loaded : Dataset) (b : FollowState) (told : List ℕ) : Type 0 where
   pub id : List ℕ
   pub offset : ℕ
   pub announced : a.phase ≡ phase.Snapshot id offset
@@ -66,6 +71,8 @@ pub record Installs (a : FollowState) (u : List ℕ) (loaded : Dataset) (b : Fol
   pub rest : List ℕ
   pub begins : Begins u (size (length bytes)) (bytes ++ rest)
   pub loads : Makes bytes loaded
+  pub rebuilds : told ≡ texts (rebuilding loaded)
+  pub again : Makes told loaded
   pub state : Moves a phase.Stream rest b
 
 -- The effect at the front of the stream is used and applied, and its text is put out.
@@ -112,54 +119,88 @@ pub record IsRefused (a : FollowState) (u : List ℕ) : Type 0 where
   pub rest : List ℕ
   pub begins : Begins u (refusal text) rest
 
--- a whole snapshot is no list of effects that can be applied to nothing
+-- However the bytes go on, those that make up the snapshot make no dataset.
 pub record IsBadSnapshot (a : FollowState) (u : List ℕ) : Type 0 where
   pub id : List ℕ
   pub offset : ℕ
   pub announced : a.phase ≡ phase.Snapshot id offset
-  pub bytes : List ℕ
+  pub length_of : ℕ
   pub rest : List ℕ
-  pub begins : Begins u (size (length bytes)) (bytes ++ rest)
-  pub bad : (n : Dataset) → Makes bytes n → ⊥
+  pub begins : Begins u (size length_of) rest
+  pub bad : (bytes more behind : List ℕ) (n : Dataset) → length bytes ≡ length_of → rest ++ more ≡ bytes ++ behind → Makes bytes n → ⊥
 
--- the command text at the front is no effect that can be applied here, or leads past the offset limit
-pub record IsBadCommand (u : List ℕ) (m : Dataset) (offset : ℕ) : Type 0 where
-  pub words : List (List ℕ)
-  pub text : List ℕ
-  pub rest : List ℕ
-  pub begins : Commands u words text rest
-  pub bad : (n : Dataset) → offset + length text ≤ most_counted → DoesWords words m n → ⊥
-
+-- However the bytes go on, no text of an effect begins them that can be applied here and leads up to the offset limit at most.
 pub record IsBadStream (a : FollowState) (u : List ℕ) (m : Dataset) (offset : ℕ) : Type 0 where
   pub streams : a.phase ≡ phase.Stream
-  pub cause : IsDoomed (IsCommandText commands) u ⊎ IsBadCommand u m offset
+  pub room : ℕ
+  pub limit : offset + room ≡ most_counted
+  pub refused : IsRefusedFront room m u
 
--- where memory can be lacking: behind an answer to a line of the handshake, a whole snapshot, or a whole command text
-abbrev pub MayLack : Phase → List ℕ → Type 0
-MayLack phase.Ping u = HasStatus u
-MayLack phase.Port u = HasStatus u
-MayLack phase.Capabilities u = HasStatus u
-MayLack phase.Psync u = ⊥
-MayLack (phase.Snapshot id offset) u = (bytes : List ℕ) × ((used : ℕ) × HasSnapshot u bytes used)
-MayLack phase.Stream u = BeginsWithCommand commands u
+-- The bytes begin with the line of a snapshot's length. Bytes behind it make this dataset, so many of the snapshot are to come,
+-- and these follow.
+pub record IsAmid (u : List ℕ) (m : Dataset) (left : ℕ) (rest : List ℕ) : Type 0 where
+  pub length_of : ℕ
+  pub front : List ℕ
+  pub begins : Begins u (size length_of) (front ++ rest)
+  pub makes : Makes front m
+  pub counted : length front + left ≡ length_of
 
--- Memory ran out within an effect that can be applied here, the first of the stream: the dataset is spent, and nothing else has changed.
-pub record Spends (a : FollowState) (u : List ℕ) (m : Dataset) (offset : ℕ) (b : FollowState) (n : Dataset) (told : List ℕ) : Type 0 where
+-- what is kept of a snapshot begins with a command text; or the snapshot is whole, and makes a dataset
+abbrev pub LacksWithin : List ℕ → List ℕ → Type 0
+LacksWithin u kept = (m : Dataset) × ((left : ℕ) × (IsAmid u m left kept × (HasCommandWithin left kept ⊎ (left ≡ 0))))
+
+-- a command text begins the stream that leads up to the offset limit at most
+abbrev pub LacksBelow : ℕ → List ℕ → Type 0
+LacksBelow offset u = (room : ℕ) × ((offset + room ≡ most_counted) × HasCommand u room)
+
+-- where memory can be lacking: behind an answer to a line of the handshake, for a command text in a snapshot that is the next to
+-- be done, for the commands that rebuild a whole one, and for a command text of the stream
+abbrev pub MayLack : Phase → ℕ → List ℕ → List ℕ → Type 0
+MayLack phase.Ping offset u kept = HasStatus u
+MayLack phase.Port offset u kept = HasStatus u
+MayLack phase.Capabilities offset u kept = HasStatus u
+MayLack phase.Psync offset u kept = ⊥
+MayLack (phase.Snapshot id o) offset u kept = LacksWithin u kept
+MayLack phase.Stream offset u kept = LacksBelow offset u
+
+-- Memory ran out within the first effect of the stream, which can be applied here and takes some: the dataset is spent.
+pub record SpendsHeld (a : FollowState) (u : List ℕ) (m : Dataset) (offset : ℕ) (b : FollowState) (n : Dataset) : Type 0 where
   pub streams : a.phase ≡ phase.Stream
+  pub unread : Agrees b u
   pub words : List (List ℕ)
   pub text : List ℕ
   pub rest : List ℕ
   pub begins : Commands u words text rest
   pub within : offset + length text ≤ most_counted
-  pub applied : Dataset
-  pub applies : DoesWords words m applied
-  pub state : b ≡ a
-  pub held : n ≡ empty
+  pub can : Dataset
+  pub applies : DoesWords words m can
+  pub heavy : NeedsNoMemory applies.effect → ⊥
+  pub emptied : n ≡ empty
+
+-- Memory ran out within an effect of a snapshot, the next to be done, which can be applied there and takes some. The dataset that
+-- is held stays. What was taken of the snapshot is let go, and of the unread bytes those that are kept are left.
+pub record SpendsMade (a : FollowState) (u : List ℕ) (m : Dataset) (b : FollowState) (n : Dataset) : Type 0 where
+  pub id : List ℕ
+  pub offset : ℕ
+  pub announced : a.phase ≡ phase.Snapshot id offset
+  pub made : Dataset
+  pub left : ℕ
+  pub amid : IsAmid u made left b.kept
+  pub effect : HasEffectWithin made left b.kept
+  pub unread : Agrees b b.kept
+  pub stays : n ≡ m
+
+-- What it waits for is the same.
+pub record Spends (a : FollowState) (u : List ℕ) (m : Dataset) (offset : ℕ) (b : FollowState) (n : Dataset) (told : List ℕ) : Type 0 where
+  pub cause : SpendsHeld a u m offset b n ⊎ SpendsMade a u m b n
+  pub waits : b.phase ≡ a.phase
+  pub offer : b.offer ≡ a.offer
+  pub port : b.port ≡ a.port
   pub silent : told ≡ []
 
--- nothing has changed, and nothing is put out
-pub record Stays (a : FollowState) (m : Dataset) (b : FollowState) (n : Dataset) (told : List ℕ) : Type 0 where
-  pub state : b ≡ a
+-- the unread bytes, what is waited for and the dataset stay, and nothing is put out
+pub record Stays (a : FollowState) (u : List ℕ) (m : Dataset) (b : FollowState) (n : Dataset) (told : List ℕ) : Type 0 where
+  pub state : Moves a a.phase u b
   pub held : n ≡ m
   pub silent : told ≡ []
 
@@ -170,16 +211,16 @@ pub record Keeps (m n : Dataset) (told : List ℕ) : Type 0 where
 
 -- the row of an outcome: from a follower with these unread bytes, a dataset and its offset
 abbrev pub FollowRow : FollowState → List ℕ → Dataset → ℕ → Result Heard FollowFault → FollowState → Dataset → List ℕ → Type 0
-FollowRow a u m offset (Ok heard.Idle) b n told = Waits a.phase u × Stays a m b n told
+FollowRow a u m offset (Ok heard.Idle) b n told = Waits a.phase u b.kept × Stays a u m b n told
 FollowRow a u m offset (Ok heard.Say) b n told = Greets a u b told × (n ≡ m)
 FollowRow a u m offset (Ok (heard.Full id o)) b n told = Answers a u (reply.FullResync id o) (phase.Snapshot id o) b × Keeps m n told
 FollowRow a u m offset (Ok (heard.Continue id)) b n told = (IsSome a.offer × Answers a u (reply.Continue id) phase.Stream b) × Keeps m n told
-FollowRow a u m offset (Ok (heard.Snapshot loaded)) b n told = Installs a u loaded b × Keeps m n told
+FollowRow a u m offset (Ok (heard.Snapshot loaded)) b n told = Installs a u loaded b told × (n ≡ m)
 FollowRow a u m offset (Ok heard.Applied) b n told = Follows a u m offset b n told
-FollowRow a u m offset (Err fault.BadLine) b n told = IsBadLine a u × Stays a m b n told
-FollowRow a u m offset (Err fault.Refused) b n told = IsRefused a u × Stays a m b n told
-FollowRow a u m offset (Err fault.Undecodable) b n told = (IsBadSnapshot a u ⊎ IsBadStream a u m offset) × Stays a m b n told
-FollowRow a u m offset (Err fault.Memory) b n told = MayLack a.phase u × Stays a m b n told
+FollowRow a u m offset (Err fault.BadLine) b n told = IsBadLine a u × Stays a u m b n told
+FollowRow a u m offset (Err fault.Refused) b n told = IsRefused a u × Stays a u m b n told
+FollowRow a u m offset (Err fault.Undecodable) b n told = (IsBadSnapshot a u ⊎ IsBadStream a u m offset) × Stays a u m b n told
+FollowRow a u m offset (Err fault.Memory) b n told = MayLack a.phase offset u b.kept × Stays a u m b n told
 FollowRow a u m offset (Err fault.Spent) b n told = Spends a u m offset b n told
 
 -- a step, and what it puts out
@@ -190,4 +231,4 @@ pub record Steps (a : FollowState) (u : List ℕ) (m : Dataset) (offset : ℕ) (
 
 -- a step that no dataset and no offset matter to
 abbrev pub StepsAside : FollowState → Result Heard FollowFault → FollowState → List ℕ → List ℕ → Type 0
-StepsAside a result b before after = (m : Dataset) (offset : ℕ) → Steps a a.kept m offset result b m before after
+StepsAside a result b before after = (u : List ℕ) (m : Dataset) (offset : ℕ) → Agrees a u → Steps a u m offset result b m before after

@@ -8,9 +8,9 @@ ghost use Rattle.mr_follow.specs.declared.phase.Phase.TheVariants as waits;
 
 use crate::handshake::{first_line, next_phase, push_next};
 use crate::inbox::Inbox;
-use crate::snapshot::{read_snapshot, snapshot_at};
-use crate::status::{answer_at, status_at};
+use crate::status::{answer_at, length_at, status_at};
 use crate::stream::apply_front;
+use crate::taking::{Pause, Taking, go_on};
 use crate::{FollowFault, Heard, Phase};
 use mr_data::Dataset;
 use mr_lines::PsyncReply;
@@ -22,29 +22,33 @@ use std::marker::Model;
 /// The greatest offset.
 const MOST: u64 = 1 << 62;
 
-/// A replica's end of its master's link: it answers the handshake, keeps a snapshot until its last byte, and applies the
-/// stream, an effect at a step.
+/// A replica's end of its master's link: it answers the handshake, makes a dataset of a snapshot as it comes, which it hands
+/// over with the last byte, and applies the stream, an effect at a step.
 #[derive(Drop)]
 pub struct Follower {
     phase: Phase,
     offer: Option<(ReplId, u64)>,
     port: u16,
     seed: RandomState,
+    taking: Option<Taking>,
     inbox: Inbox,
 }
 
 impl Model for Follower {
-    ghost use Rattle.mr_follow.specs.State.{FollowState, IsOffer};
+    ghost use Rattle.mr_follow.specs.State.{FollowState, IsFollower, follow_code};
 
     ghost Value = { FollowState };
 
-    ghost view = { λ f. record { phase = f.phase; offer = f.offer; port = f.port; kept = f.inbox } };
+    ghost coded = { follow_code };
 
-    ghost invariant = { λ f. IsOffer f.offer };
+    ghost view = { λ f. record { phase = f.phase; offer = f.offer; port = f.port; taking = f.taking; kept = f.inbox } };
+
+    ghost invariant = { λ f. IsFollower (record { phase = f.phase; offer = f.offer; port = f.port; taking = f.taking; kept = f.inbox }) };
 }
 
 impl Follower {
-    ghost use Rattle.mr_follow.specs.State.{Agrees, IsOffer, started, heard};
+    ghost use Rattle.mr_follow.specs.State.{Agrees, IsOffer, IsPlaced, IsTaking, started, heard};
+    ghost use Rattle.mr_follow.specs.Loading.{HandsOver, TakesOut};
     ghost use Rattle.mr_follow.specs.Rows.{Steps, StepsAside};
 
     /// A follower whose first line was sent. It offers to go on behind this offset of the stream under this id, and
@@ -63,6 +67,7 @@ impl Follower {
             offer,
             port,
             seed,
+            taking: None,
             inbox: Inbox::new(alloc),
         }
     }
@@ -76,12 +81,24 @@ impl Follower {
 
     /// What is waited for.
     pub fn phase(&self) -> Phase
-        ensures { result ≡ self.now.phase }
+        ensures phase { result ≡ self.now.phase }
+        ensures placed { IsPlaced self.now.phase }
     {
         self.phase
     }
 
-    /// The bytes that were fed and not used.
+    /// How many bytes were fed and not used.
+    pub fn unread_len(&self) -> u64
+        ensures { (u : List ℕ) → Agrees self.now u → result ≡ length u }
+    {
+        let kept = self.inbox.unread().len() as u64;
+        match &self.taking {
+            Some(taking) => taking.head + taking.done + kept,
+            None => kept,
+        }
+    }
+
+    /// The bytes that were fed, and of which nothing was made yet.
     pub fn kept(&self) -> &[u8]
         ensures { result.now ≡ self.now.kept }
     {
@@ -111,22 +128,23 @@ impl Follower {
         match self.phase {
             Phase::Ping | Phase::Port | Phase::Capabilities => self.greet(out),
             Phase::Psync => self.hear_answer(),
-            Phase::Snapshot(_, _) => self.load(alloc),
+            Phase::Snapshot(_, _) => self.load(alloc, out),
             Phase::Stream => self.follow(alloc, held, offset, out),
         }
     }
 
     /// Uses so many bytes, and waits for this.
     fn take(&mut self, count: usize, phase: Phase)
-        requires { count ≤ length self.old.kept }
-        ensures { self.new ≡ record self.old { phase = phase; kept = drop count self.old.kept } }
+        requires inside { count ≤ length self.old.kept }
+        requires placed { IsPlaced phase }
+        ensures { self.new ≡ record self.old { phase = phase; taking = None; kept = drop count self.old.kept } }
     {
         self.inbox.take(count);
+        self.taking = None;
         self.phase = phase;
     }
 
     /// Uses the answer to a line of the handshake, and puts out the next line.
-    #[tactic(auto, using(crate::proofs::Stepping::no_memory))]
     fn greet(&mut self, out: &mut Vec<u8>) -> Result<Heard, FollowFault>
         requires { IsGreeting self.old.phase }
         ensures { StepsAside self.old result self.new out.old.items out.new.items }
@@ -174,18 +192,78 @@ impl Follower {
         }
     }
 
-    /// Uses a snapshot, once its last byte is there.
-    fn load(&mut self, alloc: Global) -> Result<Heard, FollowFault>
-        requires { (id : List ℕ) × ((offset : ℕ) × (self.old.phase ≡ waits.Snapshot id offset)) }
-        ensures { (out : List ℕ) → StepsAside self.old result self.new out out }
+    /// Takes out what was taken of a snapshot. The line of its length is used first.
+    fn take_out(&mut self, alloc: Global) -> Result<Option<Taking>, FollowFault>
+        ensures { TakesOut self.old result self.new }
     {
-        let Some(snapshot) = snapshot_at(self.inbox.unread())? else {
+        if let Some(taking) = self.taking.take() {
+            return Ok(Some(taking));
+        }
+        let Some(announced) = length_at(self.inbox.unread())? else {
+            return Ok(None);
+        };
+        self.inbox.take(announced.used);
+        let taking = Taking::new(alloc, self.seed, announced.used as u64, announced.length);
+        Ok(Some(taking))
+    }
+
+    /// Puts back what was taken of a snapshot.
+    fn put_back(&mut self, taking: Taking)
+        requires { IsTaking taking }
+        ensures { self.new ≡ record self.old { taking = Some taking } }
+    {
+        self.taking = Some(taking);
+    }
+
+    /// Hands the dataset of a whole snapshot over, and puts out the commands that rebuild it.
+    fn hand_over(
+        &mut self,
+        alloc: Global,
+        taking: Taking,
+        out: &mut Vec<u8>,
+    ) -> Result<Heard, FollowFault>
+        requires { IsTaking taking }
+        ensures { HandsOver self.old taking result self.new out.old.items out.new.items }
+    {
+        let Ok(text) = taking.made.rebuild(alloc) else {
+            self.put_back(taking);
+            return Err(FollowFault::Memory);
+        };
+        if out.extend_from_slice(text.as_slice()).is_err() {
+            self.put_back(taking);
+            return Err(FollowFault::Memory);
+        }
+        self.phase = Phase::Stream;
+        self.taking = None;
+        Ok(Heard::Snapshot(taking.made))
+    }
+
+    /// Makes a dataset of what is there of a snapshot, and hands it over once the last byte is. A spent one is let go.
+    fn load(&mut self, alloc: Global, out: &mut Vec<u8>) -> Result<Heard, FollowFault>
+        requires { (id : List ℕ) × ((offset : ℕ) × (self.old.phase ≡ waits.Snapshot id offset)) }
+        ensures { StepsAside self.old result self.new out.old.items out.new.items }
+    {
+        let Some(taking) = self.take_out(alloc)? else {
             return Ok(Heard::Idle);
         };
-        let used = snapshot.used;
-        let held = read_snapshot(alloc, self.seed, snapshot.bytes)?;
-        self.take(used, Phase::Stream);
-        Ok(Heard::Snapshot(held))
+        let paused = go_on(alloc, taking, self.inbox.unread());
+        self.inbox.take(paused.used);
+        match paused.pause {
+            Pause::Whole => self.hand_over(alloc, paused.taking, out),
+            Pause::More => {
+                self.put_back(paused.taking);
+                Ok(Heard::Idle)
+            }
+            Pause::Bad => {
+                self.put_back(paused.taking);
+                Err(FollowFault::Undecodable)
+            }
+            Pause::Lack => {
+                self.put_back(paused.taking);
+                Err(FollowFault::Memory)
+            }
+            Pause::Spent => Err(FollowFault::Spent),
+        }
     }
 
     /// Applies the effect at the front of the stream.
@@ -198,7 +276,7 @@ impl Follower {
     ) -> Result<Heard, FollowFault>
         requires streams { self.old.phase ≡ waits.Stream }
         requires countable { offset ≤ most_counted }
-        ensures { Steps self.old self.old.kept held.old offset result self.new held.new out.old.items out.new.items }
+        ensures { (u : List ℕ) → Agrees self.old u → Steps self.old u held.old offset result self.new held.new out.old.items out.new.items }
     {
         let room = MOST - offset;
         let Some(used) = apply_front(alloc, self.inbox.unread(), room, held, out)? else {

@@ -7,12 +7,11 @@ mod heard;
 mod inbox;
 mod laws;
 mod phase;
-mod snapshot;
 mod status;
 mod stream;
-mod words;
+mod taking;
 
 pub use follower::Follower;
 pub use heard::{FollowFault, Heard};
-pub use laws::{follows_the_stream, stream_is_taken};
+pub use laws::{fed_bytes_are_unread, follows_the_stream, snapshot_is_taken, stream_is_taken};
 pub use phase::Phase;

@@ -47,7 +47,7 @@ pub no_reply : (text : List ℕ) → ((rest : List ℕ) → text ≢ codes "CONT
 no_reply text other none (FullResync id offset) h = none (place_text id offset) h.1
 no_reply text other none (Continue id) h = other (digits_of id) h.1
 
-digits_long : (id : List ℕ) → IsId id → length (digits_of id) ≡ 40
+pub digits_long : (id : List ℕ) → IsId id → length (digits_of id) ≡ 40
 digits_long id h = ((texts_are_forty (digits_of id)).1 (id, h, refl)).long
 
 pub record HasPlace (text id : List ℕ) (offset : ℕ) : Type 0 where

@@ -2,3 +2,4 @@ pub mod Bytes
 pub mod Fronts
 pub mod Lines
 pub mod Replies
+pub mod Written

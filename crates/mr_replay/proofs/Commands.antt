@@ -1,7 +1,8 @@
 -- The command text at the front of bytes, and the effects whose text it may be.
-use Rattle.std.proofs.Common.{◌≡◌, ℕ, ◌<◌, ◌≤◌, ◌^◌, List, [], ◌∷◌, ◌++◌, length, take, drop, Bool, true, false, ◌&&◌, cond, IsTrue, Option, Some, None, Result, Ok, Err, OnOk, refl, sym, ap, subst, ◌∙◌, append_assoc, arith}
+use Rattle.std.proofs.Common.{◌≡◌, ℕ, ◌<◌, ◌≤◌, ◌^◌, List, [], ◌∷◌, ◌++◌, length, take, drop, Bool, true, false, ◌&&◌, cond, IsTrue, ◌≢◌, ◌↔◌, Option, Some, None, Result, Ok, Err, refl, sym, ap, subst, ◌∙◌, append_assoc, arith}
 use Rattle.std.specs.List.{flat_map}
 use Rattle.std.proofs.lemmas.List.{length-append, length-take, take-append-drop}
+use Rattle.std.specs.FinMap.{empty}
 use Rattle.mr_map.specs.Bytes.{Bytes}
 use Rattle.mr_inline.specs.Language.{Continues, Fails}
 use Rattle.mr_resp.specs.Spelling.{number_line, bulk, array}
@@ -11,16 +12,19 @@ use Rattle.mr_resp.specs.declared.fault.Fault.{Fault}
 use Rattle.mr_resp.proofs.Words.{line_unique, bulk_unique, length-bulk}
 use Rattle.mr_resp.proofs.Commands.{commands_apart, command_wants_no_more}
 use Rattle.mr_effect.specs.Effects.{has_spelling, words_fit}
-use Rattle.mr_effect.specs.Spelling.{words, text, IsSpelled}
+use Rattle.mr_effect.specs.Spelling.{words, text, IsSpelled, FindsEach}
 use Rattle.mr_effect.specs.declared.effect.Effect.{Effect}
 use Rattle.mr_effect.proofs.Texts.{command_text}
 use Rattle.mr_entries.specs.Dataset.{Dataset}
 use Rattle.mr_entries.specs.Changes.{change}
 use Rattle.mr_entries.specs.declared.fault.ApplyFault.{ApplyFault}
-use Rattle.mr_entries.specs.declared.fault.ApplyFault.TheVariants.{Refused}
+use Rattle.mr_entries.specs.declared.fault.ApplyFault.TheVariants.{Refused, Memory}
+use Rattle.mr_entries.specs.Changes.{NeedsNoMemory}
 use Rattle.mr_data.specs.Meaning.{apply}
 use Rattle.mr_replay.specs.Effects.{IsGoodEffect, IsStuckForGood}
-use Rattle.mr_replay.specs.Steps.{DoesWords, RefusesWords, DoesFirst, Waits, DoneBy, TriesWords, TriesCommand, TriesFirst}
+use Rattle.mr_replay.specs.Steps.{DoesWords, RefusesWords, SpendsWords, SpendsFirst, DoesFirst, Waits, TriesEffect, TriesWords, TriesCommand, TriesFirst}
+use Rattle.mr_replay.specs.declared.trying.Tried.{Tried}
+use Rattle.mr_replay.specs.declared.trying.Tried.TheVariants as tried
 use Rattle.mr_replay.specs.declared.replaying.Step.{Step}
 use Rattle.mr_replay.specs.declared.replaying.Step.TheVariants as step
 
@@ -105,11 +109,23 @@ stops bytes m fault fails more e n behind kept applied q =
     append_assoc fails.front (fails.byte ∷ []) (fails.rest ++ more) ∙ (sym (append_assoc fails.front (fails.byte ∷ fails.rest) more) ∙ (ap (λ (t : List ℕ). t ++ more) (sym fails.is) ∙ q)) in
     fails.doomed.never (fails.rest ++ more) (text e) behind (command_text e kept.spelled kept.fits kept.short) whole
 
+pub spends_first : (bytes : List ℕ) (used : ℕ) (ws : List Bytes) (old new : Dataset) → used ≤ length bytes → IsCommand commands (take used bytes) ws → SpendsWords ws old new → SpendsFirst bytes old new
+unfolding does_first
+spends_first bytes used ws old new within command s = record {
+  used = used;
+  can = s.can;
+  does = does_first bytes used ws old s.can within command s.does;
+  heavy = s.heavy;
+  emptied = s.emptied;
+}
+
 -- what was done with the command text at the front was done at the front
 pub tries_front : (bytes : List ℕ) (n : ℕ) (ws : List Bytes) (old new : Dataset) (s : Step) → n ≤ length bytes → n < 2 ^ 64 → IsCommand commands (take n bytes) ws → TriesCommand ws n old new s → TriesFirst bytes old new s
 tries_front bytes n ws old new (step.Done used) within small command done = subst (λ k. DoesFirst bytes k old new) (sym done.0) (does_first bytes n ws old new within command done.1)
 tries_front bytes n ws old new step.Wait within small command done = absurd done
 tries_front bytes n ws old new step.Stop within small command done = (done.0, refuses_first bytes n ws old within small command done.1)
+tries_front bytes n ws old new step.Lack within small command done = (done, record { words = ws; used = n; inside = within; command = command })
+tries_front bytes n ws old new step.Spent within small command done = spends_first bytes n ws old new within command done
 
 -- ---- what was done with words
 
@@ -128,16 +144,23 @@ refuses ws e m each none f n spelled applied =
     no_some : (o : Option Dataset) (x : Dataset) → o ≡ None → o ≡ Some x → ⊥
     no_some o x p q = let wrong : None ≡ Some x = sym p ∙ q in cc
 
-pub by_outcome : (ws : List Bytes) (e : Effect) (old new : Dataset) (outcome : Result (Unit {0}) ApplyFault) (done : Bool) → IsSpelled ws e → ((f : Effect) → IsSpelled ws f → Some e ≡ Some f)
-    → OnOk outcome (apply e old ≡ Some new) → (outcome ≡ Err Refused → apply e old ≡ None) → (outcome ≡ Err Refused → new ≡ old) → DoneBy outcome done → TriesWords ws old new done
-by_outcome ws e old new (Ok v) true spelled each ok refused unchanged by = record { effect = e; spelled = spelled; applied = ok }
-by_outcome ws e old new (Err f) true spelled each ok refused unchanged by = let wrong : false ≡ true = by in cc
-by_outcome ws e old new outcome false spelled each ok refused unchanged by = (unchanged by, refuses ws e old each (refused by))
+some_of : (o : Option Dataset) → o ≢ None → (k : Dataset) × (o ≡ Some k)
+some_of None h = absurd (h refl)
+some_of (Some k) h = (k, refl)
 
-pub was_done : (ws : List Bytes) (old new : Dataset) (b : Bool) → TriesWords ws old new b → b ≡ true → DoesWords ws old new
-was_done ws old new true h e = h
-was_done ws old new false h e = absurd (cc)
+-- memory ran out within an effect, which isn't refused
+pub effect_spent : (e : Effect) (m n : Dataset) (r : Result (Unit {0}) ApplyFault) → ((r ≡ Err Refused) ↔ (apply e m ≡ None)) → (r ≡ Err Memory → n ≡ empty)
+    → (NeedsNoMemory e → r ≢ Err Memory) → r ≡ Err Memory → ((apply e m ≢ None) × (NeedsNoMemory e → ⊥)) × (n ≡ empty)
+effect_spent e m n r refused emptied light is = ((λ none. not_both r is (refused.1 none), λ none. light none is), emptied is)
+  where
+    not_both : (o : Result (Unit {0}) ApplyFault) → o ≡ Err Memory → o ≡ Err Refused → ⊥
+    not_both o p q = let wrong = sym p ∙ q in cc
 
-pub was_refused : (ws : List Bytes) (old new : Dataset) (b : Bool) → TriesWords ws old new b → b ≡ false → (new ≡ old) × RefusesWords ws old
-was_refused ws old new true h e = absurd (cc)
-was_refused ws old new false h e = h
+-- the effect with a command's words is done as it is, or there is none that can be
+pub words_tried : (e : Effect) (ws : List Bytes) (m n : Dataset) (t : Tried) → TriesEffect e m n t → IsSpelled ws e → FindsEach ws (Some e) → TriesWords ws m n t
+words_tried e ws m n tried.Done h spelled each = record { effect = e; spelled = spelled; applied = h }
+words_tried e ws m n tried.Refused h spelled each = (h.0, refuses ws e m each h.1)
+words_tried e ws m n tried.Lack h spelled each = absurd h
+words_tried e ws m n tried.Spent h spelled each =
+    let k = some_of (apply e m) h.0.0 in
+    record { can = k.0; does = record { effect = e; spelled = spelled; applied = k.1 }; heavy = h.0.1; emptied = h.1 }

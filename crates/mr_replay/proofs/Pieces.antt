@@ -1,14 +1,16 @@
 -- Bytes that are done piece by piece.
-use Rattle.std.proofs.Common.{◌≡◌, ℕ, ◌<◌, ◌≤◌, ◌+◌, ◌-◌, List, ◌++◌, length, take, drop, sym, ap, subst, ◌∙◌, append_assoc, arith}
+use Rattle.std.proofs.Common.{◌≡◌, ℕ, ◌<◌, ◌≤◌, ◌+◌, ◌-◌, List, ◌++◌, length, take, drop, refl, sym, ap, subst, ◌∙◌, append_assoc, arith}
 use Rattle.std.specs.FinMap.{empty}
 use Rattle.std.proofs.lemmas.List.{length-take-le, length-drop, take-append-drop, take_all}
 use Rattle.std.proofs.Common.{take-add}
 use Rattle.mr_effect.specs.Spelling.{text}
 use Rattle.mr_entries.specs.Dataset.{Dataset}
 use Rattle.mr_replay.specs.Effects.{Leads, Loads, IsStuckForGood, IsRead}
-use Rattle.mr_replay.specs.Steps.{DoesFirst, TriesFirst, Waits, Replays}
+use Rattle.mr_replay.specs.Steps.{DoesFirst, TriesFirst, Waits, IsRest, IsHalt, halt_of, Replays}
 use Rattle.mr_replay.specs.declared.replaying.Step.{Step}
 use Rattle.mr_replay.specs.declared.replaying.Step.TheVariants as step
+use Rattle.mr_replay.specs.declared.replaying.Halt.{Halt}
+use Rattle.mr_replay.specs.declared.replaying.Halt.TheVariants as halt
 use Rattle.mr_replay.specs.declared.replaying.Rest.{Rest}
 use Rattle.mr_replay.specs.declared.replaying.Rest.TheVariants as rest
 use Rattle.mr_replay.proofs.Longest.{leads_on, leads_further, read_is_longest, stuck_at_once}
@@ -20,39 +22,45 @@ rest_from n bytes = take (length bytes - n) (drop n bytes)
 pub rest_is : (n : ℕ) (bytes : List ℕ) → rest_from n bytes ≡ drop n bytes
 rest_is n bytes = take_all (length bytes - n) (drop n bytes) (omega (arith, length-drop n bytes))
 
--- nothing was done, and this is left
-abbrev IsEnd : Step → Rest → Type 0
-IsEnd (step.Done n) r = ⊥
-IsEnd step.Wait rest.Open = Unit {0}
-IsEnd step.Wait rest.Bad = ⊥
-IsEnd step.Stop rest.Open = ⊥
-IsEnd step.Stop rest.Bad = Unit {0}
+-- why no more was done
+abbrev IsEnd : Step → Halt → Type 0
+IsEnd (step.Done n) h = ⊥
+IsEnd step.Wait h = h ≡ halt.Open
+IsEnd step.Stop h = h ≡ halt.Bad
+IsEnd step.Lack h = h ≡ halt.Lack
+IsEnd step.Spent h = h ≡ halt.Spent
 
 -- a step that did an effect
 pub did : (bytes : List ℕ) (old new : Dataset) (s : Step) (used : ℕ) → TriesFirst bytes old new s → s ≡ step.Done used → DoesFirst bytes used old new
 did bytes old new s used h e = subst (TriesFirst bytes old new) e h
 
+halts : (bytes : List ℕ) (mid new : Dataset) (s : Step) (h : Halt) → TriesFirst bytes mid new s → IsEnd s h → IsHalt mid bytes h new
+halts bytes mid new (step.Done n) h tried end = absurd end
+halts bytes mid new step.Wait h tried end = subst (λ x. IsHalt mid bytes x new) (sym end) tried
+halts bytes mid new step.Stop h tried end = subst (λ x. IsHalt mid bytes x new) (sym end) tried
+halts bytes mid new step.Lack h tried end = subst (λ x. IsHalt mid bytes x new) (sym end) tried
+halts bytes mid new step.Spent h tried end = subst (λ x. IsHalt mid bytes x new) (sym end) tried
+
 -- a step that did nothing, and what is left behind it
-pub is_left : (bytes : List ℕ) (used : ℕ) (old mid new : Dataset) (s : Step) (r : Rest) → used ≤ length bytes → Leads (take used bytes) old mid → TriesFirst (rest_from used bytes) mid new s → IsEnd s r → Replays bytes used old new r
-is_left bytes used old mid new (step.Done n) r within led tried end = absurd end
-is_left bytes used old mid new step.Wait rest.Open within led tried end = record {
+is_left : (bytes : List ℕ) (used : ℕ) (old mid new : Dataset) (s : Step) (h : Halt) → used ≤ length bytes → Leads (take used bytes) old mid → TriesFirst (rest_from used bytes) mid new s → IsEnd s h → Replays bytes used old new h
+is_left bytes used old mid new s h within led tried end = record {
   within = within;
-  led = subst (Leads (take used bytes) old) (sym tried.0) led;
-  left = subst (λ m. Waits m (drop used bytes)) (sym tried.0) (subst (Waits mid) (rest_is used bytes) tried.1);
-}
-is_left bytes used old mid new step.Wait rest.Bad within led tried end = absurd end
-is_left bytes used old mid new step.Stop rest.Open within led tried end = absurd end
-is_left bytes used old mid new step.Stop rest.Bad within led tried end = record {
-  within = within;
-  led = subst (Leads (take used bytes) old) (sym tried.0) led;
-  left = subst (λ m. IsStuckForGood m (drop used bytes)) (sym tried.0) (subst (IsStuckForGood mid) (rest_is used bytes) tried.1);
+  mid = mid;
+  led = led;
+  left = subst (λ xs. IsHalt mid xs h new) (rest_is used bytes) (halts (rest_from used bytes) mid new s h tried end);
 }
 
-pub waited : (bytes : List ℕ) (used : ℕ) (old mid new : Dataset) (s : Step) → used ≤ length bytes → Leads (take used bytes) old mid → TriesFirst (rest_from used bytes) mid new s → s ≡ step.Wait → Replays bytes used old new rest.Open
-waited bytes used old mid new s within led tried e = is_left bytes used old mid new step.Wait rest.Open within led (subst (TriesFirst (rest_from used bytes) mid new) e tried) tt
+pub waited : (bytes : List ℕ) (used : ℕ) (old mid new : Dataset) (s : Step) → used ≤ length bytes → Leads (take used bytes) old mid → TriesFirst (rest_from used bytes) mid new s → s ≡ step.Wait → Replays bytes used old new halt.Open
+waited bytes used old mid new s within led tried e = is_left bytes used old mid new step.Wait halt.Open within led (subst (TriesFirst (rest_from used bytes) mid new) e tried) refl
 
-pub stopped : (bytes : List ℕ) (used : ℕ) (old mid new : Dataset) (s : Step) → used ≤ length bytes → Leads (take used bytes) old mid → TriesFirst (rest_from used bytes) mid new s → s ≡ step.Stop → Replays bytes used old new rest.Bad
-stopped bytes used old mid new s within led tried e = is_left bytes used old mid new step.Stop rest.Bad within led (subst (TriesFirst (rest_from used bytes) mid new) e tried) tt
+pub stopped : (bytes : List ℕ) (used : ℕ) (old mid new : Dataset) (s : Step) → used ≤ length bytes → Leads (take used bytes) old mid → TriesFirst (rest_from used bytes) mid new s → s ≡ step.Stop → Replays bytes used old new halt.Bad
+stopped bytes used old mid new s within led tried e = is_left bytes used old mid new step.Stop halt.Bad within led (subst (TriesFirst (rest_from used bytes) mid new) e tried) refl
+
+pub lacked : (bytes : List ℕ) (used : ℕ) (old mid new : Dataset) (s : Step) → used ≤ length bytes → Leads (take used bytes) old mid → TriesFirst (rest_from used bytes) mid new s → s ≡ step.Lack → Replays bytes used old new halt.Lack
+lacked bytes used old mid new s within led tried e = is_left bytes used old mid new step.Lack halt.Lack within led (subst (TriesFirst (rest_from used bytes) mid new) e tried) refl
+
+pub was_spent : (bytes : List ℕ) (used : ℕ) (old mid new : Dataset) (s : Step) → used ≤ length bytes → Leads (take used bytes) old mid → TriesFirst (rest_from used bytes) mid new s → s ≡ step.Spent → Replays bytes used old new halt.Spent
+was_spent bytes used old mid new s within led tried e = is_left bytes used old mid new step.Spent halt.Spent within led (subst (TriesFirst (rest_from used bytes) mid new) e tried) refl
 
 -- one effect more was done
 pub one_more : (bytes : List ℕ) (used more : ℕ) (old mid new : Dataset) → Leads (take used bytes) old mid → DoesFirst (rest_from used bytes) more mid new → Leads (take (used + more) bytes) old new
@@ -67,17 +75,29 @@ some_used bytes used more old new within done =
     let size : more ≡ length (text done.effect) = sym (length-take-le more (rest_from used bytes) done.within) ∙ ap length done.is_text in
     (omega (arith, size), omega (arith, long, done.within, within))
 
+-- where no memory was lacking, the dataset is what was led to, and nothing can be done with what is left
+pub goes_by : (bytes : List ℕ) (used : ℕ) (old new : Dataset) (r : Rest) (h : Halt) → h ≡ halt_of r → Replays bytes used old new h → Leads (take used bytes) old new × IsRest new (drop used bytes) r
+goes_by bytes used old new r h is done = by_rest r (subst (λ x. IsHalt done.mid (drop used bytes) x new) is done.left)
+  where
+    by_rest : (x : Rest) → IsHalt done.mid (drop used bytes) (halt_of x) new → Leads (take used bytes) old new × IsRest new (drop used bytes) x
+    by_rest rest.Open left = (subst (Leads (take used bytes) old) (sym left.0) done.led, subst (λ m. Waits m (drop used bytes)) (sym left.0) left.1)
+    by_rest rest.Bad left = (subst (Leads (take used bytes) old) (sym left.0) done.led, subst (λ m. IsStuckForGood m (drop used bytes)) (sym left.0) left.1)
+
 -- all that was there was read
-pub loads_all : (bytes : List ℕ) (used : ℕ) (new : Dataset) (r : Rest) → Replays bytes used empty new r → Loads bytes used new
-loads_all bytes used new r done =
+pub loads_all : (bytes : List ℕ) (used : ℕ) (new : Dataset) (r : Rest) (h : Halt) → h ≡ halt_of r → Replays bytes used empty new h → Loads bytes used new
+loads_all bytes used new r h is done =
+    let gone = goes_by bytes used empty new r h is done in
     subst (λ n. Loads bytes n new) (length-take-le used bytes done.within)
-    (read_is_longest bytes (take used bytes) (drop used bytes) new (sym (take-append-drop used bytes)) done.led (stuck_at_once new (drop used bytes) r done.left))
+    (read_is_longest bytes (take used bytes) (drop used bytes) new (sym (take-append-drop used bytes)) gone.0 (stuck_at_once new (drop used bytes) r gone.1))
 
 -- a piece behind what was read
-pub reads_on : (bytes unread piece : List ℕ) (used : ℕ) (old new : Dataset) (r : Rest) → Replays (unread ++ piece) used old new r → IsRead bytes old unread → IsRead (bytes ++ piece) new (drop used (unread ++ piece))
-reads_on bytes unread piece used old new r done read = record {
+pub reads_on : (bytes unread piece : List ℕ) (used : ℕ) (old new : Dataset) (r : Rest) (h : Halt) → h ≡ halt_of r → Replays (unread ++ piece) used old new h → IsRead bytes old unread → IsRead (bytes ++ piece) new (drop used (unread ++ piece))
+reads_on bytes unread piece used old new r h is done read = record {
   front = read.front ++ take used (unread ++ piece);
   is = ap (λ (t : List ℕ). t ++ piece) read.is ∙ (append_assoc read.front unread piece
       ∙ (ap (λ (t : List ℕ). read.front ++ t) (sym (take-append-drop used (unread ++ piece))) ∙ sym (append_assoc read.front (take used (unread ++ piece)) (drop used (unread ++ piece)))));
-  made = leads_further read.front (take used (unread ++ piece)) empty old new read.made done.led;
+  made = leads_further read.front (take used (unread ++ piece)) empty old new read.made (goes_by (unread ++ piece) used old new r h is done).0;
 }
+
+pub rests : (bytes : List ℕ) (used : ℕ) (old new : Dataset) (r : Rest) (h : Halt) → h ≡ halt_of r → Replays bytes used old new h → IsRest new (drop used bytes) r
+rests bytes used old new r h is done = (goes_by bytes used old new r h is done).1

@@ -1,18 +1,22 @@
 -- What is done at the front of bytes.
-use Rattle.std.specs.Prelude.{◌≡◌, ℕ, ◌≤◌, List, length, take, drop, Bool, true, false, Some, Result, Err, IsOk}
+use Rattle.std.specs.Prelude.{◌≡◌, ℕ, ◌≤◌, ◌≢◌, List, length, take, drop, Some, None}
+use Rattle.std.specs.FinMap.{empty}
 use Rattle.mr_map.specs.Bytes.{Bytes}
 use Rattle.mr_inline.specs.Language.{Continues}
-use Rattle.mr_resp.specs.Command.{IsCommandText}
+use Rattle.mr_resp.specs.Command.{IsCommandText, BeginsWithCommand}
 use Rattle.mr_resp.specs.Usual.{commands}
 use Rattle.mr_effect.specs.Spelling.{text, IsSpelled}
 use Rattle.mr_effect.specs.declared.effect.Effect.{Effect}
 use Rattle.mr_entries.specs.Dataset.{Dataset}
-use Rattle.mr_entries.specs.declared.fault.ApplyFault.{ApplyFault}
-use Rattle.mr_entries.specs.declared.fault.ApplyFault.TheVariants.{Refused}
+use Rattle.mr_entries.specs.Changes.{NeedsNoMemory}
 use Rattle.mr_data.specs.Meaning.{apply}
 use Rattle.mr_replay.specs.Effects.{IsGoodEffect, Leads, IsStuck, IsStuckForGood}
 use Rattle.mr_replay.specs.declared.replaying.Step.{Step}
 use Rattle.mr_replay.specs.declared.replaying.Step.TheVariants as step
+use Rattle.mr_replay.specs.declared.trying.Tried.{Tried}
+use Rattle.mr_replay.specs.declared.trying.Tried.TheVariants as tried
+use Rattle.mr_replay.specs.declared.replaying.Halt.{Halt}
+use Rattle.mr_replay.specs.declared.replaying.Halt.TheVariants as halt
 use Rattle.mr_replay.specs.declared.replaying.Rest.{Rest}
 use Rattle.mr_replay.specs.declared.replaying.Rest.TheVariants as rest
 
@@ -26,21 +30,34 @@ pub record DoesWords (ws : List Bytes) (old new : Dataset) : Type 0 where
 abbrev pub RefusesWords : List Bytes → Dataset → Type 0
 RefusesWords ws m = (e : Effect) (n : Dataset) → IsSpelled ws e → apply e m ≡ Some n → ⊥
 
--- what was done with words: their effect, or nothing
-abbrev pub TriesWords : List Bytes → Dataset → Dataset → Bool → Type 0
-TriesWords ws old new true = DoesWords ws old new
-TriesWords ws old new false = (new ≡ old) × RefusesWords ws old
+-- The effect with these words leads on, and takes memory: it emptied the dataset.
+pub record SpendsWords (ws : List Bytes) (old new : Dataset) : Type 0 where
+  pub can : Dataset
+  pub does : DoesWords ws old can
+  pub heavy : NeedsNoMemory does.effect → ⊥
+  pub emptied : new ≡ empty
 
--- what the dataset answered says whether an effect was done
-abbrev pub DoneBy : Result (Unit {0}) ApplyFault → Bool → Type 0
-DoneBy outcome true = IsOk outcome
-DoneBy outcome false = outcome ≡ Err Refused
+-- what was done with an effect
+abbrev pub TriesEffect : Effect → Dataset → Dataset → Tried → Type 0
+TriesEffect e old new tried.Done = apply e old ≡ Some new
+TriesEffect e old new tried.Refused = (new ≡ old) × (apply e old ≡ None)
+TriesEffect e old new tried.Lack = ⊥
+TriesEffect e old new tried.Spent = ((apply e old ≢ None) × (NeedsNoMemory e → ⊥)) × (new ≡ empty)
+
+-- what was done with words: their effect, or nothing, or memory ran out within it
+abbrev pub TriesWords : List Bytes → Dataset → Dataset → Tried → Type 0
+TriesWords ws old new tried.Done = DoesWords ws old new
+TriesWords ws old new tried.Refused = (new ≡ old) × RefusesWords ws old
+TriesWords ws old new tried.Lack = new ≡ old
+TriesWords ws old new tried.Spent = SpendsWords ws old new
 
 -- what was done with a command text of these words and this length
 abbrev pub TriesCommand : List Bytes → ℕ → Dataset → Dataset → Step → Type 0
 TriesCommand ws n old new (step.Done used) = (used ≡ n) × DoesWords ws old new
 TriesCommand ws n old new step.Wait = ⊥
 TriesCommand ws n old new step.Stop = (new ≡ old) × RefusesWords ws old
+TriesCommand ws n old new step.Lack = new ≡ old
+TriesCommand ws n old new step.Spent = SpendsWords ws old new
 
 -- the first bytes are the text of an effect, which leads from one dataset to another
 pub record DoesFirst (bytes : List ℕ) (used : ℕ) (old new : Dataset) : Type 0 where
@@ -55,19 +72,41 @@ pub record Waits (m : Dataset) (bytes : List ℕ) : Type 0 where
   pub stuck : IsStuck m bytes
   pub begun : Continues (IsCommandText commands) bytes
 
+-- The first bytes are the text of an effect, which leads on and takes memory: it emptied the dataset.
+pub record SpendsFirst (bytes : List ℕ) (old new : Dataset) : Type 0 where
+  pub used : ℕ
+  pub can : Dataset
+  pub does : DoesFirst bytes used old can
+  pub heavy : NeedsNoMemory does.effect → ⊥
+  pub emptied : new ≡ empty
+
 -- what was done at the front of the bytes
 abbrev pub TriesFirst : List ℕ → Dataset → Dataset → Step → Type 0
 TriesFirst bytes old new (step.Done used) = DoesFirst bytes used old new
 TriesFirst bytes old new step.Wait = (new ≡ old) × Waits old bytes
 TriesFirst bytes old new step.Stop = (new ≡ old) × IsStuckForGood old bytes
+TriesFirst bytes old new step.Lack = (new ≡ old) × BeginsWithCommand commands bytes
+TriesFirst bytes old new step.Spent = SpendsFirst bytes old new
 
 -- what is left behind the effects that were done
 abbrev pub IsRest : Dataset → List ℕ → Rest → Type 0
 IsRest m bytes rest.Open = Waits m bytes
 IsRest m bytes rest.Bad = IsStuckForGood m bytes
 
--- the first bytes led from one dataset to another, and what is left begins with no effect that can be applied
-pub record Replays (bytes : List ℕ) (used : ℕ) (old new : Dataset) (r : Rest) : Type 0 where
+abbrev pub halt_of : Rest → Halt
+halt_of rest.Open = halt.Open
+halt_of rest.Bad = halt.Bad
+
+-- why no more was done behind effects that led to a dataset, and the dataset then
+abbrev pub IsHalt : Dataset → List ℕ → Halt → Dataset → Type 0
+IsHalt m bytes halt.Open n = (n ≡ m) × Waits m bytes
+IsHalt m bytes halt.Bad n = (n ≡ m) × IsStuckForGood m bytes
+IsHalt m bytes halt.Lack n = (n ≡ m) × BeginsWithCommand commands bytes
+IsHalt m bytes halt.Spent n = SpendsFirst bytes m n
+
+-- the first bytes led from one dataset to another, and why no more was done
+pub record Replays (bytes : List ℕ) (used : ℕ) (old new : Dataset) (h : Halt) : Type 0 where
   pub within : used ≤ length bytes
-  pub led : Leads (take used bytes) old new
-  pub left : IsRest new (drop used bytes) r
+  pub mid : Dataset
+  pub led : Leads (take used bytes) old mid
+  pub left : IsHalt mid (drop used bytes) h new

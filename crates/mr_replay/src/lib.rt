@@ -4,7 +4,9 @@
 mod loading;
 mod replay;
 mod replaying;
+mod trying;
 
 pub use loading::{Loaded, load};
 pub use replay::Replay;
-pub use replaying::Rest;
+pub use replaying::{Halt, Replayed, Rest, replay_front};
+pub use trying::{Tried, try_words};

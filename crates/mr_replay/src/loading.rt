@@ -1,7 +1,7 @@
 ghost use Rattle.std.specs.Prelude.{IfOk};
 ghost use Rattle.mr_replay.specs.Effects.{Loads};
 
-use crate::replaying::replay;
+use crate::replaying::{replay_front, rest_of};
 use mr_data::Dataset;
 use std::alloc::{AllocError, Global};
 use std::hash::RandomState;
@@ -15,12 +15,12 @@ pub struct Loaded {
 
 /// The longest beginning of the bytes that is a list of effect texts, each of which can be applied in its turn: the dataset that
 /// they make of the empty one, and their length. The dataset's look-ups go by a hash with this seed.
-#[tactic(auto, using(crate::proofs::Pieces::loads_all))]
 pub fn load(alloc: Global, seed: RandomState, bytes: &[u8]) -> Result<Loaded, AllocError>
     ensures { IfOk result (λ loaded. Loads bytes.now loaded.used loaded.dataset) }
 {
     let mut dataset = Dataset::new(alloc, seed);
-    let replayed = replay(alloc, &mut dataset, bytes)?;
+    let replayed = replay_front(alloc, &mut dataset, bytes);
+    let _rest = rest_of(replayed.halt)?;
     Ok(Loaded {
         dataset,
         used: replayed.used as u64,

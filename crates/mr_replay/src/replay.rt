@@ -3,7 +3,7 @@ ghost use Rattle.std.specs.FinMap.{empty};
 ghost use Rattle.mr_replay.specs.Effects.{IsRead};
 ghost use Rattle.mr_replay.specs.Steps.{IsRest};
 
-use crate::replaying::{Rest, replay};
+use crate::replaying::{Rest, replay_front, rest_of};
 use mr_data::Dataset;
 use std::alloc::{AllocError, Global};
 use std::hash::RandomState;
@@ -32,7 +32,7 @@ impl Replay {
 
     /// Takes the next bytes, and does the effects whose texts are there whole. After an `Err` some of them may be done, and the
     /// dataset is of no use.
-    #[tactic(auto, using(crate::proofs::Pieces::reads_on))]
+    #[tactic(auto, using(crate::proofs::Pieces::rests))]
     pub fn feed(&mut self, piece: &[u8]) -> Result<Rest, AllocError>
         ensures read { OnOk result ((bytes : List ℕ) → IsRead bytes self.old.dataset self.old.unread.items
             → IsRead (bytes ++ piece.now) self.new.dataset self.new.unread.items) }
@@ -40,9 +40,10 @@ impl Replay {
         ensures shorter { OnOk result (length self.new.unread.items ≤ length self.old.unread.items + length piece.now) }
     {
         self.unread.extend_from_slice(piece)?;
-        let replayed = replay(self.alloc, &mut self.dataset, self.unread.as_slice())?;
+        let replayed = replay_front(self.alloc, &mut self.dataset, self.unread.as_slice());
+        let rest = rest_of(replayed.halt)?;
         drop_front(&mut self.unread, replayed.used);
-        Ok(replayed.rest)
+        Ok(rest)
     }
 
     /// The bytes behind the last effect that was done.

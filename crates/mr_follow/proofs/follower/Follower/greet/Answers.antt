@@ -1,4 +1,4 @@
-use Rattle.std.proofs.Common.{rules, ◌≡◌, ◌++◌, ℕ, List, drop, Option, Some, Ok, Err, sym, ap, subst, ◌∙◌}
+use Rattle.std.proofs.Common.{rules, ◌≡◌, ◌++◌, ℕ, List, drop, Option, Some, None, Ok, Err, sym, ap, subst, ◌∙◌}
 use Rattle.mr_follow.specs.Handshake.{line_after, next_of}
 use Rattle.mr_follow.specs.State.{FollowState}
 use Rattle.mr_follow.specs.Lines.{HearsStatus}
@@ -31,4 +31,4 @@ returns c =
     let put : c.push_next.new.out.items ≡ before ++ line_after a.phase a.port a.offer = line ∙ ap (λ (f : FollowState). before ++ line_after f.phase f.port f.offer) c.self.view_is in
     let next : c.next_phase.result ≡ next_of a.phase = c.next_phase.ensures ∙ ap (λ (f : FollowState). next_of f.phase) c.take.view_is in
     greet_said a c.take-2.new.self used c.in-Some.status.text.now before c.push_next.new.out.items c.requires (subst (λ (u : List ℕ). HearsStatus u (Ok (Some c.in-Some.status))) kept heard) put
-    (c.take-2.ensures ∙ ap (λ (p : Phase). record a { phase = p; kept = drop used a.kept }) next)
+    (c.take-2.ensures ∙ ap (λ (p : Phase). record a { phase = p; taking = None; kept = drop used a.kept }) next)

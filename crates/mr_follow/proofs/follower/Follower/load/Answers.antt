@@ -1,46 +1,93 @@
-use Rattle.std.proofs.Common.{rules, ◌≡◌, ℕ, List, Option, Some, Ok, Err, sym, ap, subst, ◌∙◌}
+use Rattle.std.proofs.Common.{rules, ◌≡◌, ℕ, List, Option, Some, None, Ok, Err, drop, sym, ap, subst, ◌∙◌}
 use Rattle.std.specs.Prelude.{Result}
+use Rattle.mr_follow.specs.Loading.{GoesOn, TakesOut}
 use Rattle.mr_follow.specs.State.{FollowState}
-use Rattle.mr_follow.specs.Lines.{HasSnapshot, HearsSnapshot}
 use Rattle.mr_follow.specs.Rows.{StepsAside}
 use Rattle.mr_follow.specs.declared.heard.FollowFault.{FollowFault}
 use Rattle.mr_follow.specs.declared.heard.Heard.{Heard}
-use Rattle.mr_follow.specs.declared.snapshot.Snapshot.{Snapshot}
-use Rattle.mr_follow.proofs.Stepping.{load_fault, load_refused, load_whole}
+use Rattle.mr_follow.specs.declared.taking.Taking.{Taking}
+use Rattle.mr_follow.specs.declared.taking.Pause.{Pause}
+use Rattle.mr_follow.specs.declared.taking.Pause.TheVariants as pause
+use Rattle.mr_follow.proofs.Stepping.{load_fault, load_whole, load_more, load_bad, load_lacks, load_spent, put_is, left_is}
 use Rattle.mr_follow.proofs.follower.Follower.load.Goals as goal
 
-pub returns-in_err-snapshot : goal.returns-in_err-snapshot
-returns-in_err-snapshot c = λ out.
+pub returns-in_err-taking : goal.returns-in_err-taking
+returns-in_err-taking c =
     let a : FollowState = c.args.self.now in
-    let kept : c.unread.result.now ≡ a.kept = c.unread.ensures ∙ ap (λ (f : FollowState). f.kept) c.self.view_is in
-    let fault : FollowFault = c.in_err-snapshot.field-0.0 in
+    let fault : FollowFault = c.in_err-taking.field-0.0 in
     let told : c.from_residual.result ≡ Err fault = search rules in
-    subst (λ (r : Result Heard FollowFault). StepsAside a r a out out) (sym told)
-    (load_fault a fault c.requires.0 c.requires.1.0 c.requires.1.1 (subst (λ (u : List ℕ). HearsSnapshot u (Err fault)) kept c.in_err-snapshot.ensures) out)
+    let before = c.args.out.now.items in
+    subst (λ (r : Result Heard FollowFault). StepsAside a r c.take_out.new.self before before) (sym told)
+    (load_fault a c.take_out.new.self fault c.requires.0 c.requires.1.0 c.requires.1.1 c.in_err-taking.ensures before)
 
-pub returns-in_err-held : goal.returns-in_err-held
-returns-in_err-held c = λ out.
+pub returns-in-More : goal.returns-in-More
+returns-in-More c =
     let a : FollowState = c.args.self.now in
-    let snapshot = c.in-Some.snapshot in
-    let kept : c.unread.result.now ≡ a.kept = c.unread.ensures ∙ ap (λ (f : FollowState). f.kept) c.self.view_is in
-    let heard : HearsSnapshot c.unread.result.now (Ok (Some snapshot)) = subst (λ (o : Option Snapshot). HearsSnapshot c.unread.result.now (Ok o)) c.in-Some.is c.in_ok-snapshot.ensures in
-    let fault : FollowFault = c.in_err-held.field-0.0 in
-    let told : c.from_residual-in_err-held.result ≡ Err fault = search rules in
-    subst (λ (r : Result Heard FollowFault). StepsAside a r a out out) (sym told)
-    (load_refused a fault c.requires.0 snapshot.bytes.now c.requires.1.0 snapshot.used c.requires.1.1 (subst (λ (u : List ℕ). HasSnapshot u snapshot.bytes.now snapshot.used) kept heard) c.in_err-held.ensures out)
+    let b : FollowState = c.take_out.new.self in
+    let t : Taking = c.in-Some.taking in
+    let paused = c.go_on-paused.result in
+    let out : TakesOut a (Ok (Some t)) b = subst (λ (x : Option Taking). TakesOut a (Ok x) b) c.in-Some.is c.in_ok-taking.ensures in
+    let kept : c.unread.result.now ≡ b.kept = c.unread.ensures ∙ ap (λ (f : FollowState). f.kept) c.self.view_is in
+    let on : GoesOn t b.kept paused.used paused.pause paused.taking = subst (λ (l : List ℕ). GoesOn t l paused.used paused.pause paused.taking) kept c.go_on-paused.ensures in
+    let by : GoesOn t b.kept paused.used pause.More paused.taking = subst (λ (p : Pause). GoesOn t b.kept paused.used p paused.taking) c.in-More.is on in
+    let v : FollowState = record { phase = c.self.inside.phase; offer = c.self.inside.offer; port = c.self.inside.port; taking = c.self.inside.taking; kept = c.self.inside.inbox } in
+    let state = put_is a v b c.put_back.new.self paused.taking paused.used c.take.new.self c.self.view_is out.1.0 c.take.ensures c.put_back.ensures in
+    load_more a c.put_back.new.self t paused.taking b.kept c.requires.0 c.requires.1.0 paused.used c.requires.1.1 out.1.1 by state c.args.out.now.items
 
-pub take-requires : goal.take-requires
-take-requires c =
-    let snapshot = c.in-Some.snapshot in
-    let kept : c.unread.result.now ≡ c.args.self.now.kept = c.unread.ensures ∙ ap (λ (f : FollowState). f.kept) c.self.view_is in
-    let heard : HearsSnapshot c.unread.result.now (Ok (Some snapshot)) = subst (λ (o : Option Snapshot). HearsSnapshot c.unread.result.now (Ok o)) c.in-Some.is c.in_ok-snapshot.ensures in
-    let has : HasSnapshot c.args.self.now.kept snapshot.bytes.now snapshot.used = subst (λ (u : List ℕ). HasSnapshot u snapshot.bytes.now snapshot.used) kept heard in
-    has.inside
-
-pub returns : goal.returns
-returns c = λ out.
+pub returns-in-Bad : goal.returns-in-Bad
+returns-in-Bad c =
     let a : FollowState = c.args.self.now in
-    let snapshot = c.in-Some.snapshot in
-    let kept : c.unread.result.now ≡ a.kept = c.unread.ensures ∙ ap (λ (f : FollowState). f.kept) c.self.view_is in
-    let heard : HearsSnapshot c.unread.result.now (Ok (Some snapshot)) = subst (λ (o : Option Snapshot). HearsSnapshot c.unread.result.now (Ok o)) c.in-Some.is c.in_ok-snapshot.ensures in
-    load_whole a c.take.new.self c.requires.0 snapshot.bytes.now c.requires.1.0 snapshot.used c.in_ok-held.held c.requires.1.1 (subst (λ (u : List ℕ). HasSnapshot u snapshot.bytes.now snapshot.used) kept heard) c.in_ok-held.ensures c.take.ensures out
+    let b : FollowState = c.take_out.new.self in
+    let t : Taking = c.in-Some.taking in
+    let paused = c.go_on-paused.result in
+    let out : TakesOut a (Ok (Some t)) b = subst (λ (x : Option Taking). TakesOut a (Ok x) b) c.in-Some.is c.in_ok-taking.ensures in
+    let kept : c.unread.result.now ≡ b.kept = c.unread.ensures ∙ ap (λ (f : FollowState). f.kept) c.self.view_is in
+    let on : GoesOn t b.kept paused.used paused.pause paused.taking = subst (λ (l : List ℕ). GoesOn t l paused.used paused.pause paused.taking) kept c.go_on-paused.ensures in
+    let by : GoesOn t b.kept paused.used pause.Bad paused.taking = subst (λ (p : Pause). GoesOn t b.kept paused.used p paused.taking) c.in-Bad.is on in
+    let v : FollowState = record { phase = c.self.inside.phase; offer = c.self.inside.offer; port = c.self.inside.port; taking = c.self.inside.taking; kept = c.self.inside.inbox } in
+    let state = put_is a v b c.put_back-in-Bad.new.self paused.taking paused.used c.take.new.self c.self.view_is out.1.0 c.take.ensures c.put_back-in-Bad.ensures in
+    load_bad a c.put_back-in-Bad.new.self t paused.taking b.kept c.requires.0 c.requires.1.0 paused.used c.requires.1.1 out.1.1 by state c.args.out.now.items
+
+pub returns-in-Lack : goal.returns-in-Lack
+returns-in-Lack c =
+    let a : FollowState = c.args.self.now in
+    let b : FollowState = c.take_out.new.self in
+    let t : Taking = c.in-Some.taking in
+    let paused = c.go_on-paused.result in
+    let out : TakesOut a (Ok (Some t)) b = subst (λ (x : Option Taking). TakesOut a (Ok x) b) c.in-Some.is c.in_ok-taking.ensures in
+    let kept : c.unread.result.now ≡ b.kept = c.unread.ensures ∙ ap (λ (f : FollowState). f.kept) c.self.view_is in
+    let on : GoesOn t b.kept paused.used paused.pause paused.taking = subst (λ (l : List ℕ). GoesOn t l paused.used paused.pause paused.taking) kept c.go_on-paused.ensures in
+    let by : GoesOn t b.kept paused.used pause.Lack paused.taking = subst (λ (p : Pause). GoesOn t b.kept paused.used p paused.taking) c.in-Lack.is on in
+    let v : FollowState = record { phase = c.self.inside.phase; offer = c.self.inside.offer; port = c.self.inside.port; taking = c.self.inside.taking; kept = c.self.inside.inbox } in
+    let state = put_is a v b c.put_back-in-Lack.new.self paused.taking paused.used c.take.new.self c.self.view_is out.1.0 c.take.ensures c.put_back-in-Lack.ensures in
+    load_lacks a c.put_back-in-Lack.new.self t paused.taking b.kept c.requires.0 c.requires.1.0 paused.used c.requires.1.1 out.1.1 by state c.args.out.now.items
+
+pub returns-in-Spent : goal.returns-in-Spent
+returns-in-Spent c =
+    let a : FollowState = c.args.self.now in
+    let b : FollowState = c.take_out.new.self in
+    let t : Taking = c.in-Some.taking in
+    let paused = c.go_on-paused.result in
+    let out : TakesOut a (Ok (Some t)) b = subst (λ (x : Option Taking). TakesOut a (Ok x) b) c.in-Some.is c.in_ok-taking.ensures in
+    let kept : c.unread.result.now ≡ b.kept = c.unread.ensures ∙ ap (λ (f : FollowState). f.kept) c.self.view_is in
+    let on : GoesOn t b.kept paused.used paused.pause paused.taking = subst (λ (l : List ℕ). GoesOn t l paused.used paused.pause paused.taking) kept c.go_on-paused.ensures in
+    let by : GoesOn t b.kept paused.used pause.Spent paused.taking = subst (λ (p : Pause). GoesOn t b.kept paused.used p paused.taking) c.in-Spent.is on in
+    let v : FollowState = record { phase = c.self.inside.phase; offer = c.self.inside.offer; port = c.self.inside.port; taking = c.self.inside.taking; kept = c.self.inside.inbox } in
+    let d : FollowState = record { phase = c.self.inside.phase; offer = c.self.inside.offer; port = c.self.inside.port; taking = c.self.inside.taking; kept = c.take.new.self } in
+    let state : d ≡ record a { taking = None; kept = drop paused.used b.kept } = left_is a v b paused.used c.take.new.self c.self.view_is out.1.0 c.take.ensures in
+    load_spent a d t paused.taking b.kept c.requires.0 c.requires.1.0 paused.used c.requires.1.1 out.1.1 by state c.args.out.now.items
+
+pub returns-in-Whole : goal.returns-in-Whole
+returns-in-Whole c =
+    let a : FollowState = c.args.self.now in
+    let b : FollowState = c.take_out.new.self in
+    let t : Taking = c.in-Some.taking in
+    let paused = c.go_on-paused.result in
+    let out : TakesOut a (Ok (Some t)) b = subst (λ (x : Option Taking). TakesOut a (Ok x) b) c.in-Some.is c.in_ok-taking.ensures in
+    let kept : c.unread.result.now ≡ b.kept = c.unread.ensures ∙ ap (λ (f : FollowState). f.kept) c.self.view_is in
+    let on : GoesOn t b.kept paused.used paused.pause paused.taking = subst (λ (l : List ℕ). GoesOn t l paused.used paused.pause paused.taking) kept c.go_on-paused.ensures in
+    let by : GoesOn t b.kept paused.used pause.Whole paused.taking = subst (λ (p : Pause). GoesOn t b.kept paused.used p paused.taking) c.in-Whole.is on in
+    let v : FollowState = record { phase = c.self.inside.phase; offer = c.self.inside.offer; port = c.self.inside.port; taking = c.self.inside.taking; kept = c.self.inside.inbox } in
+    let d : FollowState = record { phase = c.self.inside.phase; offer = c.self.inside.offer; port = c.self.inside.port; taking = c.self.inside.taking; kept = c.take.new.self } in
+    let state : d ≡ record a { taking = None; kept = drop paused.used b.kept } = left_is a v b paused.used c.take.new.self c.self.view_is out.1.0 c.take.ensures in
+    load_whole a d c.hand_over.new.self t paused.taking b.kept c.requires.0 c.requires.1.0 paused.used c.hand_over.result c.args.out.now.items c.hand_over.new.out.items c.requires.1.1 out.1.1 by state c.hand_over.ensures

@@ -1,0 +1,13 @@
+use Rattle.std.proofs.Common.{length, take, ◌-◌, ◌≤◌}
+use Rattle.mr_replay.specs.Effects.{Leads}
+use Rattle.mr_replay.proofs.replaying.replay_front.Given as goal
+
+-- the bytes before this place were done
+abbrev pub invariant-texts : goal.invariant-texts
+invariant-texts l = record {
+  within : l.used ≤ length l.bytes;
+  led : Leads (take l.used l.bytes) l.fn.dataset l.dataset;
+}
+
+abbrev pub decreases-texts : goal.decreases-texts
+decreases-texts l = length l.bytes - l.used
