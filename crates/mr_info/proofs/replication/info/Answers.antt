@@ -14,9 +14,9 @@ returns c =
     (more _ (c.in_ok-push_number-5.ensures ∙ ap (λ (n : ℕ). c.push_number-4.new.text.items ++ line (codes "repl_backlog_first_byte_offset") (decimal n)) c.first.ensures.first)
     (more _ (c.in_ok-push_number-4.ensures ∙ ap (λ (n : ℕ). c.push_number-3.new.text.items ++ line (codes "repl_backlog_size") (decimal n)) c.capacity.ensures.capacity)
     (more _ c.in_ok-push_number-3.ensures
-    (more _ c.in_ok-push_field-4.ensures
-    (more _ (c.in_ok-push_number-2.ensures ∙ ap (λ (n : ℕ). c.push_field-3.new.text.items ++ line (codes "master_repl_offset") (decimal n)) c.end.ensures.end)
-    (more _ c.in_ok-push_field-3.ensures
+    (more _ c.in_ok-push_second_offset.ensures
+    (more _ (c.in_ok-push_number-2.ensures ∙ ap (λ (n : ℕ). c.push_second_id.new.text.items ++ line (codes "master_repl_offset") (decimal n)) c.end.ensures.end)
+    (more _ c.in_ok-push_second_id.ensures
     (more _ (c.in_ok-push_field-2.ensures ∙ ap (λ (digits : List ℕ). c.push_number.new.text.items ++ line (codes "master_replid") digits) c.digits.ensures)
     (more _ c.in_ok-push_number.ensures
     (more _ (c.in_ok-push_field.ensures ∙ ap (λ (role : List ℕ). c.in_ok-text.text.items ++ line (codes "role") role) c.role_text.ensures) c.in_ok-text.ensures.items)))))))))

@@ -1,0 +1,4 @@
+pub mod Codes
+pub mod Heard
+pub mod Rows
+pub mod State
