@@ -1,0 +1,13 @@
+pub mod State
+pub mod Requests
+pub mod Telling
+pub mod Growing
+pub mod Served
+pub mod Ends
+pub mod ClientRows
+pub mod ReplicaRows
+pub mod UpstreamRows
+pub mod Acknowledging
+pub mod TimeRows
+pub mod LinkRows
+pub mod Laws
