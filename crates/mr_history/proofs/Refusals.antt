@@ -1,7 +1,7 @@
 -- What no row does.
-use Rattle.std.proofs.Common.{ℕ, List, ◌++◌, ◌≡◌, ◌+◌, ◌⊎◌, Option, None, Some, Bool, true, false, refl, sym, ◌∙◌, ap, subst, inl, inr, arith, ◌<◌, length, append_assoc}
+use Rattle.std.proofs.Common.{ℕ, List, [], ◌++◌, ◌≡◌, ◌≢◌, ◌+◌, ◌⊎◌, Option, None, Some, Bool, true, false, refl, sym, ◌∙◌, ap, subst, inl, inr, arith}
 use Rattle.std.specs.Prelude.{cond}
-use Rattle.mr_history.specs.Language.{Language, Laws}
+use Rattle.mr_history.specs.Language.{Language}
 use Rattle.mr_history.specs.Language.Request.{Psync}
 use Rattle.mr_history.specs.Changes.{SetAt, Same}
 use Rattle.mr_history.specs.Node.{Phase, Node, continued, tail}
@@ -14,7 +14,7 @@ use Rattle.mr_history.specs.ServerRows.{Uses, ServerRow}
 use Rattle.mr_history.specs.FollowerRows.{BadAnswer, BadStream, Leaves, FollowerRow}
 use Rattle.mr_history.specs.FollowerRows.Usable.{a_reply, an_answer, a_snapshot, an_effect}
 use Rattle.mr_history.specs.Rows.{Opens, Dials, Ticks, Row}
-use Rattle.mr_history.specs.EachEvent.{BookChange, BookChangesByThreeWays, MastersTakeNewIds, StartsAnew, RestartsUnderNewIds, ShowsTheSame, PartsChangeNothing, Answer, Answered, AnswersAreOfOneMoment, AsksFromWhereItStands, StreamsAreFollowed, DialledLinksAreEmpty}
+use Rattle.mr_history.specs.EachEvent.{LeadsAnew, BookChange, BookChangesByThreeWays, MastersTakeNewIds, StartsAnew, RestartsUnderNewIds, ShowsTheSame, PartsChangeNothing, Answer, Answered, AnswersAreOfOneMoment, AsksFromWhereItStands, StreamsAreFollowed, DialledLinksAreEmpty}
 use Rattle.mr_history.proofs.Fronts.{some_is}
 use Rattle.mr_history.proofs.Keeping.{one_or, true_false, none_some}
 
@@ -66,9 +66,10 @@ opening_books : {L : Language} (w v : World L) (n : ℕ) (a : Node L) → Opens 
 opening_books w v n a (Opens.opens l new b) = BookChange.stays b.book
 opening_books w v n a (Opens.stops r) = BookChange.stays r.becomes.book
 
-dialling_books : {L : Language} (w v : World L) (n s : ℕ) (a : Node L) → Dials w v n s a → Booked w v
-dialling_books w v n s a (Dials.connects r) = BookChange.stays r.book
-dialling_books w v n s a (Dials.stops r) = BookChange.stays r.becomes.book
+dialling_books : {L : Language} (w v : World L) (n s : ℕ) (a b : Node L) → Dials w v n s a b → Booked w v
+dialling_books w v n s a b (Dials.connects r) = BookChange.stays r.book
+dialling_books w v n s a b (Dials.stops r) = BookChange.stays r.becomes.book
+dialling_books w v n s a b (Dials.server_stops r) = BookChange.stays r.becomes.book
 
 ticking_books : {L : Language} (w v : World L) (n : ℕ) (a : Node L) (given : L.Given) → w.node n ≡ Some a → a.up ≡ true → Ticks w v n a given → Booked w v
 ticking_books w v n a given e u (Ticks.beats r) = BookChange.extends n a r.effects e u r.master r.grown.book
@@ -84,7 +85,7 @@ pub book_changes : {L : Language} → BookChangesByThreeWays L
 book_changes {L} w v (Event.Start i master) r = BookChange.draws r.node _ r.nodes.0 refl r.book
 book_changes {L} w v (Event.Restart n file i) r = BookChange.draws n _ r.nodes.0 refl r.book
 book_changes {L} w v (Event.Client n) r = unless_stays w v r.node _ r.does (λ u x. opening_books w v n r.node x)
-book_changes {L} w v (Event.Dial n s) r = unless_stays w v r.node _ r.does (λ u x. unless_stays w v r.server _ x (λ u' y. dialling_books w v n s r.node y))
+book_changes {L} w v (Event.Dial n s) r = unless_stays w v r.node _ r.does (λ u x. unless_stays w v r.server _ x (λ u' y. dialling_books w v n s r.node r.server y))
 book_changes {L} w v (Event.Command l bytes) r = BookChange.stays r.becomes.book
 book_changes {L} w v (Event.Deliver l Server n) r = unless_stays w v r.at.node _ r.does (λ u x. BookChange.stays x.book)
 book_changes {L} w v (Event.Deliver l Dialler n) r = either r (λ x. unless_stays w v x.at.node _ x.does (λ u y. BookChange.stays y.book)) (λ x. BookChange.stays x.becomes.book)
@@ -112,26 +113,30 @@ continues_master {L} a i = go (L.same a.id i)
 pub masters_take_new_ids : {L : Language} → MastersTakeNewIds L
 masters_take_new_ids {L} w v e row n a b ea ma eb ub mb = go e row
   where
-    same : Same w.node v.node → w.book b.id ≡ None
+    same : Same w.node v.node → LeadsAnew w b
     same s = let i = some_is b a (sym eb ∙ (s n ∙ ea)) in true_false b.master mb (ap (λ z. z.master) i ∙ ma)
 
-    changed : (m : ℕ) (x : Node L) → SetAt w.node v.node m x → (n ≡ m → x ≡ b → w.book b.id ≡ None) → w.book b.id ≡ None
+    changed : (m : ℕ) (x : Node L) → SetAt w.node v.node m x → (n ≡ m → x ≡ b → LeadsAnew w b) → LeadsAnew w b
     changed m x s f = one_or n m
         (λ h. f h (some_is x b (sym s.0 ∙ (ap (λ z. v.node z) (sym h) ∙ eb))))
         (λ h. let i = some_is b a (sym eb ∙ (s.1 n h ∙ ea)) in true_false b.master mb (ap (λ z. z.master) i ∙ ma))
 
-    stopped : (m : ℕ) (x : Node L) → Stops w v m x → w.book b.id ≡ None
+    stopped : (m : ℕ) (x : Node L) → Stops w v m x → LeadsAnew w b
     stopped m x r = changed m r.wreck r.becomes.nodes (λ h q. true_false b.up ub (ap (λ z. z.up) (sym q) ∙ r.down))
 
-    as_it_was : (m : ℕ) (x old : Node L) → SetAt w.node v.node m x → w.node m ≡ Some old → x.master ≡ old.master → w.book b.id ≡ None
+    as_it_was : (m : ℕ) (x old : Node L) → SetAt w.node v.node m x → w.node m ≡ Some old → x.master ≡ old.master → LeadsAnew w b
     as_it_was m x old s eo em = changed m x s (λ h q.
         let i = some_is old a (sym eo ∙ (ap (λ z. w.node z) (sym h) ∙ ea)) in
         true_false b.master mb (ap (λ z. z.master) (sym q) ∙ (em ∙ (ap (λ z. z.master) i ∙ ma))))
 
-    drawn : (m : ℕ) (x : Node L) → SetAt w.node v.node m x → w.book x.id ≡ None → w.book b.id ≡ None
-    drawn m x s new = changed m x s (λ h q. subst (λ z. w.book z.id ≡ None) q new)
+    drawn : (m : ℕ) (x : Node L) → SetAt w.node v.node m x → w.book x.id ≡ None → x.offers ≡ x.master → x.upstream ≡ [] → LeadsAnew w b
+    drawn m x s new offers upstream = changed m x s (λ h q. record {
+      new_id = subst (λ z. w.book z.id ≡ None) q new;
+      offers = subst (λ z. z.offers ≡ z.master) q offers ∙ mb;
+      upstream = subst (λ z. z.upstream ≡ []) q upstream;
+    })
 
-    at_server : (l : ℕ) (k : Link) (s : Node L) (given : L.Given) (fresh : L.Id) → w.node k.to ≡ Some s → ServerRow w v l k s given fresh → w.book b.id ≡ None
+    at_server : (l : ℕ) (k : Link) (s : Node L) (given : L.Given) (fresh : L.Id) → w.node k.to ≡ Some s → ServerRow w v l k s given fresh → LeadsAnew w b
     at_server l k s given fresh es (ServerRow.idles r) = same r.still.nodes
     at_server l k s given fresh es (ServerRow.stops r) = stopped k.to s r
     at_server l k s given fresh es (ServerRow.notes r) = same r.becomes.nodes
@@ -146,11 +151,11 @@ masters_take_new_ids {L} w v e row n a b ea ma eb ub mb = go e row
     at_server l k s given fresh es (ServerRow.passes_limit r) = same r.becomes.nodes
     at_server l k s given fresh es (ServerRow.runs r) = as_it_was k.to _ s r.grown.nodes es refl
     at_server l k s given fresh es (ServerRow.quits r) = same r.becomes.nodes
-    at_server l k s given fresh es (ServerRow.promotes r) = drawn k.to _ r.nodes r.book.new_id
+    at_server l k s given fresh es (ServerRow.promotes r) = drawn k.to _ r.nodes r.book.new_id refl refl
     at_server l k s given fresh es (ServerRow.demotes r) = changed k.to _ r.nodes (λ h q. true_false b.master mb (ap (λ z. z.master) (sym q)))
     at_server l k s given fresh es (ServerRow.turns r) = as_it_was k.to _ s r.nodes es refl
 
-    at_follower : (m l : ℕ) (c : Node L) (p : Phase L.Id) (k : Link) → w.node m ≡ Some c → FollowerRow w v m l c p k → w.book b.id ≡ None
+    at_follower : (m l : ℕ) (c : Node L) (p : Phase L.Id) (k : Link) → w.node m ≡ Some c → FollowerRow w v m l c p k → LeadsAnew w b
     at_follower m l c p k ec (FollowerRow.idles r) = same r.still.nodes
     at_follower m l c p k ec (FollowerRow.stops r) = stopped m c r
     at_follower m l c p k ec (FollowerRow.leaves (Leaves.at_an_answer x r)) = as_it_was m _ c r.nodes ec refl
@@ -162,29 +167,30 @@ masters_take_new_ids {L} w v e row n a b ea ma eb ub mb = go e row
     at_follower m l c p k ec (FollowerRow.loads r) = as_it_was m _ c r.becomes.nodes ec refl
     at_follower m l c p k ec (FollowerRow.applies r) = as_it_was m _ c r.becomes.nodes ec refl
 
-    unless : (c : Node L) (Act : Type 0) → Unless w v c Act → (Act → w.book b.id ≡ None) → w.book b.id ≡ None
+    unless : (c : Node L) (Act : Type 0) → Unless w v c Act → (Act → LeadsAnew w b) → LeadsAnew w b
     unless c Act (Unless.acts u x) f = f x
     unless c Act (Unless.stopped u s) f = same s.nodes
 
-    opens : (m : ℕ) (c : Node L) → Opens w v m c → w.book b.id ≡ None
+    opens : (m : ℕ) (c : Node L) → Opens w v m c → LeadsAnew w b
     opens m c (Opens.opens l new r) = same r.nodes
     opens m c (Opens.stops r) = stopped m c r
 
-    dials : (m s : ℕ) (c : Node L) → w.node m ≡ Some c → Dials w v m s c → w.book b.id ≡ None
-    dials m s c ec (Dials.connects r) = as_it_was m _ c r.nodes ec refl
-    dials m s c ec (Dials.stops r) = stopped m c r
+    dials : (m s : ℕ) (c d : Node L) → w.node m ≡ Some c → Dials w v m s c d → LeadsAnew w b
+    dials m s c d ec (Dials.connects r) = as_it_was m _ c r.nodes ec refl
+    dials m s c d ec (Dials.stops r) = stopped m c r
+    dials m s c d ec (Dials.server_stops r) = stopped s d r
 
-    ticks : (m : ℕ) (c : Node L) (given : L.Given) → w.node m ≡ Some c → Ticks w v m c given → w.book b.id ≡ None
+    ticks : (m : ℕ) (c : Node L) (given : L.Given) → w.node m ≡ Some c → Ticks w v m c given → LeadsAnew w b
     ticks m c given ec (Ticks.beats r) = as_it_was m _ c r.grown.nodes ec refl
     ticks m c given ec (Ticks.acknowledges r) = same r.becomes.nodes
     ticks m c given ec (Ticks.rests x s) = same s.nodes
     ticks m c given ec (Ticks.stops r) = stopped m c r
 
-    go : (e : Event L) → Row w e v → w.book b.id ≡ None
-    go (Event.Start i master) r = drawn r.node _ r.nodes r.book.new_id
-    go (Event.Restart m file i) r = drawn m _ r.nodes r.book.new_id
+    go : (e : Event L) → Row w e v → LeadsAnew w b
+    go (Event.Start i master) r = drawn r.node _ r.nodes r.book.new_id refl refl
+    go (Event.Restart m file i) r = drawn m _ r.nodes r.book.new_id refl refl
     go (Event.Client m) r = unless r.node _ r.does (λ x. opens m r.node x)
-    go (Event.Dial m s) r = unless r.node _ r.does (λ x. unless r.server _ x (λ y. dials m s r.node r.found y))
+    go (Event.Dial m s) r = unless r.node _ r.does (λ x. unless r.server _ x (λ y. dials m s r.node r.server r.found y))
     go (Event.Command l bytes) r = same r.becomes.nodes
     go (Event.Deliver l Server m) r = unless r.at.node _ r.does (λ x. same x.nodes)
     go (Event.Deliver l Dialler m) r = either r (λ x. unless x.at.node _ x.does (λ y. same y.nodes)) (λ x. same x.becomes.nodes)
@@ -271,23 +277,14 @@ asks_from_where_it_stands {L} w v n l a b k k' ea row offers eb ub ek' ek = go r
 
 -- streams
 
-pub streams_are_followed : {L : Language} → Laws L → StreamsAreFollowed L
-streams_are_followed {L} laws w v n l a b k ea fa row e m more rest good fits within begins eb ub = go row
+pub streams_are_followed : {L : Language} → StreamsAreFollowed L
+streams_are_followed {L} w v n l a b k ea fa row e m more rest good fits within begins eb ub = go row
   where
     is : (x : Node L) → SetAt w.node v.node n x → x ≡ b
     is x s = some_is x b (sym s.0 ∙ eb)
 
     stays : (x : Node L) → SetAt w.node v.node n x → x.follow ≡ Some (record { link = l; phase = Stream }) → b.follow ≡ Some (record { link = l; phase = Stream })
     stays x s q = ap (λ z. z.follow) (sym (is x s)) ∙ q
-
-    unfit : (f : L.Effect) (r : List ℕ) → L.IsGood f → unread k.tell ≡ L.text f ++ r → (L.apply f a.held ≡ None) ⊎ (L.limit < a.offset + length (L.text f)) → ⊥
-    unfit f r h q u =
-        let whole : L.text f ++ (r ++ more) ≡ L.text e ++ rest = sym (append_assoc (L.text f) r more) ∙ (ap (λ z. z ++ more) (sym q) ∙ begins) in
-        let same : f ≡ e = laws.text_cut f e (r ++ more) rest h good whole in
-        elim u [
-          | inl x ↦ none_some (L.apply e a.held) m (subst (λ z. L.apply z a.held ≡ None) same x) fits
-          | inr x ↦ (let y = subst (λ z. L.limit < a.offset + length (L.text z)) same x in omega (arith, y, within))
-        ]
 
     answer : BadAnswer a Stream (unread k.tell) → ⊥
     answer (BadAnswer.no_reply j p x) = cc
@@ -298,8 +295,7 @@ streams_are_followed {L} laws w v n l a b k ea fa row e m more rest good fits wi
 
     stream : BadStream a Stream (unread k.tell) → ⊥
     stream (BadStream.no_snapshot i o p x) = cc
-    stream (BadStream.no_effect p x) = x more rest e good begins
-    stream (BadStream.unfit f r p h q u) = unfit f r h q u
+    stream (BadStream.stuck p x) = x more rest e m good fits within begins
 
     go : FollowerRow w v n l a Stream k → b.follow ≡ Some (record { link = l; phase = Stream })
     go (FollowerRow.idles r) = let i = some_is b a (sym eb ∙ (r.still.nodes n ∙ ea)) in ap (λ z. z.follow) i ∙ fa
@@ -315,24 +311,31 @@ streams_are_followed {L} laws w v n l a b k ea fa row e m more rest good fits wi
 
 -- links
 
+same_or : (a c : ℕ) → (a ≡ c) ⊎ (a ≢ c)
+same_or a c = grind arith
+
 pub dialled_links_are_empty : {L : Language} → DialledLinksAreEmpty L
 dialled_links_are_empty {L} w v n s row b f k eb ub ef ek = first row.does
   where
     stays : Same w.node v.node → k.tell ≡ no_bytes
     stays sn = let i = some_is b row.node (sym eb ∙ (sn n ∙ row.found)) in none_some row.node.follow f row.waiting (ap (λ z. z.follow) (sym i) ∙ ef)
 
-    go : Dials w v n s row.node → k.tell ≡ no_bytes
+    go : Dials w v n s row.node row.server → k.tell ≡ no_bytes
     go (Dials.connects r) =
         let i = some_is _ b (sym r.nodes.0 ∙ eb) in
         let j = some_is (record { link = r.link; phase = Greet 0 }) f (ap (λ z. z.follow) i ∙ ef) in
         let here = some_is _ k (sym r.links.0 ∙ (ap (λ z. v.link z.link) j ∙ ek)) in
         ap (λ z. z.tell) (sym here)
     go (Dials.stops r) = let i = some_is r.wreck b (sym r.becomes.nodes.0 ∙ eb) in true_false b.up ub (ap (λ z. z.up) (sym i) ∙ r.down)
+    go (Dials.server_stops r) = elim (same_or n s) [
+      | inl q ↦ (let i = some_is r.wreck b (sym r.becomes.nodes.0 ∙ (ap (λ z. v.node z) (sym q) ∙ eb)) in true_false b.up ub (ap (λ z. z.up) (sym i) ∙ r.down))
+      | inr ne ↦ (let i = some_is b row.node (sym eb ∙ (r.becomes.nodes.1 n ne ∙ row.found)) in none_some row.node.follow f row.waiting (ap (λ z. z.follow) (sym i) ∙ ef))
+    ]
 
-    second : Unless w v row.server (Dials w v n s row.node) → k.tell ≡ no_bytes
+    second : Unless w v row.server (Dials w v n s row.node row.server) → k.tell ≡ no_bytes
     second (Unless.acts u x) = go x
     second (Unless.stopped u x) = stays x.nodes
 
-    first : Unless w v row.node (Unless w v row.server (Dials w v n s row.node)) → k.tell ≡ no_bytes
+    first : Unless w v row.node (Unless w v row.server (Dials w v n s row.node row.server)) → k.tell ≡ no_bytes
     first (Unless.acts u x) = second x
     first (Unless.stopped u x) = stays x.nodes

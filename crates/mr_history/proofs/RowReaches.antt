@@ -81,11 +81,12 @@ client_reaches {L} w v n inv r = unless w v r.node (Opens w v n r.node) (λ u x.
     go (Opens.stops s) = stops_reach w v n r.node s
 
 dial_reaches : {L : Language} (w v : World L) (n s : ℕ) → DialRow w n s v → Reaches w v
-dial_reaches {L} w v n s r = unless w v r.node (Unless w v r.server (Dials w v n s r.node)) (λ u x. unless w v r.server (Dials w v n s r.node) (λ u' y. go y) x) r.does
+dial_reaches {L} w v n s r = unless w v r.node (Unless w v r.server (Dials w v n s r.node r.server)) (λ u x. unless w v r.server (Dials w v n s r.node r.server) (λ u' y. go y) x) r.does
   where
-    go : Dials w v n s r.node → Reaches w v
+    go : Dials w v n s r.node r.server → Reaches w v
     go (Dials.connects x) = one w v (dial n s x.link r.node x.request x.asks r.found r.replica r.waiting x.new_link x.nodes x.links x.book)
     go (Dials.stops x) = stops_reach w v n r.node x
+    go (Dials.server_stops x) = stops_reach w v s r.server x
 
 command_reaches : {L : Language} (w v : World L) (l : ℕ) (bytes : List ℕ) → Invariant w → CommandRow w l bytes v → Reaches w v
 command_reaches {L} w v l bytes inv r =

@@ -45,18 +45,21 @@ promotes_reach : {L : Language} (laws : Laws L) (w v : World L) (l : ℕ) (k : L
 promotes_reach {L} laws w v l k s fresh inv ek en u r =
     by_moves (gone ∷ up ∷ []) (first, (second, loose l (answered k r.uses.left r.reply) free (λ j. refl) r.links (λ i. refl)))
   where
+    alone : Node L
+    alone = record s { follow = None; offers = true; upstream = [] }
+
     gone : World L
-    gone = record w { node = put w.node k.to (record s { follow = None }) }
+    gone = record w { node = put w.node k.to alone }
 
     up : World L
     up = record w { node = v.node; book = v.book }
 
     first : Move w gone
-    first = leave k.to s s.offers s.upstream en (put_sets w.node k.to (record s { follow = None })) (λ j. refl) (λ i. refl)
+    first = leave k.to s true [] en (put_sets w.node k.to alone) (λ j. refl) (λ i. refl)
 
     second : Move gone up
-    second = promote k.to fresh (record s { follow = None }) r.book.start r.book.earlier r.book.later (put_here w.node k.to (record s { follow = None })) u r.replica refl r.book.new_id
-        (put_over w.node v.node k.to (record s { follow = None }) _ r.nodes) (λ j. refl) r.book.front r.book.book
+    second = promote k.to fresh alone r.book.start r.book.earlier r.book.later (put_here w.node k.to alone) u r.replica refl r.book.new_id
+        (put_over w.node v.node k.to alone _ r.nodes) (λ j. refl) r.book.front r.book.book
 
     free : Free up l
     free = free_ask laws up l k r.uses.text ReplicaOfNoOne r.uses.left (move_keeps laws gone up (move_keeps laws w gone inv first) second) ek r.client r.uses.asks (other_promote L.Id) r.uses.reads
@@ -161,7 +164,7 @@ server_reaches {L} laws w v l k s given fresh inv ek en eo u row = go row
         r.becomes.nodes r.becomes.links r.becomes.book)
     go (ServerRow.runs r) = runs_reach laws w v l k s given inv ek en u r
     go (ServerRow.quits r) =
-        one w v (loose l (shut true (answered k r.uses.left r.reply)) (free_ask laws w l k r.uses.text Quit r.uses.left inv ek r.client r.uses.asks (other_quit L.Id) r.uses.reads)
+        one w v (loose l (shut true (told k r.reply)) (free_ask laws w l k r.uses.text Quit r.uses.left inv ek r.client r.uses.asks (other_quit L.Id) r.uses.reads)
         r.becomes.nodes r.becomes.links r.becomes.book)
     go (ServerRow.promotes r) = promotes_reach laws w v l k s fresh inv ek en u r
     go (ServerRow.demotes r) = demotes_reach laws w v l k s inv ek en u r

@@ -1,5 +1,5 @@
 -- What every event keeps to, whichever it is: what the rows refuse to bodies that would be wrong.
-use Rattle.std.specs.Prelude.{ℕ, List, ◌++◌, ◌+◌, ◌≤◌, ◌≡◌, ◌⊎◌, Option, None, Some, true, false, length}
+use Rattle.std.specs.Prelude.{ℕ, List, [], ◌++◌, ◌+◌, ◌≤◌, ◌≡◌, ◌⊎◌, Option, None, Some, true, false, length}
 use Rattle.mr_history.specs.Language.{Language}
 use Rattle.mr_history.specs.Language.Line.{FullResync, Continue}
 use Rattle.mr_history.specs.Language.Request.{Psync}
@@ -26,10 +26,16 @@ pub data BookChange {L : Language} (w v : World L) : Type 0 where
 abbrev pub BookChangesByThreeWays : Language → Type 0
 BookChangesByThreeWays L = (w v : World L) (e : Event L) → Row w e v → BookChange w v
 
--- A replica that becomes a master, at each promotion or by starting anew, does so under an id that wasn't drawn before.
+-- A master under an id that wasn't drawn before, which has something to continue where it becomes a replica, and follows no host.
+pub record LeadsAnew {L : Language} (w : World L) (b : Node L) : Type 0 where
+  pub new_id : w.book b.id ≡ None
+  pub offers : b.offers ≡ true
+  pub upstream : b.upstream ≡ []
+
+-- A replica that becomes a master, at each promotion or by starting anew, leads anew.
 abbrev pub MastersTakeNewIds : Language → Type 0
 MastersTakeNewIds L = (w v : World L) (e : Event L) → Row w e v → (n : ℕ) (a b : Node L) → w.node n ≡ Some a → a.master ≡ false
-    → v.node n ≡ Some b → b.up ≡ true → b.master ≡ true → w.book b.id ≡ None
+    → v.node n ≡ Some b → b.up ≡ true → b.master ≡ true → LeadsAnew w b
 
 -- A node that starts anew does so under an id that wasn't drawn before, at offset 0.
 pub record StartsAnew {L : Language} (w : World L) (b : Node L) : Type 0 where

@@ -1,5 +1,5 @@
 -- What a step at a replica's end of the link to its master may do, one row for each.
-use Rattle.std.specs.Prelude.{ℕ, List, [], ◌++◌, ◌+◌, ◌<◌, ◌≤◌, ◌≡◌, ◌≢◌, ◌⊎◌, None, Some, true, false, length}
+use Rattle.std.specs.Prelude.{ℕ, List, [], ◌++◌, ◌+◌, ◌<◌, ◌≤◌, ◌≡◌, ◌≢◌, None, Some, true, false, length}
 use Rattle.mr_history.specs.Language.{Language, Line}
 use Rattle.mr_history.specs.Language.Line.{FullResync, Continue, Plain, Refusal}
 use Rattle.mr_history.specs.Language.Request.{Handshake, Psync}
@@ -38,15 +38,17 @@ pub record FollowerIdles {L : Language} (w v : World L) (p : Phase L.Id) (k : Li
   pub nothing : Usable L p (unread k.tell) → ⊥
   pub still : Still w v
 
--- no continuation of the bytes begins with a line, a snapshot, an effect
+-- no continuation of the bytes begins with a line, a snapshot
 abbrev pub NoLine : (L : Language) → List ℕ → Type 0
 NoLine L bytes = (more text rest : List ℕ) (line : Line L.Id) → L.says text line → bytes ++ more ≡ text ++ rest → ⊥
 
 abbrev pub NoSnapshot : (L : Language) → List ℕ → Type 0
 NoSnapshot L bytes = (more text rest : List ℕ) (m : L.Dataset) → L.loads text m → bytes ++ more ≡ text ++ rest → ⊥
 
-abbrev pub NoEffect : (L : Language) → List ℕ → Type 0
-NoEffect L bytes = (more rest : List ℕ) (e : L.Effect) → L.IsGood e → bytes ++ more ≡ L.text e ++ rest → ⊥
+-- .. with an effect that the replica can apply: one that applies to its dataset, and whose text doesn't pass the limit
+abbrev pub IsStuckAt : {L : Language} → Node L → List ℕ → Type 0
+IsStuckAt {L} a bytes = (more rest : List ℕ) (e : L.Effect) (held : L.Dataset) → L.IsGood e → L.apply e a.held ≡ Some held
+    → a.offset + length (L.text e) ≤ L.limit → bytes ++ more ≡ L.text e ++ rest → ⊥
 
 -- the line answers no PSYNC, or not the one that was sent
 abbrev pub IsNoAnswer : {L : Language} → Node L → Line L.Id → Type 0
@@ -63,12 +65,11 @@ pub data BadAnswer {L : Language} (a : Node L) (p : Phase L.Id) (bytes : List �
   no_answer : (text rest : List ℕ) (line : Line L.Id) → p ≡ Asked → L.says text line → bytes ≡ text ++ rest → IsNoAnswer a line → BadAnswer a p bytes
   no_snapshot : (i : L.Id) (o : ℕ) → p ≡ Loading i o → NoSnapshot L bytes → BadAnswer a p bytes
 
--- What is refused as undecodable: a snapshot or an effect that is none, an effect that doesn't apply or passes the limit.
+-- What is refused as undecodable: bytes that become no snapshot, and bytes that become no effect which the replica can apply. Whether
+-- they are no effect's, or those of one that doesn't apply or passes the limit, is not told apart.
 pub data BadStream {L : Language} (a : Node L) (p : Phase L.Id) (bytes : List ℕ) : Type 0 where
   no_snapshot : (i : L.Id) (o : ℕ) → p ≡ Loading i o → NoSnapshot L bytes → BadStream a p bytes
-  no_effect : p ≡ Stream → NoEffect L bytes → BadStream a p bytes
-  unfit : (e : L.Effect) (rest : List ℕ) → p ≡ Stream → L.IsGood e → bytes ≡ L.text e ++ rest
-      → (L.apply e a.held ≡ None) ⊎ (L.limit < a.offset + length (L.text e)) → BadStream a p bytes
+  stuck : p ≡ Stream → IsStuckAt a bytes → BadStream a p bytes
 
 -- The replica refuses what its master sent and closes its end. After what is undecodable it has nothing to continue.
 pub data Leaves {L : Language} (w v : World L) (n : ℕ) (a : Node L) (p : Phase L.Id) (k : Link) : Type 0 where

@@ -81,9 +81,11 @@ pub record Connects {L : Language} (w v : World L) (n s : ℕ) (a : Node L) : Ty
   pub links : SetAt w.link v.link link (fresh_link (Peer n) s request)
   pub book : Same w.book v.book
 
-pub data Dials {L : Language} (w v : World L) (n s : ℕ) (a : Node L) : Type 0 where
-  connects : Connects w v n s a → Dials w v n s a
-  stops : Stops w v n a → Dials w v n s a
+-- A replica, a, dials a node, b. Either may stop, b for want of names for links.
+pub data Dials {L : Language} (w v : World L) (n s : ℕ) (a b : Node L) : Type 0 where
+  connects : Connects w v n s a → Dials w v n s a b
+  stops : Stops w v n a → Dials w v n s a b
+  server_stops : Stops w v s b → Dials w v n s a b
 
 -- A replica without a link to a master dials any node, itself too. Where either has stopped nothing changes.
 pub record DialRow {L : Language} (w : World L) (n s : ℕ) (v : World L) : Type 0 where
@@ -93,7 +95,7 @@ pub record DialRow {L : Language} (w : World L) (n s : ℕ) (v : World L) : Type
   pub waiting : node.follow ≡ None
   pub server : Node L
   pub server_found : w.node s ≡ Some server
-  pub does : Unless w v node (Unless w v server (Dials w v n s node))
+  pub does : Unless w v node (Unless w v server (Dials w v n s node server))
 
 -- A client whose end is open sends more.
 pub record CommandRow {L : Language} (w : World L) (l : ℕ) (bytes : List ℕ) (v : World L) : Type 0 where

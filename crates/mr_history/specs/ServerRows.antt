@@ -1,5 +1,5 @@
 -- What a step at the server's end of a link may do, one row for each.
-use Rattle.std.specs.Prelude.{ℕ, List, ◌++◌, ◌+◌, ◌<◌, ◌≡◌, ◌≢◌, Option, None, Some, true, false, length}
+use Rattle.std.specs.Prelude.{ℕ, List, [], ◌++◌, ◌+◌, ◌<◌, ◌≡◌, ◌≢◌, Option, None, Some, true, false, length}
 use Rattle.mr_history.specs.Language.{Language, Request}
 use Rattle.mr_history.specs.Language.Line.{FullResync, Continue, Plain, Refusal}
 use Rattle.mr_history.specs.Language.Request.{Handshake, Psync, Ack, Command, ReplicaOfNoOne, ReplicaOf, Empty, Quit}
@@ -145,18 +145,19 @@ pub record Runs {L : Language} (w v : World L) (l : ℕ) (k : Link) (s : Node L)
   pub no_links : (j : ℕ) → j ≢ l → w.link j ≡ None → v.link j ≡ None
   pub links : (j : ℕ) (x : Link) → j ≢ l → w.link j ≡ Some x → v.link j ≡ Some (told_if (hears k.to x) x (texts L effects))
 
+-- A client that asks for it is told so, and the end closes.
 pub record Quits {L : Language} (w v : World L) (l : ℕ) (k : Link) : Type 0 where
   pub client : k.streams ≡ false
   pub uses : Uses L k Quit
   pub reply : List ℕ
-  pub becomes : LinkBecomes w v l (shut true (answered k uses.left reply))
+  pub becomes : LinkBecomes w v l (shut true (told k reply))
 
--- REPLICAOF NO ONE on a replica: it leaves its master, and its stream goes on under the fresh id.
+-- REPLICAOF NO ONE on a replica: it leaves its master and follows no host, and its stream goes on under the fresh id.
 pub record Promotes {L : Language} (w v : World L) (l : ℕ) (k : Link) (s : Node L) (fresh : L.Id) : Type 0 where
   pub client : k.streams ≡ false
   pub replica : s.master ≡ false
   pub uses : Uses L k ReplicaOfNoOne
-  pub nodes : SetAt w.node v.node k.to (record s { follow = None; master = true; id = fresh; second = Some (s.id, s.offset + 1) })
+  pub nodes : SetAt w.node v.node k.to (record s { follow = None; offers = true; upstream = []; master = true; id = fresh; second = Some (s.id, s.offset + 1) })
   pub reply : List ℕ
   pub links : SetAt w.link v.link l (answered k uses.left reply)
   pub book : Branches L w.book v.book fresh s.id s.offset

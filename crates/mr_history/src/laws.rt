@@ -62,7 +62,8 @@ pub fn book_changes_by_three_ways<R: Replicated>()
     ensures { BookChangesByThreeWays R.language }
 {}
 
-/// Whoever becomes a master, at the first promotion or a later one, does so under an id that was never drawn.
+/// Whoever becomes a master, at the first promotion or a later one, does so under an id that was never drawn. It has something to
+/// continue, and follows no host.
 pub fn masters_take_new_ids<R: Replicated>()
     ensures { MastersTakeNewIds R.language }
 {}

@@ -21,13 +21,13 @@ use Rattle.mr_history_example.specs.Story.{nodes, links, ids, events, moments, E
 some_is : {A : Type 0} (x y : A) → Some x ≡ Some y → x ≡ y
 some_is x y e = cc
 
-none_some : {A P : Type 0} (o : Option A) (x : A) → o ≡ None → o ≡ Some x → P
+pub none_some : {A P : Type 0} (o : Option A) (x : A) → o ≡ None → o ≡ Some x → P
 none_some o x p q = absurd (cc)
 
-plain_is_no_refusal : let plain : Line ℕ = Plain in let refusal : Line ℕ = Refusal in plain ≢ refusal
+pub plain_is_no_refusal : let plain : Line ℕ = Plain in let refusal : Line ℕ = Refusal in plain ≢ refusal
 plain_is_no_refusal e = cc
 
-nothing_asked : (s : Node tiny) (i o : ℕ) → (let none : Option (ℕ × ℕ) = None in none ≡ Some (i, o)) → Continues s i o → ⊥
+pub nothing_asked : (s : Node tiny) (i o : ℕ) → (let none : Option (ℕ × ℕ) = None in none ≡ Some (i, o)) → Continues s i o → ⊥
 nothing_asked s i o e c = cc
 
 no_links : (l : ℕ) → links {A = Link} None None None None l ≡ None
@@ -249,13 +249,13 @@ step_23 : Row (moment_22) (Event.Deliver 0 Server 1) moment_23
 step_23 = record { at = record { link = link0_1; found = refl; serving = refl; node = node0_0; node_found = refl }; sent = let h : 1 ≤ 1 = omega arith in h; does = Unless.acts refl (record { nodes = λ m. refl; links = set_link_0 _ _ _ _ _; book = λ m. refl }) }
 
 step_24 : Row (moment_23) (Event.Step 0 Server tt 2) moment_24
-step_24 = record { at = record { link = link0_2; found = refl; serving = refl; node = node0_0; node_found = refl }; does = Unless.acts refl (ServerRow.runs (record { client = refl; master = refl; uses = record { text = 10 ∷ []; asks = refl; left = record { left = []; taken = 0 }; reads = record { rest = []; begins = refl; new_is = refl } }; effects = 7 ∷ []; of_request = tt; grown = record { good = All-cons tiny.IsGood 7 [] tt (All-nil tiny.IsGood); within = let h : 2 ≤ 1000 = omega arith in h; held = 7 ∷ []; folds = refl; backlog = 1 ∷ 7 ∷ []; last_bytes = ([], refl); nodes = set_node_0 _ _ _; book = record { history = history0_0; found = refl; book = set_id_0 _ _ _ _ } }; reply = 99 ∷ []; link = refl; no_links = told_links_0_none; links = told_links_0 })) }
+step_24 = record { at = record { link = link0_2; found = refl; serving = refl; node = node0_0; node_found = refl }; does = Unless.acts refl (ServerRow.runs (record { client = refl; master = refl; uses = record { text = 10 ∷ []; asks = refl; left = record { left = []; taken = 0 }; reads = record { rest = []; begins = refl; new_is = refl } }; effects = 7 ∷ []; of_request = tt; grown = record { good = All-cons tiny.IsGood 7 [] tt (All-nil tiny.IsGood); within = let h : 2 ≤ 6 = omega arith in h; held = 7 ∷ []; folds = refl; backlog = 1 ∷ 7 ∷ []; last_bytes = ([], refl); nodes = set_node_0 _ _ _; book = record { history = history0_0; found = refl; book = set_id_0 _ _ _ _ } }; reply = 99 ∷ []; link = refl; no_links = told_links_0_none; links = told_links_0 })) }
 
 step_25 : Row (moment_24) (Event.Deliver 1 Dialler 2) moment_25
 step_25 = inl (record { at = record { link = link1_10; found = refl; n = 1; node = node1_6; node_found = refl; phase = Stream; follow = refl }; sent = let h : 2 ≤ 2 = omega arith in h; does = Unless.acts refl (record { nodes = λ m. refl; links = set_link_1 _ _ _ _ _; book = λ m. refl }) })
 
 step_26 : Row (moment_25) (Event.Step 1 Dialler tt 2) moment_26
-step_26 = record { at = record { link = link1_11; found = refl; n = 1; node = node1_6; node_found = refl; phase = Stream; follow = refl }; does = Unless.acts refl (FollowerRow.applies (record { phase = refl; effect = 7; good = tt; left = record { left = []; taken = 0 }; reads = record { rest = []; begins = refl; new_is = refl }; held = 7 ∷ []; applies = refl; within = let h : 2 ≤ 1000 = omega arith in h; backlog = 1 ∷ 7 ∷ []; last_bytes = ([], refl); becomes = record { nodes = set_node_1 _ _ _; links = set_link_1 _ _ _ _ _; book = λ m. refl } })) }
+step_26 = record { at = record { link = link1_11; found = refl; n = 1; node = node1_6; node_found = refl; phase = Stream; follow = refl }; does = Unless.acts refl (FollowerRow.applies (record { phase = refl; effect = 7; good = tt; left = record { left = []; taken = 0 }; reads = record { rest = []; begins = refl; new_is = refl }; held = 7 ∷ []; applies = refl; within = let h : 2 ≤ 6 = omega arith in h; backlog = 1 ∷ 7 ∷ []; last_bytes = ([], refl); becomes = record { nodes = set_node_1 _ _ _; links = set_link_1 _ _ _ _ _; book = λ m. refl } })) }
 
 step_27 : Row (moment_26) (Event.Client 1) moment_27
 step_27 = record { node = node1_7; found = refl; does = Unless.acts refl (Opens.opens 2 refl (record { nodes = λ m. refl; links = set_link_2 _ _ _ _ _; book = λ m. refl })) }
@@ -276,7 +276,7 @@ step_32 : Row (moment_31) (Event.Deliver 2 Server 1) moment_32
 step_32 = record { at = record { link = link2_4; found = refl; serving = refl; node = node1_8; node_found = refl }; sent = let h : 1 ≤ 1 = omega arith in h; does = Unless.acts refl (record { nodes = λ m. refl; links = set_link_2 _ _ _ _ _; book = λ m. refl }) }
 
 step_33 : Row (moment_32) (Event.Step 2 Server tt 2) moment_33
-step_33 = record { at = record { link = link2_5; found = refl; serving = refl; node = node1_8; node_found = refl }; does = Unless.acts refl (ServerRow.runs (record { client = refl; master = refl; uses = record { text = 10 ∷ []; asks = refl; left = record { left = []; taken = 0 }; reads = record { rest = []; begins = refl; new_is = refl } }; effects = 8 ∷ []; of_request = tt; grown = record { good = All-cons tiny.IsGood 8 [] tt (All-nil tiny.IsGood); within = let h : 4 ≤ 1000 = omega arith in h; held = 8 ∷ 7 ∷ []; folds = refl; backlog = 1 ∷ 7 ∷ 1 ∷ 8 ∷ []; last_bytes = ([], refl); nodes = set_node_1 _ _ _; book = record { history = history2_0; found = refl; book = set_id_2 _ _ _ _ } }; reply = 99 ∷ []; link = refl; no_links = told_links_1_none; links = told_links_1 })) }
+step_33 = record { at = record { link = link2_5; found = refl; serving = refl; node = node1_8; node_found = refl }; does = Unless.acts refl (ServerRow.runs (record { client = refl; master = refl; uses = record { text = 10 ∷ []; asks = refl; left = record { left = []; taken = 0 }; reads = record { rest = []; begins = refl; new_is = refl } }; effects = 8 ∷ []; of_request = tt; grown = record { good = All-cons tiny.IsGood 8 [] tt (All-nil tiny.IsGood); within = let h : 4 ≤ 6 = omega arith in h; held = 8 ∷ 7 ∷ []; folds = refl; backlog = 1 ∷ 7 ∷ 1 ∷ 8 ∷ []; last_bytes = ([], refl); nodes = set_node_1 _ _ _; book = record { history = history2_0; found = refl; book = set_id_2 _ _ _ _ } }; reply = 99 ∷ []; link = refl; no_links = told_links_1_none; links = told_links_1 })) }
 
 step_34 : Row (moment_33) (Event.Command 0 (13 ∷ 1 ∷ 5 ∷ [])) moment_34
 step_34 = record { link = link0_3; found = refl; client = refl; becomes = record { nodes = λ m. refl; links = set_link_0 _ _ _ _ _; book = λ m. refl } }
@@ -339,7 +339,7 @@ step_53 : Row (moment_52) (Event.Step 3 Dialler tt 2) moment_53
 step_53 = record { at = record { link = link3_7; found = refl; n = 0; node = node0_6; node_found = refl; phase = Asked; follow = refl }; does = Unless.acts refl (FollowerRow.hears_continue (record { phase = refl; offered = refl; id = 2; hears = record { text = 3 ∷ 2 ∷ []; says = refl; left = record { left = 1 ∷ 8 ∷ []; taken = 2 }; reads = record { rest = 1 ∷ 8 ∷ []; begins = refl; new_is = refl } }; becomes = record { nodes = set_node_0 _ _ _; links = set_link_3 _ _ _ _ _; book = λ m. refl } })) }
 
 step_54 : Row (moment_53) (Event.Step 3 Dialler tt 2) moment_54
-step_54 = record { at = record { link = link3_8; found = refl; n = 0; node = node0_7; node_found = refl; phase = Stream; follow = refl }; does = Unless.acts refl (FollowerRow.applies (record { phase = refl; effect = 8; good = tt; left = record { left = []; taken = 0 }; reads = record { rest = []; begins = refl; new_is = refl }; held = 8 ∷ 7 ∷ []; applies = refl; within = let h : 4 ≤ 1000 = omega arith in h; backlog = 1 ∷ 7 ∷ 1 ∷ 8 ∷ []; last_bytes = ([], refl); becomes = record { nodes = set_node_0 _ _ _; links = set_link_3 _ _ _ _ _; book = λ m. refl } })) }
+step_54 = record { at = record { link = link3_8; found = refl; n = 0; node = node0_7; node_found = refl; phase = Stream; follow = refl }; does = Unless.acts refl (FollowerRow.applies (record { phase = refl; effect = 8; good = tt; left = record { left = []; taken = 0 }; reads = record { rest = []; begins = refl; new_is = refl }; held = 8 ∷ 7 ∷ []; applies = refl; within = let h : 4 ≤ 6 = omega arith in h; backlog = 1 ∷ 7 ∷ 1 ∷ 8 ∷ []; last_bytes = ([], refl); becomes = record { nodes = set_node_0 _ _ _; links = set_link_3 _ _ _ _ _; book = λ m. refl } })) }
 
 pub story_is_a_run : Moments (nowhere tiny) events moments
 story_is_a_run = (step_1, (step_2, (step_3, (step_4, (step_5, (step_6, (step_7, (step_8, (step_9, (step_10, (step_11, (step_12, (step_13, (step_14, (step_15, (step_16, (step_17, (step_18, (step_19, (step_20, (step_21, (step_22, (step_23, (step_24, (step_25, (step_26, (step_27, (step_28, (step_29, (step_30, (step_31, (step_32, (step_33, (step_34, (step_35, (step_36, (step_37, (step_38, (step_39, (step_40, (step_41, (step_42, (step_43, (step_44, (step_45, (step_46, (step_47, (step_48, (step_49, (step_50, (step_51, (step_52, (step_53, (step_54, tt))))))))))))))))))))))))))))))))))))))))))))))))))))))

@@ -1,3 +1,5 @@
 pub mod Tiny
 pub mod TinyLaws
+pub mod Looks
 pub mod Story
+pub mod Troubles

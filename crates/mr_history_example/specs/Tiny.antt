@@ -1,5 +1,6 @@
--- A language of numbers: an effect puts its number in front of a list, and each text is a byte for its kind and the numbers behind it.
-use Rattle.std.specs.Prelude.{ℕ, List, [], ◌∷◌, ◌≡◌, Option, None, Some, length, ◌==◌}
+-- A language of numbers: an effect puts its number in front of a list, and each text is a byte for its kind and the numbers behind it. Streams
+-- have six bytes at most, so that a run can come to the end of one.
+use Rattle.std.specs.Prelude.{ℕ, zero, suc, List, [], ◌∷◌, ◌≡◌, Option, None, Some, length, ◌==◌}
 use Rattle.mr_history.specs.Language.{Language, Line, Request}
 use Rattle.mr_history.specs.Language.Line.{FullResync, Continue, Plain, Refusal}
 use Rattle.mr_history.specs.Language.Request.{Handshake, Psync, Ack, Command, ReplicaOfNoOne, ReplicaOf, Empty, Quit}
@@ -27,6 +28,12 @@ request_text Quit = 15 ∷ []
 abbrev pub snapshot_text : List ℕ → List ℕ
 snapshot_text numbers = 12 ∷ length numbers ∷ numbers
 
+-- no text begins with 0
+abbrev pub BeginsWithZero : List ℕ → Type 0
+BeginsWithZero [] = ⊥
+BeginsWithZero (zero ∷ rest) = Unit {0}
+BeginsWithZero (suc n ∷ rest) = ⊥
+
 abbrev pub tiny : Language
 tiny = record {
   Id = ℕ;
@@ -37,13 +44,13 @@ tiny = record {
   apply = λ e m. Some (e ∷ m);
   text = λ e. 1 ∷ e ∷ [];
   IsGood = λ e. Unit {0};
-  limit = 1000;
+  limit = 6;
   Given = Unit {0};
   effects = λ request m given effects. Unit {0};
   due = λ room m given effects. Unit {0};
   says = λ text line. text ≡ line_text line;
   asks = λ text request. text ≡ request_text request;
   loads = λ text m. text ≡ snapshot_text m;
-  doomed = λ text. ⊥;
+  doomed = BeginsWithZero;
   restores = λ file m. m ≡ [];
 }

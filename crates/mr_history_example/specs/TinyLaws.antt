@@ -1,10 +1,10 @@
 -- The tiny language keeps the laws.
-use Rattle.std.proofs.Common.{ℕ, List, [], ◌∷◌, ◌++◌, ◌≡◌, ◌≢◌, Option, None, Some, refl, sym, ◌∙◌, ap, length, arith}
+use Rattle.std.proofs.Common.{ℕ, zero, suc, List, [], ◌∷◌, ◌++◌, ◌≡◌, ◌≢◌, Option, None, Some, refl, sym, ◌∙◌, ap, length, arith}
 use Rattle.std.proofs.lemmas.Bool.Decides.{Decides-eqb}
 use Rattle.mr_history.specs.Language.{Laws, Line, Request}
 use Rattle.mr_history.specs.Language.Line.{FullResync, Continue, Plain, Refusal}
 use Rattle.mr_history.specs.Language.Request.{Handshake, Psync, Ack, Command, ReplicaOfNoOne, ReplicaOf, Empty, Quit}
-use Rattle.mr_history_example.specs.Tiny.{tiny, line_text, wanted_text, request_text, snapshot_text}
+use Rattle.mr_history_example.specs.Tiny.{tiny, BeginsWithZero, line_text, wanted_text, request_text, snapshot_text}
 
 same_length : (h k x y : List ℕ) → length h ≡ length k → h ++ x ≡ k ++ y → h ≡ k
 same_length [] [] x y n e = refl
@@ -70,6 +70,18 @@ request_some (ReplicaOf h) e = cc
 request_some Empty e = cc
 request_some Quit e = cc
 
+doomed_apart : (s : List ℕ) (a : Request ℕ) (x y : List ℕ) → BeginsWithZero s → s ++ x ≡ request_text a ++ y → ⊥
+doomed_apart [] a x y d e = d
+doomed_apart (suc n ∷ s) a x y d e = d
+doomed_apart (zero ∷ s) Handshake x y d e = cc
+doomed_apart (zero ∷ s) (Psync q) x y d e = cc
+doomed_apart (zero ∷ s) Ack x y d e = cc
+doomed_apart (zero ∷ s) Command x y d e = cc
+doomed_apart (zero ∷ s) ReplicaOfNoOne x y d e = cc
+doomed_apart (zero ∷ s) (ReplicaOf h) x y d e = cc
+doomed_apart (zero ∷ s) Empty x y d e = cc
+doomed_apart (zero ∷ s) Quit x y d e = cc
+
 pub tiny_laws : Laws tiny
 tiny_laws = record {
   same_decides = Decides-eqb;
@@ -85,6 +97,6 @@ tiny_laws = record {
   says_some = λ t a p e. line_some a (sym p ∙ e);
   asks_some = λ t a p e. request_some a (sym p ∙ e);
   loads_some = λ t m p e. absurd (let h = sym p ∙ e in cc);
-  doomed_cut = λ s t a x y d. absurd d;
+  doomed_cut = λ s t a x y d p e. doomed_apart s a x y d (e ∙ ap (λ z. z ++ y) p);
   doomed_some = λ d. d;
 }

@@ -3,6 +3,8 @@ ghost use Rattle.mr_history.specs.Promises.{NoSilentDifference};
 ghost use Rattle.mr_history.specs.Runs.{Moments, nowhere};
 ghost use Rattle.mr_history_example.specs.Story.{EndsLevel, events, moments};
 ghost use Rattle.mr_history_example.specs.Tiny.{tiny};
+ghost use Rattle.mr_history_example.specs.Troubles.{EndsAnew};
+ghost use Rattle.mr_history_example.specs.Troubles as troubles;
 
 use crate::Tiny;
 use mr_history::laws::no_silent_difference;
@@ -15,6 +17,18 @@ pub fn a_return_is_a_run()
 /// At its end the old master, which goes on by the id before, has caught up with the new one.
 pub fn a_return_ends_level()
     ensures { EndsLevel }
+{}
+
+/// Much goes wrong, and that is a run: a node restarts, ticks come, ends break, a replica turns to another host and leaves one that
+/// refuses it, what a link may not ask shuts it, acknowledgements are noted, empty requests skipped, senseless ones answered by a
+/// fault, a client says goodbye, a command passes the limit, and nodes stop.
+pub fn trouble_is_a_run()
+    ensures { Moments (nowhere tiny) troubles.events troubles.moments }
+{}
+
+/// At its end the node that stopped and started again shows its new id at offset 0, and nothing else.
+pub fn trouble_ends_anew()
+    ensures { EndsAnew }
 {}
 
 /// The headline of every language is that of the tiny one.

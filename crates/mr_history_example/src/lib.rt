@@ -1,5 +1,5 @@
-//! For tests: that there are runs. A tiny language, and a story told in it, event by event: a snapshot, a stream, a promotion, and a
-//! return of the old master that goes on from where it stands.
+//! For tests: that there are runs. A tiny language, and two runs told in it, event by event: a snapshot, a stream, a promotion, and a
+//! return of the old master that goes on from where it stands; and one in which much goes wrong.
 #![tactic(auto)]
 
 ghost use Rattle.mr_history_example.specs.Tiny.{tiny};

@@ -1,6 +1,5 @@
 -- No request begins another, and each asks one thing.
-use Rattle.std.proofs.Common.{◌≡◌, ◌≢◌, ℕ, List, [], ◌++◌, inl, inr, refl, sym, ◌∙◌, ap, subst, Option, Some, None}
-use Rattle.std.proofs.lemmas.Fmt.{decimal_injective}
+use Rattle.std.proofs.Common.{◌≡◌, ◌≢◌, ℕ, ℤ, pos, List, [], ◌++◌, inl, inr, refl, sym, ◌∙◌, ap, subst, Option, Some, None}
 use Rattle.std.proofs.lemmas.List.{append-nil}
 use Rattle.mr_map.specs.Bytes.{Bytes}
 use Rattle.mr_inline.specs.Language.{IsDoomed}
@@ -15,13 +14,16 @@ use Rattle.mr_language.specs.Requests.Kind.{handshake, psync, ack, no_one, follo
 use Rattle.mr_language.specs.Requests.IsAsked.{by_words, by_nothing}
 use Rattle.mr_language.proofs.Ids.{one_id}
 
-one_wanted : (t u : Bytes) (p q : Option (List ℕ × ℕ)) → IsWanted t u p → IsWanted t u q → p ≡ q
-one_wanted t u None None x y = refl
-one_wanted t u None (Some w) x y = absurd (x w.0 w.1 y)
-one_wanted t u (Some w) None x y = absurd (y w.0 w.1 x)
-one_wanted t u (Some w) (Some z) x y =
+pos_is : (a b : ℕ) → pos a ≡ pos b → a ≡ b
+pos_is a b e = cc
+
+one_wanted : (t : Bytes) (n : ℤ) (p q : Option (List ℕ × ℕ)) → IsWanted t n p → IsWanted t n q → p ≡ q
+one_wanted t n None None x y = refl
+one_wanted t n None (Some w) x y = absurd (x w.0 w.1 y)
+one_wanted t n (Some w) None x y = absurd (y w.0 w.1 x)
+one_wanted t n (Some w) (Some z) x y =
     let i : w.0 ≡ z.0 = one_id w.0 z.0 x.is_id y.is_id (sym x.id_is ∙ y.id_is) in
-    let o : w.1 ≡ z.1 = decimal_injective w.1 z.1 x.small y.small (sym x.offset_is ∙ y.offset_is) in
+    let o : w.1 ≡ z.1 = pos_is w.1 z.1 (sym x.offset_is ∙ y.offset_is) in
     ap (λ v. Some v) (pair_is w z i o)
   where
     pair_is : (r s : List ℕ × ℕ) → r.0 ≡ s.0 → r.1 ≡ s.1 → r ≡ s
@@ -29,7 +31,7 @@ one_wanted t u (Some w) (Some z) x y =
 
 one_asked : (k : Kind) (a b : Request (List ℕ)) → Asks k a → Asks k b → a ≡ b
 one_asked handshake a b x y = x ∙ sym y
-one_asked (psync id offset) a b x y = x.2 ∙ (ap (λ z. Psync z) (one_wanted id offset x.0 y.0 x.1 y.1) ∙ sym y.2)
+one_asked (psync id wanted) a b x y = x.2 ∙ (ap (λ z. Psync z) (one_wanted id wanted x.0 y.0 x.1 y.1) ∙ sym y.2)
 one_asked ack a b x y = x ∙ sym y
 one_asked no_one a b x y = x ∙ sym y
 one_asked (follow host port) a b x y = x ∙ sym y

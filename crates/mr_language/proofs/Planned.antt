@@ -10,8 +10,7 @@ use Rattle.mr_data.specs.declared.given.Given.{Given}
 use Rattle.mr_ask.specs.Asks.{asked}
 use Rattle.mr_ask.specs.declared.ask.Ask.{Ask}
 use Rattle.mr_words.specs.declared.fault.AskFault.{AskFault}
-use Rattle.mr_plan.specs.Requests.{IsPlannedAs}
-use Rattle.mr_node.specs.Served.{HasPlan}
+use Rattle.mr_plan.specs.Requests.{HasPlan, IsPlannedAs}
 use Rattle.mr_language.specs.Changes.{RequestsHaveOneChange}
 
 one_plan : (r : Result Ask AskFault) (given : Given) (m : Dataset) (a b : Tree) (es fs : List Effect) → IsPlannedAs r false given m a es → IsPlannedAs r false given m b fs → es ≡ fs

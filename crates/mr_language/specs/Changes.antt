@@ -7,10 +7,9 @@ use Rattle.mr_resp.specs.Usual.{usual}
 use Rattle.mr_effect.specs.declared.effect.Effect.{Effect}
 use Rattle.mr_effect.specs.declared.effect.Effect.TheVariants as effect
 use Rattle.mr_entries.specs.Dataset.{Dataset}
-use Rattle.mr_data.specs.Due.{due}
+use Rattle.mr_data.specs.Due.{due, most_deleted, within, deletions}
 use Rattle.mr_data.specs.declared.given.Given.{Given}
-use Rattle.mr_node.specs.Served.{HasPlan}
-use Rattle.mr_node.specs.Ticks.{most_deleted, within, deletions}
+use Rattle.mr_plan.specs.Requests.{HasPlan}
 
 -- The text is a request, which has these effects at a master that holds this dataset.
 pub record HasEffects (text : List ℕ) (m : Dataset) (given : Given) (effects : List Effect) : Type 0 where

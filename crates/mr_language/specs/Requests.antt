@@ -1,103 +1,76 @@
--- What a request asks of a node, by its words.
-use Rattle.std.specs.Prelude.{◌≡◌, ℕ, ◌<◌, ◌^◌, ℤ, pos, negsuc, nat_le, List, [], ◌∷◌, ◌++◌, codes, Bool, true, false, ◌||◌, ◌&&◌, if◌then◌else◌, Option, Some, None, is_some, bytes_eq}
+-- What a request asks of a node, by the command that its words are.
+use Rattle.std.specs.Prelude.{◌≡◌, ℕ, ℤ, pos, List, ◌∷◌, ◌++◌, Option, Some, None, Result, Ok, Err}
 use Rattle.std.specs.Fmt.{decimal}
 use Rattle.mr_map.specs.Bytes.{Bytes}
 use Rattle.mr_resp.specs.Request.{IsRequest, IsEmptyRequest}
 use Rattle.mr_resp.specs.Usual.{usual}
-use Rattle.mr_value.specs.Number.{number_of}
-use Rattle.mr_words.specs.Names.{lowered}
 use Rattle.mr_repl.specs.ReplId.{IsId, digits_of}
-use Rattle.mr_plan.specs.Requests.{quits}
+use Rattle.mr_words.specs.declared.fault.AskFault.{AskFault}
+use Rattle.mr_cmd_server.specs.declared.server_ask.ServerAsk.{ServerAsk}
+use Rattle.mr_cmd_server.specs.declared.server_ask.ServerAsk.TheVariants as server
+use Rattle.mr_cmd_node.specs.declared.node_ask.NodeAsk.{NodeAsk}
+use Rattle.mr_cmd_node.specs.declared.node_ask.NodeAsk.TheVariants as node
+use Rattle.mr_ask.specs.Asks.{asked}
+use Rattle.mr_ask.specs.declared.ask.Ask.{Ask}
+use Rattle.mr_ask.specs.declared.ask.Ask.TheVariants as ask
 use Rattle.mr_history.specs.Language.{Request}
 use Rattle.mr_history.specs.Language.Request.{Handshake, Psync, Ack, Command, ReplicaOfNoOne, ReplicaOf, Empty, Quit}
 
 -- what words ask, but for what PSYNC wants
 pub data Kind : Type 0 where
   handshake : Kind
-  psync : Bytes → Bytes → Kind
+  psync : Bytes → ℤ → Kind
   ack : Kind
   no_one : Kind
-  follow : Bytes → Bytes → Kind
+  follow : Bytes → ℕ → Kind
   quit : Kind
   command : Kind
 
--- the word has this name, whatever the case of its letters
-abbrev pub named : Bytes → Bytes → Bool
-named word name = bytes_eq (lowered word) name
+-- what a replica says of itself is a line of its handshake
+abbrev pub kind_to_node : NodeAsk → Kind
+kind_to_node (node.Psync id wanted) = psync id wanted
+kind_to_node (node.ReplConf told) = handshake
+kind_to_node (node.Ack offset) = ack
+kind_to_node (node.ReplicaOf host port) = follow host port
+kind_to_node node.NoOne = no_one
 
--- the word is a number of 64 bits; one that a port may have
-abbrev pub is_number : Bytes → Bool
-is_number word = is_some (number_of word)
+-- PING without a message is one too
+abbrev pub kind_to_server : ServerAsk → Kind
+kind_to_server (server.Ping None) = handshake
+kind_to_server server.Quit = quit
+kind_to_server _ = command
 
-abbrev pub may_be_port : Option ℤ → Bool
-may_be_port None = false
-may_be_port (Some (pos n)) = nat_le 1 n && nat_le n 65535
-may_be_port (Some (negsuc n)) = false
+abbrev pub kind_of_ask : Ask → Kind
+kind_of_ask (ask.Node asks) = kind_to_node asks
+kind_of_ask (ask.Server asks) = kind_to_server asks
+kind_of_ask _ = command
 
-abbrev pub asked_alone : Kind → List Bytes → Kind
-asked_alone kind [] = kind
-asked_alone kind (word ∷ more) = command
+-- words that are no command are answered a fault, by the rules of commands
+abbrev pub kind_by : Result Ask AskFault → Kind
+kind_by (Ok asks) = kind_of_ask asks
+kind_by (Err fault) = command
 
--- what a replica says of itself before it asks for the stream
-abbrev pub tells_of_itself : Bytes → Bool
-tells_of_itself option = named option (codes "listening-port") || (named option (codes "ip-address") || named option (codes "capa"))
-
--- options that do, each with its value
-abbrev pub all_tell : List Bytes → Bool
-all_tell [] = true
-all_tell (option ∷ []) = false
-all_tell (option ∷ (value ∷ rest)) = tells_of_itself option && all_tell rest
-
-abbrev pub asked_by_replconf : List Bytes → Kind
-asked_by_replconf [] = command
-asked_by_replconf (option ∷ []) = command
-asked_by_replconf (option ∷ (value ∷ rest)) =
-    if named option (codes "ack") then (if is_number value then asked_alone ack rest else command)
-    else (if tells_of_itself option && all_tell rest then handshake else command)
-
-abbrev pub asked_by_psync : List Bytes → Kind
-asked_by_psync [] = command
-asked_by_psync (id ∷ []) = command
-asked_by_psync (id ∷ (offset ∷ rest)) = if is_number offset then asked_alone (psync id offset) rest else command
-
-abbrev pub asked_by_replicaof : List Bytes → Kind
-asked_by_replicaof [] = command
-asked_by_replicaof (host ∷ []) = command
-asked_by_replicaof (host ∷ (port ∷ rest)) =
-    if named host (codes "no") && named port (codes "one") then asked_alone no_one rest
-    else (if may_be_port (number_of port) then asked_alone (follow host port) rest else command)
-
-abbrev pub asked_between_nodes : List Bytes → Kind
-asked_between_nodes [] = command
-asked_between_nodes (name ∷ arguments) =
-    if named name (codes "ping") then asked_alone handshake arguments
-    else (if named name (codes "replconf") then asked_by_replconf arguments
-    else (if named name (codes "psync") then asked_by_psync arguments
-    else (if named name (codes "replicaof") || named name (codes "slaveof") then asked_by_replicaof arguments else command)))
-
--- a client that asks that its link be closed is told so by no plan; each other request that isn't one between nodes has a plan
 abbrev pub kind_of : List Bytes → Kind
-kind_of words = if quits words then quit else asked_between_nodes words
+kind_of words = kind_by (asked words)
 
--- The two words of PSYNC want the stream of this id from this byte on.
-pub record Wants (id_text offset_text : Bytes) (id : List ℕ) (offset : ℕ) : Type 0 where
+-- PSYNC's word and number want the stream of this id from this byte on.
+pub record Wants (id_text : Bytes) (wanted : ℤ) (id : List ℕ) (offset : ℕ) : Type 0 where
   pub is_id : IsId id
   pub id_is : id_text ≡ digits_of id
-  pub small : offset < 2 ^ 64
-  pub offset_is : offset_text ≡ decimal offset
+  pub offset_is : wanted ≡ pos offset
 
 -- .. or, where they name neither, all
-abbrev pub IsWanted : Bytes → Bytes → Option (List ℕ × ℕ) → Type 0
-IsWanted id_text offset_text (Some wanted) = Wants id_text offset_text wanted.0 wanted.1
-IsWanted id_text offset_text None = (id : List ℕ) (offset : ℕ) → Wants id_text offset_text id offset → ⊥
+abbrev pub IsWanted : Bytes → ℤ → Option (List ℕ × ℕ) → Type 0
+IsWanted id_text wanted (Some place) = Wants id_text wanted place.0 place.1
+IsWanted id_text wanted None = (id : List ℕ) (offset : ℕ) → Wants id_text wanted id offset → ⊥
 
 -- a host and a port as one list, by which those that a replica follows are told from others
-abbrev pub address : Bytes → Bytes → List ℕ
-address host port = host ++ 32 ∷ port
+abbrev pub address : Bytes → ℕ → List ℕ
+address host port = host ++ 32 ∷ decimal port
 
 abbrev pub Asks : Kind → Request (List ℕ) → Type 0
 Asks handshake request = request ≡ Handshake
-Asks (psync id offset) request = (wanted : Option (List ℕ × ℕ)) × IsWanted id offset wanted × (request ≡ Psync wanted)
+Asks (psync id wanted) request = (query : Option (List ℕ × ℕ)) × IsWanted id wanted query × (request ≡ Psync query)
 Asks ack request = request ≡ Ack
 Asks no_one request = request ≡ ReplicaOfNoOne
 Asks (follow host port) request = request ≡ ReplicaOf (address host port)
