@@ -11,6 +11,8 @@ impl LogFile for NoFile {
 
     ghost synced = { λ _. None };
 
+    ghost aside = { λ _. None };
+
     ghost failures = { λ _. 0 };
 
     fn read(&mut self, at: u64, _into: &mut [u8]) -> Result<usize, Failed> {
@@ -23,6 +25,10 @@ impl LogFile for NoFile {
     }
 
     fn sync(&mut self) -> Result<(), Failed> {
+        Ok(())
+    }
+
+    fn set_aside(&mut self, _from: u64) -> Result<(), Failed> {
         Ok(())
     }
 

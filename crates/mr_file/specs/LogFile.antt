@@ -40,3 +40,11 @@ IsSynced bytes synced = IfSome bytes (λ xs. synced ≡ Some (length xs))
 -- of the bytes that the last sync covered, those among the first n
 abbrev pub StaysCovered : Option ℕ → Option ℕ → ℕ → Type 0
 StaysCovered before after n = IfSome before (λ c. after ≡ Some (min c n))
+
+-- what stands from a place on was set aside, behind what was set aside before
+abbrev pub SetsAside : Option (List ℕ) → Option (List ℕ) → Option (List ℕ) → ℕ → Type 0
+SetsAside bytes before after from = IfSome bytes (λ xs. IfSome before (λ ys. after ≡ Some (ys ++ drop from xs)))
+
+-- nothing was set aside, or all from some place on
+abbrev pub SetsAsideOrNot : Option (List ℕ) → Option (List ℕ) → Option (List ℕ) → Type 0
+SetsAsideOrNot bytes before after = (after ≡ before) ⊎ ((from : ℕ) × SetsAside bytes before after from)

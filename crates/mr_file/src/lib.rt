@@ -1,12 +1,16 @@
 //! Files that grow at their end: what one promises, one in memory, and one of the system.
 #![tactic(auto)]
 
+mod beside;
 mod log_file;
 mod mem_file;
+mod open_fault;
 mod sync_mode;
 mod system_file;
 
+pub use beside::Aside;
 pub use log_file::{Failed, LogFile};
 pub use mem_file::MemFile;
+pub use open_fault::OpenFault;
 pub use sync_mode::SyncMode;
-pub use system_file::{OpenFault, SystemFile};
+pub use system_file::SystemFile;

@@ -1,5 +1,5 @@
 ghost use Rattle.std.specs.Prelude.{◌≡◌, ℕ, ◌+◌, ◌<◌, ◌≤◌, ◌^◌, List, length, Option, IfOk, OnOk, OnErr};
-ghost use Rattle.mr_file.specs.LogFile.{Rose, Reads, ReadsSome, Appends, AppendsSome, Keeps, Replaces, IsOldOrNew, IsSynced, StaysCovered};
+ghost use Rattle.mr_file.specs.LogFile.{Rose, Reads, ReadsSome, Appends, AppendsSome, Keeps, Replaces, IsOldOrNew, IsSynced, SetsAside, StaysCovered};
 
 use thiserror::Error;
 
@@ -8,13 +8,16 @@ use thiserror::Error;
 #[error("file failed")]
 pub struct Failed;
 
-/// A file that grows at its end. One in memory tells its bytes and how many of them the last sync covered. One of the
-/// system tells neither, and then only the clauses on failures say something. A failure is answered only where the
-/// count of failures rose, or stands at its greatest.
+/// A file that grows at its end. One in memory tells its bytes, how many of them the last sync covered, and what was set
+/// aside of it. One of the system tells none of this, and then only the clauses on failures say something. A failure is
+/// answered only where the count of failures rose, or stands at its greatest.
 pub trait LogFile {
     ghost told: { Self → Option (List ℕ) };
 
     ghost synced: { Self → Option ℕ };
+
+    /// What was set aside, one piece behind another.
+    ghost aside: { Self → Option (List ℕ) };
 
     ghost failures: { Self → ℕ };
 
@@ -25,6 +28,7 @@ pub trait LogFile {
         ensures read { IfOk result (λ n. Reads (told self.old) at into.old into.new n) }
         ensures some { IfOk result (λ n. ReadsSome (told self.old) at into.old n) }
         ensures same { (told self.new ≡ told self.old) × (synced self.new ≡ synced self.old) }
+        ensures beside { aside self.new ≡ aside self.old }
         ensures later { failures self.old ≤ failures self.new }
         ensures cause { OnErr result (Rose (failures self.old) (failures self.new)) };
 
@@ -35,6 +39,7 @@ pub trait LogFile {
         ensures written { IfOk result (λ n. Appends (told self.old) (told self.new) piece.now n) }
         ensures failed { OnErr result (AppendsSome (told self.old) (told self.new) piece.now) }
         ensures covered { synced self.new ≡ synced self.old }
+        ensures beside { aside self.new ≡ aside self.old }
         ensures later { failures self.old ≤ failures self.new }
         ensures cause { OnErr result (Rose (failures self.old) (failures self.new)) };
 
@@ -43,6 +48,16 @@ pub trait LogFile {
         ensures durable { OnOk result (IsSynced (told self.new) (synced self.new)) }
         ensures failed { OnErr result (synced self.new ≡ synced self.old) }
         ensures same { told self.new ≡ told self.old }
+        ensures beside { aside self.new ≡ aside self.old }
+        ensures later { failures self.old ≤ failures self.new }
+        ensures cause { OnErr result (Rose (failures self.old) (failures self.new)) };
+
+    /// Copies what stands from a place on to a place beside the file, and has the copy reach the disk. After a failure there is
+    /// no such copy.
+    fn set_aside(&mut self, from: u64) -> Result<(), Failed>
+        ensures copied { OnOk result (SetsAside (told self.old) (aside self.old) (aside self.new) from) }
+        ensures failed { OnErr result (aside self.new ≡ aside self.old) }
+        ensures same { (told self.new ≡ told self.old) × (synced self.new ≡ synced self.old) }
         ensures later { failures self.old ≤ failures self.new }
         ensures cause { OnErr result (Rose (failures self.old) (failures self.new)) };
 
@@ -52,6 +67,7 @@ pub trait LogFile {
         ensures covered { OnOk result (StaysCovered (synced self.old) (synced self.new) len) }
         ensures failed { OnErr result (told self.new ≡ told self.old) }
         ensures still { OnErr result (synced self.new ≡ synced self.old) }
+        ensures beside { aside self.new ≡ aside self.old }
         ensures later { failures self.old ≤ failures self.new }
         ensures cause { OnErr result (Rose (failures self.old) (failures self.new)) };
 
@@ -61,6 +77,7 @@ pub trait LogFile {
         ensures durable { OnOk result (IsSynced (told self.new) (synced self.new)) }
         ensures failed { OnErr result (IsOldOrNew (told self.old) (told self.new) whole.now) }
         ensures still { OnErr result (told self.new ≡ told self.old → synced self.new ≡ synced self.old) }
+        ensures beside { aside self.new ≡ aside self.old }
         ensures later { failures self.old ≤ failures self.new }
         ensures cause { OnErr result (Rose (failures self.old) (failures self.new)) };
 }

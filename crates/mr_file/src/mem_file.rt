@@ -9,6 +9,7 @@ use std::alloc::{Allocator, Global};
 pub struct MemFile<A: Allocator = Global> {
     held: Vec<u8, A>,
     covered: usize,
+    aside: Vec<u8, A>,
     /// Which call from now on fails, counted from 1. At 0 none does.
     countdown: u64,
     /// A write appends no more bytes.
@@ -18,10 +19,12 @@ pub struct MemFile<A: Allocator = Global> {
 }
 
 impl<A: Allocator> MemFile<A> {
-    /// A file of these bytes, none of which was synced. No call fails, and a write appends all of its piece.
-    pub fn new(held: Vec<u8, A>) -> Self
+    /// A file of these bytes, none of which was synced, and of others that were set aside. No call fails, and a write appends all
+    /// of its piece.
+    pub fn new(held: Vec<u8, A>, aside: Vec<u8, A>) -> Self
         ensures held { result.held ≡ held }
         ensures covered { result.covered ≡ 0 }
+        ensures aside { result.aside ≡ aside }
         ensures countdown { result.countdown ≡ 0 }
         ensures most { result.most ≡ 2 ^ 64 - 1 }
         ensures failed { result.failed ≡ 0 }
@@ -29,6 +32,7 @@ impl<A: Allocator> MemFile<A> {
         MemFile {
             held,
             covered: 0,
+            aside,
             countdown: 0,
             most: usize::MAX,
             failed: 0,
@@ -49,11 +53,19 @@ impl<A: Allocator> MemFile<A> {
         self.covered
     }
 
+    /// What was set aside, one piece behind another.
+    pub fn aside(&self) -> &[u8]
+        ensures { result.now ≡ self.now.aside.items }
+    {
+        self.aside.as_slice()
+    }
+
     /// The k-th call from now on fails and does nothing, counted from 1. Later calls work.
     pub fn fail_at(&mut self, k: u64)
         ensures countdown { self.new.countdown ≡ k }
         ensures held { self.new.held ≡ self.old.held }
         ensures covered { self.new.covered ≡ self.old.covered }
+        ensures aside { self.new.aside ≡ self.old.aside }
         ensures most { self.new.most ≡ self.old.most }
         ensures failed { self.new.failed ≡ self.old.failed }
     {
@@ -66,6 +78,7 @@ impl<A: Allocator> MemFile<A> {
         ensures most { self.new.most ≡ most }
         ensures held { self.new.held ≡ self.old.held }
         ensures covered { self.new.covered ≡ self.old.covered }
+        ensures aside { self.new.aside ≡ self.old.aside }
         ensures countdown { self.new.countdown ≡ self.old.countdown }
         ensures failed { self.new.failed ≡ self.old.failed }
     {
@@ -76,6 +89,7 @@ impl<A: Allocator> MemFile<A> {
     fn count_failure(&mut self)
         ensures held { self.new.held ≡ self.old.held }
         ensures covered { self.new.covered ≡ self.old.covered }
+        ensures aside { self.new.aside ≡ self.old.aside }
         ensures countdown { self.new.countdown ≡ self.old.countdown }
         ensures later { self.old.failed ≤ self.new.failed }
         ensures rose { Rose self.old.failed self.new.failed }
@@ -87,6 +101,7 @@ impl<A: Allocator> MemFile<A> {
     fn cover(&mut self)
         ensures held { self.new.held ≡ self.old.held }
         ensures covered { self.new.covered ≡ length self.old.held.items }
+        ensures aside { self.new.aside ≡ self.old.aside }
         ensures failed { self.new.failed ≡ self.old.failed }
     {
         let len = self.held.len();
@@ -97,6 +112,7 @@ impl<A: Allocator> MemFile<A> {
     fn uncover(&mut self, len: u64)
         ensures held { self.new.held ≡ self.old.held }
         ensures covered { self.new.covered ≡ min self.old.covered len }
+        ensures aside { self.new.aside ≡ self.old.aside }
         ensures failed { self.new.failed ≡ self.old.failed }
     {
         self.covered = self.covered.min(len as usize);
@@ -106,6 +122,7 @@ impl<A: Allocator> MemFile<A> {
     fn fails(&mut self) -> bool
         ensures held { self.new.held ≡ self.old.held }
         ensures covered { self.new.covered ≡ self.old.covered }
+        ensures aside { self.new.aside ≡ self.old.aside }
         ensures due { result ≡ (self.old.countdown == 1) }
         ensures countdown { self.new.countdown ≡ self.old.countdown - 1 }
         ensures later { self.old.failed ≤ self.new.failed }
@@ -127,6 +144,8 @@ impl<A: Allocator> LogFile for MemFile<A> {
     ghost told = { λ f. Some f.held.items };
 
     ghost synced = { λ f. Some f.covered };
+
+    ghost aside = { λ f. Some f.aside.items };
 
     ghost failures = { λ f. f.failed };
 
@@ -165,6 +184,24 @@ impl<A: Allocator> LogFile for MemFile<A> {
         }
         self.cover();
         Ok(())
+    }
+
+    fn set_aside(&mut self, from: u64) -> Result<(), Failed> {
+        if self.fails() {
+            return Err(Failed);
+        }
+        let at = if from < self.held.len() as u64 {
+            from as usize
+        } else {
+            self.held.len()
+        };
+        match self.aside.extend_from_slice(&self.held[at..]) {
+            Ok(()) => Ok(()),
+            Err(_refused) => {
+                self.count_failure();
+                Err(Failed)
+            }
+        }
     }
 
     fn cut(&mut self, len: u64) -> Result<(), Failed> {

@@ -1,112 +1,167 @@
 ghost use Rattle.std.specs.Prelude.{◌≡◌, ◌≤◌, None};
 ghost use Rattle.mr_file.specs.LogFile.{Rose};
 
+use crate::beside::{Aside, Names, copied, made_like, sync_folder};
 use crate::log_file::{Failed, LogFile};
-use std::fs::{File, OpenOptions, TryLockError};
-use std::io::Write;
+use crate::open_fault::OpenFault;
+use std::alloc::AllocError;
+use std::fs::{File, OpenOptions};
+use std::io::{ErrorKind, Write};
 use std::os::unix::fs::FileExt;
-use std::path::Path;
 use std::{fs, io};
-use thiserror::Error;
 
-/// Why a file of the system can't be opened.
-#[derive(Debug, Drop, Error)]
-pub enum OpenFault {
-    /// Another program writes it.
-    #[error("in use")]
-    InUse,
-    /// The system refused.
-    #[error("{0}")]
-    System(io::Error),
+/// So many descriptors are kept in reserve, so that a replacement has what it needs whoever takes all others.
+const RESERVE: usize = 8;
+
+/// A file of the system, which no other `SystemFile` writes while this one is there, under whatever name: it holds its lock, and
+/// that of an empty file under the same name with `.lock` behind it, which stays. A replacement is written under the name with
+/// `.new` behind it, and takes the file's name once it is on the disk; what is set aside is under the name with `.cut-1` behind
+/// it, or with the next number that is free. These names are that of the file which a path led to at the start, behind all links.
+#[derive(Drop)]
+pub struct SystemFile {
+    rt: HostRuntime,
+    names: Names,
+    file: File,
+    lock: File,
+    /// Descriptors that nobody else can take, and how many they are to be.
+    reserve: Vec<File>,
+    wanted: usize,
+    aside: Option<Aside>,
+    why: Option<io::Error>,
+    failed: u64,
 }
 
-impl From<io::Error> for OpenFault {
-    fn from(error: io::Error) -> OpenFault {
-        OpenFault::System(error)
-    }
+/// Opens a file for reading and for appending.
+fn opened(rt: &HostRuntime, path: &str, create: bool) -> io::Result<File> {
+    OpenOptions::new()
+        .read(true)
+        .append(true)
+        .create(create)
+        .open(rt, path)
 }
 
-impl From<TryLockError> for OpenFault {
-    fn from(error: TryLockError) -> OpenFault {
-        match error {
-            TryLockError::WouldBlock => OpenFault::InUse,
-            TryLockError::Error(error) => OpenFault::System(error),
+/// Has a file at a path, an empty one where there was none. It answers whether it was made.
+fn make_sure(rt: &HostRuntime, path: &str) -> io::Result<bool> {
+    match opened(rt, path, false) {
+        Ok(_there) => Ok(false),
+        Err(error) => {
+            if error.kind() != ErrorKind::NotFound {
+                return Err(error);
+            }
+            let _made = opened(rt, path, true)?;
+            Ok(true)
         }
     }
 }
 
-/// A file of the system, which no other `SystemFile` writes while this one is there: it holds the lock of an empty file under
-/// the same name with `.lock` behind it, which stays. A replacement is written under the name with `.new` behind it, and takes
-/// the file's name once it is on the disk.
-#[derive(Drop)]
-pub struct SystemFile {
-    rt: HostRuntime,
-    path: String,
-    beside: String,
-    file: File,
-    lock: File,
-    failed: u64,
-}
-
-/// Opens a file for reading and for appending, or makes an empty one.
-fn opened(rt: &HostRuntime, path: &str) -> io::Result<File> {
-    OpenOptions::new()
-        .read(true)
-        .append(true)
-        .create(true)
-        .open(rt, path)
-}
-
-/// Has the name of a file reach the disk.
-fn sync_folder(rt: &HostRuntime, path: &str) -> io::Result<()> {
-    let folder = match Path::new(path).parent() {
-        Some(folder) => folder,
-        None => Path::new("."),
-    };
-    if folder.as_str().is_empty() {
-        return File::open(rt, ".")?.sync_all();
+/// Makes the empty file by whose lock others are kept away, and takes its lock.
+fn locked(rt: &HostRuntime, name: &str) -> Result<File, OpenFault> {
+    match opened(rt, name, true) {
+        Ok(lock) => {
+            lock.try_lock()?;
+            Ok(lock)
+        }
+        Err(error) => {
+            let name = String::from_str(rt.alloc(), name).map_err(io::Error::from)?;
+            Err(OpenFault::Lock(name, error))
+        }
     }
-    File::open(rt, folder)?.sync_all()
+}
+
+/// Takes as many descriptors as are missing in a reserve: further ones of an open file.
+fn fill(reserve: &mut Vec<File>, wanted: usize, open: &File) -> io::Result<()> {
+    for _ in reserve.len()..wanted {
+        let spare = open.try_clone()?;
+        reserve.push(spare).map_err(AllocError::from)?;
+    }
+    Ok(())
 }
 
 impl SystemFile {
-    /// Opens the file at a path, or makes an empty one.
+    /// Opens the file at a path, or makes an empty one, whose name reaches the disk. What a replacement left beside it that never
+    /// took its place is removed.
     pub fn open(rt: HostRuntime, path: &str) -> Result<SystemFile, OpenFault> {
-        let beside = format!(in rt.alloc(); "{path}.new").map_err(io::Error::from)?;
-        let lock_path = format!(in rt.alloc(); "{path}.lock").map_err(io::Error::from)?;
-        let path = String::from_str(rt.alloc(), path).map_err(io::Error::from)?;
         // What can't be opened gets no lock, and what was replaced before the lock was taken is opened anew.
-        let _first = opened(&rt, path.as_str())?;
-        let lock = opened(&rt, lock_path.as_str())?;
-        lock.try_lock()?;
-        let file = opened(&rt, path.as_str())?;
+        let made = make_sure(&rt, path)?;
+        let names = Names::of(&rt, path)?;
+        let lock = locked(&rt, names.lock.as_str())?;
+        let file = opened(&rt, names.file.as_str(), true)?;
+        file.try_lock()?;
+        if made {
+            sync_folder(&rt, names.file.as_str())?;
+        }
+        let _removed = fs::remove_file(&rt, names.new.as_str());
+        let reserve = Vec::new(rt.alloc());
         Ok(SystemFile {
             rt,
-            path,
-            beside,
+            names,
             file,
             lock,
+            reserve,
+            wanted: 0,
+            aside: None,
+            why: None,
             failed: 0,
         })
     }
 
-    /// Counts a failure. The count stays at its greatest.
-    fn failure(&mut self) -> Failed
+    /// Keeps descriptors in reserve from now on, for replacements.
+    pub fn keep_reserve(&mut self) -> io::Result<()> {
+        self.wanted = RESERVE;
+        fill(&mut self.reserve, self.wanted, &self.lock)
+    }
+
+    /// The copy that was set aside last.
+    pub fn aside(&self) -> Option<&Aside> {
+        self.aside.as_ref()
+    }
+
+    /// Why the last call that failed did so.
+    pub fn why(&self) -> io::Error {
+        let Some(error) = &self.why else {
+            return io::Error::from(ErrorKind::Other);
+        };
+        match error.raw_os_error() {
+            Some(code) => io::Error::from_raw_os_error(code),
+            None => io::Error::from(error.kind()),
+        }
+    }
+
+    /// Remembers why a call fails, and counts the failure. The count stays at its greatest.
+    fn failure(&mut self, error: io::Error) -> Failed
         ensures later { self.old.failed ≤ self.new.failed }
         ensures rose { Rose self.old.failed self.new.failed }
     {
+        self.why = Some(error);
         self.failed = self.failed.saturating_add(1);
         Failed
     }
 
-    /// Writes these bytes beside the file, and gives them its name once they are on the disk.
+    /// Writes these bytes under the name for it, and gives them the file's name once they are on the disk. Who opens them then
+    /// finds them locked.
     fn written(&self, whole: &[u8]) -> io::Result<File> {
-        let mut file = opened(&self.rt, self.beside.as_str())?;
-        file.set_len(0)?;
+        let mut file = made_like(&self.rt, &self.file, self.names.new.as_str())?;
+        file.try_lock()?;
         file.write_all(whole)?;
         file.sync_all()?;
-        fs::rename(&self.rt, self.beside.as_str(), self.path.as_str())?;
+        fs::rename(&self.rt, self.names.new.as_str(), self.names.file.as_str())?;
         Ok(file)
+    }
+
+    /// Has these bytes take the file's place.
+    fn replaced(&mut self, whole: &[u8]) -> io::Result<()>
+        ensures { self.new.failed ≡ self.old.failed }
+    {
+        match self.written(whole) {
+            Ok(file) => {
+                self.file = file;
+                sync_folder(&self.rt, self.names.file.as_str())
+            }
+            Err(error) => {
+                let _removed = fs::remove_file(&self.rt, self.names.new.as_str());
+                Err(error)
+            }
+        }
     }
 }
 
@@ -115,24 +170,28 @@ impl LogFile for SystemFile {
 
     ghost synced = { λ _. None };
 
+    ghost aside = { λ _. None };
+
     ghost failures = { λ f. f.failed };
 
     fn read(&mut self, at: u64, into: &mut [u8]) -> Result<usize, Failed> {
-        let Ok(count) = self.file.read_at(into, at) else {
-            return Err(self.failure());
+        let count = match self.file.read_at(into, at) {
+            Ok(count) => count,
+            Err(error) => return Err(self.failure(error)),
         };
         if at.checked_add(count as u64).is_none() {
-            return Err(self.failure());
+            return Err(self.failure(io::Error::from(ErrorKind::InvalidData)));
         }
         Ok(count)
     }
 
     fn write(&mut self, piece: &[u8]) -> Result<usize, Failed> {
-        let Ok(count) = self.file.write(piece) else {
-            return Err(self.failure());
+        let count = match self.file.write(piece) {
+            Ok(count) => count,
+            Err(error) => return Err(self.failure(error)),
         };
         if count == 0 && !piece.is_empty() {
-            return Err(self.failure());
+            return Err(self.failure(io::Error::from(ErrorKind::WriteZero)));
         }
         Ok(count)
     }
@@ -140,25 +199,34 @@ impl LogFile for SystemFile {
     fn sync(&mut self) -> Result<(), Failed> {
         match self.file.sync_data() {
             Ok(()) => Ok(()),
-            Err(_error) => Err(self.failure()),
+            Err(error) => Err(self.failure(error)),
+        }
+    }
+
+    fn set_aside(&mut self, from: u64) -> Result<(), Failed> {
+        match copied(&self.rt, &self.file, self.names.file.as_str(), from) {
+            Ok(aside) => {
+                self.aside = Some(aside);
+                Ok(())
+            }
+            Err(error) => Err(self.failure(error)),
         }
     }
 
     fn cut(&mut self, len: u64) -> Result<(), Failed> {
         match self.file.set_len(len) {
             Ok(()) => Ok(()),
-            Err(_error) => Err(self.failure()),
+            Err(error) => Err(self.failure(error)),
         }
     }
 
     fn replace(&mut self, whole: &[u8]) -> Result<(), Failed> {
-        let Ok(file) = self.written(whole) else {
-            return Err(self.failure());
-        };
-        self.file = file;
-        match sync_folder(&self.rt, self.path.as_str()) {
+        self.reserve.clear();
+        let replaced = self.replaced(whole);
+        let _filled = fill(&mut self.reserve, self.wanted, &self.lock);
+        match replaced {
             Ok(()) => Ok(()),
-            Err(_error) => Err(self.failure()),
+            Err(error) => Err(self.failure(error)),
         }
     }
 }

@@ -18,7 +18,8 @@ pub(crate) struct Connection {
     writable: bool,
     /// The peer has sent its last byte, so that a read which finds less than it asked for isn't the last one.
     closing: bool,
-    /// The last call was cut short, by its buffer's end or by the system, so that another may move bytes though no event comes.
+    /// Another call may move bytes though no event comes: the last was cut short, by its buffer's end or by the system, or a write
+    /// moved all its bytes while a read may still give some.
     unfinished: bool,
     ended: bool,
 }
@@ -66,7 +67,7 @@ impl Connection {
         self.writable = self.writable || event.is_writable() || ends;
     }
 
-    /// Whether the last call was cut short. It is asked once.
+    /// Whether another call may move bytes though no event comes. It is asked once.
     pub(crate) fn take_unfinished(&mut self) -> bool
         ensures { self.new ≡ self.old }
     {
@@ -119,6 +120,8 @@ impl Connection {
         match self.stream.write(bytes) {
             Ok(count) => {
                 self.writable = count == bytes.len();
+                // who reads nothing while bytes wait to be written may go on
+                self.unfinished = self.unfinished || (self.writable && self.readable);
                 Moved::Bytes(count)
             }
             Err(error) => match error.kind() {

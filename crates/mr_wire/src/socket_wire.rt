@@ -25,6 +25,9 @@ const MOST_EVENTS: usize = 1024;
 /// No more links are opened in one run.
 const MOST_LINKS: u64 = 1 << 62;
 
+/// The system's numbers of the errors that say that it, or this process, has no descriptor left.
+const NONE_LEFT: [i32; 2] = [23, 24];
+
 /// A wire over the system's sockets, none of which blocks. Which of them may be ready is remembered from the events, so that no
 /// call is made that can't move a byte, and none of those on which nothing comes is named. It tells no bytes.
 #[derive(Drop)]
@@ -33,6 +36,8 @@ pub struct SocketWire {
     events: Events,
     listener: TcpListener,
     acceptable: bool,
+    /// There was no descriptor for the link that was to be accepted last.
+    lacks_descriptors: bool,
     links: Links<Connection>,
     ready: ReadyLinks,
     failed: Failures,
@@ -55,6 +60,7 @@ impl SocketWire {
             events,
             listener,
             acceptable: false,
+            lacks_descriptors: false,
             links: Links::new(alloc),
             ready: ReadyLinks::new(alloc),
             failed: Failures::new(),
@@ -64,6 +70,13 @@ impl SocketWire {
     /// The address that it listens on.
     pub fn address(&self) -> io::Result<SocketAddr> {
         self.listener.local_addr()
+    }
+
+    /// Whether there was no descriptor for the link that was to be accepted last. It waits at the system.
+    pub fn lacks_descriptors(&self) -> bool
+        ensures { result ≡ self.now.lacks_descriptors }
+    {
+        self.lacks_descriptors
     }
 
     /// Opens a link over a socket, or drops the socket.
@@ -131,6 +144,14 @@ impl SocketWire {
             Some(connection) => connection.write(bytes),
             None => Moved::Failed,
         }
+    }
+}
+
+/// Whether a call failed because no descriptor is left.
+fn none_is_left(error: &io::Error) -> bool {
+    match error.raw_os_error() {
+        Some(code) => NONE_LEFT.contains(&code),
+        None => false,
     }
 }
 
@@ -224,6 +245,7 @@ impl Wire for SocketWire {
         if !self.acceptable {
             return Ok(None);
         }
+        self.lacks_descriptors = false;
         match self.listener.accept() {
             Ok((stream, _address)) => self.open(stream),
             Err(error) => match error.kind() {
@@ -232,7 +254,10 @@ impl Wire for SocketWire {
                     self.acceptable = false;
                     Ok(None)
                 }
-                _ => Err(self.failed.failure()),
+                _ => {
+                    self.lacks_descriptors = none_is_left(&error);
+                    Err(self.failed.failure())
+                }
             },
         }
     }

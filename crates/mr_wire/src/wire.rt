@@ -53,7 +53,8 @@ pub trait Wire {
 
     /// The next open link on which a read or a write may move bytes, or find its end. Between two waits each is named once, in the
     /// order in which they became ready. One whose last call was cut short, as a read by its buffer's end, is named again behind the
-    /// next wait, and any other once something new comes of it.
+    /// next wait, and so is one of which not all was read that is there, once a write moved all its bytes; any other once something
+    /// new comes of it.
     fn ready(&mut self) -> Option<LinkId>
         ensures there { IfSome result (λ link. IsSome (map.get (links self.new).open_links link)) }
         ensures same { links self.new ≡ links self.old }

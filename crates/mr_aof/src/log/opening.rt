@@ -1,7 +1,7 @@
 // A file is read as a log is opened.
 ghost use Rattle.std.specs.Prelude.{◌≡◌, ◌<◌, ◌≤◌, ◌≢◌, [], false, length, IfOk, IfErr, IfSome, OnOk, OnErr, IsErrOf};
 ghost use Rattle.std.specs.FinMap.{empty};
-ghost use Rattle.mr_file.specs.LogFile.{Rose, Keeps};
+ghost use Rattle.mr_file.specs.LogFile.{Rose, Keeps, SetsAside, SetsAsideOrNot};
 ghost use Rattle.mr_replay.specs.Effects.{Loads};
 ghost use Rattle.mr_aof.specs.ReadThrough.{IsReadThrough};
 
@@ -24,8 +24,9 @@ struct Reading {
 
 impl<F: LogFile> Log<F> {
     /// Reads a file, and makes a log of it. The longest beginning of its bytes that is a list of effect texts, each of which can be
-    /// applied in its turn, is what is loaded, and all that the file is left with. The file is gone through piece by piece:
-    /// what is held of it is a piece and an effect's text. After a fault its bytes are as before.
+    /// applied in its turn, is what is loaded, and all that the file is left with: what stands behind it is set aside, byte for byte,
+    /// before it is cut off. The file is gone through piece by piece: what is held of it is a piece and an effect's text. After a
+    /// fault its bytes are as before.
     pub fn open(
         alloc: Global,
         seed: RandomState,
@@ -34,9 +35,11 @@ impl<F: LogFile> Log<F> {
     ) -> Result<(Self, Loaded), (LogFault, F)>
         ensures loaded { IfOk result (λ opened. IfSome (F.told file) (λ xs. Loads xs opened.1.used opened.1.dataset)) }
         ensures kept { IfOk result (λ opened. Keeps (F.told file) (F.told opened.0.file) opened.1.used) }
+        ensures aside { IfOk result (λ opened. SetsAside (F.told file) (F.aside file) (F.aside opened.0.file) opened.1.used) }
         ensures mode { IfOk result (λ opened. opened.0.mode ≡ mode) }
         ensures whole { IfOk result (λ opened. opened.0.broken ≡ false) }
         ensures err { IfErr result (λ failed. F.told failed.1 ≡ F.told file) }
+        ensures spared { IfErr result (λ failed. SetsAsideOrNot (F.told file) (F.aside file) (F.aside failed.1)) }
         ensures device { IfErr result (λ failed. failed.0 ≡ LogFault.Device → Rose (F.failures file) (F.failures failed.1)) }
         ensures not_broken { IfErr result (λ failed. failed.0 ≢ LogFault.Broken) }
     {
@@ -69,15 +72,18 @@ fn is_torn(reading: Reading, used: u64) -> bool
     }
 }
 
-/// Cuts off what stands behind so many bytes, where there is something.
+/// Sets aside what stands behind so many bytes, and cuts it off, where there is something. What can't be set aside isn't cut off.
 fn cut_rest<F: LogFile>(file: &mut F, torn: bool, used: u64) -> Result<(), Failed>
     requires { torn ≡ false → IfSome (F.told file.old) (λ xs. used ≡ length xs) }
     ensures kept { OnOk result (Keeps (F.told file.old) (F.told file.new) used) }
+    ensures aside { OnOk result (SetsAside (F.told file.old) (F.aside file.old) (F.aside file.new) used) }
     ensures failed { OnErr result (F.told file.new ≡ F.told file.old) }
+    ensures spared { OnErr result (SetsAsideOrNot (F.told file.old) (F.aside file.old) (F.aside file.new)) }
     ensures later { F.failures file.old ≤ F.failures file.new }
     ensures cause { OnErr result (Rose (F.failures file.old) (F.failures file.new)) }
 {
     if torn {
+        file.set_aside(used)?;
         return file.cut(used);
     }
     Ok(())
@@ -95,6 +101,7 @@ fn read_pieces<F: LogFile>(
     ensures through { IfOk result (λ r. IfSome (F.told file.old) (λ xs. IsReadThrough xs r.at replay.new.dataset replay.new.unread.items r.rest)) }
     ensures counted { IfOk result (λ r. length replay.new.unread.items ≤ r.at) }
     ensures same { F.told file.new ≡ F.told file.old }
+    ensures beside { F.aside file.new ≡ F.aside file.old }
     ensures later { F.failures file.old ≤ F.failures file.new }
     ensures device { IsErrOf result LogFault.Device → Rose (F.failures file.old) (F.failures file.new) }
     ensures not_broken { IsErrOf result LogFault.Broken → ⊥ }
@@ -126,6 +133,7 @@ fn read_through<F: LogFile>(
     ensures through { IfOk result (λ r. IfSome (F.told file.old) (λ xs. IsReadThrough xs r.at replay.new.dataset replay.new.unread.items r.rest)) }
     ensures counted { IfOk result (λ r. length replay.new.unread.items ≤ r.at) }
     ensures same { F.told file.new ≡ F.told file.old }
+    ensures beside { F.aside file.new ≡ F.aside file.old }
     ensures later { F.failures file.old ≤ F.failures file.new }
     ensures device { IsErrOf result LogFault.Device → Rose (F.failures file.old) (F.failures file.new) }
     ensures not_broken { IsErrOf result LogFault.Broken → ⊥ }

@@ -6,6 +6,7 @@ pub pieces-init : goal.pieces-init
 pieces-init g c = record {
   read = begins _ _ _ c.requires.dataset c.requires.unread;
   same = refl;
+  beside = refl;
   later = omega arith;
   room = c.requires.room;
 }
@@ -31,6 +32,7 @@ pieces-preserved g c =
       read = goes_on _ _ c.pieces.at c.in_ok-count.count c.pieces.buffer c.read.new.into _ _ _ _ _ c.in_ok-rest.rest c.pieces.invariant.read c.pieces.invariant.same
           c.in_ok-count.ensures.read long c.in_ok-count.ensures.within c.in_ok-rest.ensures.read c.in_ok-rest.ensures.left c.in_ok-rest.ensures.shorter (first_of (search rules, grind arith));
       same = c.in_ok-count.ensures.same.0 ∙ c.pieces.invariant.same;
+      beside = c.in_ok-count.ensures.beside ∙ c.pieces.invariant.beside;
       later = omega (arith, c.pieces.invariant.later, c.in_ok-count.ensures.later);
       room = omega (arith, c.pieces.invariant.room, long);
     }

@@ -7,6 +7,7 @@ abbrev pub invariant-pieces : goal.invariant-pieces
 invariant-pieces g l = record {
   read : IsUnderWay (g.F.LogFile.told l.fn.file) l.at l.replay.dataset l.replay.unread.items;
   same : g.F.LogFile.told l.file ≡ g.F.LogFile.told l.fn.file;
+  beside : g.F.LogFile.aside l.file ≡ g.F.LogFile.aside l.fn.file;
   later : g.F.LogFile.failures l.fn.file ≤ g.F.LogFile.failures l.file;
   room : 0 < length l.buffer;
 }

@@ -1,0 +1,33 @@
+//! Why a file of the system can't be opened.
+use std::fs::TryLockError;
+use std::io;
+use thiserror::Error;
+
+/// Why a file of the system can't be opened.
+#[derive(Debug, Drop, Error)]
+pub enum OpenFault {
+    /// Another program writes it.
+    #[error("in use")]
+    InUse,
+    /// The system refused.
+    #[error("{0}")]
+    System(io::Error),
+    /// The system refused the empty file of this name, by whose lock others are kept away.
+    #[error("its lock {0} can't be made: {1}")]
+    Lock(String, io::Error),
+}
+
+impl From<io::Error> for OpenFault {
+    fn from(error: io::Error) -> OpenFault {
+        OpenFault::System(error)
+    }
+}
+
+impl From<TryLockError> for OpenFault {
+    fn from(error: TryLockError) -> OpenFault {
+        match error {
+            TryLockError::WouldBlock => OpenFault::InUse,
+            TryLockError::Error(error) => OpenFault::System(error),
+        }
+    }
+}
