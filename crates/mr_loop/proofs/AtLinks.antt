@@ -1,41 +1,23 @@
 -- A step uses what is unread on a link that is open at the node.
-use Rattle.std.proofs.Common.{◌≡◌, ◌≢◌, ◌⊎◌, ◌↔◌, ◌≤◌, ◌^◌, inl, inr, true, false, None, Some, Result, Ok, Err, refl, sym, ap, subst, ◌∙◌}
+use Rattle.std.proofs.Common.{◌≡◌, ◌≢◌, ◌⊎◌, ◌↔◌, ◌≤◌, ◌^◌, inl, inr, true, false, None, Some, Result, Ok, Err, refl, sym, ap, ◌∙◌}
 use Rattle.mr_links.specs.declared.link_id.LinkId.{LinkId}
 use Rattle.mr_data.specs.declared.given.Given.{Given}
-use Rattle.mr_node.specs.State.{NodeState, IsShut, end_of, spent_as, stopped_as}
+use Rattle.mr_node.specs.State.{NodeState, end_of, spent_as, stopped_as}
 use Rattle.mr_node.specs.State.EndState.{client, shut}
-use Rattle.mr_node.specs.Outs.{OutsState}
 use Rattle.mr_node.specs.Rows.{WhyStopped, was_down, stops}
 use Rattle.mr_node.specs.declared.fault.NodeFault.{NodeFault}
 use Rattle.mr_node.specs.declared.fault.NodeFault.TheVariants as refused
 use Rattle.mr_node.specs.declared.step.Step.{Step}
 use Rattle.mr_node.specs.declared.step.Step.TheVariants as step
-use Rattle.mr_loop.specs.Rows.{Stepped, Stopping, at_step, at_open, was_down as was_down_before}
-use Rattle.mr_loop.proofs.Waiting.{AllRows, Met, WhenDown, WhenShut, WhenNone, met, not_closed, not_idle, ok_err, ok_is}
+use Rattle.mr_loop.specs.Rows.{HasInput, Stepped, Stopping, at_step, at_open, was_down as was_down_before}
+use Rattle.mr_loop.proofs.Waiting.{AllRows, WhenShut, WhenNone, ok_err}
 
-pub done_stepped : (a b : NodeState) (l : LinkId) (given : Given) (outs : OutsState) (r : Result Step NodeFault) → r ≡ Ok (step.Done outs) → WhenDown a r b → WhenShut a l r b → WhenNone a l r
-    → AllRows a l given b (step.Done outs) → Stepped a l given b (step.Done outs)
-done_stepped a b l given outs r is down shuts none row = from (met a b l r (step.Done outs) is down shuts none)
-  where
-    from : Met a l r b → Stepped a l given b (step.Done outs)
-    from (inl ag) = record { unread = ag.0; agrees = ag.1; row = row ag.0 ag.1 }
-    from (inr over) = absurd (not_closed outs (ok_is (step.Done outs) step.Closed (sym is ∙ over.0)))
+pub stepped_here : (a b : NodeState) (l : LinkId) (given : Given) (s : Step) → HasInput a l → AllRows a l given b s → Stepped a l given b s
+stepped_here a b l given s input row = record { unread = input.unread; agrees = input.agrees; some = input.some; row = row input.unread input.agrees }
 
-pub idle_stepped : (a b : NodeState) (l : LinkId) (given : Given) (r : Result Step NodeFault) → r ≡ Ok step.Idle → WhenDown a r b → WhenShut a l r b → WhenNone a l r
-    → AllRows a l given b step.Idle → Stepped a l given b step.Idle
-idle_stepped a b l given r is down shuts none row = from (met a b l r step.Idle is down shuts none)
-  where
-    from : Met a l r b → Stepped a l given b step.Idle
-    from (inl ag) = record { unread = ag.0; agrees = ag.1; row = row ag.0 ag.1 }
-    from (inr over) = absurd (not_idle (ok_is step.Idle step.Closed (sym is ∙ over.0)))
-
-pub closed_shut : (a b : NodeState) (l n : LinkId) (given : Given) (r : Result Step NodeFault) → r ≡ Ok step.Closed → l ≡ n → WhenDown a r b → WhenShut a l r b → WhenNone a l r
-    → AllRows a l given b step.Closed → IsShut a n × (b ≡ a)
-closed_shut a b l n given r is name down shuts none row = from (met a b l r step.Closed is down shuts none)
-  where
-    from : Met a l r b → IsShut a n × (b ≡ a)
-    from (inl ag) = absurd (row ag.0 ag.1)
-    from (inr over) = (subst (IsShut a) name over.2, over.1)
+-- where something is unread a step doesn't find the link closed
+pub never_closed : {P : Type 0} (a b : NodeState) (l : LinkId) (given : Given) → HasInput a l → AllRows a l given b step.Closed → P
+never_closed a b l given input row = absurd (row input.unread input.agrees)
 
 err_is : (x y : NodeFault) → ◌≡◌ {A = Result Step NodeFault} (Err x) (Err y) → x ≡ y
 err_is x y e = cc

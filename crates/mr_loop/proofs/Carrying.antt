@@ -18,6 +18,6 @@ use Rattle.mr_loop.proofs.Runs.{broke_one}
 
 pub not_told : (tells : Bool) (mode : SyncMode) (n n2 : NodeState) (o o2 : LoopState) (w : Links LinkState) (told told2 : Option (List ℕ)) (synced synced2 : Option ℕ) (k : LinkId) (given : Given) (outs : OutsState) (client : ClientState) (why : LoopFault)
     → Has o k client → Stepped n client.link given n2 (step.Done outs) → IsCarriedOut outs k o told synced o2 told2 synced2 (Err why) → Broke tells mode why (stage n o w told synced) (stage n2 o2 w told2 synced2)
-not_told tells mode n n2 o o2 w told told2 synced synced2 k given outs client fault.File has node h = broke_one (tears k given outs) refl (record { client = client; has = has; node = node; wire = refl; bytes = h.bytes; replaced = h.is; written = h.written })
-not_told tells mode n n2 o o2 w told told2 synced synced2 k given outs client fault.Stopped has node h = broke_one (spills k given outs) refl (record { client = client; has = has; node = node; wire = refl; file = h })
+not_told tells mode n n2 o o2 w told told2 synced synced2 k given outs client fault.File has node h = broke_one (tears k given outs) refl (record { client = client; has = has; node = node; own = h.0; wire = refl; bytes = h.1.bytes; replaced = h.1.is; written = h.1.written })
+not_told tells mode n n2 o o2 w told told2 synced synced2 k given outs client fault.Stopped has node h = broke_one (spills k given outs) refl (record { client = client; has = has; node = node; clients = h.0; wire = refl; file = h.1 })
 not_told tells mode n n2 o o2 w told told2 synced synced2 k given outs client fault.Listener has node h = absurd h

@@ -2,7 +2,7 @@
 use Rattle.std.proofs.Common.{◌≡◌, ℕ, List, [], ◌∷◌, Bool, true, false, ◌||◌, Option, None, Some, refl, ap, ◌∙◌}
 use Rattle.mr_file.specs.declared.sync_mode.SyncMode.{SyncMode}
 use Rattle.mr_loop.specs.Stage.{Stage, LoopState}
-use Rattle.mr_loop.specs.Rows.{Event, fault_of, Happens, Run, behind_replacing, queued, joins, turns_away, takes, finds_none, hears_end, loses, is_refused, is_deaf, hangs_up, steps, idles, spills, tears, spills_tick, writes, appends, fails, ticks, closes, stops}
+use Rattle.mr_loop.specs.Rows.{Event, fault_of, Happens, Run, behind_replacing, queued, joins, turns_away, takes, finds_none, hears_end, loses, is_refused, is_deaf, hangs_up, steps, idles, spills, tears, spills_tick, writes, appends, fails, ticks, misses_tick, settles, closes, stops}
 use Rattle.mr_loop.specs.Counting.{halts_by, halts_in, KnowsShutdown}
 use Rattle.mr_loop.proofs.Sending.{no_fault}
 
@@ -36,6 +36,8 @@ module _ (tells : Bool) (mode : SyncMode) where
   kept (appends texts) s t goes_on h = ap (λ (z : LoopState). z.halted) h.own
   kept fails s t goes_on h = absurd (no_fault goes_on)
   kept (ticks given outs) s t goes_on h = ap (λ (z : LoopState). z.halted) h.own
+  kept (misses_tick given) s t goes_on h = ap (λ (z : LoopState). z.halted) h.own
+  kept (settles hurries) s t goes_on h = ap (λ (z : LoopState). z.halted) h.own
   kept (closes j) s t goes_on h = h.halted
   kept stops s t goes_on h = absurd (no_fault goes_on)
 

@@ -1,10 +1,14 @@
 pub mod AtLinks
 pub mod Carrying
 pub mod Counts
+pub mod Due
 pub mod Halting
 pub mod Light
+pub mod Living
 pub mod Nothing
+pub mod Passing
 pub mod Places
+pub mod Ready
 pub mod Runs
 pub mod Sending
 pub mod Using

@@ -1,5 +1,5 @@
 -- Links as a map, and rows under another name for the same link.
-use Rattle.std.proofs.Common.{◌≡◌, ℕ, List, ◌+◌, ◌≤◌, ◌++◌, arith, true, false, cond, Option, Some, None, IfSome, refl, sym, ap, subst, ◌∙◌}
+use Rattle.std.proofs.Common.{◌≡◌, ℕ, List, ◌+◌, ◌≤◌, ◌++◌, arith, true, false, cond, Option, Some, None, IfSome, Result, Ok, Err, OnErr, refl, sym, ap, subst, ◌∙◌}
 use Rattle.std.specs.Ordering.{eq_by_cmp}
 use Rattle.std.specs.FinMap.{FinMap, get, insert, remove, get-insert, get-remove, same_map}
 use Rattle.std.proofs.lemmas.Map.Views.{tells_apart}
@@ -20,6 +20,23 @@ put_and_removed {T} m l e absent = same_map ids_total exact_ids _ _ (λ q. get-r
   | true ↦ λ h. sym (ap (get m) (tells_apart exact_ids q l h) ∙ absent)
   | false ↦ λ h. get-insert ids_total m l e q ∙ ap (λ b. cond b (Some e) (get m q)) h
 ] refl))
+
+-- one that was put in its own place
+put_same : {T : Type 0} (m : FinMap id_cmp T) (l : LinkId) (e : T) → get m l ≡ Some e → insert m l e ≡ m
+put_same {T} m l e here = same_map ids_total exact_ids _ _ (λ q. get-insert ids_total m l e q ∙ (elim (eq_by_cmp id_cmp q l) as (λ v. eq_by_cmp id_cmp q l ≡ v → cond v (Some e) (get m q) ≡ get m q) [
+  | true ↦ λ h. sym (ap (get m) (tells_apart exact_ids q l h) ∙ here)
+  | false ↦ λ h. refl
+] refl))
+
+abbrev with_links : {T : Type 0} → Links T → FinMap id_cmp T → Links T
+with_links a m = record a { open_links = m }
+
+pub links_same : {T : Type 0} (a : Links T) (l : LinkId) (e f : T) → f ≡ e → get a.open_links l ≡ Some e → ◌≡◌ {A = Links T} (record { open_links = insert a.open_links l f; opened = a.opened }) a
+links_same {T} a l e f same here = ap (with_links a) (ap (λ x. insert a.open_links l x) same ∙ put_same a.open_links l e here)
+
+pub on_err_map : {A E : Type 0} (r : Result A E) (P Q : Type 0) → OnErr r P → (P → Q) → OnErr r Q
+on_err_map (Ok x) P Q h f = h
+on_err_map (Err x) P Q h f = f h
 
 one_more : (m n : ℕ) → n ≡ m + 1 → m ≤ n
 one_more m n e = omega arith

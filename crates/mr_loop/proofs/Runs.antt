@@ -8,7 +8,7 @@ use Rattle.mr_loop.specs.declared.fault.LoopFault.{LoopFault}
 use Rattle.mr_loop.specs.declared.fault.LoopFault.TheVariants as fault
 use Rattle.mr_loop.specs.Stage.{Stage, LoopState, stage}
 use Rattle.mr_loop.specs.Rows.{Event, fault_of, Happens, IsToldToStop, Run, Went, spills, tears, spills_tick, fails, stops}
-use Rattle.mr_loop.specs.Counting.{calls_by, uses_by, calls_in, uses_in, Counted}
+use Rattle.mr_loop.specs.Counting.{calls_by, uses_by, deaf_by, ticks_by, calls_in, uses_in, deaf_in, ticks_in, Counted}
 use Rattle.mr_loop.specs.Outcomes.{Broke, Does, Ends, Fails, Serves}
 
 pub run_append : (tells : Bool) (mode : SyncMode) (xs ys : List Event) (a b c : Stage) → Run tells mode a xs b → Run tells mode b ys c → Run tells mode a (xs ++ ys) c
@@ -21,31 +21,43 @@ went_further {tells} {mode} {a} {b} {c} x y = record { events = x.events ++ y.ev
 went_nowhere : {tells : Bool} {mode : SyncMode} (s : Stage) → Went tells mode s s
 went_nowhere s = record { events = []; run = refl }
 
--- .. with how many of them step
+-- .. with how many of them step, give somebody up, and let time pass
 
-calls_append : (xs ys : List Event) → calls_in (xs ++ ys) ≡ calls_in xs + calls_in ys
+pub calls_append : (xs ys : List Event) → calls_in (xs ++ ys) ≡ calls_in xs + calls_in ys
 calls_append [] ys = omega arith
 calls_append (x ∷ xs) ys = omega (arith, calls_append xs ys)
 
-uses_append : (xs ys : List Event) → uses_in (xs ++ ys) ≡ uses_in xs + uses_in ys
+pub uses_append : (xs ys : List Event) → uses_in (xs ++ ys) ≡ uses_in xs + uses_in ys
 uses_append [] ys = omega arith
 uses_append (x ∷ xs) ys = omega (arith, uses_append xs ys)
 
-pub went_refl : {tells : Bool} {mode : SyncMode} (s : Stage) → Counted tells mode 0 0 s s
-went_refl s = record { went = record { events = []; run = refl }; called = refl; used = refl }
+pub deaf_append : (xs ys : List Event) → deaf_in (xs ++ ys) ≡ deaf_in xs + deaf_in ys
+deaf_append [] ys = omega arith
+deaf_append (x ∷ xs) ys = omega (arith, deaf_append xs ys)
 
-pub went_one : {tells : Bool} {mode : SyncMode} {s t : Stage} (e : Event) → fault_of e ≡ None → Happens tells mode s e t → Counted tells mode (calls_by e) (uses_by e) s t
+pub ticks_append : (xs ys : List Event) → ticks_in (xs ++ ys) ≡ ticks_in xs + ticks_in ys
+ticks_append [] ys = omega arith
+ticks_append (x ∷ xs) ys = omega (arith, ticks_append xs ys)
+
+unfoldable pub went_refl : {tells : Bool} {mode : SyncMode} (s : Stage) → Counted tells mode 0 0 0 0 s s
+went_refl s = record { went = record { events = []; run = refl }; called = refl; used = refl; gave_up = refl; ticked = refl }
+
+unfoldable pub went_one : {tells : Bool} {mode : SyncMode} {s t : Stage} (e : Event) → fault_of e ≡ None → Happens tells mode s e t → Counted tells mode (calls_by e) (uses_by e) (deaf_by e) (ticks_by e) s t
 went_one {tells} {mode} {s} {t} e goes_on h = record {
   went = record { events = e ∷ []; run = (t, goes_on, h, refl) };
   called = omega arith;
   used = omega arith;
+  gave_up = omega arith;
+  ticked = omega arith;
 }
 
-pub went_trans : {tells : Bool} {mode : SyncMode} {n u m v : ℕ} {a b c : Stage} → Counted tells mode n u a b → Counted tells mode m v b c → Counted tells mode (n + m) (u + v) a c
-went_trans {tells} {mode} {n} {u} {m} {v} {a} {b} {c} x y = record {
+unfoldable pub went_trans : {tells : Bool} {mode : SyncMode} {n u d p m v e q : ℕ} {a b c : Stage} → Counted tells mode n u d p a b → Counted tells mode m v e q b c → Counted tells mode (n + m) (u + v) (d + e) (p + q) a c
+went_trans {tells} {mode} {n} {u} {d} {p} {m} {v} {e} {q} {a} {b} {c} x y = record {
   went = record { events = x.went.events ++ y.went.events; run = run_append tells mode x.went.events y.went.events a b c x.went.run y.went.run };
   called = omega (arith, calls_append x.went.events y.went.events, x.called, y.called);
   used = omega (arith, uses_append x.went.events y.went.events, x.used, y.used);
+  gave_up = omega (arith, deaf_append x.went.events y.went.events, x.gave_up, y.gave_up);
+  ticked = omega (arith, ticks_append x.went.events y.went.events, x.ticked, y.ticked);
 }
 
 -- an event that is told as a fault
@@ -53,7 +65,7 @@ pub broke_one : {tells : Bool} {mode : SyncMode} {why : LoopFault} {s t : Stage}
 broke_one {tells} {mode} {why} {s} {t} e told h = record { before = s; went = went_nowhere s; last = e; told = told; happens = h }
 
 -- .. behind events that went on
-pub went_broke : {tells : Bool} {mode : SyncMode} {n u : ℕ} {why : LoopFault} {a b c : Stage} → Counted tells mode n u a b → Broke tells mode why b c → Broke tells mode why a c
+pub went_broke : {tells : Bool} {mode : SyncMode} {n u d p : ℕ} {why : LoopFault} {a b c : Stage} → Counted tells mode n u d p a b → Broke tells mode why b c → Broke tells mode why a c
 went_broke x y = record { before = y.before; went = went_further x.went y.went; last = y.last; told = y.told; happens = y.happens }
 
 -- what answers a fault broke
@@ -61,8 +73,8 @@ pub breaks : {A : Type 0} {tells : Bool} {mode : SyncMode} {s t : Stage} (r : Re
 breaks {A} {tells} {mode} {s} {t} r why e b = subst (λ (z : Result A LoopFault). Does tells mode z s t) (sym e) b
 
 -- the mode of a log stays
-pub moded : {tells : Bool} {calls uses : ℕ} {a b : Stage} (m n : SyncMode) → m ≡ n → Counted tells m calls uses a b → Counted tells n calls uses a b
-moded {tells} {calls} {uses} {a} {b} m n e x = subst (λ k. Counted tells k calls uses a b) e x
+pub moded : {tells : Bool} {calls uses deaf passes : ℕ} {a b : Stage} (m n : SyncMode) → m ≡ n → Counted tells m calls uses deaf passes a b → Counted tells n calls uses deaf passes a b
+moded {tells} {calls} {uses} {deaf} {passes} {a} {b} m n e x = subst (λ k. Counted tells k calls uses deaf passes a b) e x
 
 pub went_moded : {tells : Bool} {a b : Stage} (m n : SyncMode) → m ≡ n → Went tells m a b → Went tells n a b
 went_moded {tells} {a} {b} m n e x = subst (λ k. Went tells k a b) e x
@@ -71,16 +83,17 @@ pub broke_moded : {tells : Bool} {why : LoopFault} {a b : Stage} (m n : SyncMode
 broke_moded {tells} {why} {a} {b} m n e x = subst (λ k. Broke tells k why a b) e x
 
 -- what the loop holds is the same
-pub to_own : {tells : Bool} {mode : SyncMode} {calls uses : ℕ} {a : Stage} (n : NodeState) (o p : LoopState) (w : Links LinkState) (told : Option (List ℕ)) (synced : Option ℕ) → p ≡ o → Counted tells mode calls uses a (stage n o w told synced) → Counted tells mode calls uses a (stage n p w told synced)
-to_own {tells} {mode} {calls} {uses} {a} n o p w told synced e x = subst (λ k. Counted tells mode calls uses a (stage n k w told synced)) (sym e) x
+pub to_own : {tells : Bool} {mode : SyncMode} {calls uses deaf passes : ℕ} {a : Stage} (n : NodeState) (o p : LoopState) (w : Links LinkState) (told : Option (List ℕ)) (synced : Option ℕ) → p ≡ o → Counted tells mode calls uses deaf passes a (stage n o w told synced)
+    → Counted tells mode calls uses deaf passes a (stage n p w told synced)
+to_own {tells} {mode} {calls} {uses} {deaf} {passes} {a} n o p w told synced e x = subst (λ k. Counted tells mode calls uses deaf passes a (stage n k w told synced)) (sym e) x
 
 -- the wire's links are the same
-pub went_same : {tells : Bool} {mode : SyncMode} (n : NodeState) (o : LoopState) (v w : Links LinkState) (told : Option (List ℕ)) (synced : Option ℕ) → w ≡ v → Counted tells mode 0 0 (stage n o v told synced) (stage n o w told synced)
-went_same {tells} {mode} n o v w told synced e = subst (λ k. Counted tells mode 0 0 (stage n o v told synced) (stage n o k told synced)) (sym e) (went_refl (stage n o v told synced))
+pub went_same : {tells : Bool} {mode : SyncMode} (n : NodeState) (o : LoopState) (v w : Links LinkState) (told : Option (List ℕ)) (synced : Option ℕ) → w ≡ v → Counted tells mode 0 0 0 0 (stage n o v told synced) (stage n o w told synced)
+went_same {tells} {mode} n o v w told synced e = subst (λ k. Counted tells mode 0 0 0 0 (stage n o v told synced) (stage n o k told synced)) (sym e) (went_refl (stage n o v told synced))
 
 -- .. and the node is
-pub went_still : {tells : Bool} {mode : SyncMode} (n m : NodeState) (o : LoopState) (w : Links LinkState) (told : Option (List ℕ)) (synced : Option ℕ) → m ≡ n → Counted tells mode 0 0 (stage n o w told synced) (stage m o w told synced)
-went_still {tells} {mode} n m o w told synced e = subst (λ k. Counted tells mode 0 0 (stage n o w told synced) (stage k o w told synced)) (sym e) (went_refl (stage n o w told synced))
+pub went_still : {tells : Bool} {mode : SyncMode} (n m : NodeState) (o : LoopState) (w : Links LinkState) (told : Option (List ℕ)) (synced : Option ℕ) → m ≡ n → Counted tells mode 0 0 0 0 (stage n o w told synced) (stage m o w told synced)
+went_still {tells} {mode} n m o w told synced e = subst (λ k. Counted tells mode 0 0 0 0 (stage n o w told synced) (stage k o w told synced)) (sym e) (went_refl (stage n o w told synced))
 
 -- ---- a turn
 

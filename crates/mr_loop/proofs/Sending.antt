@@ -16,7 +16,7 @@ use Rattle.mr_wire.specs.Wire.{count_of}
 use Rattle.mr_loop.specs.declared.client.Phase.{Phase}
 use Rattle.mr_loop.specs.declared.fault.LoopFault.{LoopFault}
 use Rattle.mr_loop.specs.Stage.{Stage, LoopState, ClientState, begun, client_of, put_client}
-use Rattle.mr_loop.specs.Rows.{Event, fault_of, Happens, IsReplaced, SameFile, Run, behind_replacing, behind_step, phase_after, phase_behind, queued, joins, turns_away, takes, finds_none, hears_end, loses, is_refused, is_deaf, hangs_up, steps, idles, spills, tears, spills_tick, writes, appends, fails, ticks, closes, stops}
+use Rattle.mr_loop.specs.Rows.{Event, fault_of, Happens, IsReplaced, SameFile, Run, behind_replacing, behind_step, phase_after, phase_behind, queued, joins, turns_away, takes, finds_none, hears_end, loses, is_refused, is_deaf, hangs_up, steps, idles, spills, tears, spills_tick, writes, appends, fails, ticks, misses_tick, settles, closes, stops}
 use Rattle.mr_loop.specs.Sent.{moved_by, replied_by, parts_with, file_with, filed_by, moved_in, replied_in, filed_in, StaysIn, IsInOrder, GoesOutInOrder, IsSyncedWhole, IsFiledFirst, IsSentOnceFiled, IsSilentBehindFaults}
 use Rattle.mr_loop.proofs.Places.{some_at}
 use Rattle.mr_loop.proofs.Waiting.{replaced_there, some_is}
@@ -138,6 +138,8 @@ module _ (tells : Bool) (mode : SyncMode) where
   kept (appends texts) s t k c here goes_on stays h = same_waits k c c (appends texts) t.own (ap (λ (z : LoopState). client_of z k) h.own ∙ here) refl refl refl refl
   kept fails s t k c here goes_on stays h = absurd (no_fault goes_on)
   kept (ticks given outs) s t k c here goes_on stays h = same_waits k c c (ticks given outs) t.own (ap (λ (z : LoopState). client_of z k) h.own ∙ here) refl refl refl refl
+  kept (misses_tick given) s t k c here goes_on stays h = same_own (misses_tick given) s.own t.own k c here h.own refl refl
+  kept (settles hurries) s t k c here goes_on stays h = same_waits k c c (settles hurries) t.own (ap (λ (z : LoopState). client_of z k) h.own ∙ here) refl refl refl refl
   kept (closes j) s t k c here goes_on stays h = left_open s.own t.own j k c here stays h.clients
   kept stops s t k c here goes_on stays h = absurd (no_fault goes_on)
 
@@ -219,6 +221,8 @@ module _ (tells : Bool) (mode : SyncMode) where
   filed (appends texts) s t xs is goes_on h = appended_file texts xs s.own t.own s.told t.told h.texts_are is h.written h.own
   filed fails s t xs is goes_on h = absurd (no_fault goes_on)
   filed (ticks given outs) s t xs is goes_on h = waits_more (ticks given outs) xs outs.appended s.own t.own s.told t.told is h.file.0 (ap (λ (z : LoopState). z.batch) h.own) refl
+  filed (misses_tick given) s t xs is goes_on h = same_file (misses_tick given) xs s.own t.own s.told t.told is h.file.0 (ap (λ (z : LoopState). z.batch) h.own) refl
+  filed (settles hurries) s t xs is goes_on h = same_file (settles hurries) xs s.own t.own s.told t.told is h.file.0 (ap (λ (z : LoopState). z.batch) h.own) refl
   filed (closes j) s t xs is goes_on h = same_file (closes j) xs s.own t.own s.told t.told is h.file.0 h.batch refl
   filed stops s t xs is goes_on h = absurd (no_fault goes_on)
 
@@ -250,6 +254,8 @@ module _ (tells : Bool) (mode : SyncMode) where
   synced_kept (appends texts) s t whole goes_on h = λ none. h.synced refl
   synced_kept fails s t whole goes_on h = absurd (no_fault goes_on)
   synced_kept (ticks given outs) s t whole goes_on h = synced_more s t outs.appended whole h.file (ap (λ (z : LoopState). z.batch) h.own)
+  synced_kept (misses_tick given) s t whole goes_on h = synced_same s t whole h.file (ap (λ (z : LoopState). z.batch) h.own)
+  synced_kept (settles hurries) s t whole goes_on h = synced_same s t whole h.file (ap (λ (z : LoopState). z.batch) h.own)
   synced_kept (closes j) s t whole goes_on h = synced_same s t whole h.file h.batch
   synced_kept stops s t whole goes_on h = absurd (no_fault goes_on)
 
@@ -288,12 +294,12 @@ module _ (tells : Bool) (mode : SyncMode) where
 
   -- ---- a fault
 
-  silent : (e : Event) (why : LoopFault) (s t : Stage) → fault_of e ≡ Some why → Happens tells mode s e t → t.wire ≡ s.wire
-  silent (spills k given outs) why s t told h = h.wire
-  silent (tears k given outs) why s t told h = h.wire
-  silent (spills_tick given outs) why s t told h = h.wire
-  silent fails why s t told h = h.wire
-  silent stops why s t told h = h.wire
+  silent : (e : Event) (why : LoopFault) (s t : Stage) → fault_of e ≡ Some why → Happens tells mode s e t → (t.wire ≡ s.wire) × (t.own.clients ≡ s.own.clients)
+  silent (spills k given outs) why s t told h = (h.wire, h.clients)
+  silent (tears k given outs) why s t told h = (h.wire, ap (λ (z : LoopState). z.clients) h.own)
+  silent (spills_tick given outs) why s t told h = (h.wire, ap (λ (z : LoopState). z.clients) h.own)
+  silent fails why s t told h = (h.wire, ap (λ (z : LoopState). z.clients) h.own)
+  silent stops why s t told h = (h.wire, ap (λ (z : LoopState). z.clients) h.own)
   silent _ why s t told h = absurd (not_told told)
 
 pub goes_out_in_order : GoesOutInOrder
@@ -303,4 +309,6 @@ pub is_sent_once_filed : IsSentOnceFiled
 is_sent_once_filed tells mode s t before after k c bytes xs here is stays run = filed_first tells mode s t before after k c bytes xs here is stays run
 
 pub is_silent_behind_faults : IsSilentBehindFaults
-is_silent_behind_faults tells mode why s t b = b.stopped.wire ∙ silent tells mode b.broke.last why b.broke.before b.behind b.broke.told b.broke.happens
+is_silent_behind_faults tells mode why s t b =
+    let last = silent tells mode b.broke.last why b.broke.before b.behind b.broke.told b.broke.happens in
+    (b.stopped.wire ∙ last.0, ap (λ (z : LoopState). z.clients) b.stopped.own ∙ last.1)

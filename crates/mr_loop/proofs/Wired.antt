@@ -13,7 +13,7 @@ use Rattle.mr_wire.specs.declared.wire.Moved.{Moved}
 use Rattle.mr_wire.specs.declared.wire.Moved.TheVariants as answered
 use Rattle.mr_loop.specs.declared.client.Phase.TheVariants as phase
 use Rattle.mr_loop.specs.Stage.{Stage, LoopState, ClientState, begun, client_of, put_client}
-use Rattle.mr_loop.specs.Rows.{Event, Touches, fault_of, Happens, Run, queued, phase_after, phase_behind, joins, turns_away, takes, finds_none, hears_end, loses, is_refused, is_deaf, hangs_up, steps, idles, spills, tears, spills_tick, writes, appends, fails, ticks, closes, stops}
+use Rattle.mr_loop.specs.Rows.{Event, Touches, fault_of, Happens, Run, queued, phase_after, phase_behind, joins, turns_away, takes, finds_none, hears_end, loses, is_refused, is_deaf, hangs_up, steps, idles, spills, tears, spills_tick, writes, appends, fails, ticks, misses_tick, settles, closes, stops}
 use Rattle.mr_loop.specs.Sent.{moved_by, moved_in, moved_of, moved_on, parts_with, StaysIn, HaveLinks, HaveLinksFirst, HaveLinksAlways, WireHasReplies}
 use Rattle.mr_loop.proofs.Places.{some_at}
 use Rattle.mr_loop.proofs.Sending.{in_order, kept, no_client, no_fault, one_client}
@@ -226,6 +226,8 @@ module _ (tells : Bool) (mode : SyncMode) where
   links_kept (appends texts) s t held goes_on h = linked s t held (same_names (λ x. ap (λ (z : LoopState). client_of z x) h.own)) (same_open (ap (λ (z : Links LinkState). z.open_links) h.wire))
   links_kept fails s t held goes_on h = absurd (no_fault goes_on)
   links_kept (ticks given outs) s t held goes_on h = linked s t held (same_names (λ x. ap (λ (z : LoopState). client_of z x) h.own)) (same_open (ap (λ (z : Links LinkState). z.open_links) h.wire))
+  links_kept (misses_tick given) s t held goes_on h = linked s t held (same_names (λ x. ap (λ (z : LoopState). client_of z x) h.own)) (same_open (ap (λ (z : Links LinkState). z.open_links) h.wire))
+  links_kept (settles hurries) s t held goes_on h = linked s t held (same_names (λ x. ap (λ (z : LoopState). client_of z x) h.own)) (same_open (ap (λ (z : Links LinkState). z.open_links) h.wire))
   links_kept (closes j) s t held goes_on h = closed_links s t j h.client held h.has.is h.clients h.wire
   links_kept stops s t held goes_on h = absurd (no_fault goes_on)
 
@@ -254,6 +256,8 @@ module _ (mode : SyncMode) where
   moved_kept (appends texts) s t k c held here goes_on stays h = quiet s.wire t.wire (appends texts) k c.name refl (ap (λ (z : Links LinkState). moved_on z c.name) h.wire)
   moved_kept fails s t k c held here goes_on stays h = absurd (no_fault goes_on)
   moved_kept (ticks given outs) s t k c held here goes_on stays h = quiet s.wire t.wire (ticks given outs) k c.name refl (ap (λ (z : Links LinkState). moved_on z c.name) h.wire)
+  moved_kept (misses_tick given) s t k c held here goes_on stays h = quiet s.wire t.wire (misses_tick given) k c.name refl (ap (λ (z : Links LinkState). moved_on z c.name) h.wire)
+  moved_kept (settles hurries) s t k c held here goes_on stays h = quiet s.wire t.wire (settles hurries) k c.name refl (ap (λ (z : Links LinkState). moved_on z c.name) h.wire)
   moved_kept (closes j) s t k c held here goes_on stays h = quiet s.wire t.wire (closes j) k c.name refl (ap moved_of (other_closed s.wire t.wire h.client.name c.name (other_name s j k h.client c held h.has.is here stays) h.wire))
   moved_kept stops s t k c held here goes_on stays h = absurd (no_fault goes_on)
 

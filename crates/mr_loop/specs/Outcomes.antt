@@ -17,10 +17,10 @@ module _ (tells : Bool) (mode : SyncMode) where
     pub told : fault_of last ≡ Some why
     pub happens : Happens tells mode before last t
 
-  -- What a part of a turn did that steps nowhere and answers this: behind a value each event went on, behind a fault the last one is
+  -- What a part of a turn did that steps nowhere, gives nobody up and lets no time pass, and answers this: behind a value each event went on, behind a fault the last one is
   -- told as it.
   abbrev pub Does : {A : Type 0} → Result A LoopFault → Stage → Stage → Type 0
-  Does (Ok value) s t = Counted tells mode 0 0 s t
+  Does (Ok value) s t = Counted tells mode 0 0 0 0 s t
   Does (Err why) s t = Broke why s t
 
   -- .. that steps, and counts that. Behind a fault no count is told.

@@ -1,5 +1,5 @@
 -- What a turn does: one event after another, each by its row. A row says what becomes of everything that a turn acts on.
-use Rattle.std.specs.Prelude.{◌≡◌, ◌≢◌, ◌⊎◌, ◌<◌, ◌≤◌, ◌^◌, ℕ, List, [], ◌∷◌, ◌++◌, Bool, ◌||◌, false, Option, Some, None, length, take, drop, if◌then◌else◌}
+use Rattle.std.specs.Prelude.{◌≡◌, ◌≢◌, ◌<◌, ◌≤◌, ◌^◌, ℕ, List, [], ◌∷◌, ◌++◌, Bool, ◌||◌, false, Option, Some, None, length, take, drop, if◌then◌else◌}
 use Rattle.std.specs.FinMap as map
 use Rattle.mr_links.specs.Links.{Links}
 use Rattle.mr_links.specs.declared.link_id.LinkId.{LinkId}
@@ -37,6 +37,21 @@ pub record IsBurdened (s : LoopState) (k : LinkId) : Type 0 where
 abbrev pub IsLight : Option ClientState → Type 0
 IsLight None = Unit {0}
 IsLight (Some c) = c.phase ≡ phase.Serving → length c.waiting ≤ 67108864
+
+-- a link that is open at the node, and on which something is unread
+pub record HasInput (a : NodeState) (l : LinkId) : Type 0 where
+  pub unread : List ℕ
+  pub agrees : Agrees a l unread
+  pub some : unread ≢ []
+
+-- where this client is served, something is unread on its link at the node
+abbrev pub IsReady : Option ClientState → NodeState → Type 0
+IsReady None a = Unit {0}
+IsReady (Some c) a = c.phase ≡ phase.Serving → HasInput a c.link
+
+-- so much may wait for a client of which more is read
+abbrev pub most_kept : ℕ
+most_kept = 15728640
 
 -- The wire's link becomes what this makes of it, if it is open; and nothing else.
 pub record Touches (a : Links LinkState) (l : LinkId) (f : LinkState → LinkState) (b : Links LinkState) : Type 0 where
@@ -100,6 +115,10 @@ pub data Event : Type 0 where
   fails : Event
   -- time passes
   ticks : (given : Given) (outs : OutsState) → Event
+  -- time was to pass, and memory ran out for it
+  misses_tick : (given : Given) → Event
+  -- whether the next turn goes on without waiting is settled
+  settles : (hurries : Bool) → Event
   -- the link of a client is closed, at the node and on the wire
   closes : (k : LinkId) → Event
   -- the node stopped, or was stopped
@@ -134,9 +153,17 @@ abbrev pub behind_replacing : Option (List ℕ) → LoopState → LoopState
 behind_replacing None o = o
 behind_replacing (Some bytes) o = record o { batch = [] }
 
--- what a client's step lets wait: its reply, and the texts of its effects; and whether the program is to end
+-- a client behind its step: its reply waits for it
+abbrev pub replied : OutsState → ClientState → ClientState
+replied outs c = record c { waiting = c.waiting ++ outs.reply; phase = phase_after outs c.phase }
+
+-- .. and whether the program is to end
+abbrev pub answered : OutsState → LinkId → ClientState → LoopState → LoopState
+answered outs k c o = record (put_client o k (replied outs c)) { halted = outs.halts || o.halted }
+
+-- .. and for the file: the texts of its effects
 abbrev pub queued : OutsState → LinkId → ClientState → LoopState → LoopState
-queued outs k c o = record (put_client o k (record c { waiting = c.waiting ++ outs.reply; phase = phase_after outs c.phase })) { batch = o.batch ++ outs.appended; halted = outs.halts || o.halted }
+queued outs k c o = record (answered outs k c o) { batch = o.batch ++ outs.appended }
 
 -- what the loop holds behind a client's step
 abbrev pub behind_step : OutsState → LinkId → ClientState → LoopState → LoopState
@@ -167,10 +194,12 @@ pub record TurnsAway (s t : Stage) : Type 0 where
   pub own : t.own ≡ s.own
   pub file : SameFile s t
 
+-- **A client is read of only where at most a MiB waits for it.**
 pub record Takes (tells : Bool) (k : LinkId) (bytes : List ℕ) (s t : Stage) : Type 0 where
   pub client : ClientState
   pub has : Has s.own k client
   pub serving : client.phase ≡ phase.Serving
+  pub few : length client.waiting ≤ most_kept
   pub count : ℕ
   pub buffer : List ℕ
   pub bytes_are : bytes ≡ take count buffer
@@ -183,6 +212,7 @@ pub record FindsNone (tells : Bool) (k : LinkId) (s t : Stage) : Type 0 where
   pub client : ClientState
   pub has : Has s.own k client
   pub serving : client.phase ≡ phase.Serving
+  pub few : length client.waiting ≤ most_kept
   pub answer : Moved
   pub buffer : List ℕ
   pub none : count_of answer ≡ 0
@@ -196,6 +226,7 @@ pub record HearsEnd (tells : Bool) (k : LinkId) (s t : Stage) : Type 0 where
   pub client : ClientState
   pub has : Has s.own k client
   pub serving : client.phase ≡ phase.Serving
+  pub few : length client.waiting ≤ most_kept
   pub buffer : List ℕ
   pub wire : Touches s.wire client.name (behind_read tells moved.End buffer) t.wire
   pub node : EndsAt s.node client.link t.node
@@ -207,6 +238,7 @@ pub record Loses (tells : Bool) (k : LinkId) (s t : Stage) : Type 0 where
   pub client : ClientState
   pub has : Has s.own k client
   pub serving : client.phase ≡ phase.Serving
+  pub few : length client.waiting ≤ most_kept
   pub answer : Moved
   pub buffer : List ℕ
   pub wire : Touches s.wire client.name (behind_read tells answer buffer) t.wire
@@ -225,10 +257,13 @@ pub record IsGivenUp (k : LinkId) (client : ClientState) (s t : Stage) : Type 0 
 
 pub record IsRefused (k : LinkId) (s t : Stage) : Type 0 where
   pub client : ClientState
+  pub unread : HasInput s.node client.link
   pub given_up : IsGivenUp k client s t
 
+-- In place of a step: something is unread on the client's link, and more waits for it than it may leave so.
 pub record IsDeaf (k : LinkId) (s t : Stage) : Type 0 where
   pub client : ClientState
+  pub unread : HasInput s.node client.link
   pub too_much : 67108864 < length client.waiting
   pub given_up : IsGivenUp k client s t
 
@@ -242,10 +277,11 @@ pub record HangsUp (k : LinkId) (s t : Stage) : Type 0 where
   pub wire : t.wire ≡ s.wire
   pub file : SameFile s t
 
--- A step is made at an open link of the node, by the row of its unread bytes.
+-- **A step is made only where something is unread**, at an open link of the node, by the row of its unread bytes.
 pub record Stepped (a : NodeState) (l : LinkId) (given : Given) (b : NodeState) (s : Step) : Type 0 where
   pub unread : List ℕ
   pub agrees : Agrees a l unread
+  pub some : unread ≢ []
   pub row : StepRow a l unread given b s
 
 -- Of a client that left no more unread than it may: the texts of effects wait for the file, and the reply waits on the link. A file that is replaced is so before the reply is sent.
@@ -262,24 +298,26 @@ pub record Steps (k : LinkId) (given : Given) (outs : OutsState) (s t : Stage) :
 pub record Idles (k : LinkId) (given : Given) (s t : Stage) : Type 0 where
   pub client : ClientState
   pub has : Has s.own k client
-  pub answer : (Stepped s.node client.link given t.node step.Idle) ⊎ (IsShut s.node client.link × (t.node ≡ s.node))
+  pub node : Stepped s.node client.link given t.node step.Idle
   pub own : t.own ≡ s.own
   pub wire : t.wire ≡ s.wire
   pub file : SameFile s t
 
--- What the loop holds may be torn. Nothing is written behind it.
+-- What waits for the file may be torn. What waits for clients is as it was. The file is replaced, where it was to be.
 pub record Spills (k : LinkId) (given : Given) (outs : OutsState) (s t : Stage) : Type 0 where
   pub client : ClientState
   pub has : Has s.own k client
   pub node : Stepped s.node client.link given t.node (step.Done outs)
+  pub clients : t.own.clients ≡ s.own.clients
   pub wire : t.wire ≡ s.wire
-  pub file : SameFile s t
+  pub file : IsReplaced outs.replaced s.told s.synced t.told t.synced
 
--- .. at the file, which was to be replaced: the old bytes are there, or the new ones.
+-- The file was to be replaced, and failed: the old bytes are there, or the new ones. The reply doesn't wait for its client.
 pub record Tears (k : LinkId) (given : Given) (outs : OutsState) (s t : Stage) : Type 0 where
   pub client : ClientState
   pub has : Has s.own k client
   pub node : Stepped s.node client.link given t.node (step.Done outs)
+  pub own : t.own ≡ s.own
   pub wire : t.wire ≡ s.wire
   pub bytes : List ℕ
   pub replaced : outs.replaced ≡ Some bytes
@@ -322,6 +360,19 @@ pub record FailsAtFile (s t : Stage) : Type 0 where
 pub record IsTicked (given : Given) (outs : OutsState) (s t : Stage) : Type 0 where
   pub node : TickRow s.node given.now t.node outs
   pub own : t.own ≡ record s.own { batch = s.own.batch ++ outs.appended }
+  pub wire : t.wire ≡ s.wire
+  pub file : SameFile s t
+
+-- Memory ran out for a tick: nothing changes.
+pub record MissesTick (s t : Stage) : Type 0 where
+  pub node : t.node ≡ s.node
+  pub own : t.own ≡ s.own
+  pub wire : t.wire ≡ s.wire
+  pub file : SameFile s t
+
+pub record Settles (hurries : Bool) (s t : Stage) : Type 0 where
+  pub node : t.node ≡ s.node
+  pub own : t.own ≡ record s.own { hurries = hurries }
   pub wire : t.wire ≡ s.wire
   pub file : SameFile s t
 
@@ -381,6 +432,8 @@ module _ (tells : Bool) (mode : SyncMode) where
   Happens s (appends texts) t = IsAppended mode texts s t
   Happens s fails t = FailsAtFile s t
   Happens s (ticks given outs) t = IsTicked given outs s t
+  Happens s (misses_tick given) t = MissesTick s t
+  Happens s (settles hurries) t = Settles hurries s t
   Happens s (closes k) t = IsClosed k s t
   Happens s stops t = IsStopped s t
 

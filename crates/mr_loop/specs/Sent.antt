@@ -121,6 +121,6 @@ abbrev pub IsSentOnceFiled : Type 0
 IsSentOnceFiled = (tells : Bool) (mode : SyncMode) (s t : Stage) (before after : List Event) (k : LinkId) (c : ClientState) (bytes xs : List ℕ) → client_of s.own k ≡ Some c → s.told ≡ Some xs
     → StaysIn k before → Run tells mode s (before ++ writes k bytes ∷ after) t → IsFiledFirst tells mode s before k c bytes xs
 
--- **Behind a fault nothing is sent.** No link of the wire is another than it was before the last event, and none is closed.
+-- **Behind a fault nothing is sent.** No link of the wire is another than it was before the last event, and none is closed; and no more waits for a client.
 abbrev pub IsSilentBehindFaults : Type 0
-IsSilentBehindFaults = (tells : Bool) (mode : SyncMode) (why : LoopFault) (s t : Stage) (b : BreaksDown tells mode why s t) → t.wire ≡ b.broke.before.wire
+IsSilentBehindFaults = (tells : Bool) (mode : SyncMode) (why : LoopFault) (s t : Stage) (b : BreaksDown tells mode why s t) → (t.wire ≡ b.broke.before.wire) × (t.own.clients ≡ b.broke.before.own.clients)

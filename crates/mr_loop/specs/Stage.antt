@@ -27,14 +27,15 @@ pub record LoopState : Type 0 where
   pub clients : Links ClientState
   pub batch : List ℕ  -- the texts of effects that no append has taken
   pub halted : Bool  -- a client asked that the program end
+  pub hurries : Bool  -- the next turn goes on without waiting
 
 abbrev pub client_code : Coded ClientState
 client_code = code_by (LinkId × (LinkId × (List ℕ × Phase))) (coded× coded_id (coded× coded_id (coded× (coded_list coded_ℕ) item.the_row.coded)))
     (λ c. (c.name, (c.link, (c.waiting, c.phase)))) (λ p. record { name = p.0; link = p.1.0; waiting = p.1.1.0; phase = p.1.1.1 }) (λ _. refl)
 
 abbrev pub loop_code : Coded LoopState
-loop_code = code_by (Links ClientState × (List ℕ × Bool)) (coded× (links_code client_code) (coded× (coded_list coded_ℕ) coded_bool)) (λ s. (s.clients, (s.batch, s.halted)))
-    (λ p. record { clients = p.0; batch = p.1.0; halted = p.1.1 }) (λ _. refl)
+loop_code = code_by (Links ClientState × (List ℕ × (Bool × Bool))) (coded× (links_code client_code) (coded× (coded_list coded_ℕ) (coded× coded_bool coded_bool)))
+    (λ s. (s.clients, (s.batch, (s.halted, s.hurries)))) (λ p. record { clients = p.0; batch = p.1.0; halted = p.1.1.0; hurries = p.1.1.1 }) (λ _. refl)
 
 abbrev pub client_of : LoopState → LinkId → Option ClientState
 client_of s k = map.get s.clients.open_links k

@@ -1,8 +1,8 @@
 // A client, as the loop knows it.
-ghost use Rattle.std.specs.Prelude.{◌≡◌, ◌++◌, ◌≤◌, ◌<◌, ◌↔◌, length, drop, IsTrue, OnOk};
+ghost use Rattle.std.specs.Prelude.{◌≡◌, ◌≤◌, ◌<◌, ◌↔◌, length, drop, IsTrue, OnErr, OnOk};
 ghost use Rattle.mr_wire.specs.Wire.{count_of};
 ghost use Rattle.mr_loop.specs.Stage.{begun};
-ghost use Rattle.mr_loop.specs.Rows.{MayClose, phase_after, phase_behind};
+ghost use Rattle.mr_loop.specs.Rows.{MayClose, most_kept, phase_behind, replied};
 
 use mr_links::LinkId;
 use mr_node::Outs;
@@ -10,6 +10,22 @@ use mr_unsent::Unsent;
 use mr_wire::Moved;
 use std::alloc::{AllocError, Global};
 use std::marker::Model;
+
+/// A read gives no more bytes.
+pub(crate) const PIECE: usize = 65_536;
+
+/// The first read of a client in a turn gives no more.
+pub(crate) const FIRST_PIECE: usize = 1_024;
+
+/// A read of a client whose replies are large gives no more, and none of one for which much waits.
+const LEAST_PIECE: usize = 64;
+
+/// Where more bytes wait for a client, little more is read of it at once.
+const MUCH_KEPT: usize = 1_048_576;
+
+/// Where more bytes wait for a client, nothing more is read of it. Three requests fit into the least piece, and three values of 16 MiB
+/// behind these bytes are no more than a client may leave unread.
+const MOST_KEPT: usize = 15_728_640;
 
 /// What is still done on a client's link.
 #[derive(Clone, Copy, Debug, PartialEq, Eq)]
@@ -29,6 +45,8 @@ pub(crate) struct Client {
     link: LinkId,
     unsent: Unsent,
     phase: Phase,
+    /// So many bytes of it are read at once at most. They get fewer while its replies are large.
+    piece: usize,
 }
 
 impl Model for Client {
@@ -50,6 +68,7 @@ impl Client {
             link,
             unsent: Unsent::new(alloc),
             phase: Phase::Serving,
+            piece: PIECE,
         }
     }
 
@@ -93,6 +112,43 @@ impl Client {
         self.unsent.is_too_much()
     }
 
+    /// Whether so much waits that nothing more is read of it.
+    pub(crate) fn is_full(&self) -> bool
+        ensures { IsTrue result ↔ (most_kept < length self.now.waiting) }
+    {
+        self.unsent.waiting().len() > MOST_KEPT
+    }
+
+    /// So many bytes of it are read at once at most.
+    pub(crate) fn piece(&self) -> usize {
+        if self.has_much() {
+            LEAST_PIECE
+        } else {
+            self.piece
+        }
+    }
+
+    /// Whether so much waits that little more is read of it at once.
+    fn has_much(&self) -> bool {
+        self.unsent.waiting().len() > MUCH_KEPT
+    }
+
+    /// Its replies were large: less of it is read at once.
+    pub(crate) fn narrow(&mut self)
+        ensures { self.new ≡ self.old }
+    {
+        self.piece = narrowed(self.piece);
+    }
+
+    /// So many bytes were read at once. Where that were as many as may be, and its replies were small, more of it is read.
+    pub(crate) fn widen(&mut self, count: usize)
+        ensures { self.new ≡ self.old }
+    {
+        if count >= self.piece && !self.has_much() {
+            self.piece = self.piece.saturating_mul(4).min(PIECE);
+        }
+    }
+
     /// Whether its link is to be closed now.
     pub(crate) fn may_close(&self) -> bool
         ensures { IsTrue result → MayClose self.now }
@@ -112,9 +168,13 @@ impl Client {
 
     /// Puts what a step sends it behind what waits. Where the node closed the link, it leaves.
     pub(crate) fn take(&mut self, outs: &Outs) -> Result<(), AllocError>
-        ensures { OnOk result (self.new ≡ record self.old { waiting = self.old.waiting ++ outs.now.reply; phase = phase_after outs.now self.old.phase }) }
+        ensures err { OnErr result (self.new ≡ self.old) }
+        ensures ok { OnOk result (self.new ≡ replied outs.now self.old) }
     {
         self.unsent.push(outs.reply())?;
+        if self.has_much() {
+            self.piece = narrowed(self.piece);
+        }
         if outs.closes() {
             self.phase = Phase::Leaving;
         }
@@ -132,4 +192,9 @@ impl Client {
             Moved::End | Moved::Failed => self.phase = Phase::Lost,
         }
     }
+}
+
+/// So many bytes are read at once behind large replies.
+fn narrowed(piece: usize) -> usize {
+    (piece.min(FIRST_PIECE) / 4).max(LEAST_PIECE)
 }

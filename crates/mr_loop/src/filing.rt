@@ -1,6 +1,5 @@
 // What waits for the file.
-ghost use Rattle.std.specs.Prelude.{◌≡◌, [], OnOk, true, IsErrOf};
-ghost use Rattle.std.specs.Option.{option_map};
+ghost use Rattle.std.specs.Prelude.{◌≡◌, [], OnOk, Some, true, IsErrOf};
 ghost use Rattle.mr_loop.specs.Going.{FilesAs, IsReplacing};
 
 use crate::fault::LoopFault;
@@ -27,20 +26,17 @@ pub(crate) fn commit<F: LogFile>(links: &mut Links, log: &mut Log<F>) -> Result<
     }
 }
 
-/// Replaces the file at once, where there is something to replace it by. That has all effects so far, so that nothing waits any more.
+/// Replaces the file at once. The new one has all effects so far, so that nothing waits for it any more.
 pub(crate) fn replace<F: LogFile>(
     links: &mut Links,
     log: &mut Log<F>,
-    whole: Option<&[u8]>,
+    whole: &[u8],
 ) -> Result<(), LoopFault>
-    ensures went { IsReplacing (option_map (λ bytes. bytes.now) whole.entry) links.old (F.told log.old.file) (F.synced log.old.file) links.new (F.told log.new.file) (F.synced log.new.file) result }
+    ensures went { IsReplacing (Some whole.now) links.old (F.told log.old.file) (F.synced log.old.file) links.new (F.told log.new.file) (F.synced log.new.file) result }
     ensures mode { log.new.mode ≡ log.old.mode }
     ensures device { IsErrOf result LoopFault.File → log.new.broken ≡ true }
 {
-    let Some(bytes) = whole else {
-        return Ok(());
-    };
-    match log.replace(bytes) {
+    match log.replace(whole) {
         Ok(()) => {
             links.clear_batch();
             Ok(())

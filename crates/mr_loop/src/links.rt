@@ -1,11 +1,11 @@
 // What the loop holds: its clients, and what waits for the file.
-ghost use Rattle.std.specs.Prelude.{◌≡◌, ◌++◌, ◌≤◌, ◌+◌, ◌||◌, [], length, drop, false, Some, None, IfOk, IfSome, OnOk, OnErr, IsTrue, option_copied};
+ghost use Rattle.std.specs.Prelude.{◌≡◌, ◌++◌, ◌≤◌, ◌+◌, ◌||◌, [], length, drop, false, true, Some, None, IfOk, IfSome, OnOk, OnErr, IsTrue, option_copied};
 ghost use Rattle.std.specs.FinMap as map;
 ghost use Rattle.mr_wire.specs.Wire.{count_of};
 ghost use Rattle.mr_loop.specs.Stage.{IsNamed, LoopState, begun, client_of, put_client};
-ghost use Rattle.mr_loop.specs.Rows.{IsBurdened, IsLight, phase_behind, queued};
+ghost use Rattle.mr_loop.specs.Rows.{IsBurdened, IsLight, answered, phase_behind, queued, replied};
 
-use crate::client::{Client, Phase};
+use crate::client::{Client, PIECE, Phase};
 use mr_links::LinkId;
 use mr_node::Outs;
 use mr_wire::Moved;
@@ -16,8 +16,8 @@ use std::mem;
 /// No more clients join in one run.
 const MOST_CLIENTS: u64 = 1 << 62;
 
-/// A read gives no more bytes.
-const PIECE: usize = 65_536;
+/// A turn waits so many milliseconds at most.
+const LONGEST_WAIT: u64 = 100;
 
 /// The clients of a loop, and the texts of effects that aren't in its file yet.
 #[derive(Drop)]
@@ -44,7 +44,7 @@ impl Model for Links {
 
     ghost coded = { loop_code };
 
-    ghost view = { λ l. record { clients = l.clients; batch = l.batch.items; halted = l.halted } };
+    ghost view = { λ l. record { clients = l.clients; batch = l.batch.items; halted = l.halted; hurries = l.hurries } };
 }
 
 impl Links {
@@ -81,12 +81,16 @@ impl Links {
         self.piece = piece;
     }
 
-    pub(crate) fn hurries(&self) -> bool {
-        self.hurries
+    /// How many milliseconds the next turn waits at most.
+    pub fn longest_wait(&self) -> u64
+        ensures hurries { self.now.hurries ≡ true → result ≡ 0 }
+        ensures waits { self.now.hurries ≡ false → result ≡ 100 }
+    {
+        if self.hurries { 0 } else { LONGEST_WAIT }
     }
 
     pub(crate) fn set_hurries(&mut self, hurries: bool)
-        ensures { self.new ≡ self.old }
+        ensures { self.new ≡ record self.old { hurries = hurries } }
     {
         self.hurries = hurries;
     }
@@ -156,6 +160,20 @@ impl Links {
         ensures { option_copied result ≡ client_of self.now k }
     {
         self.clients.get(k)
+    }
+
+    /// The replies of a client were large: less of it is read at once.
+    pub(crate) fn narrow(&mut self, k: LinkId)
+        ensures { self.new ≡ self.old }
+    {
+        narrow_client(&mut self.clients, k);
+    }
+
+    /// So many bytes of a client were read at once.
+    pub(crate) fn widen(&mut self, k: LinkId, count: usize)
+        ensures { self.new ≡ self.old }
+    {
+        widen_client(&mut self.clients, k, count);
     }
 
     /// A client begins. None does where memory runs out.
@@ -267,14 +285,53 @@ impl Links {
 
     /// Puts what a step gave out behind what waits: for the file, and for its client. Where the node closed the link, its client leaves.
     pub(crate) fn queue(&mut self, k: LinkId, outs: &Outs) -> Result<(), AllocError>
-        ensures { OnOk result (IfSome (client_of self.old k) (λ c. self.new ≡ queued outs.now k c self.old)) }
+        ensures ok { OnOk result (IfSome (client_of self.old k) (λ c. self.new ≡ queued outs.now k c self.old)) }
+        ensures err { OnErr result (self.new.clients ≡ self.old.clients) }
     {
         self.file(outs.appended())?;
+        self.answer(k, outs)
+    }
+
+    /// Puts what a step answered behind what waits for its client. Where the node closed the link, its client leaves.
+    pub(crate) fn answer(&mut self, k: LinkId, outs: &Outs) -> Result<(), AllocError>
+        ensures ok { OnOk result (IfSome (client_of self.old k) (λ c. self.new ≡ answered outs.now k c self.old)) }
+        ensures err { OnErr result (self.new.clients ≡ self.old.clients) }
+    {
         self.note_halt(outs);
-        match self.clients.get_mut(k) {
-            Some(client) => client.take(outs),
-            None => Ok(()),
-        }
+        answer_client(&mut self.clients, k, outs)
+    }
+}
+
+fn narrow_client(clients: &mut mr_links::Links<Client>, k: LinkId)
+    ensures { clients.new ≡ clients.old }
+{
+    match clients.get_mut(k) {
+        Some(client) => client.narrow(),
+        None => {}
+    }
+}
+
+fn widen_client(clients: &mut mr_links::Links<Client>, k: LinkId, count: usize)
+    ensures { clients.new ≡ clients.old }
+{
+    match clients.get_mut(k) {
+        Some(client) => client.widen(count),
+        None => {}
+    }
+}
+
+/// Puts a reply behind what waits for its client.
+fn answer_client(
+    clients: &mut mr_links::Links<Client>,
+    k: LinkId,
+    outs: &Outs,
+) -> Result<(), AllocError>
+    ensures ok { OnOk result (IfSome (map.get clients.old.open_links k) (λ c. clients.new ≡ record clients.old { open_links = map.insert clients.old.open_links k (replied outs.now c) })) }
+    ensures err { OnErr result (clients.new ≡ clients.old) }
+{
+    match clients.get_mut(k) {
+        Some(client) => client.take(outs),
+        None => Ok(()),
     }
 }
 

@@ -11,23 +11,24 @@ use mr_source::Source;
 #[derive(Drop)]
 pub(crate) struct Moment<'a, S: Source> {
     source: &'a mut S,
-    now: i64,
+    time: i64,
     fresh: ReplId,
     pub(crate) turn: Turn,
-    ghost in_range: { IsMoment now },
+    ghost in_range: { IsMoment time },
 }
 
 impl<'a, S: Source> Moment<'a, S> {
     pub(crate) fn new(source: &'a mut S) -> Moment<'a, S>
         ensures steps { result.turn.steps ≡ 0 }
         ensures done { result.turn.done ≡ 0 }
+        ensures deaf { result.turn.deaf ≡ 0 }
     {
         let fresh = source.id();
-        let now = source.now();
+        let time = source.now();
         let turn = Turn::begun();
         Moment {
             source,
-            now,
+            time,
             fresh,
             turn,
         }
@@ -39,10 +40,12 @@ impl<'a, S: Source> Moment<'a, S> {
 
     /// What the next step is given.
     pub(crate) fn given(&mut self) -> Given
-        ensures { self.new.turn ≡ self.old.turn }
+        ensures turn { self.new.turn ≡ self.old.turn }
+        ensures time { self.new.time ≡ self.old.time }
+        ensures now { result.now ≡ self.old.time }
     {
         let word = self.source.word();
-        match Given::new(self.now, word) {
+        match Given::new(self.time, word) {
             Some(given) => given,
             None => unreachable!(),
         }

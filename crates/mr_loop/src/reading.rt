@@ -24,14 +24,15 @@ pub(crate) fn gather<W: Wire>(links: &mut Links, wire: &mut W)
     }
 }
 
-/// Reads a client's next bytes, as many as the node takes and the buffer has room for, and feeds them. It answers whether there
-/// may be more.
+/// Reads a client's next bytes, as many as the node takes, the buffer has room for, and may be read at once, and feeds them. Nothing
+/// is read while too much waits for the client. It answers whether there may be more.
 pub(crate) fn read_piece<W: Wire>(
     node: &mut Node,
     links: &mut Links,
     wire: &mut W,
     k: LinkId,
     piece: &mut [u8],
+    most: usize,
 ) -> bool
     ensures went { Goes W.tells node.old links.old (W.links wire.old) node.new links.new (W.links wire.new) }
     ensures quiet { AllWait node.old → WaitsUnless result (client_of links.new k) node.new }
@@ -42,9 +43,16 @@ pub(crate) fn read_piece<W: Wire>(
     if !client.is_serving() {
         return false;
     }
+    if client.is_full() {
+        links.narrow(k);
+        return false;
+    }
     let name = client.name();
     let link = client.link();
-    let room = room_of(node, link).min(piece.len());
+    let room = room_of(node, link)
+        .min(piece.len())
+        .min(client.piece())
+        .min(most);
     if room == 0 {
         return false;
     }
@@ -55,7 +63,10 @@ pub(crate) fn read_piece<W: Wire>(
                 return false;
             }
             match node.feed(link, &buffer[..count]) {
-                Ok(()) => true,
+                Ok(()) => {
+                    links.widen(k, count);
+                    true
+                }
                 Err(_refused) => {
                     links.set_phase(k, Phase::Lost);
                     false

@@ -24,6 +24,7 @@ pub fn serve<W: Wire, F: LogFile, S: Source>(
 ) -> Result<(), LoopFault>
     requires filed { links.old.batch ≡ [] }
     requires runs { links.old.halted ≡ false }
+    requires up { node.old.core.up ≡ true }
     ensures went { Serves W.tells log.old.mode result (stage_of W.links F.told F.synced node.old links.old wire.old log.old) (stage_of W.links F.told F.synced node.new links.new wire.new log.new) }
     ensures device { IsErrOf result LoopFault.File → log.new.broken ≡ true }
     ensures written { OnOk result (links.new.batch ≡ []) }

@@ -1,6 +1,12 @@
 // What a turn tells of itself.
 ghost use Rattle.std.specs.Prelude.{◌≡◌, ◌+◌, false};
-ghost use Rattle.mr_loop.specs.Counting.{counted};
+ghost use Rattle.mr_loop.specs.Counting.{counted, most_ticks};
+
+/// So many ticks may be made in each turn.
+const TICKS: u64 = 16;
+
+/// So many keys a tick deletes at most.
+const DELETED: u64 = 64;
 
 /// What a turn that ended well tells of itself.
 #[derive(Clone, Copy, Debug, PartialEq, Eq)]
@@ -9,6 +15,8 @@ pub struct Turn {
     pub steps: u64,
     /// How many of these steps used something of what a client sent. It stays at 2^64 - 1.
     pub done: u64,
+    /// How many clients were given up since they left too much unread. It stays at 2^64 - 1.
+    pub deaf: u64,
     /// A client said SHUTDOWN.
     pub halted: bool,
 }
@@ -18,10 +26,12 @@ impl Turn {
     pub(crate) fn begun() -> Turn
         ensures steps { result.steps ≡ 0 }
         ensures done { result.done ≡ 0 }
+        ensures deaf { result.deaf ≡ 0 }
     {
         Turn {
             steps: 0,
             done: 0,
+            deaf: 0,
             halted: false,
         }
     }
@@ -30,6 +40,7 @@ impl Turn {
     pub(crate) fn count_step(&mut self)
         ensures steps { self.new.steps ≡ counted (self.old.steps + 1) }
         ensures done { self.new.done ≡ self.old.done }
+        ensures deaf { self.new.deaf ≡ self.old.deaf }
     {
         self.steps = self.steps.saturating_add(1);
     }
@@ -38,19 +49,38 @@ impl Turn {
     pub(crate) fn count_use(&mut self)
         ensures steps { self.new.steps ≡ self.old.steps }
         ensures done { self.new.done ≡ counted (self.old.done + 1) }
+        ensures deaf { self.new.deaf ≡ self.old.deaf }
     {
         self.done = self.done.saturating_add(1);
+    }
+
+    /// Counts a client that is given up since it left too much unread.
+    pub(crate) fn count_deaf(&mut self)
+        ensures steps { self.new.steps ≡ self.old.steps }
+        ensures done { self.new.done ≡ self.old.done }
+        ensures deaf { self.new.deaf ≡ counted (self.old.deaf + 1) }
+    {
+        self.deaf = self.deaf.saturating_add(1);
+    }
+
+    /// So many ticks are made at most in a turn with as many steps.
+    pub(crate) fn most_ticks(self) -> u64
+        ensures { result ≡ most_ticks self.done }
+    {
+        TICKS + self.done / DELETED
     }
 
     /// The same, with whether a client said SHUTDOWN.
     pub(crate) fn with_halted(self, halted: bool) -> Turn
         ensures steps { result.steps ≡ self.steps }
         ensures done { result.done ≡ self.done }
+        ensures deaf { result.deaf ≡ self.deaf }
         ensures halted { result.halted ≡ halted }
     {
         Turn {
             steps: self.steps,
             done: self.done,
+            deaf: self.deaf,
             halted,
         }
     }

@@ -3,9 +3,9 @@ ghost use Rattle.std.specs.Prelude.{◌≡◌, ◌≤◌, [], OnOk, true, IsErrO
 ghost use Rattle.mr_node.specs.State.{NodeState};
 ghost use Rattle.mr_loop.specs.Stage.{client_of, stage_of};
 ghost use Rattle.mr_loop.specs.Left.{left_of};
-ghost use Rattle.mr_loop.specs.Rows.{IsLight};
-ghost use Rattle.mr_loop.specs.Outcomes.{Does};
-ghost use Rattle.mr_loop.specs.Going.{Goes, GoesAlone};
+ghost use Rattle.mr_loop.specs.Rows.{IsLight, IsReady};
+ghost use Rattle.mr_loop.specs.Outcomes.{DoesCounting};
+ghost use Rattle.mr_loop.specs.Going.{Goes, GoesAloneCounting};
 ghost use Rattle.mr_loop.specs.Quiet.{AllWait, StaysThere, WaitsBut};
 
 use crate::client::Phase;
@@ -13,6 +13,7 @@ use crate::fault::LoopFault;
 use crate::filing::commit;
 use crate::links::Links;
 use crate::stepping::hang_up;
+use crate::told::Turn;
 use mr_aof::Log;
 use mr_file::LogFile;
 use mr_links::LinkId;
@@ -81,40 +82,44 @@ fn write_at<W: Wire>(links: &mut Links, wire: &mut W, index: usize) -> bool
 }
 
 /// Where a client left too much unread, what waits for it is written, and what waits for the file before that. Where too much is
-/// left, the client is lost, and steps no more.
+/// left, the client is lost, which is counted, and steps no more.
 pub(crate) fn unburden<W: Wire, F: LogFile>(
     node: &mut Node,
     links: &mut Links,
     wire: &mut W,
     log: &mut Log<F>,
     k: LinkId,
+    turn: &mut Turn,
 ) -> Result<(), LoopFault>
-    ensures went { Does W.tells log.old.mode result (stage_of W.links F.told F.synced node.old links.old wire.old log.old) (stage_of W.links F.told F.synced node.new links.new wire.new log.new) }
+    requires { IsReady (client_of links.old k) node.old }
+    ensures went { DoesCounting W.tells log.old.mode result turn.old turn.new (stage_of W.links F.told F.synced node.old links.old wire.old log.old) (stage_of W.links F.told F.synced node.new links.new wire.new log.new) }
     ensures mode { log.new.mode ≡ log.old.mode }
     ensures device { IsErrOf result LoopFault.File → log.new.broken ≡ true }
     ensures quiet { WaitsBut (client_of links.old k) node.old → OnOk result (WaitsBut (client_of links.new k) node.new) }
     ensures left { OnOk result (left_of (client_of links.new k) node.new ≤ left_of (client_of links.old k) node.old) }
     ensures light { OnOk result (IsLight (client_of links.new k)) }
+    ensures ready { OnOk result (IsReady (client_of links.new k) node.new) }
 {
     if !links.is_burdened(k) {
         return Ok(());
     }
     commit(links, log)?;
     write_ready(links, wire, k);
-    give_up_deaf(links, k);
+    give_up_deaf(links, k, turn);
     hang_up(node, links, k);
     Ok(())
 }
 
 /// A client that left too much unread is lost.
-fn give_up_deaf(links: &mut Links, k: LinkId)
-    ensures went { (node : NodeState) → GoesAlone node links.old node links.new }
+fn give_up_deaf(links: &mut Links, k: LinkId, turn: &mut Turn)
+    ensures went { (node : NodeState) → IsReady (client_of links.old k) node → GoesAloneCounting turn.old turn.new node links.old node links.new }
     ensures batch { links.new.batch ≡ links.old.batch }
     ensures client { StaysThere (client_of links.old k) (client_of links.new k) }
     ensures light { IsLight (client_of links.new k) }
 {
     if links.is_burdened(k) {
         links.set_phase(k, Phase::Lost);
+        turn.count_deaf();
     }
 }
 

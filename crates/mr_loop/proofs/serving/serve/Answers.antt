@@ -9,7 +9,7 @@ returns-in_err-told-clause-went g c =
     serves_behind c.loop.log.mode c.args.log.now.mode c.from_residual.result why told c.loop.invariant.1 c.loop.invariant.0 c.in_err-told.ensures.went
 
 pub loop-preserved : goal.loop-preserved
-loop-preserved g c = (went_further c.loop.invariant.0 (went_moded c.loop.log.mode c.args.log.now.mode c.loop.invariant.1 c.in_ok-told.ensures.went.went), c.turn.ensures.mode ∙ c.loop.invariant.1, c.in_ok-told.ensures.written, λ q. c.in_ok-told.ensures.quiet (c.loop.invariant.3 q), sym c.in_ok-told.ensures.went.halted ∙ c.if-told.false)
+loop-preserved g c = (went_further c.loop.invariant.0 (went_moded c.loop.log.mode c.args.log.now.mode c.loop.invariant.1 c.in_ok-told.ensures.went.went), c.turn.ensures.mode ∙ c.loop.invariant.1, c.in_ok-told.ensures.written, λ q. c.in_ok-told.ensures.quiet (c.loop.invariant.3 q), sym c.in_ok-told.ensures.went.halted ∙ c.if-told.false, c.in_ok-told.ensures.up)
 
 pub returns-then-told-clause-went : goal.returns-then-told-clause-went
 returns-then-told-clause-went g c = serves_on (went_further c.loop.invariant.0 (went_moded c.loop.log.mode c.args.log.now.mode c.loop.invariant.1 c.in_ok-told.ensures.went.went))

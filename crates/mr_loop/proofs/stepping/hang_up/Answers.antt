@@ -1,10 +1,11 @@
-use Rattle.std.proofs.Common.{rules, ◌≡◌, refl, sym}
+use Rattle.std.proofs.Common.{rules, ◌≡◌, ◌∙◌, refl, sym}
 use Rattle.mr_loop.specs.declared.client.Phase.TheVariants as phase
 use Rattle.mr_loop.specs.Stage.{client_of}
 use Rattle.mr_loop.specs.Rows.{hangs_up}
 use Rattle.mr_loop.proofs.Places.{ends_as}
 use Rattle.mr_loop.proofs.Runs.{went_one, went_refl}
-use Rattle.mr_loop.proofs.Waiting.{hung_up_waits}
+use Rattle.mr_loop.proofs.Waiting.{hung_up_waits, lost_serving}
+use Rattle.mr_loop.proofs.Ready.{ready_unserved}
 use Rattle.mr_loop.proofs.Using.{ended_left}
 use Rattle.mr_loop.proofs.stepping.hang_up.Goals as goal
 
@@ -32,3 +33,8 @@ returns-in_default-clause-went c = λ tells w m t s. went_refl _
 
 pub returns-then-not-is_lost-clause-went : goal.returns-then-not-is_lost-clause-went
 returns-then-not-is_lost-clause-went c = λ tells w m t s. went_refl _
+
+pub returns-clause-ready : goal.returns-clause-ready
+returns-clause-ready c = λ ready.
+    let lost : c.in-Some.client.now.phase ≡ phase.Lost = search rules in
+    ready_unserved (client_of c.args.links.now c.args.k) c.in-Some.client.now c.close.new.self (sym c.in-Some.ensures) (λ serving. lost_serving (sym lost ∙ serving))

@@ -1,14 +1,15 @@
-use Rattle.std.proofs.Common.{Err, rules, ◌≡◌, ◌++◌, ◌∙◌, Ok, Some, ap, subst, refl, sym, inl, inr}
+use Rattle.std.proofs.Common.{Err, rules, ◌≡◌, ◌++◌, ◌∙◌, Ok, Some, ap, subst, refl, sym}
 use Rattle.mr_node.specs.declared.step.Step.TheVariants as step
 use Rattle.mr_loop.specs.declared.client.Phase.TheVariants as phase
 use Rattle.mr_loop.specs.Stage.{LoopState, client_of, put_client}
 use Rattle.mr_loop.specs.Quiet.{OthersWait, WaitsBut}
 use Rattle.mr_loop.specs.Rows.{steps, idles, is_refused, stops, Stopping, behind_step, phase_after}
-use Rattle.mr_loop.proofs.AtLinks.{closed_shut, done_stepped, idle_stepped, step_stops}
+use Rattle.mr_loop.proofs.AtLinks.{never_closed, step_stops, stepped_here}
 use Rattle.mr_loop.proofs.Carrying.{not_told}
 use Rattle.mr_loop.proofs.Counts.{counts_idle, counts_refl, counts_use}
 use Rattle.mr_loop.proofs.Light.{few_of}
 use Rattle.mr_loop.proofs.Places.{stepped_as, some_at}
+use Rattle.mr_loop.proofs.Ready.{ready_at}
 use Rattle.mr_loop.proofs.Runs.{broke_one, went_one, went_trans}
 use Rattle.mr_loop.proofs.Using.{done_left, left_as}
 use Rattle.mr_loop.proofs.Waiting.{AllRows, unserved_waits, others_wait, put_there, stepped_there, done_waits, idle_waits, closed_waits, lost_waits, lost_serving}
@@ -19,8 +20,9 @@ returns-in-Ok-clause-went g c = λ light tells w.
     let serving : c.in-Some.client.now.phase ≡ phase.Serving = search rules in
     let outs = c.in-Ok-Done.outs in
     let row = subst (λ z. AllRows c.args.node.now c.link-link.result c.args.given c.step.new.self z) c.in-Ok-Done.field-0-is c.in-Ok-Done.ensures.row in
-    let stepped = done_stepped c.args.node.now c.step.new.self c.link-link.result c.args.given outs c.step.result (c.in-Ok-Done.is ∙ ap Ok c.in-Ok-Done.field-0-is) c.step.ensures.down c.step.ensures.shut c.step.ensures.no_link row in
-    counts_use c.args.turn.now c.count_step.new.self c.count_use.new.self c.count_step.ensures.steps c.count_step.ensures.done c.count_use.ensures.steps c.count_use.ensures.done
+    let input = ready_at c.args.node.now (client_of c.args.links.now c.args.k) c.in-Some.client.now c.link-link.result (sym c.in-Some.ensures) c.link-link.ensures serving c.requires in
+    let stepped = stepped_here c.args.node.now c.step.new.self c.link-link.result c.args.given (step.Done outs) input row in
+    counts_use c.args.turn.now c.count_step.new.self c.count_use.new.self c.count_step.ensures.steps c.count_step.ensures.done c.count_step.ensures.deaf c.count_use.ensures.steps c.count_use.ensures.done c.count_use.ensures.deaf
     (went_one (steps c.args.k c.args.given outs) refl (record {
       client = c.in-Some.client.now;
       has = record { is = sym c.in-Some.ensures };
@@ -34,9 +36,11 @@ returns-in-Ok-clause-went g c = λ light tells w.
 
 pub returns-in-Err-carried-clause-went : goal.returns-in-Err-carried-clause-went
 returns-in-Err-carried-clause-went g c = λ light tells w.
+    let serving : c.in-Some.client.now.phase ≡ phase.Serving = search rules in
     let outs = c.in-Ok-Done.outs in
     let row = subst (λ z. AllRows c.args.node.now c.link-link.result c.args.given c.step.new.self z) c.in-Ok-Done.field-0-is c.in-Ok-Done.ensures.row in
-    let stepped = done_stepped c.args.node.now c.step.new.self c.link-link.result c.args.given outs c.step.result (c.in-Ok-Done.is ∙ ap Ok c.in-Ok-Done.field-0-is) c.step.ensures.down c.step.ensures.shut c.step.ensures.no_link row in
+    let input = ready_at c.args.node.now (client_of c.args.links.now c.args.k) c.in-Some.client.now c.link-link.result (sym c.in-Some.ensures) c.link-link.ensures serving c.requires in
+    let stepped = stepped_here c.args.node.now c.step.new.self c.link-link.result c.args.given (step.Done outs) input row in
     not_told tells c.args.log.now.mode c.args.node.now c.reuse.new.self c.args.links.now c.carry_out-carried.new.links w (g.F.LogFile.told c.args.log.now.file) (g.F.LogFile.told c.carry_out-carried.new.log.file) (g.F.LogFile.synced c.args.log.now.file) (g.F.LogFile.synced c.carry_out-carried.new.log.file) c.args.k c.args.given outs c.in-Some.client.now (c.in-Err-carried.fault)
     (record { is = sym c.in-Some.ensures })
     (stepped_as c.args.node.now c.step.new.self c.reuse.new.self c.link-link.result c.in-Some.client.now.link c.args.given (step.Done outs) (step.Done outs) c.link-link.ensures c.reuse.ensures refl stepped)
@@ -44,13 +48,15 @@ returns-in-Err-carried-clause-went g c = λ light tells w.
 
 pub returns-in-Ok-Idle-clause-went : goal.returns-in-Ok-Idle-clause-went
 returns-in-Ok-Idle-clause-went g c = λ light tells w.
+    let serving : c.in-Some.client.now.phase ≡ phase.Serving = search rules in
     let row = subst (λ z. AllRows c.args.node.now c.link-link.result c.args.given c.step.new.self z) c.in-Ok-Idle.field-0-is c.in-Ok-Idle.ensures.row in
-    let stepped = idle_stepped c.args.node.now c.step.new.self c.link-link.result c.args.given c.step.result (c.in-Ok-Idle.is ∙ ap Ok c.in-Ok-Idle.field-0-is) c.step.ensures.down c.step.ensures.shut c.step.ensures.no_link row in
-    counts_idle c.args.turn.now c.count_step.new.self c.count_step.ensures.steps c.count_step.ensures.done
+    let input = ready_at c.args.node.now (client_of c.args.links.now c.args.k) c.in-Some.client.now c.link-link.result (sym c.in-Some.ensures) c.link-link.ensures serving c.requires in
+    let stepped = stepped_here c.args.node.now c.step.new.self c.link-link.result c.args.given step.Idle input row in
+    counts_idle c.args.turn.now c.count_step.new.self c.count_step.ensures.steps c.count_step.ensures.done c.count_step.ensures.deaf
     (went_one (idles c.args.k c.args.given) refl (record {
       client = c.in-Some.client.now;
       has = record { is = sym c.in-Some.ensures };
-      answer = inl (stepped_as c.args.node.now c.step.new.self c.step.new.self c.link-link.result c.in-Some.client.now.link c.args.given step.Idle step.Idle c.link-link.ensures refl refl stepped);
+      node = stepped_as c.args.node.now c.step.new.self c.step.new.self c.link-link.result c.in-Some.client.now.link c.args.given step.Idle step.Idle c.link-link.ensures refl refl stepped;
       own = refl;
       wire = refl;
       file = (refl, refl);
@@ -58,16 +64,10 @@ returns-in-Ok-Idle-clause-went g c = λ light tells w.
 
 pub returns-in-Ok-Closed-clause-went : goal.returns-in-Ok-Closed-clause-went
 returns-in-Ok-Closed-clause-went g c = λ light tells w.
+    let serving : c.in-Some.client.now.phase ≡ phase.Serving = search rules in
     let row = subst (λ z. AllRows c.args.node.now c.link-link.result c.args.given c.step.new.self z) c.in-Ok-Closed.field-0-is c.in-Ok-Closed.ensures.row in
-    counts_idle c.args.turn.now c.count_step.new.self c.count_step.ensures.steps c.count_step.ensures.done
-    (went_one (idles c.args.k c.args.given) refl (record {
-      client = c.in-Some.client.now;
-      has = record { is = sym c.in-Some.ensures };
-      answer = inr (closed_shut c.args.node.now c.step.new.self c.link-link.result c.in-Some.client.now.link c.args.given c.step.result (c.in-Ok-Closed.is ∙ ap Ok c.in-Ok-Closed.field-0-is) c.link-link.ensures c.step.ensures.down c.step.ensures.shut c.step.ensures.no_link row);
-      own = refl;
-      wire = refl;
-      file = (refl, refl);
-    }))
+    let input = ready_at c.args.node.now (client_of c.args.links.now c.args.k) c.in-Some.client.now c.link-link.result (sym c.in-Some.ensures) c.link-link.ensures serving c.requires in
+    never_closed c.args.node.now c.step.new.self c.link-link.result c.args.given input row
 
 pub returns-in-Err-Stopped-clause-went : goal.returns-in-Err-Stopped-clause-went
 returns-in-Err-Stopped-clause-went g c = λ light tells w.
@@ -79,9 +79,10 @@ pub returns-in-Err-clause-went : goal.returns-in-Err-clause-went
 returns-in-Err-clause-went g c = λ light tells w.
     let serving : c.in-Some.client.now.phase ≡ phase.Serving = search rules in
     let same : c.step.new.self ≡ c.args.node.now = search rules in
-    counts_idle c.args.turn.now c.count_step.new.self c.count_step.ensures.steps c.count_step.ensures.done
+    counts_idle c.args.turn.now c.count_step.new.self c.count_step.ensures.steps c.count_step.ensures.done c.count_step.ensures.deaf
     (went_trans (went_one (is_refused c.args.k) refl (record {
       client = c.in-Some.client.now;
+      unread = ready_at c.args.node.now (client_of c.args.links.now c.args.k) c.in-Some.client.now c.in-Some.client.now.link (sym c.in-Some.ensures) refl serving c.requires;
       given_up = record {
         has = record { is = sym c.in-Some.ensures };
         serving = serving;

@@ -1,9 +1,10 @@
 use Rattle.std.proofs.Common.{rules, ◌≡◌, false, Err, refl, sym, ap, subst, ◌∙◌}
 use Rattle.mr_node.specs.Ticks.{TickRow}
-use Rattle.mr_loop.specs.Rows.{ticks, spills_tick, stops, was_down}
+use Rattle.mr_loop.specs.Rows.{spills_tick, stops, was_down}
 use Rattle.mr_loop.proofs.Places.{filed}
 use Rattle.mr_loop.specs.Quiet.{AllWait}
-use Rattle.mr_loop.proofs.Runs.{broke_one, went_one, went_still}
+use Rattle.mr_loop.proofs.Passing.{misses_once, ticks_once}
+use Rattle.mr_loop.proofs.Runs.{broke_one}
 use Rattle.mr_loop.proofs.Waiting.{waits_ticked}
 use Rattle.mr_loop.proofs.stepping.tick.Goals as goal
 
@@ -14,12 +15,9 @@ returns-in-Err-Stopped-clause-went c = λ tells w m t s.
     broke_one stops refl (record { why = was_down down same; own = refl; wire = refl; file = (refl, refl) })
 
 pub returns-in-Ok-filed-clause-went : goal.returns-in-Ok-filed-clause-went
-returns-in-Ok-filed-clause-went c = λ tells w m t s. went_one (ticks c.args.given c.in-Ok.outs) refl (record {
-  node = subst (λ z. TickRow c.args.node.now c.args.given.now z c.in-Ok.outs) (sym c.reuse.ensures) c.in-Ok.ensures.row;
-  own = c.in-Ok-filed.ensures.ok ∙ ap (filed c.args.links.now) c.appended.ensures;
-  wire = refl;
-  file = (refl, refl);
-})
+returns-in-Ok-filed-clause-went c =
+    let row = subst (λ z. TickRow c.args.node.now c.args.given.now z c.in-Ok.outs) (sym c.reuse.ensures) c.in-Ok.ensures.row in
+    ticks_once c.args.node.now c.reuse.new.self c.args.links.now c.file-filed.new.self c.args.given c.in-Ok.outs c.has_deleted-more.result row (c.in-Ok-filed.ensures.ok ∙ ap (filed c.args.links.now) c.appended.ensures) c.has_deleted-more.ensures
 
 pub returns-in-Err-filed-clause-went : goal.returns-in-Err-filed-clause-went
 returns-in-Err-filed-clause-went c = λ tells w m t s. broke_one (spills_tick c.args.given c.in-Ok.outs) refl (record {
@@ -36,9 +34,9 @@ pub returns-in-Err-filed-clause-quiet : goal.returns-in-Err-filed-clause-quiet
 returns-in-Err-filed-clause-quiet c = λ q. subst AllWait (sym c.reuse.ensures) (waits_ticked c.in-Ok.ensures.row q)
 
 pub returns-in-Err-clause-went : goal.returns-in-Err-clause-went
-returns-in-Err-clause-went c = λ tells w m t s.
+returns-in-Err-clause-went c =
     let same : c.tick.new.self ≡ c.args.node.now = search rules in
-    went_still c.args.node.now c.tick.new.self c.args.links.now w t s same
+    misses_once c.args.node.now c.tick.new.self c.args.links.now c.args.given same
 
 pub returns-in-Err-clause-quiet : goal.returns-in-Err-clause-quiet
 returns-in-Err-clause-quiet c = λ q.

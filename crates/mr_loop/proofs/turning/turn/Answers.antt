@@ -2,6 +2,7 @@ use Rattle.std.proofs.Common.{ap, refl}
 use Rattle.mr_loop.specs.Stage.{Stage, stage}
 use Rattle.mr_loop.specs.Counting.{TellsOf}
 use Rattle.mr_loop.specs.Outcomes.{Broke}
+use Rattle.mr_loop.proofs.Living.{went_up}
 use Rattle.mr_loop.proofs.Runs.{breaks_down, from_wire, never_listener}
 use Rattle.mr_loop.proofs.turning.turn.Goals as goal
 
@@ -23,3 +24,6 @@ returns-in-Err-clause-went g c =
 
 pub returns-in-Err-clause-listener : goal.returns-in-Err-clause-listener
 returns-in-Err-clause-listener g c = λ h. absurd (never_listener c.in-Err.fault c.in-Err.ensures.went h)
+
+pub returns-in-Ok-clause-up : goal.returns-in-Ok-clause-up
+returns-in-Ok-clause-up g c = went_up c.in-Ok.ensures.went.went c.requires.up
