@@ -1,4 +1,4 @@
-.PHONY: build test test-all test-batched test-by-turns bench bench-serve instructions
+.PHONY: build test test-all test-batched test-by-turns bench bench-serve bench-large instructions
 
 # The gate that `make test` runs: test-all, test-batched, or test-by-turns.
 GATE = test-by-turns
@@ -29,6 +29,10 @@ bench:
 # What a request costs `serve`, beside redis-server over TCP, as a table and a plot.
 bench-serve:
 	python3 bench/serving.py --plot docs/serving.svg $(RUNS)
+
+# What single requests on large collections cost `serve`, beside redis-server.
+bench-large:
+	python3 bench/large.py
 
 # The runs of `make bench` by the instructions that they take, under callgrind, which must be installed.
 instructions:

@@ -9,6 +9,7 @@ use Rattle.minired.specs.declared.failure.Failure.TheVariants.{Usage, Pipe, Loop
 abbrev pub status_of : Failure → ℕ
 status_of (Usage (usage.Line text)) = 1
 status_of (Usage usage.BadValue) = 1
+status_of (Usage usage.BadMode) = 1
 status_of (Usage usage.Memory) = 3
 status_of (Pipe fault) = 3
 status_of (Loop loop.Listener) = 2

@@ -12,12 +12,12 @@ pub enum FileFault {
     /// It can't be opened.
     #[error("{0}")]
     Open(OpenFault),
-    /// It can't be read, or what stands behind its last effect can't be cut off.
-    #[error("could not be read, or its end not be cut off")]
-    Load,
+    /// It can't be read, or what stands behind its last effect can't be copied beside it or cut off.
+    #[error("could not be read, or its end not be copied beside it and cut off: {0}")]
+    Load(io::Error),
     /// What was to be written there can't be written, or not be synced.
-    #[error("could not be written")]
-    Write,
+    #[error("could not be written: {0}")]
+    Write(io::Error),
 }
 
 /// Why the program fails. Its text stands on standard error, behind the program's name.
@@ -52,7 +52,8 @@ impl Failure {
         ensures { result ≡ status_of self.now }
     {
         match self {
-            Failure::Usage(UsageFault::Line(_)) | Failure::Usage(UsageFault::BadValue) => 1,
+            Failure::Usage(UsageFault::Line(_)) => 1,
+            Failure::Usage(UsageFault::BadValue) | Failure::Usage(UsageFault::BadMode) => 1,
             Failure::Loop(LoopFault::Listener) | Failure::Listen(_, _) => 2,
             Failure::Loop(LoopFault::File) | Failure::Loop(LoopFault::Stopped) => 3,
             Failure::Usage(UsageFault::Memory) | Failure::Pipe(_) | Failure::Memory => 3,

@@ -1,8 +1,10 @@
 //! The append-only file of a node.
 use crate::failure::{Failure, FileFault};
+use crate::kept_file::KeptFile;
+use crate::notice::tell;
 use mr_aof::{Loaded, Log, LogFault};
 use mr_data::Dataset;
-use mr_file::{SyncMode, SystemFile};
+use mr_file::{OpenFault, SyncMode, SystemFile};
 use mr_pipe::{PipeConfig, PipeFault, pipe_with};
 use std::hash::RandomState;
 use std::io::Write;
@@ -15,30 +17,65 @@ pub fn file_failure(rt: &HostRuntime, path: &str, fault: FileFault) -> Failure {
     }
 }
 
+/// The file at this path. In a server its replacements are told, and descriptors are kept in reserve for them.
+fn opened_file(rt: &HostRuntime, path: &str, serves: bool) -> Result<KeptFile, Failure> {
+    let Ok(of_file) = rt.clone() else {
+        return Err(Failure::Memory);
+    };
+    let Ok(of_kept) = rt.clone() else {
+        return Err(Failure::Memory);
+    };
+    let mut file = match SystemFile::open(of_file, path) {
+        Ok(file) => file,
+        Err(fault) => return Err(file_failure(rt, path, FileFault::Open(fault))),
+    };
+    if serves && let Err(error) = file.keep_reserve() {
+        let fault = FileFault::Open(OpenFault::System(error));
+        return Err(file_failure(rt, path, fault));
+    }
+    Ok(KeptFile::new(of_kept, file, serves))
+}
+
+/// Tells what was cut off the end of the file at this path, if something was.
+fn tell_cut(rt: &HostRuntime, path: &str, file: &KeptFile) {
+    if let Some(aside) = file.system().aside() {
+        let (count, from, copy) = (aside.len, aside.from, aside.path.as_str());
+        tell(
+            rt,
+            &format_args!(
+                "{path}: cut off {count} bytes from offset {from} on, copied to {copy} before"
+            ),
+        );
+    }
+}
+
 /// The log of the file at this path, and the dataset that is kept there.
 pub fn opened(
     rt: &HostRuntime,
     path: &str,
+    serves: bool,
     sync: SyncMode,
     seed: RandomState,
-) -> Result<(Log<SystemFile>, Dataset), Failure> {
-    let Ok(of_file) = rt.clone() else {
-        return Err(Failure::Memory);
-    };
-    let file = match SystemFile::open(of_file, path) {
-        Ok(file) => file,
-        Err(fault) => return Err(file_failure(rt, path, FileFault::Open(fault))),
-    };
+) -> Result<(Log<KeptFile>, Dataset), Failure> {
+    let file = opened_file(rt, path, serves)?;
     match Log::open(rt.alloc(), seed, file, sync) {
         Ok((log, loaded)) => {
             let Loaded { dataset, used: _ } = loaded;
+            tell_cut(rt, path, log.file());
             Ok((log, dataset))
         }
         Err((LogFault::Memory, _file)) => Err(Failure::Memory),
-        Err((LogFault::Device, _file)) | Err((LogFault::Broken, _file)) => {
-            Err(file_failure(rt, path, FileFault::Load))
+        Err((LogFault::Device, file)) | Err((LogFault::Broken, file)) => {
+            let fault = FileFault::Load(file.system().why());
+            Err(file_failure(rt, path, fault))
         }
     }
+}
+
+/// Why what was to be written to the file at this path wasn't.
+pub fn write_failure(rt: &HostRuntime, path: &str, log: &Log<KeptFile>) -> Failure {
+    let fault = FileFault::Write(log.file().system().why());
+    file_failure(rt, path, fault)
 }
 
 /// One node, which begins with the dataset that the file at this path keeps, and keeps its own there.
@@ -49,7 +86,7 @@ pub fn run_kept<W: Write>(
     seed: RandomState,
     output: &mut W,
 ) -> Result<(), Failure> {
-    let (mut log, dataset) = opened(rt, path, SyncMode::Always, seed)?;
+    let (mut log, dataset) = opened(rt, path, false, SyncMode::Always, seed)?;
     let ended = pipe_with(
         rt.alloc(),
         config,
@@ -61,7 +98,7 @@ pub fn run_kept<W: Write>(
     // After a failed append too the replies before it are due.
     let _ = output.flush();
     match ended {
-        Err(PipeFault::File) => Err(file_failure(rt, path, FileFault::Write)),
+        Err(PipeFault::File) => Err(write_failure(rt, path, &log)),
         Err(fault) => Err(Failure::Pipe(fault)),
         Ok(()) => Ok(()),
     }

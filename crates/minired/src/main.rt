@@ -4,18 +4,24 @@
 ghost use Rattle.mr_data.specs.Given.{IsMoment};
 
 mod failure;
+mod help;
 mod kept;
+mod kept_file;
+mod notice;
 mod served;
+mod told_wire;
+mod turns;
 
 use failure::Failure;
+use help::answer;
 use kept::run_kept;
 use mr_data::Given;
-use mr_options::{Options, PipeOptions, UsageFault, options};
-use mr_pipe::{PipeConfig, pipe};
+use mr_options::{Options, PipeOptions, UsageFault, asked, options};
+use mr_pipe::{PipeConfig, PipeFault, pipe};
 use served::run_server;
 use std::env;
 use std::hash::RandomState;
-use std::io::{BufWriter, ErrorKind};
+use std::io::{BufWriter, ErrorKind, IsTerminal};
 use std::process::ExitCode;
 
 /// How many bytes of replies are kept until they are written together.
@@ -44,6 +50,15 @@ fn seed_of(rt: &HostRuntime) -> Result<RandomState, Failure> {
     }
 }
 
+/// Who started the program at a terminal is told that it waits. A line that can't be written is left out.
+fn tell_waiting(rt: &HostRuntime) {
+    if rt.stdin().is_terminal() {
+        let _ = eprintln!(rt;
+            "minired: waits for requests on this terminal, until Ctrl-D; minired --help says what else there is"
+        );
+    }
+}
+
 /// One node, asked by one client on standard input and answered on standard output.
 fn run_pipe(rt: &HostRuntime, options: &PipeOptions<'_>) -> Result<(), Failure>
     requires { IsMoment options.now.now }
@@ -56,6 +71,7 @@ fn run_pipe(rt: &HostRuntime, options: &PipeOptions<'_>) -> Result<(), Failure>
         given,
     };
     let seed = seed_of(rt)?;
+    tell_waiting(rt);
     let Ok(mut output) = BufWriter::with_capacity(rt.alloc(), REPLIES, rt.stdout()) else {
         return Err(Failure::Memory);
     };
@@ -68,6 +84,13 @@ fn run_pipe(rt: &HostRuntime, options: &PipeOptions<'_>) -> Result<(), Failure>
 
 fn run(rt: &HostRuntime) -> Result<(), Failure> {
     let words = words(rt)?;
+    if let Some(question) = asked(words.as_slice()) {
+        return if answer(rt, question) {
+            Ok(())
+        } else {
+            Err(Failure::Pipe(PipeFault::Write))
+        };
+    }
     match options(rt.alloc(), words.as_slice())? {
         Options::Pipe(options) => run_pipe(rt, &options),
         Options::Serve(options) => run_server(rt, &options, seed_of(rt)?),

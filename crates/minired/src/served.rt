@@ -1,10 +1,13 @@
 //! A server: a node asked over TCP.
-use crate::failure::{Failure, FileFault};
-use crate::kept::{file_failure, opened};
+use crate::failure::Failure;
+use crate::kept::{opened, write_failure};
+use crate::notice::tell;
+use crate::told_wire::ToldWire;
+use crate::turns::serve_turns;
 use mr_aof::Log;
 use mr_data::Dataset;
 use mr_file::LogFile;
-use mr_loop::{Links, LoopFault, serve};
+use mr_loop::{Links, LoopFault};
 use mr_node::{Config, Node};
 use mr_options::ServeOptions;
 use mr_source::{Source, SystemSource};
@@ -23,11 +26,9 @@ pub fn run_server(
 ) -> Result<(), Failure> {
     match options.aof {
         Some(path) => {
-            let (mut log, dataset) = opened(rt, path, options.sync, seed)?;
+            let (mut log, dataset) = opened(rt, path, true, options.sync, seed)?;
             match serve_node(rt, options, dataset, &mut log) {
-                Err(Failure::Loop(LoopFault::File)) => {
-                    Err(file_failure(rt, path, FileFault::Write))
-                }
+                Err(Failure::Loop(LoopFault::File)) => Err(write_failure(rt, path, &log)),
                 ended => ended,
             }
         }
@@ -60,16 +61,28 @@ fn serve_node<F: LogFile>(
         return Err(Failure::Memory);
     };
     tell_ready(rt, options, keys);
-    match serve(
+    let ended = serve_turns(
+        rt,
         &mut node,
         &mut links,
         &mut wire,
         log,
         &mut source,
         options.turns,
-    ) {
+    );
+    tell_end(rt, links.halted(), ended);
+    match ended {
         Ok(()) => Ok(()),
         Err(fault) => Err(Failure::Loop(fault)),
+    }
+}
+
+/// Tells why the server ends.
+fn tell_end(rt: &HostRuntime, halted: bool, ended: Result<(), LoopFault>) {
+    match ended {
+        Ok(()) if halted => tell(rt, &"ends: a client said SHUTDOWN"),
+        Ok(()) => tell(rt, &"ends: it made all its turns"),
+        Err(fault) => tell(rt, &format_args!("ends: {fault}")),
     }
 }
 
@@ -85,19 +98,30 @@ fn source_of(rt: &HostRuntime) -> Result<SystemSource, Failure> {
 }
 
 /// A wire of this machine's own address.
-fn listening(rt: &HostRuntime, port: u16) -> Result<SocketWire, Failure> {
+fn listening(rt: &HostRuntime, port: u16) -> Result<ToldWire, Failure> {
+    let Ok(of_wire) = rt.clone() else {
+        return Err(Failure::Memory);
+    };
     let address = SocketAddr::from((Ipv4Addr::LOCALHOST, port));
     match SocketWire::listen(rt, rt.alloc(), address) {
-        Ok(wire) => Ok(wire),
+        Ok(wire) => Ok(ToldWire::new(of_wire, wire)),
         Err(error) => Err(Failure::Listen(port, error)),
     }
 }
 
-/// The line that says that clients may come. One that can't be written is left out.
+/// The lines that say that clients may come: one on standard output, and a notice. Those that can't be written are left out.
 fn tell_ready(rt: &HostRuntime, options: &ServeOptions<'_>, keys: usize) {
     let port = options.port;
-    let _ = match options.aof {
-        Some(path) => println!(rt; "minired: ready on 127.0.0.1:{port}, {keys} keys from {path}"),
-        None => println!(rt; "minired: ready on 127.0.0.1:{port}, {keys} keys"),
-    };
+    match options.aof {
+        Some(path) => {
+            let text = format_args!("ready on 127.0.0.1:{port}, {keys} keys from {path}");
+            tell(rt, &text);
+            let _ = println!(rt; "minired: {text}");
+        }
+        None => {
+            let text = format_args!("ready on 127.0.0.1:{port}, {keys} keys");
+            tell(rt, &text);
+            let _ = println!(rt; "minired: {text}");
+        }
+    }
 }

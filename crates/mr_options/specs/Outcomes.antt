@@ -1,5 +1,5 @@
 -- What a line says as a whole: its options, or why it is refused.
-use Rattle.std.specs.Prelude.{◌≡◌, ◌≢◌, ◌⊎◌, List, [], ◌∷◌, Some, codes, string_bytes}
+use Rattle.std.specs.Prelude.{◌≡◌, ◌≢◌, List, [], ◌∷◌, Some, codes, string_bytes}
 use Rattle.std.specs.Char.{is_control}
 use Rattle.std.specs.Str.{NoCharPasses}
 use Rattle.clap.specs.Words.{Row, Text, fault_of, kind_of, subcommand_of}
@@ -10,7 +10,7 @@ use Rattle.mr_options.specs.Values.{ArePipeOf, AreServeOf, NamesNoId, NamesNoMod
 use Rattle.mr_options.specs.declared.line.Options.{Options}
 use Rattle.mr_options.specs.declared.line.Options.TheVariants.{Pipe, Serve}
 use Rattle.mr_options.specs.declared.fault.UsageFault.{UsageFault}
-use Rattle.mr_options.specs.declared.fault.UsageFault.TheVariants.{Line, BadValue, Memory}
+use Rattle.mr_options.specs.declared.fault.UsageFault.TheVariants.{Line, BadValue, BadMode, Memory}
 
 -- the parser finds no fault in the line, which names this subcommand with these rows
 abbrev pub IsLineOf : Text → List Text → List Row → Type 0
@@ -41,11 +41,13 @@ IsOneLine text = NoCharPasses is_control text
 abbrev pub IsFaultOf : Error → UsageFault → Type 0
 IsFaultOf error (Line text) = (kind_of error ≢ OutOfMemory) × IsOneLine (string_bytes text)
 IsFaultOf error BadValue = ⊥
+IsFaultOf error BadMode = ⊥
 IsFaultOf error Memory = Unit {0}
 
 -- why a line is refused: the parser finds fault with it; or it does not, and a line of `pipe` names
 -- an id that is none, or one of `serve` a mode that is none
 abbrev pub ExplainsFault : List Text → UsageFault → Type 0
 ExplainsFault words (Line text) = (fault_of line words ≢ []) × IsOneLine (string_bytes text)
-ExplainsFault words BadValue = (rows : List Row) × ((IsPipeLine words rows × NamesNoId rows) ⊎ (IsServeLine words rows × NamesNoMode rows))
+ExplainsFault words BadValue = (rows : List Row) × (IsPipeLine words rows × NamesNoId rows)
+ExplainsFault words BadMode = (rows : List Row) × (IsServeLine words rows × NamesNoMode rows)
 ExplainsFault words Memory = Unit {0}

@@ -8,10 +8,12 @@ pub enum UsageFault {
     /// What the parser says: an unknown word, a number outside its range, an option given twice, a port left out.
     #[error("{0}")]
     Line(String),
-    /// A value that the parser takes, and that is none: an id not of 40 lower-case hexadecimal digits, or a mode that is
-    /// neither `always` nor `no`.
+    /// A value that the parser takes, and that is none: an id not of 40 lower-case hexadecimal digits.
     #[error("bad value")]
     BadValue,
+    /// A mode that is neither `always` nor `no`.
+    #[error("bad value: --sync takes always or no")]
+    BadMode,
     /// There was no memory to read the words.
     #[error("out of memory")]
     Memory,

@@ -13,6 +13,7 @@ use crate::serve_values::serve_of;
 use clap::ArgMatches;
 use std::alloc::Global;
 
+mod asking;
 mod command;
 mod explain;
 mod fault;
@@ -21,6 +22,7 @@ mod pipe_values;
 mod serve_values;
 mod values;
 
+pub use asking::{Question, asked};
 pub use fault::UsageFault;
 pub use line::{Options, PipeOptions, ServeOptions};
 
@@ -38,7 +40,7 @@ fn options_of<'a>(name: &str, matches: &ArgMatches<'a>) -> Result<Options<'a>, U
         },
         "serve" => match serve_of(matches) {
             Some(options) => Ok(Options::Serve(options)),
-            None => Err(UsageFault::BadValue),
+            None => Err(UsageFault::BadMode),
         },
         _ => unreachable!(),
     }

@@ -1,4 +1,4 @@
-use Rattle.std.proofs.Common.{inl, inr, subst}
+use Rattle.std.proofs.Common.{subst}
 use Rattle.clap.specs.Words.{Text, found_of, rows_of}
 use Rattle.mr_options.specs.Outcomes.{IsLineOf}
 use Rattle.mr_options.proofs.Passing.{pipe_numbers, serve_numbers}
@@ -20,10 +20,10 @@ pub returns-in-None-clause-err : goal.returns-in-None-clause-err
 returns-in-None-clause-err c = λ words is.
     let rows = rows_of (found_of c.args.matches.now) in
     let P : Text → Type 0 = λ name. IsLineOf name words rows in
-    (rows, inl (subst P c.in-pipe.is is, c.in-None.ensures.none))
+    (rows, (subst P c.in-pipe.is is, c.in-None.ensures.none))
 
 pub returns-in-None-serve_of-clause-err : goal.returns-in-None-serve_of-clause-err
 returns-in-None-serve_of-clause-err c = λ words is.
     let rows = rows_of (found_of c.args.matches.now) in
     let P : Text → Type 0 = λ name. IsLineOf name words rows in
-    (rows, inr (subst P c.in-serve.is is, c.in-None-serve_of.ensures.none))
+    (rows, (subst P c.in-serve.is is, c.in-None-serve_of.ensures.none))

@@ -1,0 +1,34 @@
+//! What the program says of itself.
+use mr_options::Question;
+
+/// What it is, and its version.
+const VERSION: &str = "minired 0.1.0";
+
+/// Its words, and their usual values.
+const HELP: &str = "\
+minired: an in-memory data structure server in the manner of Redis
+
+usage: minired serve --port P [--aof PATH] [--sync always|no] [--turns N]
+       minired pipe [--aof PATH] [--id H] [--now N] [--word N]
+       minired --help | --version
+
+minired serve  answers clients on 127.0.0.1, over RESP2, until one says SHUTDOWN
+  --port P     the port, from 1 to 65535; there is no usual one
+  --aof PATH   the append-only file that keeps the dataset; usually none: it is in memory alone
+  --sync MODE  always: a write is on the disk before its answer; no: the system puts it there later; usually always
+  --turns N    it ends behind so many turns of its loop; usually 1000000000000
+
+minired pipe   answers one client on standard input and output, until the input ends; so does minired without a word
+  --aof PATH   the append-only file that keeps the dataset; usually none: it is in memory alone
+  --id H       the name of the stream, 40 lower-case hexadecimal digits; usually 40 times a
+  --now N      the time that all commands see, in milliseconds from 0 to 2305843009213693952; usually 0
+  --word N     the number that stands for chance, from 0 to 18446744073709551615; usually 0
+";
+
+/// Answers a question about the program on standard output. It answers whether that could be written.
+pub fn answer(rt: &HostRuntime, question: Question) -> bool {
+    match question {
+        Question::Help => print!(rt; "{HELP}").is_ok(),
+        Question::Version => println!(rt; "{VERSION}").is_ok(),
+    }
+}
