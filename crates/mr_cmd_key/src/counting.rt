@@ -1,6 +1,6 @@
 // How many keys are there and not expired.
-ghost use Rattle.std.specs.Prelude.{◌≡◌, ◌≤◌, ◌<◌, ◌^◌, length, map, filter, is_some};
-ghost use Rattle.std.specs.FinMap.{get, keys};
+ghost use Rattle.std.specs.Prelude.{◌≡◌, ◌≤◌, length, map, is_some};
+ghost use Rattle.std.specs.FinMap.{get};
 ghost use Rattle.std.specs.Cow.{cow_slice_items};
 ghost use Rattle.mr_data.specs.Dataset.{live};
 ghost use Rattle.mr_cmd_key.specs.Outcomes.{present_at};
@@ -25,20 +25,6 @@ pub fn count_present(held: &Dataset, keys: &[CowSlice<'_, u8>], given: Given) ->
     for key in keys {
         if is_present(held, key.as_slice(), given) {
             count += 1;
-        }
-    }
-    count
-}
-
-/// How many keys are not expired.
-pub fn count_keys(held: &Dataset, given: Given) -> usize
-    ensures count { result ≡ length (filter (λ k. is_some (live given.now (get held.now k))) (keys held.now)) }
-    ensures small { result < 2 ^ 63 }
-{
-    let mut count = held.len();
-    for key in held.keys() {
-        if !is_present(held, key, given) {
-            count -= 1;
         }
     }
     count

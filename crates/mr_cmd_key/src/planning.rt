@@ -14,7 +14,7 @@ ghost use Rattle.mr_cmd_key.specs.Outcomes.{deleted, counted};
 ghost use Rattle.mr_cmd_key.specs.Renaming.{cleared};
 ghost use Rattle.mr_cmd_key.specs.Listing.{matching, scanned, sized};
 
-use crate::counting::{count_keys, count_present};
+use crate::counting::count_present;
 use crate::expiring::DeadlineForm;
 use crate::key_ask::{Cursor, ExpireCondition, KeyAsk, KindName};
 use crate::renaming::{rename, renamenx};
@@ -209,7 +209,7 @@ fn bytes_of<'a>(word: &Option<Argument<'a>>) -> Option<&'a [u8]>
 fn dbsize(held: &Dataset, given: Given) -> Reply
     ensures { view result ≡ (sized (seen given.now held.now)).reply }
 {
-    count(count_keys(held, given))
+    count(held.live_len(given.now()))
 }
 
 fn clear(held: &Dataset, given: Given, effects: &mut Effects) -> Result<Reply, AllocError>

@@ -77,7 +77,7 @@ later x y now h out =
       | false ↦ λ e. refl
     ] refl
 
-none_later : (x : Pair) (ys : List Pair) (now : ℤ) → Above pair_cmp x ys → expired now x ≡ false → filter (expired now) ys ≡ []
+pub none_later : (x : Pair) (ys : List Pair) (now : ℤ) → Above pair_cmp x ys → expired now x ≡ false → filter (expired now) ys ≡ []
 none_later x [] now h out = refl
 none_later x (y ∷ ys) now h out = ap (λ b. cond b (y ∷ filter (expired now) ys) (filter (expired now) ys)) (later x y now h.0 out) ∙ none_later x ys now h.1 out
 

@@ -1,10 +1,13 @@
 -- The expired keys, in the order in which they are deleted.
-use Rattle.std.specs.Prelude.{IsTrue, ℤ, List, [], ◌∷◌, int_le, if◌then◌else◌, Option, Some, None}
+use Rattle.std.specs.Prelude.{IsTrue, ◌-◌, ℕ, ℤ, List, [], ◌∷◌, map, take, int_le, nat_le, if◌then◌else◌, Option, Some, None}
 use Rattle.std.specs.List.{flat_map}
 use Rattle.std.specs.Option.{option_and_then}
 use Rattle.std.specs.FinMap.{get, keys}
 use Rattle.mr_map.specs.Bytes.{Bytes}
 use Rattle.mr_value.specs.Words.{fits}
+use Rattle.mr_effect.specs.Spelling.{size}
+use Rattle.mr_effect.specs.declared.effect.Effect.{Effect}
+use Rattle.mr_effect.specs.declared.effect.Effect.TheVariants as effect
 use Rattle.mr_zset.specs.Order.{in_order}
 use Rattle.mr_zset.specs.Pairs.{pair_cmp}
 use Rattle.mr_entries.specs.Dataset.{Dataset}
@@ -33,3 +36,16 @@ shown d = (d.key.now, d.deadline)
 -- its key is within the word limit
 abbrev pub HasWord : DueKey → Type 0
 HasWord d = IsTrue (fits d.key.now)
+
+-- so many keys go in one tick at most
+abbrev pub most_deleted : ℕ
+most_deleted = 64
+
+-- the first effects, up to one that has no room
+abbrev pub within : ℕ → List Effect → List Effect
+within room [] = []
+within room (e ∷ es) = if nat_le (size e) room then e ∷ within (room - size e) es else []
+
+-- the expired keys go, in order of deadline and then of key, as far as there is room for the effects
+abbrev pub deletions : ℤ → Dataset → ℕ → List Effect
+deletions now m room = within room (map (λ d. effect.Del d.0) (take most_deleted (due now m)))

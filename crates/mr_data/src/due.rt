@@ -1,6 +1,8 @@
 // The expired keys of a dataset.
-ghost use Rattle.std.specs.Prelude.{◌≡◌, IfOk, All, MatchOption, map, take, slice_get, int_le, option_copied, option_map, true, false};
+ghost use Rattle.std.specs.Prelude.{◌≡◌, ◌<◌, ◌^◌, IfOk, All, MatchOption, map, take, slice_get, int_le, option_copied, option_map, true, false};
+ghost use Rattle.std.specs.FinMap.{len};
 ghost use Rattle.mr_entries.specs.TimedKeys.{shown as entered};
+ghost use Rattle.mr_data.specs.Dataset.{seen};
 ghost use Rattle.mr_data.specs.Due.{due, shown, HasWord};
 
 use crate::dataset::Dataset;
@@ -48,13 +50,34 @@ impl Dataset {
         let due = if_expired(first, now)?;
         Some(due.key)
     }
+
+    /// How many keys are not expired at a moment. Its time grows with the number of the expired ones alone. It takes no memory.
+    pub fn live_len(&self, now: i64) -> usize
+        ensures len { result ≡ len (seen now self.now) }
+        ensures small { result < 2 ^ 63 }
+    {
+        let mut count = self.len();
+        for timed in self.timed_keys() {
+            if !is_expired(timed, now) {
+                return count;
+            }
+            count -= 1;
+        }
+        count
+    }
+}
+
+fn is_expired(timed: &TimedKey, now: i64) -> bool
+    ensures { result ≡ int_le timed.now.deadline now }
+{
+    timed.deadline <= now
 }
 
 // A key with its deadline, if that has passed.
 fn if_expired(timed: &TimedKey, now: i64) -> Option<DueKey<'_>>
     ensures { MatchOption result (int_le timed.now.deadline now ≡ false) (λ d. (shown d ≡ entered timed.now) × (int_le timed.now.deadline now ≡ true)) }
 {
-    if timed.deadline > now {
+    if !is_expired(timed, now) {
         return None;
     }
     Some(DueKey {

@@ -1,19 +1,19 @@
 -- Texts of bounds: which of them are bounds on a score.
-use Rattle.std.proofs.Common.{◌≡◌, ◌≢◌, ℕ, suc, ℤ, pos, negsuc, ◌<◌, ◌≤◌, ◌^◌, List, [], ◌∷◌, ◌++◌, length, get_or, drop, decimal, true, false, ◌||◌, cond, Option, Some, None, IsTrue, ◌⊎◌, inl, inr, refl, sym, ap, subst, ◌∙◌, arith}
+use Rattle.std.proofs.Common.{◌≡◌, ◌≢◌, ℕ, suc, ℤ, pos, negsuc, ◌<◌, ◌≤◌, ◌^◌, List, [], ◌∷◌, ◌++◌, length, get_or, drop, decimal, Bool, true, false, ◌||◌, cond, Option, Some, None, IsTrue, ◌⊎◌, inl, inr, refl, sym, ap, subst, ◌∙◌, arith}
 use Rattle.std.specs.Prelude.{◌==◌, ◌↔◌, if◌then◌else◌, codes, option_map, replicate}
 use Rattle.std.specs.Fmt.{signed_decimal}
-use Rattle.std.specs.Str.{bytes_eq, str_eq_ignore_ascii_case, str_to_ascii_lowercase}
+use Rattle.std.specs.Str.{bytes_eq, str_to_ascii_lowercase}
 use Rattle.std.specs.Char.{to_ascii_lowercase}
 use Rattle.std.proofs.lemmas.List.{append-nil}
 use Rattle.std.proofs.lemmas.Bool.{eqb-true, ltb-true, ne_eqb}
 use Rattle.std.proofs.lemmas.Bool.Decides.{nat_tests}
-use Rattle.mr_value.proofs.Numbers.{bounds, digit, each_is_digit, same_bytes}
+use Rattle.mr_value.proofs.Numbers.{bounds, digit, each_is_digit, equal_bytes, same_bytes}
 use Rattle.mr_value.specs.Number.{is_i64}
 use Rattle.mr_score.specs.Texts.{IsScoreText, score_of}
 use Rattle.mr_score.proofs.TextLemmas.{read_spelled, score_fits, spelled_read}
 use Rattle.mr_zset.specs.declared.bound.Bound.{Bound}
 use Rattle.mr_zset.specs.declared.bound.Bound.TheVariants.{NegativeInfinity, Included, Excluded, PositiveInfinity}
-use Rattle.mr_zset.specs.Texts.{bound_of, excluding, limit_of}
+use Rattle.mr_zset.specs.Texts.{bound_of, excluding, in_parenthesis, is_one_of, IsNamed, IsOneOf, limit_of, negative_names, positive_names}
 
 -- The calls' results, as the definitions have them.
 
@@ -81,36 +81,88 @@ begins_lowered : (text : List ℕ) → BeginsNumber text → BeginsNumber (str_t
 begins_lowered text (inl d) = inl (subst IsDigit (sym (first_lowered text ∙ digit_lowered (get_or text 0 0) d)) d)
 begins_lowered text (inr m) = inr (first_lowered text ∙ ap to_ascii_lowercase m.0, subst IsDigit (sym (second_lowered text ∙ digit_lowered (get_or text 1 0) m.1)) m.1)
 
--- the names of the infinities are no scores
+-- ---- names
 
-bare : BeginsNumber (codes "inf") → ⊥
-bare h = elim h [
-  | inl d ↦ (let lie : 105 ≤ 57 = d.1 in omega arith)
-  | inr m ↦ (let lie : 105 ≡ 45 = m.0 in omega arith)
-]
+read_name : (names : List (List ℕ)) (word : List ℕ) → is_one_of names word ≡ true → IsOneOf names word
+read_name [] word h = cc
+read_name (name ∷ names) word h = elim (bytes_eq word name) as (λ b. bytes_eq word name ≡ b → (b || is_one_of names word) ≡ true → IsOneOf (name ∷ names) word) [
+  | true ↦ λ t p. inl (same_bytes word name t)
+  | false ↦ λ t p. inr (read_name names word p)
+] refl h
 
-with_plus : BeginsNumber (codes "+inf") → ⊥
-with_plus h = elim h [
-  | inl d ↦ (let lie : 48 ≤ 43 = d.0 in omega arith)
-  | inr m ↦ (let lie : 43 ≡ 45 = m.0 in omega arith)
-]
+either_one : (a b : Bool) → b ≡ true → (a || b) ≡ true
+either_one true b h = refl
+either_one false b h = h
 
-with_minus : BeginsNumber (codes "-inf") → ⊥
-with_minus h = elim h [
-  | inl d ↦ (let lie : 48 ≤ 45 = d.0 in omega arith)
-  | inr m ↦ (let lie : 105 ≤ 57 = m.1.1 in omega arith)
-]
+spelled_name : (names : List (List ℕ)) (word : List ℕ) → IsOneOf names word → is_one_of names word ≡ true
+spelled_name [] word h = absurd h
+spelled_name (name ∷ names) word (inl e) = ap (λ b. b || is_one_of names word) (ap (λ w. bytes_eq w name) e ∙ equal_bytes name)
+spelled_name (name ∷ names) word (inr h) = either_one (bytes_eq word name) (is_one_of names word) (spelled_name names word h)
 
-other_text : (text name : List ℕ) (n : ℤ) → (BeginsNumber (str_to_ascii_lowercase name) → ⊥) → score_of text ≡ Some n → str_eq_ignore_ascii_case text name ≡ false
-other_text text name n other some = elim (str_eq_ignore_ascii_case text name) as (λ b. str_eq_ignore_ascii_case text name ≡ b → b ≡ false) [
-  | true ↦ λ e. absurd (other (subst BeginsNumber (same_bytes (str_to_ascii_lowercase text) (str_to_ascii_lowercase name) e) (begins_lowered text (score_begins text n (read_spelled text n some)))))
+into_parenthesis : (names : List (List ℕ)) (word : List ℕ) → IsOneOf names word → IsOneOf (in_parenthesis names) (40 ∷ word)
+into_parenthesis [] word h = absurd h
+into_parenthesis (name ∷ names) word (inl e) = inl (ap (λ w. 40 ∷ w) e)
+into_parenthesis (name ∷ names) word (inr h) = inr (into_parenthesis names word h)
+
+out_of_parenthesis : (names : List (List ℕ)) (word : List ℕ) → IsOneOf (in_parenthesis names) word → (rest : List ℕ) × (word ≡ 40 ∷ rest) × IsOneOf names rest
+out_of_parenthesis [] word h = absurd h
+out_of_parenthesis (name ∷ names) word (inl e) = (name, e, inl refl)
+out_of_parenthesis (name ∷ names) word (inr h) = let more = out_of_parenthesis names word h in (more.0, more.1, inr more.2)
+
+-- a name begins with a letter, or with a plus or a minus and a letter: no number does, and no `(` is there
+data BeginsName (word : List ℕ) : Type 0 where
+  letter : get_or word 0 0 ≡ 105 → BeginsName word
+  plus : get_or word 0 0 ≡ 43 → BeginsName word
+  minus : get_or word 0 0 ≡ 45 → get_or word 1 0 ≡ 105 → BeginsName word
+
+no_number : (word : List ℕ) → BeginsName word → BeginsNumber word → ⊥
+no_number word (letter e) (inl d) = omega (arith, e, d.1)
+no_number word (letter e) (inr m) = omega (arith, e, m.0)
+no_number word (plus e) (inl d) = omega (arith, e, d.0)
+no_number word (plus e) (inr m) = omega (arith, e, m.0)
+no_number word (minus e f) (inl d) = omega (arith, e, d.0)
+no_number word (minus e f) (inr m) = omega (arith, f, m.1.1)
+
+no_front : (word : List ℕ) → BeginsName word → get_or word 0 0 ≢ 40
+no_front word (letter e) is = omega (arith, e, is)
+no_front word (plus e) is = omega (arith, e, is)
+no_front word (minus e f) is = omega (arith, e, is)
+
+positive_begins : (word : List ℕ) → IsOneOf positive_names word → BeginsName word
+positive_begins word (inl e) = letter (ap (λ w. get_or w 0 0) e)
+positive_begins word (inr (inl e)) = plus (ap (λ w. get_or w 0 0) e)
+positive_begins word (inr (inr (inl e))) = letter (ap (λ w. get_or w 0 0) e)
+positive_begins word (inr (inr (inr (inl e)))) = plus (ap (λ w. get_or w 0 0) e)
+positive_begins word (inr (inr (inr (inr none)))) = absurd none
+
+negative_begins : (word : List ℕ) → IsOneOf negative_names word → BeginsName word
+negative_begins word (inl e) = minus (ap (λ w. get_or w 0 0) e) (ap (λ w. get_or w 1 0) e)
+negative_begins word (inr (inl e)) = minus (ap (λ w. get_or w 0 0) e) (ap (λ w. get_or w 1 0) e)
+negative_begins word (inr (inr none)) = absurd none
+
+-- no name of the one infinity is one of the other
+not_positive : (word : List ℕ) → IsOneOf negative_names word → is_one_of positive_names word ≡ false
+not_positive word (inl e) = ap (is_one_of positive_names) e
+not_positive word (inr (inl e)) = ap (is_one_of positive_names) e
+not_positive word (inr (inr none)) = absurd none
+
+no_name : (names : List (List ℕ)) (text : List ℕ) (n : ℤ) → ((word : List ℕ) → IsOneOf names word → BeginsName word) → score_of text ≡ Some n → is_one_of names (str_to_ascii_lowercase text) ≡ false
+no_name names text n begins some = elim (is_one_of names (str_to_ascii_lowercase text)) as (λ b. is_one_of names (str_to_ascii_lowercase text) ≡ b → b ≡ false) [
+  | true ↦ λ e. absurd (no_number (str_to_ascii_lowercase text) (begins (str_to_ascii_lowercase text) (read_name names (str_to_ascii_lowercase text) e)) (begins_lowered text (score_begins text n (read_spelled text n some))))
   | false ↦ λ e. refl
 ] refl
 
-score_limit : (text : List ℕ) (n : ℤ) → score_of text ≡ Some n → limit_of text ≡ Some (Included n)
+-- the limit, by which names the text is
+abbrev by_names : Bool → Bool → List ℕ → Option Bound
+by_names up down text = cond up (Some PositiveInfinity) (cond down (Some NegativeInfinity) (option_map Included (score_of text)))
+
+limit_is : (text : List ℕ) (up down : Bool) → is_one_of positive_names (str_to_ascii_lowercase text) ≡ up → is_one_of negative_names (str_to_ascii_lowercase text) ≡ down → limit_of text ≡ by_names up down text
 unfolding limit_of
+limit_is text up down u d = ap (λ b. by_names b (is_one_of negative_names (str_to_ascii_lowercase text)) text) u ∙ ap (λ b. by_names up b text) d
+
+score_limit : (text : List ℕ) (n : ℤ) → score_of text ≡ Some n → limit_of text ≡ Some (Included n)
 score_limit text n h =
-    rw (other_text text (codes "inf") n bare h, other_text text (codes "+inf") n with_plus h, other_text text (codes "-inf") n with_minus h, h) refl
+    limit_is text false false (no_name positive_names text n positive_begins h) (no_name negative_names text n negative_begins h) ∙ ap (option_map Included) h
 
 -- what a limit says of the text
 
@@ -122,29 +174,29 @@ scored (Some m) b n e p =
     let equal : m ≡ n = cc in
     ap (λ k. Some k) equal
 
+-- what a limit is, by the tests that it passes
+by_tests : (text : List ℕ) (P : Option Bound → Type 0)
+    → (IsOneOf positive_names (str_to_ascii_lowercase text) → P (Some PositiveInfinity)) → (IsOneOf negative_names (str_to_ascii_lowercase text) → P (Some NegativeInfinity)) → P (option_map Included (score_of text)) → P (limit_of text)
+by_tests text P up down other = go (is_one_of positive_names (str_to_ascii_lowercase text)) (is_one_of negative_names (str_to_ascii_lowercase text)) refl refl
+  where
+    go : (t u : Bool) → is_one_of positive_names (str_to_ascii_lowercase text) ≡ t → is_one_of negative_names (str_to_ascii_lowercase text) ≡ u → P (limit_of text)
+    go true u e f = subst P (sym (limit_is text true u e f)) (up (read_name positive_names (str_to_ascii_lowercase text) e))
+    go false true e f = subst P (sym (limit_is text false true e f)) (down (read_name negative_names (str_to_ascii_lowercase text) f))
+    go false false e f = subst P (sym (limit_is text false false e f)) other
+
 limit_score : (text : List ℕ) (b : Bound) (n : ℤ) → excluding b ≡ Excluded n → limit_of text ≡ Some b → score_of text ≡ Some n
-unfolding limit_of
-limit_score text b n e h = elim (str_eq_ignore_ascii_case text (codes "inf") || str_eq_ignore_ascii_case text (codes "+inf")) as (λ t. cond t (Some PositiveInfinity) (cond (str_eq_ignore_ascii_case text (codes "-inf")) (Some NegativeInfinity) (option_map Included (score_of text))) ≡ Some b → score_of text ≡ Some n) [
-  | true ↦ λ p. (let same : PositiveInfinity ≡ b = cc in let other : PositiveInfinity ≡ Excluded n = ap excluding same ∙ e in cc)
-  | false ↦ λ q. elim (str_eq_ignore_ascii_case text (codes "-inf")) as (λ t. cond t (Some NegativeInfinity) (option_map Included (score_of text)) ≡ Some b → score_of text ≡ Some n) [
-    | true ↦ λ p. (let same : NegativeInfinity ≡ b = cc in let other : NegativeInfinity ≡ Excluded n = ap excluding same ∙ e in cc)
-    | false ↦ λ p. scored (score_of text) b n e p
-  ] q
-] h
+limit_score text b n e h = by_tests text (λ o. o ≡ Some b → score_of text ≡ Some n)
+    (λ is p. (let same : PositiveInfinity ≡ b = cc in let other : PositiveInfinity ≡ Excluded n = ap excluding same ∙ e in cc))
+    (λ is p. (let same : NegativeInfinity ≡ b = cc in let other : NegativeInfinity ≡ Excluded n = ap excluding same ∙ e in cc))
+    (λ p. scored (score_of text) b n e p)
+    h
 
 included_alone : (o : Option ℤ) (n : ℤ) → option_map Included o ≡ Some (Excluded n) → ⊥
 included_alone None n p = cc
 included_alone (Some m) n p = cc
 
 not_excluded : (text : List ℕ) (n : ℤ) → limit_of text ≡ Some (Excluded n) → ⊥
-unfolding limit_of
-not_excluded text n h = elim (str_eq_ignore_ascii_case text (codes "inf") || str_eq_ignore_ascii_case text (codes "+inf")) as (λ t. cond t (Some PositiveInfinity) (cond (str_eq_ignore_ascii_case text (codes "-inf")) (Some NegativeInfinity) (option_map Included (score_of text))) ≡ Some (Excluded n) → ⊥) [
-  | true ↦ λ p. cc
-  | false ↦ λ q. elim (str_eq_ignore_ascii_case text (codes "-inf")) as (λ t. cond t (Some NegativeInfinity) (option_map Included (score_of text)) ≡ Some (Excluded n) → ⊥) [
-    | true ↦ λ p. cc
-    | false ↦ λ p. included_alone (score_of text) n p
-  ] q
-] h
+not_excluded text n h = by_tests text (λ o. o ≡ Some (Excluded n) → ⊥) (λ is p. cc) (λ is p. cc) (λ p. included_alone (score_of text) n p) h
 
 never_included : (o : Option Bound) (n : ℤ) → option_map excluding o ≡ Some (Included n) → ⊥
 never_included None n p = cc
@@ -189,12 +241,6 @@ excluded_texts text n = (read_excluded text n, spelled_excluded text n)
 
 -- which texts are infinite bounds
 
-one_name : (text : List ℕ) → (str_eq_ignore_ascii_case text (codes "inf") || str_eq_ignore_ascii_case text (codes "+inf")) ≡ true → (str_to_ascii_lowercase text ≡ codes "inf") ⊎ (str_to_ascii_lowercase text ≡ codes "+inf")
-one_name text h = elim (str_eq_ignore_ascii_case text (codes "inf")) as (λ t. str_eq_ignore_ascii_case text (codes "inf") ≡ t → (t || str_eq_ignore_ascii_case text (codes "+inf")) ≡ true → (str_to_ascii_lowercase text ≡ codes "inf") ⊎ (str_to_ascii_lowercase text ≡ codes "+inf")) [
-  | true ↦ λ t p. inl (same_bytes (str_to_ascii_lowercase text) (codes "inf") t)
-  | false ↦ λ t p. inr (same_bytes (str_to_ascii_lowercase text) (codes "+inf") p)
-] refl h
-
 never_infinite : (o : Option ℤ) (b : Bound) → excluding b ≡ b → option_map Included o ≡ Some b → ⊥
 never_infinite None b e p = cc
 never_infinite (Some n) b e p =
@@ -202,25 +248,13 @@ never_infinite (Some n) b e p =
     let out : Excluded n ≡ Included n = ap excluding same ∙ e ∙ sym same in
     cc
 
-limit_positive : (text : List ℕ) → limit_of text ≡ Some PositiveInfinity → (str_to_ascii_lowercase text ≡ codes "inf") ⊎ (str_to_ascii_lowercase text ≡ codes "+inf")
-unfolding limit_of
-limit_positive text h = elim (str_eq_ignore_ascii_case text (codes "inf") || str_eq_ignore_ascii_case text (codes "+inf")) as (λ t. (str_eq_ignore_ascii_case text (codes "inf") || str_eq_ignore_ascii_case text (codes "+inf")) ≡ t → cond t (Some PositiveInfinity) (cond (str_eq_ignore_ascii_case text (codes "-inf")) (Some NegativeInfinity) (option_map Included (score_of text))) ≡ Some PositiveInfinity → (str_to_ascii_lowercase text ≡ codes "inf") ⊎ (str_to_ascii_lowercase text ≡ codes "+inf")) [
-  | true ↦ λ t p. one_name text t
-  | false ↦ λ t q. elim (str_eq_ignore_ascii_case text (codes "-inf")) as (λ m. cond m (Some NegativeInfinity) (option_map Included (score_of text)) ≡ Some PositiveInfinity → (str_to_ascii_lowercase text ≡ codes "inf") ⊎ (str_to_ascii_lowercase text ≡ codes "+inf")) [
-    | true ↦ λ p. cc
-    | false ↦ λ p. absurd (never_infinite (score_of text) PositiveInfinity refl p)
-  ] q
-] refl h
+limit_positive : (text : List ℕ) → limit_of text ≡ Some PositiveInfinity → IsOneOf positive_names (str_to_ascii_lowercase text)
+limit_positive text h = by_tests text (λ o. o ≡ Some PositiveInfinity → IsOneOf positive_names (str_to_ascii_lowercase text))
+    (λ is p. is) (λ is p. cc) (λ p. absurd (never_infinite (score_of text) PositiveInfinity refl p)) h
 
-limit_negative : (text : List ℕ) → limit_of text ≡ Some NegativeInfinity → str_to_ascii_lowercase text ≡ codes "-inf"
-unfolding limit_of
-limit_negative text h = elim (str_eq_ignore_ascii_case text (codes "inf") || str_eq_ignore_ascii_case text (codes "+inf")) as (λ t. cond t (Some PositiveInfinity) (cond (str_eq_ignore_ascii_case text (codes "-inf")) (Some NegativeInfinity) (option_map Included (score_of text))) ≡ Some NegativeInfinity → str_to_ascii_lowercase text ≡ codes "-inf") [
-  | true ↦ λ p. cc
-  | false ↦ λ q. elim (str_eq_ignore_ascii_case text (codes "-inf")) as (λ m. str_eq_ignore_ascii_case text (codes "-inf") ≡ m → cond m (Some NegativeInfinity) (option_map Included (score_of text)) ≡ Some NegativeInfinity → str_to_ascii_lowercase text ≡ codes "-inf") [
-    | true ↦ λ m p. same_bytes (str_to_ascii_lowercase text) (codes "-inf") m
-    | false ↦ λ m p. absurd (never_infinite (score_of text) NegativeInfinity refl p)
-  ] refl q
-] h
+limit_negative : (text : List ℕ) → limit_of text ≡ Some NegativeInfinity → IsOneOf negative_names (str_to_ascii_lowercase text)
+limit_negative text h = by_tests text (λ o. o ≡ Some NegativeInfinity → IsOneOf negative_names (str_to_ascii_lowercase text))
+    (λ is p. cc) (λ is p. is) (λ p. absurd (never_infinite (score_of text) NegativeInfinity refl p)) h
 
 excluded_positive : (o : Option Bound) → option_map excluding o ≡ Some PositiveInfinity → o ≡ Some PositiveInfinity
 excluded_positive None p = cc
@@ -236,33 +270,22 @@ excluded_negative (Some (Included n)) p = cc
 excluded_negative (Some (Excluded n)) p = cc
 excluded_negative (Some PositiveInfinity) p = cc
 
-abbrev IsPositive : List ℕ → Type 0
-IsPositive text = (str_to_ascii_lowercase text ≡ codes "inf") ⊎ (str_to_ascii_lowercase text ≡ codes "+inf") ⊎ (str_to_ascii_lowercase text ≡ codes "(inf") ⊎ (str_to_ascii_lowercase text ≡ codes "(+inf")
+-- a name behind a parenthesis
+behind_front : (names : List (List ℕ)) (text : List ℕ) → get_or text 0 0 ≡ 40 → IsOneOf names (str_to_ascii_lowercase (drop 1 text)) → IsOneOf (in_parenthesis names) (str_to_ascii_lowercase text)
+behind_front names text at h =
+    subst (IsOneOf (in_parenthesis names)) (sym (ap str_to_ascii_lowercase (parenthesis text at))) (into_parenthesis names (str_to_ascii_lowercase (drop 1 text)) h)
 
-abbrev IsNegative : List ℕ → Type 0
-IsNegative text = (str_to_ascii_lowercase text ≡ codes "-inf") ⊎ (str_to_ascii_lowercase text ≡ codes "(-inf")
-
--- the name behind a parenthesis
-behind : (text name : List ℕ) → text ≡ 40 ∷ drop 1 text → str_to_ascii_lowercase (drop 1 text) ≡ name → str_to_ascii_lowercase text ≡ 40 ∷ name
-behind text name front e = ap str_to_ascii_lowercase front ∙ ap (λ rest. 40 ∷ rest) e
-
-read_positive : (text : List ℕ) → bound_of text ≡ Some PositiveInfinity → IsPositive text
+read_positive : (text : List ℕ) → bound_of text ≡ Some PositiveInfinity → IsNamed positive_names text
 unfolding bound_of
-read_positive text h = elim (get_or text 0 0 == 40) as (λ t. (get_or text 0 0 == 40) ≡ t → cond t (option_map excluding (limit_of (drop 1 text))) (limit_of text) ≡ Some PositiveInfinity → IsPositive text) [
-  | true ↦ λ t p. (let front = parenthesis text (eqb-true _ _ t) in elim (limit_positive (drop 1 text) (excluded_positive (limit_of (drop 1 text)) p)) [
-    | inl e ↦ inr (inr (inl (behind text (codes "inf") front e)))
-    | inr e ↦ inr (inr (inr (behind text (codes "+inf") front e)))
-  ])
-  | false ↦ λ t p. elim (limit_positive text p) [
-    | inl e ↦ inl e
-    | inr e ↦ inr (inl e)
-  ]
+read_positive text h = elim (get_or text 0 0 == 40) as (λ t. (get_or text 0 0 == 40) ≡ t → cond t (option_map excluding (limit_of (drop 1 text))) (limit_of text) ≡ Some PositiveInfinity → IsNamed positive_names text) [
+  | true ↦ λ t p. inr (behind_front positive_names text (eqb-true _ _ t) (limit_positive (drop 1 text) (excluded_positive (limit_of (drop 1 text)) p)))
+  | false ↦ λ t p. inl (limit_positive text p)
 ] refl h
 
-read_negative : (text : List ℕ) → bound_of text ≡ Some NegativeInfinity → IsNegative text
+read_negative : (text : List ℕ) → bound_of text ≡ Some NegativeInfinity → IsNamed negative_names text
 unfolding bound_of
-read_negative text h = elim (get_or text 0 0 == 40) as (λ t. (get_or text 0 0 == 40) ≡ t → cond t (option_map excluding (limit_of (drop 1 text))) (limit_of text) ≡ Some NegativeInfinity → IsNegative text) [
-  | true ↦ λ t p. inr (behind text (codes "-inf") (parenthesis text (eqb-true _ _ t)) (limit_negative (drop 1 text) (excluded_negative (limit_of (drop 1 text)) p)))
+read_negative text h = elim (get_or text 0 0 == 40) as (λ t. (get_or text 0 0 == 40) ≡ t → cond t (option_map excluding (limit_of (drop 1 text))) (limit_of text) ≡ Some NegativeInfinity → IsNamed negative_names text) [
+  | true ↦ λ t p. inr (behind_front negative_names text (eqb-true _ _ t) (limit_negative (drop 1 text) (excluded_negative (limit_of (drop 1 text)) p)))
   | false ↦ λ t p. inl (limit_negative text p)
 ] refl h
 
@@ -278,33 +301,35 @@ unlowered (b ∷ bs) name e =
     let rest : str_to_ascii_lowercase bs ≡ name = cc in
     (bs, ap (λ c. c ∷ bs) (parenthesis_lowered b first), rest)
 
-limit_named : (text name : List ℕ) → str_to_ascii_lowercase text ≡ name → limit_of text ≡ (if bytes_eq name (codes "inf") || bytes_eq name (codes "+inf") then Some PositiveInfinity else (if bytes_eq name (codes "-inf") then Some NegativeInfinity else option_map Included (score_of text)))
-unfolding limit_of
-limit_named text name e = ap (λ word. if bytes_eq word (codes "inf") || bytes_eq word (codes "+inf") then Some PositiveInfinity else (if bytes_eq word (codes "-inf") then Some NegativeInfinity else option_map Included (score_of text))) e
+positive_limit : (text : List ℕ) → IsOneOf positive_names (str_to_ascii_lowercase text) → limit_of text ≡ Some PositiveInfinity
+positive_limit text h = limit_is text true _ (spelled_name positive_names (str_to_ascii_lowercase text) h) refl
+
+negative_limit : (text : List ℕ) → IsOneOf negative_names (str_to_ascii_lowercase text) → limit_of text ≡ Some NegativeInfinity
+negative_limit text h = limit_is text false true (not_positive (str_to_ascii_lowercase text) h) (spelled_name negative_names (str_to_ascii_lowercase text) h)
 
 -- a bound that a `(` before it doesn't change
-plainly : (text name : List ℕ) (b : Bound) → str_to_ascii_lowercase text ≡ name → get_or name 0 0 ≢ 40 → limit_of text ≡ Some b → bound_of text ≡ Some b
-plainly text name b e front limit =
-    let other : get_or text 0 0 ≢ 40 = λ at. front (ap (λ word. get_or word 0 0) (sym e) ∙ first_lowered text ∙ ap to_ascii_lowercase at) in
+plainly : (text : List ℕ) (b : Bound) → BeginsName (str_to_ascii_lowercase text) → limit_of text ≡ Some b → bound_of text ≡ Some b
+plainly text b begins limit =
+    let other : get_or text 0 0 ≢ 40 = λ at. no_front (str_to_ascii_lowercase text) begins (first_lowered text ∙ ap to_ascii_lowercase at) in
     sym (bound_plain text other) ∙ limit
 
-behind_parenthesis : (text name : List ℕ) (b : Bound) → excluding b ≡ b → str_to_ascii_lowercase text ≡ 40 ∷ name → ((rest : List ℕ) → str_to_ascii_lowercase rest ≡ name → limit_of rest ≡ Some b) → bound_of text ≡ Some b
-behind_parenthesis text name b same e limit =
-    let found = unlowered text name e in
-    sym (bound_excluding text found.0 (Some b) (sym found.1) (sym (limit found.0 found.2))) ∙ ap (λ x. Some x) same
+behind_parenthesis : (names : List (List ℕ)) (text : List ℕ) (b : Bound) → excluding b ≡ b → IsOneOf (in_parenthesis names) (str_to_ascii_lowercase text)
+    → ((rest : List ℕ) → IsOneOf names (str_to_ascii_lowercase rest) → limit_of rest ≡ Some b) → bound_of text ≡ Some b
+behind_parenthesis names text b same h limit =
+    let name = out_of_parenthesis names (str_to_ascii_lowercase text) h in
+    let found = unlowered text name.0 name.1 in
+    sym (bound_excluding text found.0 (Some b) (sym found.1) (sym (limit found.0 (subst (IsOneOf names) (sym found.2) name.2)))) ∙ ap (λ x. Some x) same
 
-spelled_positive : (text : List ℕ) → IsPositive text → bound_of text ≡ Some PositiveInfinity
-spelled_positive text (inl e) = plainly text (codes "inf") PositiveInfinity e (λ lie. let no : 105 ≡ 40 = lie in omega arith) (limit_named text (codes "inf") e)
-spelled_positive text (inr (inl e)) = plainly text (codes "+inf") PositiveInfinity e (λ lie. let no : 43 ≡ 40 = lie in omega arith) (limit_named text (codes "+inf") e)
-spelled_positive text (inr (inr (inl e))) = behind_parenthesis text (codes "inf") PositiveInfinity refl e (λ rest r. limit_named rest (codes "inf") r)
-spelled_positive text (inr (inr (inr e))) = behind_parenthesis text (codes "+inf") PositiveInfinity refl e (λ rest r. limit_named rest (codes "+inf") r)
+spelled_positive : (text : List ℕ) → IsNamed positive_names text → bound_of text ≡ Some PositiveInfinity
+spelled_positive text (inl h) = plainly text PositiveInfinity (positive_begins (str_to_ascii_lowercase text) h) (positive_limit text h)
+spelled_positive text (inr h) = behind_parenthesis positive_names text PositiveInfinity refl h positive_limit
 
-spelled_negative : (text : List ℕ) → IsNegative text → bound_of text ≡ Some NegativeInfinity
-spelled_negative text (inl e) = plainly text (codes "-inf") NegativeInfinity e (λ lie. let no : 45 ≡ 40 = lie in omega arith) (limit_named text (codes "-inf") e)
-spelled_negative text (inr e) = behind_parenthesis text (codes "-inf") NegativeInfinity refl e (λ rest r. limit_named rest (codes "-inf") r)
+spelled_negative : (text : List ℕ) → IsNamed negative_names text → bound_of text ≡ Some NegativeInfinity
+spelled_negative text (inl h) = plainly text NegativeInfinity (negative_begins (str_to_ascii_lowercase text) h) (negative_limit text h)
+spelled_negative text (inr h) = behind_parenthesis negative_names text NegativeInfinity refl h negative_limit
 
-pub positive_texts : (text : List ℕ) → (bound_of text ≡ Some PositiveInfinity) ↔ IsPositive text
+pub positive_texts : (text : List ℕ) → (bound_of text ≡ Some PositiveInfinity) ↔ IsNamed positive_names text
 positive_texts text = (read_positive text, spelled_positive text)
 
-pub negative_texts : (text : List ℕ) → (bound_of text ≡ Some NegativeInfinity) ↔ IsNegative text
+pub negative_texts : (text : List ℕ) → (bound_of text ≡ Some NegativeInfinity) ↔ IsNamed negative_names text
 negative_texts text = (read_negative text, spelled_negative text)

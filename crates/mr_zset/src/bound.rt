@@ -1,8 +1,8 @@
 // The bounds of a range of scores.
 ghost use Rattle.std.specs.Prelude.{◌≡◌};
-ghost use Rattle.std.specs.Str.{str_eq_ignore_ascii_case};
+ghost use Rattle.std.specs.Str.{str_eq_ignore_ascii_case, str_to_ascii_lowercase};
 ghost use Rattle.mr_zset.specs.Bounds.{is_from, is_to};
-ghost use Rattle.mr_zset.specs.Texts.{bound_of, excluding, limit_of};
+ghost use Rattle.mr_zset.specs.Texts.{bound_of, excluding, is_one_of, limit_of, negative_names, positive_names};
 
 use mr_score::read_score;
 
@@ -55,8 +55,8 @@ impl Bound {
     }
 }
 
-/// The bound that a text spells: a score, or in any case `inf`, `+inf` or `-inf`, in front of which a
-/// `(` excludes what lies on the bound. It takes no memory.
+/// The bound that a text spells: a score, or in any case `inf`, `+inf` or `-inf`, also as `infinity`; a
+/// `(` in front of it excludes what lies on the bound. It takes no memory.
 pub fn read_bound(text: &[u8]) -> Option<Bound>
     ensures { result ≡ bound_of text.now }
 {
@@ -71,13 +71,28 @@ pub fn read_bound(text: &[u8]) -> Option<Bound>
 fn read_limit(text: &[u8]) -> Option<Bound>
     ensures { result ≡ limit_of text.now }
 {
-    if is_in_any_case(text, b"inf") || is_in_any_case(text, b"+inf") {
+    if is_positive_infinity(text) {
         return Some(Bound::PositiveInfinity);
     }
-    if is_in_any_case(text, b"-inf") {
+    if is_negative_infinity(text) {
         return Some(Bound::NegativeInfinity);
     }
     Some(Bound::Included(read_score(text)?))
+}
+
+fn is_positive_infinity(text: &[u8]) -> bool
+    ensures { result ≡ is_one_of positive_names (str_to_ascii_lowercase text.now) }
+{
+    is_in_any_case(text, b"inf")
+        || is_in_any_case(text, b"+inf")
+        || is_in_any_case(text, b"infinity")
+        || is_in_any_case(text, b"+infinity")
+}
+
+fn is_negative_infinity(text: &[u8]) -> bool
+    ensures { result ≡ is_one_of negative_names (str_to_ascii_lowercase text.now) }
+{
+    is_in_any_case(text, b"-inf") || is_in_any_case(text, b"-infinity")
 }
 
 fn is_in_any_case(text: &[u8], name: &[u8]) -> bool
