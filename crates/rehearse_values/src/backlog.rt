@@ -94,7 +94,7 @@ fn restart(backlog: &mut Backlog, step: Step<'_>, out: &mut Vec<u8>) -> Result<(
 }
 
 /// The bytes from an offset on, if they are held.
-fn tell_tail(
+pub fn tell_tail(
     alloc: Global,
     backlog: &Backlog,
     step: Step<'_>,

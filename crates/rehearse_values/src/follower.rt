@@ -216,7 +216,7 @@ fn tell_count(alloc: Global, count: u64, out: &mut Vec<u8>) -> Result<(), Rehear
 }
 
 /// The name of what is waited for.
-fn name_of(phase: Phase) -> &'static str {
+pub fn name_of(phase: Phase) -> &'static str {
     match phase {
         Phase::Ping => "ping",
         Phase::Port => "port",

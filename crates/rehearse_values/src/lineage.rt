@@ -1,6 +1,8 @@
 //! Streams with their names.
+use crate::backlog::tell_tail;
 use crate::fault::RehearsalFault;
 use crate::kind::Kind;
+use crate::roles::tell_role;
 use crate::standing::tell_answer;
 use crate::step::{Step, bytes_of, count_of, id_of, number_of};
 use crate::telling::{tell, tell_shown};
@@ -8,7 +10,7 @@ use mr_repl::{Lineage, decide};
 use std::alloc::Global;
 
 /// The greatest offset that a step may name.
-const MOST: u64 = 1 << 60;
+pub const MOST: u64 = 1 << 60;
 
 /// A stream with its names, once a step has begun one.
 #[derive(Drop)]
@@ -73,8 +75,12 @@ fn on_lineage(
         }
         "adopt" => adopt(lineage, step, out),
         "asks" => ask(alloc, lineage, step, out),
-        "shows" => tell_lineage(alloc, lineage, out),
-        _ => Err(RehearsalFault::Line),
+        "tail" => tell_tail(alloc, lineage.stream(), step, out),
+        "shows" => {
+            tell(out, "shows")?;
+            tell_lineage(alloc, lineage, out)
+        }
+        _ => tell_role(alloc, lineage, step, out),
     }
 }
 
@@ -117,8 +123,11 @@ fn ask(
 }
 
 /// The id, the last offset and the first that is held, and the id before with the first offset that is no longer its own.
-fn tell_lineage(alloc: Global, lineage: &Lineage, out: &mut Vec<u8>) -> Result<(), RehearsalFault> {
-    tell(out, "shows")?;
+pub fn tell_lineage(
+    alloc: Global,
+    lineage: &Lineage,
+    out: &mut Vec<u8>,
+) -> Result<(), RehearsalFault> {
     tell_shown(alloc, lineage.id(), out)?;
     tell_shown(alloc, lineage.stream().end(), out)?;
     tell_shown(alloc, lineage.stream().first(), out)?;

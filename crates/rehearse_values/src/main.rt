@@ -15,8 +15,8 @@
 //! | `id` | `new BYTES`, `read DIGITS`, `number NUMBER`, `zeros`: `id SHOWN DIGITS BYTES`, with `zeros` behind it where it stands for none, or `no id`; `order NUMBER NUMBER`: `less` or `not less` |
 //! | `backlog` | `new CAPACITY OFFSET`: `begun`; `push BYTES`: `pushed`; `restart OFFSET`: `restarted`; `tail FROM`: `tail BYTES` or `not held`; `shows`: `shows CAPACITY LENGTH FIRST END` |
 //! | `standing` | `stands ID OFFSET FIRST`, `second ID LIMIT`: `stands`; `asks ID FROM`: `full` or `continue FROM` |
-//! | `lineage` | `new ID CAPACITY OFFSET`: `begun`; `grow BYTES`: `grown`; `promote ID`, `continue ID`, `adopt ID OFFSET`: `promoted`, `continued`, `adopted`; `asks ID FROM`: as of `standing`; `shows`: `shows ID END FIRST`, and the id before with its limit |
-//! | `peer` | `line BYTES`: `line USED status TEXT`, `line USED refusal TEXT`, `line USED length LENGTH`, `more` or `bad`; `answer BYTES`: `full ID OFFSET`, `continue ID` or `no answer`; `offset BYTES`: `offset OFFSET` or `no offset` |
+//! | `lineage` | `new ID CAPACITY OFFSET`: `begun`; `grow BYTES`: `grown`; `promote ID`, `continue ID`, `adopt ID OFFSET`: `promoted`, `continued`, `adopted`; `asks ID FROM`: as of `standing`; `tail FROM`: as of `backlog`; `shows`: `shows ID END FIRST`, and the id before with its limit; INFO `informs ROLE FOLLOWERS` and ROLE of a master `alone`, of one with a replica that told so much and one that told nothing, `leads ADDRESS PORT OFFSET`, and of a replica, `follows HOST PORT LINK`: `text BYTES` |
+//! | `peer` | `line BYTES`: `line USED status TEXT`, `line USED refusal TEXT`, `line USED length LENGTH`, `more` or `bad`; `answer BYTES`: `full ID OFFSET`, `continue ID` or `no answer`; `offset BYTES`: `offset OFFSET` or `no offset`; `full ID OFFSET`, `continue ID`, `length LENGTH`: `text BYTES`, the line that says it |
 //! | `request` | `limits WORD WORDS TEXT`: `limited` or `no limits`; `next BYTES`, `command BYTES`, `line LIMIT BYTES`: `whole USED`, `skip`, `more` or a fault; `kept BYTES`: a letter for each word, `b` where it is borrowed and `o` where it is owned; `parts WORD WORD`, `push WORD WORD`, `write WORD WORD`: `text BYTES` |
 //! | `ask` | `name WORD`: `name NAME` or `no name`; `group BYTES`: what the request is about, or `no command`; `one`, `minus-one`, `number NUMBER`, `opposite NUMBER`: `adds NUMBER` |
 //! | `part` | `words WORD`, `pairs NAME VALUE`, `scores MEMBER SCORE`: `list LENGTH fits LENGTH`, with `within` or `past` the limits of scores; `name WORD`: `name TEXT` or `no name` |
@@ -26,12 +26,14 @@
 //! | `memory` | before `begin`, which answers `begun`, what the calls are to come to, each `listed`: `waits done`, `waits failed`; `reads BYTES`, `reads not-ready`, `reads end`, `reads failed` and `writes COUNT`, `writes not-ready`, `writes failed` of the next link; `accepts link`, `accepts not-ready`, `accepts failed`. Then `written LINK`: `written BYTES` or `none`; and as of `sockets` |
 //! | `sockets` | `listen PORT`: `listens PORT`; `wait MILLIS`: `waited`, `failed`; `accept`: `id PLACE BEFORE`, `none`, `failed`; `ready`, the next link that is named: `id PLACE BEFORE`, `none`; `read LINK ROOM`: `bytes BYTES`, `not ready`, `end`, `failed`; `write LINK BYTES`: `moved COUNT`, `not ready`, `failed`; `close LINK`: `closed`. `accept-ready`, `name-ready`, `read-ready`, `write-all` wait until they are answered otherwise; the last tells `moved all` in one call or `moved all in parts` |
 //! | `follower` | `at OFFSET`: `stands`; `begin PORT`, `offer ID PORT`: `says LINE`, of one that wants all or offers to go on from where the replica stands; `feed BYTES`: `fed`; `step`: `idle`, `says LINE`, `announces ID OFFSET`, `continues ID OFFSET`, `installs`, `applies BYTES` or `refuses: FAULT`; `run`, steps as long as they apply: `applied COUNT`; `shows`: `shows PHASE OFFSET KEPT COMMANDS`, which make the dataset |
+//! | `course` | `master ID CAPACITY OFFSET`, `replica ..`, `offering ..` (a replica that has something to continue): `begun`; `dial LINK PORT`: `dialled`; `feed BYTES`: `fed`; `listen`: `idle`, `says`, `announced`, `continues`, `loads`, `applies`, `left`, `spoiled`, each with what was put out, or `refuses: FAULT`; `grow BYTES`: `grown`; `leave`, `spoil`, `promote ID`, `obey`: `left`, `spoiled`, `promoted`, `obeys`; `shows`: the role, `offers` or `bare`, as of `lineage`, `at LINK PHASE` where a master is followed, and how many of its bytes are unread; `commands`: `commands COMMANDS`, which make the dataset |
 //!
 //! Of what is counted, `empty` behind the counts says that there is none.
 #![tactic(auto)]
 
 mod asks;
 mod backlog;
+mod course;
 mod dataset;
 mod fault;
 mod follower;
@@ -45,6 +47,7 @@ mod memory_wire;
 mod parts;
 mod peer;
 mod requests;
+mod roles;
 mod sockets;
 mod sorted_set;
 mod source;
@@ -56,6 +59,7 @@ mod wires;
 
 use asks::Asks;
 use backlog::Stream;
+use course::Node;
 use fault::RehearsalFault;
 use follower::Replica;
 use ids::Ids;
@@ -109,6 +113,7 @@ fn play_value(
         "keyed" => play(alloc, KeyedMap::<u64>::new(alloc, seed), steps, out),
         "dataset" => play(alloc, Dataset::new(alloc, seed), steps, out),
         "follower" => play(alloc, Replica::new(alloc, seed), steps, out),
+        "course" => play(alloc, Node::new(alloc, seed), steps, out),
         "slices" => play(alloc, SliceMap::<'static, u64>::new(alloc), steps, out),
         _ => play_stateless(alloc, kind, steps, out),
     }

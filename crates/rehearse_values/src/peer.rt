@@ -1,11 +1,20 @@
 //! What one node says to another before the stream.
+ghost use Rattle.std.specs.Prelude.{◌≤◌, IfOk};
+ghost use Rattle.mr_lines.specs.Lines.{most_counted};
+
 use crate::fault::RehearsalFault;
 use crate::kind::Kind;
-use crate::step::{Step, bytes_of};
+use crate::step::{Step, bytes_of, count_of, id_of};
 use crate::telling::{tell, tell_bytes, tell_shown};
-use mr_lines::{LineScan, PeerLine, PsyncReply, next_line, read_offset, read_reply};
+use mr_lines::{
+    LineScan, PeerLine, PsyncReply, next_line, read_offset, read_reply, write_continue, write_full,
+    write_length,
+};
 use mr_repl::ReplId;
 use std::alloc::Global;
+
+/// The greatest offset, and the greatest length.
+const MOST: u64 = 1 << 62;
 
 /// Lines have no state.
 #[derive(Drop)]
@@ -22,7 +31,7 @@ impl Kind for PeerLines {
             "line" => tell_line(alloc, step, out),
             "answer" => tell_answer(alloc, step, out),
             "offset" => tell_offset(alloc, step, out),
-            _ => Err(RehearsalFault::Line),
+            _ => tell_written(alloc, step, out),
         }
     }
 }
@@ -106,4 +115,28 @@ fn tell_offset(alloc: Global, step: Step<'_>, out: &mut Vec<u8>) -> Result<(), R
         }
         None => tell(out, "no offset"),
     }
+}
+
+/// A number that a line may have.
+fn counted(word: &str) -> Result<u64, RehearsalFault>
+    ensures { IfOk result (λ number. number ≤ most_counted) }
+{
+    let number = count_of(word)?;
+    if number > MOST {
+        return Err(RehearsalFault::Line);
+    }
+    Ok(number)
+}
+
+/// What a master says, written.
+fn tell_written(alloc: Global, step: Step<'_>, out: &mut Vec<u8>) -> Result<(), RehearsalFault> {
+    let mut text = Vec::new(alloc);
+    match step.name {
+        "full" => write_full(id_of(step.first)?, counted(step.second)?, &mut text)?,
+        "continue" => write_continue(id_of(step.first)?, &mut text)?,
+        "length" => write_length(counted(step.first)?, &mut text)?,
+        _ => return Err(RehearsalFault::Line),
+    }
+    tell(out, "text")?;
+    tell_bytes(alloc, text.as_slice(), out)
 }
