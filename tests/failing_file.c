@@ -1,7 +1,7 @@
 /* Put before the C library by LD_PRELOAD, it has calls on files fail, and writes be short. Only descriptors above 2 count. The
    variables count from 1: FAIL_CALL names a call of any of these kinds, FAIL_WRITE and FAIL_SYNC one of its kind, and SHORT_WRITE
-   the most bytes that a write takes. Files are opened and renamed too: FAIL_CALL counts that only where FAIL_NAMES is set. The
-   failed call does nothing. It is written without headers, so that a compiler alone makes it. */
+   the most bytes that a write takes. Files are opened, given their mode, locked and renamed too: FAIL_CALL counts that only where
+   FAIL_NAMES is set. The failed call does nothing. It is written without headers, so that a compiler alone makes it. */
 typedef unsigned long size_t;
 typedef long ssize_t;
 typedef long off_t;
@@ -10,7 +10,7 @@ extern long syscall(long, ...);
 extern char *getenv(const char *);
 extern int *__errno_location(void);
 
-enum { WRITE = 1, PREAD = 17, FSYNC = 74, FDATASYNC = 75, FTRUNCATE = 77, OPENAT = 257, RENAMEAT = 264 };
+enum { WRITE = 1, PREAD = 17, FLOCK = 73, FSYNC = 74, FDATASYNC = 75, FTRUNCATE = 77, FCHMOD = 91, OPENAT = 257, RENAMEAT = 264 };
 enum { NO_SPACE = 28, HERE = -100, CREATE = 64 };
 
 static unsigned long call_left, write_left, sync_left, most, names;
@@ -99,6 +99,16 @@ int ftruncate(int file, off_t size)
 int ftruncate64(int file, off_t size)
 {
     return ftruncate(file, size);
+}
+
+int flock(int file, int how)
+{
+    return fails_by_name() ? -1 : (int)syscall(FLOCK, file, how);
+}
+
+int fchmod(int file, unsigned mode)
+{
+    return fails_by_name() ? -1 : (int)syscall(FCHMOD, file, mode);
 }
 
 static int opened(int folder, const char *name, int flags, __builtin_va_list more)

@@ -375,10 +375,10 @@ class PlainFollower:
     """What a replica's end of its master's link does, as `rehearse_values` tells it."""
 
     def __init__(self):
-        self.held, self.offset, self.kept, self.phase = Entries(), 0, b"", None
+        self.held, self.offset, self.kept, self.taken, self.phase = Entries(), 0, b"", None, None
 
     def begin(self, port, offer=None):
-        self.port, self.offer, self.kept, self.phase = port, offer, b"", "ping"
+        self.port, self.offer, self.kept, self.taken, self.phase = port, offer, b"", None, "ping"
         return "says " + request("PING").hex()
 
     def feed(self, data):
@@ -434,34 +434,44 @@ class PlainFollower:
             return "announces %s %d" % (text[11:51].decode(), self.announced)
         raise Refused("bad line")
 
-    def in_snapshot(self):
+    def take_line(self):
+        """Uses the line of a snapshot's length: nothing was made yet, and so many bytes are to come."""
         mark, text, used = line_at(self.kept)
         if mark == b"-":
             raise Refused("refused by the master")
         if mark == b"+":
             raise Refused("bad line")
-        end = used + int(text)
-        if len(self.kept) < end:
-            raise Wanted
-        held = Entries()
-        snapshot = self.kept[used:end]
+        self.kept, self.taken = self.kept[used:], (Entries(), int(text))
+
+    def in_snapshot(self):
+        if self.taken is None:
+            self.take_line()
+        made, left = self.taken
         try:
-            while snapshot:
-                words, length = command_at(snapshot)
-                held.apply(words)
-                snapshot = snapshot[length:]
-        except (Wanted, Fault):
+            while left:
+                words, length = command_at(self.kept[:left])
+                made.apply(words)
+                self.kept, left = self.kept[length:], left - length
+                self.taken = made, left
+        except Wanted:
+            if len(self.kept) < left:
+                raise
             raise Refused("undecodable stream") from None
-        self.held, self.offset = held, self.announced
-        self.use(end, "stream")
+        except Fault:
+            raise Refused("undecodable stream") from None
+        self.held, self.offset, self.taken = made, self.announced, None
+        self.use(0, "stream")
         return "installs"
 
     def in_stream(self):
-        words, length = command_at(self.kept)
-        if self.offset + length > MOST:
-            raise Refused("undecodable stream")
+        room = MOST - self.offset
         try:
+            words, length = command_at(self.kept[:room])
             self.held.apply(words)
+        except Wanted:
+            if len(self.kept) <= room:
+                raise
+            raise Refused("undecodable stream") from None
         except Fault:
             raise Refused("undecodable stream") from None
         told = self.kept[:length]

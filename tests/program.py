@@ -4,6 +4,7 @@ import array
 import fcntl
 import glob
 import os
+import re
 import subprocess
 import sys
 import termios
@@ -14,6 +15,8 @@ ROOT = os.path.dirname(os.path.dirname(os.path.abspath(__file__)))
 LAUNCHER = os.path.join(ROOT, "minired")
 # the program itself
 PROGRAM = os.path.join(ROOT, "crates", "minired", "out", "minired")
+# a line on standard error that says what the program does, with the time in front
+NOTICE = re.compile(rb"(\d{4}-\d\d-\d\dT\d\d:\d\d:\d\d\.\d{3}Z) minired: ([^\n]*)\n")
 # no run of a test takes this long, in seconds: one that does hangs
 LATE = 60
 
@@ -27,6 +30,11 @@ def request(*words):
 def run(data, *words, **how):
     """Runs the program on these bytes, and returns how it ended and what it wrote."""
     return subprocess.run([LAUNCHER, *words], input=data, capture_output=True, timeout=LATE, **how)
+
+
+def notices(said):
+    """What the lines say that have the time in front, and the other lines of standard error."""
+    return [text for _, text in NOTICE.findall(said)], NOTICE.sub(b"", said)
 
 
 def built(name):

@@ -11,7 +11,7 @@ import struct
 import subprocess
 import time
 
-from program import LATE, LAUNCHER, PROGRAM, request
+from program import LATE, LAUNCHER, PROGRAM, notices, request
 
 HOST = "127.0.0.1"
 READY = re.compile(rb"minired: ready on 127\.0\.0\.1:(\d+), (\d+) keys(?: from (.*))?\n")
@@ -95,13 +95,16 @@ class Server:
             self.ready += piece
 
     def ended(self):
-        """How the program ended, and what it wrote behind the ready line. It is waited for."""
+        """How the program ended, what it wrote behind the ready line, and which notices. It is waited for."""
         try:
             out, err = self.process.communicate(timeout=LATE)
         finally:
             self.stop()
         said = b"" if self.ready.endswith(b"\n") else self.ready
-        return subprocess.CompletedProcess([], self.process.returncode, said + out, err)
+        noticed, err = notices(err)
+        ended = subprocess.CompletedProcess([], self.process.returncode, said + out, err)
+        ended.notices = noticed
+        return ended
 
     def signalled(self, number):
         self.process.send_signal(number)

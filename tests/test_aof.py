@@ -4,14 +4,14 @@ import os
 import random
 import resource
 import shutil
-import signal
 import socket as connection
+import stat
 import subprocess
 import tempfile
 import time
 import unittest
 
-from program import LATE, LAUNCHER, PROGRAM, compiler, request, run
+from program import LATE, LAUNCHER, PROGRAM, compiler, notices, request, run
 
 SET_V, SET_W, SET_X = (request("SET", "k", value) for value in "vwx")
 OK = b"+OK\r\n"
@@ -35,6 +35,11 @@ def array(items):
     return b"*%d\r\n" % len(items) + b"".join(map(bulk, items))
 
 
+def may_grow_to(size):
+    """Has a program that is started behind this write no file past so many bytes. The system sends it a signal where it tries."""
+    return lambda: resource.setrlimit(resource.RLIMIT_FSIZE, (size, size))
+
+
 class OfFile(unittest.TestCase):
     """Tests on a file of their own in a folder of their own."""
 
@@ -55,9 +60,28 @@ class OfFile(unittest.TestCase):
         """The program's run over the file."""
         return run(data, "pipe", "--aof", self.path, *words, **how)
 
-    def answers(self, data, wanted, *words):
+    def answers(self, data, wanted, *words, cut=None):
+        """All goes well, and nothing is said, or that these bytes at the file's end were cut off."""
+        was = os.path.getsize(self.path) if cut is not None else 0
         ran = self.asked(data, *words)
-        self.assertEqual((ran.returncode, ran.stderr, ran.stdout), (0, b"", wanted))
+        said, rest = notices(ran.stderr)
+        self.assertEqual((ran.returncode, rest, ran.stdout), (0, b"", wanted))
+        if cut is None:
+            self.assertEqual(said, [])
+        else:
+            self.was_cut(said, was, cut)
+
+    def was_cut(self, said, was, cut):
+        """These last bytes of so many stand in a copy beside the file, as the one notice says."""
+        copy = self.copies()[-1]
+        self.assertEqual(said, [b"%s: cut off %d bytes from offset %d on, copied to %s before" % (os.fsencode(self.path), len(cut), was - len(cut), os.fsencode(copy))])
+        with open(copy, "rb") as file:
+            self.assertTrue(file.read() == cut)
+
+    def copies(self):
+        """The copies of what was cut off, the first one first."""
+        copies = [it for it in os.listdir(self.folder) if it.startswith("data.aof.cut-")]
+        return [os.path.join(os.path.realpath(self.folder), it) for it in sorted(copies, key=lambda it: int(it.rsplit("-")[-1]))]
 
     def fails(self, ran, wanted):
         """The file failed, as the first line says; the second names the file. This was answered until then."""
@@ -84,7 +108,7 @@ class Starting(OfFile):
 
     def test_a_torn_end_is_cut_off(self):
         self.write(SET_V + TORN)
-        self.answers(request("GET", "k"), bulk(b"v"))
+        self.answers(request("GET", "k"), bulk(b"v"), cut=TORN)
         self.assertEqual(self.bytes(), SET_V)
         self.answers(SET_W, OK)
         self.assertEqual(self.bytes(), SET_V + SET_W)
@@ -93,7 +117,7 @@ class Starting(OfFile):
         for bad in (request("LPOP", "k", "1"), request("FOO"), request("GET", "k"), b"\0", b"SET k w\r\n"):
             with self.subTest(bad=bad):
                 self.write(SET_V + bad + SET_W)
-                self.answers(request("GET", "k"), bulk(b"v"))
+                self.answers(request("GET", "k"), bulk(b"v"), cut=bad + SET_W)
                 self.assertEqual(self.bytes(), SET_V)
 
     def test_any_beginning_of_a_file_loads_its_whole_texts(self):
@@ -103,12 +127,13 @@ class Starting(OfFile):
             with self.subTest(cut=cut):
                 self.write(whole[:cut])
                 count = max(count for count, size in enumerate(sizes) if size <= cut)
-                self.answers(request("DBSIZE"), b":%d\r\n" % count)
+                self.answers(request("DBSIZE"), b":%d\r\n" % count, cut=whole[sizes[count] : cut] or None)
                 self.assertEqual(self.bytes(), whole[: sizes[count]])
 
     def test_random_bytes_load_nothing(self):
-        self.write(random.Random(16).randbytes(100_000))
-        self.answers(request("DBSIZE"), b":0\r\n")
+        data = random.Random(16).randbytes(100_000)
+        self.write(data)
+        self.answers(request("DBSIZE"), b":0\r\n", cut=data)
         self.assertEqual(self.bytes(), b"")
 
     def test_deadlines_outlive_a_start(self):
@@ -225,7 +250,9 @@ class Rewriting(OfFile):
     def test_what_an_earlier_rewriting_left_does_not_matter(self):
         with open(self.path + ".new", "wb") as file:
             file.write(1000 * TORN)
-        self.answers(SET_V + SET_W + REWRITE, OK + OK + STARTED)
+        self.answers(SET_V + SET_W, OK + OK)
+        self.assertEqual(sorted(os.listdir(self.folder)), ["data.aof", "data.aof.lock"])
+        self.answers(REWRITE, STARTED)
         self.assertEqual(self.bytes(), SET_W)
         self.assertEqual(sorted(os.listdir(self.folder)), ["data.aof", "data.aof.lock"])
 
@@ -246,12 +273,9 @@ class Rewriting(OfFile):
         texts = b"".join(request("SET", "key%02d" % number, "v") for number in range(100))
         self.write(texts)
 
-        def is_full():
-            signal.signal(signal.SIGXFSZ, signal.SIG_IGN)
-            resource.setrlimit(resource.RLIMIT_FSIZE, (1000, 1000))
-
-        self.fails(self.asked(REWRITE, preexec_fn=is_full), b"")
+        self.fails(self.asked(REWRITE, preexec_fn=may_grow_to(1000)), b"")
         self.assertEqual(self.bytes(), texts)
+        self.assertEqual(sorted(os.listdir(self.folder)), ["data.aof", "data.aof.lock"])
         self.answers(request("DBSIZE") + REWRITE, b":100\r\n" + STARTED)
         self.assertEqual(self.bytes(), texts)
 
@@ -274,9 +298,18 @@ class OfFailing(OfFile):
 
 
 class Failing(OfFailing):
+    def setUp(self):
+        super().setUp()
+        self.write(b"")
+
     def test_the_second_write_fails(self):
         self.fails(self.run_with(FAIL_WRITE="2"), OK)
         self.assertEqual(self.bytes(), SET_V)
+
+    def test_the_sync_of_the_folder_of_a_file_that_was_made_fails(self):
+        os.remove(self.path)
+        self.fails(self.run_with(FAIL_SYNC="1"), b"")
+        self.assertEqual(self.bytes(), b"")
 
     def test_the_second_sync_fails(self):
         self.fails(self.run_with(FAIL_SYNC="2"), OK)
@@ -304,14 +337,12 @@ class Failing(OfFailing):
         self.assertEqual((ran.stdout, self.bytes()), (3 * OK, b"".join(texts)))
 
     def test_a_full_disk(self):
-        def is_full():
-            signal.signal(signal.SIGXFSZ, signal.SIG_IGN)
-            resource.setrlimit(resource.RLIMIT_FSIZE, (40, 40))
-
-        ran = self.asked(SET_V + SET_W + SET_X, preexec_fn=is_full)
+        ran = self.asked(SET_V + SET_W + SET_X, preexec_fn=may_grow_to(40))
         self.fails(ran, OK)
-        self.assertEqual(self.bytes(), (SET_V + SET_W)[:40])
-        self.answers(request("GET", "k"), bulk(b"v"))
+        self.assertIn(b"could not be written: ", ran.stderr)
+        torn = (SET_V + SET_W)[:40]
+        self.assertEqual(self.bytes(), torn)
+        self.answers(request("GET", "k"), bulk(b"v"), cut=torn[len(SET_V) :])
 
 
 class FailingRewriting(OfFailing):
@@ -325,6 +356,7 @@ class FailingRewriting(OfFailing):
         answered = next(count for count in range(5) if len(ran.stdout) <= len(b"".join(self.REPLIES[:count])))
         self.fails(ran, b"".join(self.REPLIES[:answered]))
         self.assertIn(self.bytes(), self.FILES[answered : answered + 2])
+        self.assertIn(sorted(os.listdir(self.folder)), [["data.aof"], ["data.aof", "data.aof.lock"]])
         # who comes next goes on from there
         held = {b"": NIL, SET_V: bulk(b"v")}.get(self.bytes(), bulk(b"x" if self.bytes().endswith(SET_X) else b"w"))
         self.answers(request("GET", "k") + SET_W + SET_X + REWRITE, held + OK + OK + STARTED)
@@ -341,8 +373,8 @@ class FailingRewriting(OfFailing):
             with self.subTest(call=call):
                 places.append(self.fails_somewhere(ran))
         self.assertEqual((ran.stdout, self.bytes()), (b"".join(self.REPLIES), self.FILES[4]))
-        # the new file is opened, emptied, written, synced and renamed, and its folder opened and synced
-        self.assertGreaterEqual(places.count(2), 7)
+        # the new file is made, given its mode, locked, written, synced and renamed, and its folder opened and synced
+        self.assertGreaterEqual(places.count(2), 8)
         self.assertEqual(places, sorted(places))
 
     def test_the_old_file_stands_until_the_new_one_is_synced(self):
@@ -381,6 +413,155 @@ class Opening(OfFile):
     def test_the_empty_path(self):
         ran = run(SET_V, "pipe", "--aof", "")
         self.assertEqual((ran.returncode, ran.stdout), (3, b""))
+
+    def test_a_lock_that_cannot_be_made_is_named(self):
+        os.mkdir(self.path + ".lock")
+        ran = self.asked(SET_V)
+        self.fails(ran, b"")
+        self.assertIn(os.fsencode(self.path + ".lock"), ran.stderr)
+        self.assertEqual(self.bytes(), b"")
+
+    def writing(self):
+        """A program that writes the file."""
+        first = subprocess.Popen([LAUNCHER, "pipe", "--aof", self.path], stdin=subprocess.PIPE, stdout=subprocess.PIPE, bufsize=0)
+        self.addCleanup(first.communicate)
+        first.stdin.write(SET_V)
+        self.assertEqual(first.stdout.read(len(OK)), OK)
+        return first
+
+    def test_a_second_program_is_kept_away_under_another_name(self):
+        others = tempfile.TemporaryDirectory()
+        self.addCleanup(others.cleanup)
+        first = self.writing()
+        names = [os.path.join(others.name, it) for it in ("hard", "symbolic", "folder")]
+        os.link(self.path, names[0])
+        os.symlink(self.path, names[1])
+        os.symlink(self.folder, names[2])
+        for name in (names[0], names[1], os.path.join(names[2], "data.aof")):
+            for asked in (None, REWRITE + SET_X):
+                with self.subTest(name=name, asked=asked):
+                    if asked:
+                        first.stdin.write(asked)
+                        self.assertEqual(first.stdout.read(len(STARTED + OK)), STARTED + OK)
+                    if asked and name == names[0]:
+                        # a replaced file has this name no more
+                        continue
+                    held = self.bytes()
+                    ran = run(SET_W, "pipe", "--aof", name)
+                    self.assertEqual((ran.returncode, ran.stdout), (3, b""))
+                    self.assertEqual(ran.stderr, b"minired: file failed\n%s: in use\n" % os.fsencode(name))
+                    self.assertEqual(self.bytes(), held)
+
+    def test_a_rewriting_keeps_links_and_the_mode(self):
+        link = os.path.join(self.folder, "link")
+        os.symlink("data.aof", link)
+        for mode in (0o600, 0o640, 0o666):
+            with self.subTest(mode=mode):
+                self.write(SET_V + SET_W)
+                os.chmod(self.path, mode)
+                if os.geteuid() == 0:
+                    os.chown(self.path, 4321, 4322)
+                ran = run(REWRITE + SET_X, "pipe", "--aof", link)
+                self.assertEqual((ran.returncode, ran.stderr, ran.stdout), (0, b"", STARTED + OK))
+                self.assertEqual((os.readlink(link), self.bytes()), ("data.aof", SET_W + SET_X))
+                now = os.stat(self.path)
+                self.assertEqual(stat.S_IMODE(now.st_mode), mode)
+                if os.geteuid() == 0:
+                    self.assertEqual((now.st_uid, now.st_gid), (4321, 4322))
+                self.assertEqual(sorted(os.listdir(self.folder)), ["data.aof", "data.aof.lock", "link"])
+
+    def test_a_link_to_a_file_that_is_not_there_has_it_made(self):
+        link = os.path.join(self.folder, "link")
+        os.symlink("data.aof", link)
+        ran = run(SET_V, "pipe", "--aof", link)
+        self.assertEqual((ran.returncode, ran.stderr, ran.stdout), (0, b"", OK))
+        self.assertEqual(self.bytes(), SET_V)
+
+
+# files that aren't lists of commands: what they begin with is loaded, and the rest stands beside them
+WRONG_FILES = {
+    "a text": (b"", b"Dear reader,\n\nthis is no file of commands.\n"),
+    "an RDB file": (b"", b"REDIS0010\xfa\tredis-ver\x067.0.15\xfa\nredis-bits\xc0@\xfe\0\xfb\1\0\0\1k\1v\xff" + bytes(range(8))),
+    "another server's file": (b"", request("SELECT", "0") + SET_V + request("SET", "l", "w")),
+    "another server's file, in part": (SET_V, request("INCRBYFLOAT", "f", "1.5") + SET_W),
+    "zeros": (SET_V + SET_W, bytes(5000)),
+}
+
+
+class Setting(OfFile):
+    """What can't be loaded is set aside before it is cut off."""
+
+    def test_each_kind_of_wrong_file_is_kept_beside_it(self):
+        for at, (name, (good, rest)) in enumerate(WRONG_FILES.items()):
+            with self.subTest(name=name):
+                self.write(good + rest)
+                self.answers(request("DBSIZE"), b":%d\r\n" % (1 if good else 0), cut=rest)
+                self.assertEqual((self.bytes(), len(self.copies())), (good, at + 1))
+                # the next start has nothing to say
+                self.answers(request("DBSIZE"), b":%d\r\n" % (1 if good else 0))
+
+    def test_one_flipped_bit_in_the_middle(self):
+        texts = [request("SET", "key%05d" % it, "value%d" % it) for it in range(10_000)]
+        for at in (100, 5000, 9999):
+            with self.subTest(at=at):
+                good, rest = b"".join(texts[:at]), bytearray(b"".join(texts[at:]))
+                # the first byte of the second word's head
+                rest[13] ^= 1
+                self.write(good + rest)
+                self.answers(request("DBSIZE"), b":%d\r\n" % at, cut=bytes(rest))
+                self.assertEqual(self.bytes(), good)
+
+    def test_a_copy_is_for_those_that_the_file_is_for(self):
+        self.write(SET_V + TORN)
+        os.chmod(self.path, 0o640)
+        self.answers(b"", b"", cut=TORN)
+        self.assertEqual(stat.S_IMODE(os.stat(self.copies()[0]).st_mode), 0o640)
+
+    def test_a_name_that_is_taken_is_left_alone(self):
+        for taken in ("data.aof.cut-1", "data.aof.cut-2"):
+            with open(os.path.join(self.folder, taken), "wb") as file:
+                file.write(b"old")
+        self.write(SET_V + TORN)
+        self.answers(request("GET", "k"), bulk(b"v"), cut=TORN)
+        self.assertEqual([os.path.basename(it) for it in self.copies()], ["data.aof.cut-%d" % it for it in (1, 2, 3)])
+        self.assertEqual([os.path.getsize(it) for it in self.copies()], [3, 3, len(TORN)])
+
+    def test_a_large_rest_is_copied_whole(self):
+        rest = random.Random(7).randbytes(20_000_000)
+        self.write(SET_V + rest)
+        self.answers(request("GET", "k"), bulk(b"v"), cut=rest)
+
+    def test_without_room_for_the_copy_the_file_stays_as_it_is(self):
+        data = SET_V + bytes(5000)
+        self.write(data)
+        for room in (0, 1000, 4999):
+            with self.subTest(room=room):
+                ran = self.asked(request("GET", "k"), preexec_fn=may_grow_to(room))
+                self.fails(ran, b"")
+                self.assertEqual(self.bytes(), data)
+                self.assertEqual(sorted(os.listdir(self.folder)), ["data.aof", "data.aof.lock"])
+        self.answers(request("GET", "k"), bulk(b"v"), cut=bytes(5000))
+
+
+class FailingSetting(OfFailing):
+    def test_each_call_fails_in_turn(self):
+        data, before = SET_V + bytes(70_000), 0
+        for call in range(1, 100):
+            self.write(data)
+            ran = self.run_with(request("GET", "k"), FAIL_CALL=str(call), FAIL_NAMES="1")
+            if ran.returncode == 0:
+                break
+            with self.subTest(call=call):
+                self.fails(ran, b"")
+                # nothing of it is lost, and a copy is there whole or not at all
+                self.assertEqual(self.bytes(), data)
+                for copy in self.copies():
+                    self.assertEqual(os.path.getsize(copy), 70_000)
+                    os.remove(copy)
+                before += 1
+        # the copy is made, given its mode, read, written, synced, and its folder opened and synced
+        self.assertGreater(before, 10)
+        self.assertEqual((ran.stdout, self.bytes()), (bulk(b"v"), SET_V))
 
 
 class Killing(OfFile):

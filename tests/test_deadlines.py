@@ -164,6 +164,22 @@ class Expiring(AtMoments):
             ("shows", "shows %s 84" % ID),
         ])
 
+    def test_keys_are_counted_that_are_not_expired(self):
+        def set_at(key, deadline):
+            return (1000, f"SET {key} v PXAT {deadline}", OK, f"SET {key} v PXAT {deadline}")
+
+        self.plays_at([
+            (1000, "DBSIZE", number(0)),
+            (1000, "SET a v", OK, "SET a v"),
+            *(set_at(key, deadline) for key, deadline in (("b", 3000), ("c", 2000), ("d", 2001), ("e", 2000), ("f", 4000))),
+            *((now, "DBSIZE", number(left)) for now, left in ((1000, 6), (1999, 6), (2000, 4), (2001, 3), (2999, 3), (3000, 2), (3999, 2), (4000, 1), (5000, 1), (1000, 6))),
+            (3000, "GET c", NIL, "DEL c"),
+            (3000, "DBSIZE", number(2)),
+            (1000, "DBSIZE", number(5)),
+            (3000, "PERSIST f", number(1), "PERSIST f"),
+            (9000, "DBSIZE", number(2)),
+        ])
+
     def test_deadlines_are_named_in_each_unit(self):
         self.plays_at([
             (1000, "SET k v", OK, "SET k v"),

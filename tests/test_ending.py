@@ -2,6 +2,8 @@
 
 import contextlib
 import os
+import pty
+import re
 import resource
 import signal
 import subprocess
@@ -18,7 +20,10 @@ BAD_LINES = [
     (["nothing"], b"nothing"),
     (["Pipe"], b"Pipe"),
     (["help"], b"help"),
-    (["--help"], b"--help"),
+    (["--Help"], b"--Help"),
+    (["-H"], b"-H"),
+    (["-v"], b"-v"),
+    (["pipe", "--aof=--help", "--now"], b"--now <now>"),
     (["--now", "1"], b"--now"),
     (["pipe", "more"], b"more"),
     (["pipe", "two\n\nlines"], b"two"),
@@ -80,11 +85,62 @@ class Options(unittest.TestCase):
                 ran = run(PING, "pipe", "--id=" + name)
                 self.assertEqual((ran.returncode, ran.stdout, ran.stderr), (1, b"", b"minired: bad value\n"))
 
-    def test_a_mode_that_is_none_is_a_bad_value(self):
-        for mode in ("", "maybe", "Always", "NO", "no ", "always,no"):
+    def test_a_mode_that_is_none_is_told_which_there_are(self):
+        for mode in ("", "maybe", "everysec", "Always", "NO", "no ", "always,no"):
             with self.subTest(mode=mode):
                 ran = run(PING, "serve", "--port=1", "--sync=" + mode)
-                self.assertEqual((ran.returncode, ran.stdout, ran.stderr), (1, b"", b"minired: bad value\n"))
+                self.assertEqual((ran.returncode, ran.stdout), (1, b""))
+                self.assertEqual(ran.stderr, b"minired: bad value: --sync takes always or no\n")
+
+
+class Questions(unittest.TestCase):
+    def test_the_help_names_all_words_and_their_usual_values(self):
+        for words in (["--help"], ["-h"], ["serve", "--help"], ["pipe", "-h"], ["serve", "--port", "1", "--help"], ["--version", "--help"], ["nothing", "-h"]):
+            with self.subTest(words=words):
+                ran = run(PING, *words)
+                self.assertEqual((ran.returncode, ran.stderr), (0, b""))
+                for word in ("serve", "pipe", "--port", "--aof", "--sync", "--turns", "--id", "--now", "--word", "--help", "--version"):
+                    self.assertRegex(ran.stdout, rb"(?m)(^|[\s|\[])" + re.escape(word.encode()) + rb"\b")
+                for usual in ("always", "1000000000000", "40 times a", "usually 0"):
+                    self.assertIn(usual.encode(), ran.stdout)
+                self.assertTrue(all(len(line) <= 120 for line in ran.stdout.decode().split("\n")))
+
+    def test_each_line_of_the_help_is_taken_by_the_parser(self):
+        said = run(b"", "--help").stdout.decode()
+        values = {"--port": "6379", "--aof": "", "--sync": "always", "--turns": "0", "--id": 40 * "a", "--now": "0", "--word": "0"}
+        self.assertEqual(set(re.findall(r"--\w+", said)), {*values, "--help", "--version"})
+        with tempfile.TemporaryDirectory() as folder:
+            values["--aof"] = os.path.join(folder, "data.aof")
+            words = [it for name in ("--aof", "--id", "--now", "--word") for it in (name, values[name])]
+            self.assertEqual(run(PING, "pipe", *words).stdout, b"+PONG\r\n")
+
+    def test_the_version(self):
+        for words in (["--version"], ["serve", "--version"]):
+            with self.subTest(words=words):
+                ran = run(PING, *words)
+                self.assertEqual((ran.returncode, ran.stderr), (0, b""))
+                self.assertRegex(ran.stdout, rb"\Aminired \d+\.\d+\.\d+\n\Z")
+
+    def test_an_answer_that_cannot_be_written(self):
+        for word in ("--help", "--version"):
+            with self.subTest(word=word), open("/dev/full", "wb") as full:
+                ran = subprocess.run([LAUNCHER, word], stdout=full, stderr=subprocess.PIPE, timeout=LATE)
+                self.assertEqual((ran.returncode, ran.stderr), (3, b"minired: file failed\n"))
+
+
+class Terminals(unittest.TestCase):
+    def test_who_starts_it_on_a_terminal_is_told_that_it_waits(self):
+        ours, its = pty.openpty()
+        self.addCleanup(os.close, ours)
+        started = subprocess.Popen([LAUNCHER, "pipe"], stdin=its, stdout=subprocess.PIPE, stderr=subprocess.PIPE, bufsize=0)
+        self.addCleanup(started.communicate)
+        os.close(its)
+        self.assertRegex(started.stderr.readline(), rb"\Aminired: waits for requests .*--help.*\n\Z")
+        os.write(ours, b"PING\n")
+        self.assertEqual(started.stdout.read(7), b"+PONG\r\n")
+        # the end of the input, as a terminal says it
+        os.write(ours, b"\x04")
+        self.assertEqual(started.wait(timeout=LATE), 0)
 
 
 class Streams(unittest.TestCase):

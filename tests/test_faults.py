@@ -134,6 +134,57 @@ class Faults(Rehearsing):
             ("CLIENT", SYNTAX),
         ])
 
+    def test_the_node(self):
+        self.are_told([
+            ("PSYNC", arity("psync")),
+            ("psync ?", arity("psync")),
+            ("PSYNC ? -1 x", arity("psync")),
+            ("PSYNC ? x", INTEGER),
+            ("PSYNC ? +1", INTEGER),
+            ("PSYNC ? 01", INTEGER),
+            ("PSYNC ? 9223372036854775808", INTEGER),
+            ("REPLICAOF", arity("replicaof")),
+            ("REPLICAOF NO", arity("replicaof")),
+            ("ReplicaOf NO ONE x", arity("replicaof")),
+            ("SLAVEOF localhost", arity("slaveof")),
+            ("slaveof localhost 6379 x", arity("slaveof")),
+            *((f"{name} {words}", INTEGER) for name in ("REPLICAOF", "SLAVEOF") for words in ("h 0", "h 65536", "h -1", "h x", "h 06379", "h 6379.0", "NO TWO", "h one", "one no")),
+        ])
+
+    def test_what_a_replica_says(self):
+        self.are_told([(f"REPLCONF {words}".rstrip(), SYNTAX) for words in (
+            "",
+            "listening-port",
+            "listening-port 1 capa",
+            "capa eof psync2",
+            "nope 1",
+            "capa eof nope 1",
+            "ACK",
+            "ACK x",
+            "ack 1.0",
+            "ACK 9223372036854775808",
+            "ACK 1 2",
+            "ACK 1 capa eof",
+            "capa eof ACK 1",
+            "getack *",
+        )])
+
+    def test_what_no_node_does_yet(self):
+        a = "a" * 40
+        self.are_told([(words, UNKNOWN) for words in (
+            f"PSYNC {a} 1",
+            "psync ? -1",
+            "PSYNC x 9223372036854775807",
+            "REPLCONF listening-port 6380",
+            "replconf Listening-Port x IP-ADDRESS 127.0.0.1 capa eof CAPA psync2",
+            "REPLCONF ACK 0",
+            "replconf ack -9223372036854775808",
+            "REPLICAOF localhost 1",
+            "REPLICAOF NO 65535",
+            "SlaveOf NO ONE",
+            "replicaof no oNe",
+        )])
+
     def test_many_strings_set(self):
         self.are_told([
             ("MSET", arity("mset")),
@@ -202,9 +253,9 @@ class Faults(Rehearsing):
         ])
 
     def test_texts_that_are_no_score_or_bound(self):
-        scores = ("", "1.", ".0", "-0.0", "+1", "01", "1.0.0", "1.01", "1e3", "inf", "INF", "+Inf", "(1", "-9007199254740993")
+        scores = ("", "1.", ".0", "-0.0", "+1", "01", "1.0.0", "1.01", "1e3", "inf", "INF", "+Inf", "infinity", "-Infinity", "(1", "-9007199254740993")
         self.are_told([("ZADD k %s m" % text, INTEGER) for text in scores])
-        bounds = ("", "(", "((1", "(1.5", "in", "i", "infinity", "INFX", "inff", "++inf", "+-inf", "--INF", "((inf", "+(inf", "-(Inf", "nan", "+", "-", "(+")
+        bounds = ("", "(", "((1", "(1.5", "in", "i", "infi", "infinit", "INFINITYX", "infinite", "nfinity", "+-infinity", "((Infinity", "+(infinity", "INFX", "inff", "++inf", "+-inf", "--INF", "((inf", "+(inf", "-(Inf", "nan", "+", "-", "(+")
         self.are_told([("ZCOUNT k %s 1" % text, NO_BOUND) for text in bounds])
         self.are_told([("ZREVRANGEBYSCORE k 1 " + text, NO_BOUND) for text in bounds])
 

@@ -72,7 +72,9 @@ class Synchronizing(Playing):
         followers = []
         for cut in range(len(WHOLE) + 1):
             whole = sum(end <= cut for end in ends)
-            kept = WHOLE[([0] + ends)[whole] : cut]
+            # of a snapshot the line of its length is used as soon as it is there
+            line = 5 if whole == 4 and cut >= ends[3] + 5 else 0
+            kept = WHOLE[([0] + ends)[whole] + line : cut]
             before = [fed(WHOLE[:cut]), *[("step", heard) for heard in HEARD[:whole]], ("step", "idle")]
             held = (27, kept, SET) if whole == 5 else (0, kept, b"")
             rest = [fed(WHOLE[cut:]), *[("step", heard) for heard in HEARD[whole:]], ("step", "idle")]
@@ -97,6 +99,23 @@ class Synchronizing(Playing):
             *synchronized(), begun(), fed(b"".join(ANSWERS[:3]) + full), *[("step", heard) for heard in HEARD[:3]],
             ("step", "announces %s 1000" % B), shown("snapshot", 27, full[full.index(b"$") :], SET), ("step", "installs"), shown("stream", 1000, b"", texts),
         ])
+
+    def test_a_snapshot_cut_anywhere_shows_what_was_held_before(self):
+        """Up to its last byte. Where the link breaks at the cut, the next line asks for the byte behind what is held."""
+        lines = ["RPUSH l a b", "HSET h f v", "PEXPIREAT h 5", "SADD s m n", "ZADD z 1 m", "SET k w", "LPOP l 1", "DEL s", "PING"]
+        left = ["HSET h f v", "PEXPIREAT h 5", "SET k w", "RPUSH l b", "ZADD z 1 m"]
+        texts = [effect(line) for line in lines]
+        data, made = b"".join(texts), b"".join(effect(line) for line in left)
+        line = b"$%d\r\n" % len(data)
+        starts = [len(line) + sum(map(len, texts[:count])) for count in range(len(texts) + 1)]
+        steps = [*synchronized(), *asking(A, 27), fed(b"+FULLRESYNC %s 1000\r\n" % B.encode()), ("step", "announces %s 1000" % B)]
+        sent, followers = line + data, []
+        for cut in range(len(sent)):
+            taken = max([start for start in starts if start <= cut], default=0)
+            before = [fed(sent[:cut]), ("step", "idle"), shown("snapshot", 27, sent[taken:cut], SET)]
+            rest = [fed(sent[cut:] + SET), ("step", "installs"), shown("stream", 1000, SET, made)]
+            followers += [[*steps, *before, *rest], [*steps, *before, *asking(A, 27)]]
+        self.plays("follower", *followers)
 
     def test_an_empty_snapshot_is_one(self):
         empty = b"+FULLRESYNC %s 0\r\n$0\r\n" % A.encode()
@@ -200,6 +219,7 @@ NO_SNAPSHOTS = [
 NO_EFFECTS = [
     b"*1\r\n$3\r\nFOO\r\n",
     effect("LPUSH k 1"),
+    effect("LPOP k 1"),
     effect("GET k"),
     effect("set k w"),
     effect("SET k w PXAT 0"),
@@ -232,7 +252,7 @@ class Refusing(Playing):
     def refuses_each(self, phase, rows, why):
         """Each of these is refused there: behind all of its bytes, and at every cut where a plain follower does."""
         shows = (27, SET) if phase == "stream" else (0, b"")
-        followers = [[*self.up_to(phase), fed(data), *refuses(why), shown(phase, shows[0], data, shows[1])] for data in rows]
+        followers = [[*self.up_to(phase), fed(data), *refuses(why), shown(phase, shows[0], self.kept_of(phase, data), shows[1])] for data in rows]
         for data in rows:
             for cut in range(min(len(data), 100)):
                 steps = [*self.up_to(phase), *self.cut_at(phase, data, cut)]
@@ -240,14 +260,25 @@ class Refusing(Playing):
                 followers.append(steps)
         self.plays("follower", *followers)
 
-    def cut_at(self, phase, data, cut):
-        """The steps that a plain follower makes, in this phase, of these bytes in two pieces."""
+    def plain_in(self, phase):
+        """A plain follower in this phase."""
         plain, count = PlainFollower(), PHASES.index(phase)
         plain.begin(0)
         plain.feed(b"".join(ANSWERS[:count]))
         for _ in range(count):
             plain.step()
-        steps = []
+        return plain
+
+    def kept_of(self, phase, data):
+        """What a plain follower keeps of these bytes: of a snapshot what is behind its line and its good effects."""
+        plain = self.plain_in(phase)
+        plain.feed(data)
+        plain.step()
+        return plain.kept
+
+    def cut_at(self, phase, data, cut):
+        """The steps that a plain follower makes, in this phase, of these bytes in two pieces."""
+        plain, steps = self.plain_in(phase), []
         for piece in (data[:cut], data[cut:]):
             steps += [("feed " + spelled(piece), plain.feed(piece)), ("step", plain.step())]
         return steps
@@ -275,16 +306,40 @@ class Refusing(Playing):
     def test_an_answer_in_the_place_of_a_length_is_refused(self):
         self.refuses_each("snapshot", [b"+OK\r\n", LONGEST, ANSWERS[3]], "bad line")
 
-    def test_a_snapshot_that_makes_no_dataset_is_refused_with_its_last_byte(self):
+    def test_a_snapshot_that_makes_no_dataset_is_refused_with_its_last_byte_at_the_latest(self):
         rows = [b"$%d\r\n" % len(texts) + texts for texts in NO_SNAPSHOTS]
-        waits = [[*self.up_to("snapshot"), fed(data[:-1]), ("step", "idle")] for data in rows]
-        self.plays("follower", *waits)
         self.refuses_each("snapshot", rows, "undecodable stream")
+
+    def test_what_is_no_effect_is_refused_as_soon_as_it_is_found(self):
+        """However much of the snapshot is to come, and behind what made a dataset."""
+        begun_so = [*self.up_to("snapshot"), fed(b"$5000000\r\n" + SET), ("step", "idle"), shown("snapshot", 0)]
+        self.plays("follower", *[[*begun_so, fed(it), *refuses("undecodable stream"), shown("snapshot", 0, it)] for it in NO_EFFECTS])
+
+    def test_no_more_is_kept_of_a_snapshot_than_the_beginning_of_one_command(self):
+        texts = [effect("SET %s v" % letter) for letter in "abc"]
+        data, size = b"".join(texts), sum(map(len, texts))
+        steps = self.up_to("snapshot") + [fed(b"$%d\r\n" % size), ("step", "idle"), shown("snapshot", 0)]
+        for at in range(size - 1):
+            steps += [fed(data[at : at + 1]), ("step", "idle"), shown("snapshot", 0, data[at - at % 27 : at + 1] if (at + 1) % 27 else b"")]
+        self.plays("follower", [*steps, fed(data[-1:] + texts[0]), ("step", "installs"), shown("stream", 27, texts[0], data)])
+
+    def test_of_a_large_snapshot_no_more_is_kept_than_the_beginning_of_one_command(self):
+        """A thousand commands of 27 bytes, in pieces of 1,000. What was held is shown until the last byte."""
+        texts = [effect("SET %s v" % letter) for letter in "abcdefghij"]
+        data, size = b"".join(texts) * 100, 27_000
+        self.assertEqual(len(data), size)
+        steps = [*synchronized(), *asking(A, 27), fed(b"+FULLRESYNC %s %d\r\n$%d\r\n" % (B.encode(), size, size))]
+        steps += [("step", "announces %s %d" % (B, size)), ("step", "idle"), shown("snapshot", 27, b"", SET)]
+        for end in range(1000, size, 1000):
+            kept = data[end - end % 27 : end]
+            self.assertLessEqual(len(kept), 26)
+            steps += [fed(data[end - 1000 : end]), ("step", "idle"), shown("snapshot", 27, kept, SET)]
+        self.plays("follower", [*steps, fed(data[-1000:]), ("step", "installs"), shown("stream", size, b"", b"".join(texts))])
 
     def test_a_bad_snapshot_leaves_the_dataset(self):
         bad = b"+FULLRESYNC %s 5\r\n" % B.encode()
         steps = [*synchronized(), *asking(A, 27), fed(bad + b"$3\r\nabc"), ("step", "announces %s 5" % B), *refuses("undecodable stream")]
-        self.plays("follower", [*steps, shown("snapshot", 27, b"$3\r\nabc", SET)])
+        self.plays("follower", [*steps, shown("snapshot", 27, b"abc", SET)])
 
     def test_what_is_no_effect_here_is_refused(self):
         self.refuses_each("stream", NO_EFFECTS, "undecodable stream")

@@ -11,6 +11,7 @@ import unittest
 
 from plain_follower import MOST, Entries, Fault, PlainFollower
 from program import request
+from rehearsal import texts_of
 from values import Playing, spelled
 
 COUNT, SEED = 1_000_000, 20
@@ -109,9 +110,33 @@ class Masters:
             return answers + b"+CONTINUE %s\r\n" % digits + self.effects(held, self.random.randint(0, 12))
         snapshot = self.effects(held, self.random.randint(0, 10))
         snapshot = held.texts() if self.random.random() < 0.5 else snapshot
+        length = len(snapshot)
+        if self.random.random() < 0.5:
+            snapshot, length = self.lying(snapshot)
         offset = self.random.choice([0, 27, 10**6, MOST - 100, MOST])
-        full = b"+FULLRESYNC %s %d\r\n$%d\r\n" % (digits, offset, len(snapshot))
+        full = b"+FULLRESYNC %s %d\r\n$%d\r\n" % (digits, offset, length)
         return answers + full + snapshot + self.effects(held, self.random.randint(0, 12))
+
+    def lying(self, snapshot):
+        """The bytes of a snapshot and their length, of which one isn't what it was."""
+        how, at = self.random.randrange(4), self.random.randint(0, len(snapshot))
+        if how == 0:
+            # a length by a little too small or too great, or one that nobody sends
+            length = len(snapshot) + self.random.choice([-27, -2, -1, 1, 2, 27, MOST - len(snapshot)])
+            return snapshot, max(length, 0)
+        if how == 1:
+            return snapshot[:at], at
+        if how == 2:
+            # what is no effect, or one that can't be applied there
+            bad = self.random.choice([request("FOO"), request("GET", "k"), request("PERSIST", "none"), request("LPOP", "k", "1"), b"SET k v\r\n", b"\r\n"])
+            texts = list(texts_of(snapshot))
+            place = self.random.randint(0, len(texts))
+            snapshot = b"".join(texts[:place]) + bad + b"".join(texts[place:])
+            return snapshot, len(snapshot)
+        data = bytearray(snapshot)
+        if data:
+            data[min(at, len(data) - 1)] = self.random.randrange(256)
+        return bytes(data), len(data)
 
     def changed(self, data):
         """The bytes, or the bytes with a few of them changed, taken away, moved or put in, mostly behind the first lines."""

@@ -9,21 +9,22 @@ from rehearsal import ID, Rehearsing, done
 from replies import OK, SYNTAX, Answering, arity, array, array_of, bulk, number
 from test_node import SET, fed
 from test_serve import GET, PING, PONG, SET_V, SET_W, Serving
+from values import Playing, spelled
 
 BACKLOG = 1_048_576
 EMPTY = bulk("")
 
 
-def information(offset, role="master", first=1, held=None):
-    """INFO's text of a node under the tests' id."""
+def information(offset, role="master", first=1, held=None, followers=0, name=ID, second=("0" * 40, -1)):
+    """INFO's text of a node, under the tests' id if no other is named."""
     lines = [
         "# Replication",
         "role:" + role,
-        "connected_slaves:0",
-        "master_replid:" + ID,
-        "master_replid2:" + "0" * 40,
+        "connected_slaves:%d" % followers,
+        "master_replid:" + name,
+        "master_replid2:" + second[0],
         "master_repl_offset:%d" % offset,
-        "second_repl_offset:-1",
+        "second_repl_offset:%d" % second[1],
         "repl_backlog_active:1",
         "repl_backlog_size:%d" % BACKLOG,
         "repl_backlog_first_byte_offset:%d" % first,
@@ -38,6 +39,38 @@ def master(offset):
 
 
 REPLICA = array_of(bulk("slave"), EMPTY, number(0), bulk("connect"), number(0))
+
+
+class TellingOfReplicas(Playing):
+    """What a node tells that has replicas, or follows a master: no node has either yet."""
+
+    A, C = "a" * 40, "c" * 40
+
+    def tells(self, *steps):
+        """Steps on a stream that stood at 54 under one id and was then promoted, each with the text that it tells."""
+        begun = [("new %s %d 54" % (self.A, BACKLOG), "begun"), ("promote " + self.C, "promoted")]
+        self.plays("lineage", begun + [(step, "text " + spelled(text)) for step, text in steps])
+
+    def test_the_id_before_ends_behind_the_last_byte_that_it_had(self):
+        told = {"first": 55, "held": 0, "name": self.C, "second": (self.A, 55)}
+        self.tells(
+            ("informs master 0", information(54, **told)),
+            ("informs master 3", information(54, followers=3, **told)),
+            ("informs slave 0", information(54, role="slave", **told)),
+        )
+
+    def test_a_master_tells_of_each_replica_what_it_told(self):
+        told, silent = array("10.0.0.7", "6380", "41"), array("", "0", "0")
+        self.tells(
+            ("alone", master(54)),
+            ("leads %s %s 41" % (spelled("10.0.0.7"), spelled("6380")), array_of(bulk("master"), number(54), array_of(told, silent))),
+        )
+
+    def test_a_replica_tells_whom_it_follows_and_how_far_it_has_come(self):
+        self.tells(*[
+            ("follows %s 6379 %s" % (spelled("node"), link), array_of(bulk("slave"), bulk("node"), number(6379), bulk(link), number(54)))
+            for link in ("connect", "sync", "connected")
+        ])
 
 
 class Telling(Answering):

@@ -78,6 +78,18 @@ OFFSETS = [
     *[(text, "no offset") for text in ("", "-", "-0", "-1", "+1", "00", "01", "1x", " 1", str(MOST + 1), str(2**64), "9" * 40)],
 ]
 
+# what a master says, and the line that says it
+WRITTEN = [
+    ("full %s 0" % A, "+FULLRESYNC %s 0\r\n" % A),
+    ("full %s 27" % B, "+FULLRESYNC %s 27\r\n" % B),
+    ("full %s %d" % (A, MOST), "+FULLRESYNC %s %d\r\n" % (A, MOST)),
+    ("continue " + A, "+CONTINUE %s\r\n" % A),
+    ("continue " + B, "+CONTINUE %s\r\n" % B),
+    ("length 0", "$0\r\n"),
+    ("length 27", "$27\r\n"),
+    ("length %d" % MOST, "$%d\r\n" % MOST),
+]
+
 
 class PeerLines(Playing):
     def plays_on(self, step, rows):
@@ -91,6 +103,9 @@ class PeerLines(Playing):
 
     def test_an_offset_has_one_spelling(self):
         self.plays_on("offset", OFFSETS)
+
+    def test_a_master_writes_its_lines(self):
+        self.plays("peer", [(step, "text " + spelled(line)) for step, line in WRITTEN])
 
 
 if __name__ == "__main__":

@@ -1,5 +1,6 @@
 """`minired serve`: a server on a port, its links, how it ends, and its file."""
 
+import datetime
 import os
 import random
 import re
@@ -14,9 +15,9 @@ import unittest
 import zlib
 
 import server
-from program import LATE, LAUNCHER, compiler, request, run
+from program import LATE, LAUNCHER, NOTICE, compiler, request, run
 from replies import NIL, OK, UNKNOWN, array, bulk, number
-from server import HOST, READY, UNREAD, free_port, has_redis, raise_limit, until
+from server import HOST, READY, free_port, has_redis, raise_limit, until
 from test_aof import Made
 
 MIB = 1 << 20
@@ -34,8 +35,10 @@ KILLS = 50
 MANY, CLOSED, IDLE = 1000, 10_000, 10_000
 # requests whose processor time is told
 SOME = 2000
-# how much memory a server may have taken more behind so many closed links or for so many idle ones, and at most over what a deaf client may leave unread
-LEAK, BESIDE = 16 * MIB, 192 * MIB
+# keys that are counted, and how often
+COUNTED, COUNTS = 200_000, 200
+# how much memory a server may have taken more behind so many closed links or for so many idle ones
+LEAK = 16 * MIB
 # in the year 2100
 FAR = 4_102_444_800_000
 
@@ -175,6 +178,7 @@ class Ending(Serving):
                 self.assertRegex(it.ready, READY)
                 ended = it.ended()
                 self.assertEqual((ended.returncode, ended.stdout, ended.stderr), (0, b"", b""))
+                self.assertEqual(ended.notices, [it.ready[len("minired: ") : -1], b"ends: it made all its turns"])
 
     def test_by_a_signal_and_in_silence(self):
         for sent in (signal.SIGTERM, signal.SIGINT):
@@ -186,6 +190,7 @@ class Ending(Serving):
                 self.assertEqual(bad.rest(), COUNT)
                 ended = it.signalled(sent)
                 self.assertEqual((ended.returncode, ended.stdout, ended.stderr), (-sent, b"", b""))
+                self.assertEqual(ended.notices, [it.ready[len("minired: ") : -1]])
                 self.assertEqual(client.rest(), b"")
                 again = self.serve(aof=self.path)
                 self.assertEqual(self.client(again).asks("GET", "k"), bulk(sent.name))
@@ -237,7 +242,73 @@ class Ending(Serving):
         self.file_failed(self.asked(self.serve().port))
 
 
+class Notices(Serving):
+    """Lines on standard error that say what the server does."""
+
+    def test_a_whole_life(self):
+        self.write(SET_V + SET_W + TORN)
+        before = time.time()
+        it = self.serve(aof=self.path)
+        client = self.client(it)
+        self.assertEqual(client.asks("BGREWRITEAOF"), STARTED)
+        client.send(request("SHUTDOWN"))
+        self.assertEqual(it.process.wait(timeout=LATE), 0)
+        said = it.process.stderr.read()
+        times, texts = zip(*NOTICE.findall(said))
+        self.assertEqual(b"".join(b"%s minired: %s\n" % pair for pair in zip(times, texts)), said)
+        cut, ready, anew, ends = texts
+        copy = os.path.realpath(self.path) + ".cut-1"
+        self.assertEqual(cut, b"%s: cut off %d bytes from offset 54 on, copied to %s before" % (os.fsencode(self.path), len(TORN), os.fsencode(copy)))
+        self.assertEqual(b"minired: %s\n" % ready, it.ready)
+        self.assertRegex(anew, rb"\Afile written anew: 27 bytes in \d+ ms\Z")
+        self.assertEqual(ends, b"ends: a client said SHUTDOWN")
+        with open(copy, "rb") as file:
+            self.assertEqual(file.read(), TORN)
+        moments = [datetime.datetime.strptime(it.decode(), "%Y-%m-%dT%H:%M:%S.%f%z").timestamp() for it in times]
+        self.assertEqual(moments, sorted(moments))
+        self.assertTrue(before - 1 < moments[0] <= moments[-1] < time.time() + 1, (before, moments))
+
+    def test_a_failed_file_is_told_with_the_time_too(self):
+        it = self.serve(aof=self.path, limits=lambda: resource.setrlimit(resource.RLIMIT_FSIZE, (10, 10)))
+        self.client(it).send(SET_V)
+        ended = it.ended()
+        self.file_failed(ended)
+        self.assertEqual(ended.notices[1:], [b"ends: file failed"])
+
+    def test_that_no_descriptor_is_left_is_told_once_a_second_at_most(self):
+        it = self.serve(limits=lambda: resource.setrlimit(resource.RLIMIT_NOFILE, (40, 40)))
+        first, began = self.client(it), time.monotonic()
+        more = [self.client(it) for _ in range(100)]
+        while time.monotonic() < began + 2.5:
+            self.assertEqual(first.asks("PING"), PONG)
+        for link in more:
+            link.close()
+        told = it.kill().notices[1:]
+        self.assertEqual(set(told), {b"no more descriptors: links wait to be accepted"})
+        self.assertTrue(2 <= len(told) <= 2 + (time.monotonic() - began))
+
+
 class Requests(Serving):
+    def test_keys_are_counted_at_the_same_cost_however_many_there_are(self):
+        it = self.serve()
+        client = self.client(it)
+
+        def used():
+            before = it.used()
+            for _ in range(COUNTS):
+                client.asks("DBSIZE")
+            return it.used() - before
+
+        client.asks("SET", "k", "v")
+        few = used()
+        for first in range(0, COUNTED, 2000):
+            client.asks("MSET", *(word for key in range(first, first + 2000) for word in (str(key), "v")))
+        client.asks("PEXPIREAT", "0", str(FAR))
+        many = used()
+        self.assertEqual(client.asks("DBSIZE"), number(COUNTED + 1))
+        # going over all keys took a hundred times as long
+        self.assertLess(many, 8 * few)
+
     def test_a_byte_at_a_time(self):
         client = self.client(self.serve())
         for byte in SET_V + GET + b"GET 'k'\r\n":
@@ -358,30 +429,14 @@ class Links(Serving):
             self.assertEqual(other.asks("PING"), PONG)
         self.goes_on(it)
 
-    def test_a_client_that_never_reads_is_closed(self):
-        it, value = self.serve(), random.Random(2).randbytes(MIB)
-        other = self.client(it)
-        self.assertEqual(other.asks("SET", "k", value), OK)
-        links = it.descriptors()
-        deaf = self.client(it, room=4096)
-        self.assertEqual(deaf.asks("PING"), PONG)
-        self.assertEqual(it.descriptors(), links + 1)
-        deaf.send(300 * GET)
-        self.comes(lambda: it.descriptors() == links)
-        self.assertEqual(other.asks("INCR", "n"), number(1))
-        self.assertLess(it.peak(), UNREAD + BESIDE)
-        taken, wanted = deaf.rest(), bulk(value)
-        self.assertLess(len(taken), 300 * len(wanted))
-        self.assertTrue((300 * wanted).startswith(taken))
-        self.goes_on(it)
-
     def test_a_client_that_reads_late_gets_all(self):
         it, value = self.serve(), random.Random(3).randbytes(MIB)
         late, other = self.client(it, room=4096), self.client(it)
         self.assertEqual(late.asks("SET", "k", value), OK)
         late.send(55 * GET + request("INCR", "n"))
-        # what the server has answered it need not have sent
-        self.comes(lambda: other.asks("GET", "n") == bulk("1"))
+        # the last of these isn't read while so much waits
+        for at in range(100):
+            self.assertEqual(other.asks("GET", "n"), NIL)
         self.assertTrue(late.receive(55 * len(bulk(value))) == 55 * bulk(value))
         self.assertEqual(late.reply(), number(1))
 
@@ -523,6 +578,26 @@ class Links(Serving):
         self.assertEqual(other.asks("EXISTS", "k"), number(0))
         self.comes(lambda: it.descriptors() == before)
         self.assertLess(it.memory(), memory + LEAK)
+
+    def test_a_file_is_written_anew_where_clients_took_all_descriptors(self):
+        it = self.serve(aof=self.path, limits=lambda: resource.setrlimit(resource.RLIMIT_NOFILE, (60, 60)))
+        first = self.client(it)
+        for value in "vwx":
+            self.assertEqual(first.asks("SET", "k", value), OK)
+        more = [self.client(it) for _ in range(100)]
+        self.comes(lambda: it.descriptors() == 60)
+        for turn in range(3):
+            self.assertEqual(first.asks("BGREWRITEAOF"), STARTED)
+            self.assertEqual(self.bytes(), SET_X)
+            self.assertEqual(first.asks("PING"), PONG)
+            self.comes(lambda: it.descriptors() == 60)
+        # a client that waits may go away in between
+        for link in more:
+            link.close()
+        self.assertEqual(first.asks("BGREWRITEAOF"), STARTED)
+        self.assertEqual(sorted(os.listdir(self.folder)), ["data.aof", "data.aof.lock"])
+        ended = it.kill()
+        self.assertIn(b"no more descriptors: links wait to be accepted", ended.notices)
 
     def test_without_descriptors_the_links_that_are_there_go_on(self):
         it = self.serve(limits=lambda: resource.setrlimit(resource.RLIMIT_NOFILE, (60, 60)))
@@ -694,11 +769,7 @@ class Files(Serving):
         self.assertEqual(client.asks("LRANGE", "l", "0", "-1"), array(*("%d" % at for at in range(200))))
 
     def test_a_full_disk_ends_the_program(self):
-        def is_full():
-            signal.signal(signal.SIGXFSZ, signal.SIG_IGN)
-            resource.setrlimit(resource.RLIMIT_FSIZE, (1000, 1000))
-
-        self.ends_within_writes(self.serve(aof=self.path, limits=is_full))
+        self.ends_within_writes(self.serve(aof=self.path, limits=lambda: resource.setrlimit(resource.RLIMIT_FSIZE, (1000, 1000))))
 
     def ends_within_writes(self, it):
         """The file fails within a hundred writes. What was answered until then is there at the next start, in their order."""
@@ -741,6 +812,8 @@ class Syncing(Serving):
                 self.assertEqual(self.bytes(), SET_V + SET_W + SET_X)
 
     def test_without_syncing_no_sync_is_called(self):
+        # a file that is made has its folder synced
+        self.write(b"")
         client = self.client(self.serve_with("no", 1))
         for at in range(100):
             self.assertEqual(client.asks("INCR", "n"), number(at + 1))

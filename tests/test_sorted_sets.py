@@ -132,7 +132,7 @@ class SortedSets(Answering):
         ])
 
     def test_infinite_bounds_in_any_case(self):
-        for bound in ("inf", "INF", "Inf", "iNf", "inF", "INf"):
+        for bound in ("inf", "INF", "Inf", "iNf", "inF", "INf", "infinity", "Infinity", "INFINITY", "iNfINitY"):
             self.answers([
                 ("ZADD z 1 a 2 b 3 c", number(3)),
                 (f"ZCOUNT z -{bound} {bound}", number(3)),

@@ -197,6 +197,23 @@ class Lineages(Playing):
             ("asks %s 55" % self.B, "continue 55"),
         ])
 
+    def test_a_replica_goes_on_as_long_as_the_next_byte_is_held(self):
+        """Of a backlog of 27 bytes, by one that was cut off at 27."""
+        first, second = request("SET", "k", "w"), request("SET", "k", "x")
+        self.plays("lineage", [
+            ("new %s 27 27" % self.A, "begun"),
+            ("grow " + spelled(first), "grown"),
+            ("asks %s 28" % self.A, "continue 28"),
+            ("tail 28", "tail " + spelled(first)),
+            ("shows", "shows %s 54 28" % self.A),
+            ("grow " + spelled(second), "grown"),
+            ("asks %s 28" % self.A, "full"),
+            ("tail 28", "not held"),
+            ("shows", "shows %s 81 55" % self.A),
+            ("asks %s 55" % self.A, "continue 55"),
+            ("tail 55", "tail " + spelled(second)),
+        ])
+
     def test_who_goes_on_with_a_promoted_replica_knows_both_ids(self):
         """Another replica stood at 27 too and goes on with the promoted one; the second time nothing changes. Then it takes a snapshot."""
         self.plays("lineage", [
@@ -267,7 +284,7 @@ class Requests(Playing):
 
 class Commands(Playing):
     def test_commands_are_about_keys_collections_or_the_server(self):
-        rows = [("TYPE k", "keys"), ("GET k", "keys"), ("HLEN h", "collections"), ("ZCARD z", "collections"), ("ECHO x", "server"), ("LEN l", "no command")]
+        rows = [("TYPE k", "keys"), ("GET k", "keys"), ("HLEN h", "collections"), ("ZCARD z", "collections"), ("ECHO x", "server"), ("PSYNC ? -1", "server"), ("SLAVEOF NO ONE", "server"), ("LEN l", "no command")]
         self.plays("ask", [("group " + spelled(request(*line.split(" "))), answer) for line, answer in rows])
 
     def test_amounts_are_numbers(self):
@@ -280,7 +297,7 @@ class Commands(Playing):
         ])
 
     def test_names_are_shown(self):
-        self.plays("ask", [("name ZADD", "name zadd"), ("name zAdd", "name zadd"), ("name ADD", "no name")])
+        self.plays("ask", [("name ZADD", "name zadd"), ("name zAdd", "name zadd"), ("name ADD", "no name"), *(("name " + it, "name " + it.lower()) for it in ("PSYNC", "ReplConf", "REPLICAOF", "SlaveOf"))])
 
 
 class Parts(Playing):
