@@ -16,11 +16,11 @@ use Rattle.mr_entries.specs.Dataset.{Dataset}
 use Rattle.mr_entries.specs.Changes.{change, NeedsNoMemory}
 use Rattle.mr_data.specs.Meaning.{apply, apply_all}
 use Rattle.mr_data.specs.declared.due.DueKey.{DueKey}
-use Rattle.mr_data.specs.Due.{shown, HasWord}
+use Rattle.mr_data.specs.Due.{shown, HasWord, within}
 use Rattle.mr_entries.specs.declared.fault.ApplyFault.{ApplyFault}
 use Rattle.mr_entries.specs.declared.fault.ApplyFault.TheVariants.{Refused, Memory}
 use Rattle.mr_node.specs.Outs.{OutsState}
-use Rattle.mr_node.specs.Ticks.{IsDeletion, within}
+use Rattle.mr_node.specs.Ticks.{IsDeletion}
 
 one_goes : (k : Bytes) (m : Dataset) → IsTrue (fits k) → apply (effect.Del k) m ≡ Some (remove m k)
 unfolding apply change

@@ -11,13 +11,13 @@ use Rattle.mr_effect.specs.declared.effect.Effect.{Effect}
 use Rattle.mr_data.specs.declared.given.Given.{Given}
 use Rattle.mr_data.specs.declared.plan.Plan.{Plan}
 use Rattle.mr_cmd_server.specs.declared.question.Question.{Question}
-use Rattle.mr_plan.specs.Requests.{halts, question_in, quits, rewrites}
+use Rattle.mr_plan.specs.Requests.{HasPlan, halts, question_in, quits, rewrites}
 use Rattle.mr_node.specs.State.{NodeState, end_of, put_end, full, spent_as}
 use Rattle.mr_node.specs.State.EndState.{client}
 use Rattle.mr_node.specs.Outs.{OutsState, no_outs, growth, outs_with}
 use Rattle.mr_node.specs.Requests.{Asks, AsksNothing, Waits, IsDoomedBy}
 use Rattle.mr_node.specs.Progresses.{AgreesAlong}
-use Rattle.mr_node.specs.Served.{HasPlan, IsPlain, grown_by, offset_behind, offset_limit, limit_text}
+use Rattle.mr_node.specs.Served.{IsPlain, grown_by, offset_behind, offset_limit, limit_text}
 use Rattle.mr_node.specs.declared.step.Step.{Step}
 use Rattle.mr_node.specs.declared.step.Step.TheVariants.{Done}
 use Rattle.mr_plan.specs.declared.requests.Answer.{Answer}

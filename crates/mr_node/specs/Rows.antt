@@ -8,11 +8,11 @@ use Rattle.mr_entries.specs.Dataset.{Dataset}
 use Rattle.mr_effect.specs.declared.effect.Effect.{Effect}
 use Rattle.mr_data.specs.declared.given.Given.{Given}
 use Rattle.mr_planning.specs.Answered.{done}
-use Rattle.mr_plan.specs.Requests.{halts as is_halting, quits}
+use Rattle.mr_plan.specs.Requests.{HasPlan, halts as is_halting, quits}
 use Rattle.mr_node.specs.State.{NodeState, Agrees, IsShut, OthersStay, full, spent_as}
 use Rattle.mr_node.specs.Outs.{OutsState, Output, no_outs, outs_with}
 use Rattle.mr_node.specs.Requests.{Asks, Waits, IsDoomedBy}
-use Rattle.mr_node.specs.Served.{Served, HasPlan, offset_behind, offset_limit}
+use Rattle.mr_node.specs.Served.{Served, offset_behind, offset_limit}
 use Rattle.mr_node.specs.declared.step.Step.{Step}
 use Rattle.mr_node.specs.declared.step.Step.TheVariants as step
 

@@ -10,7 +10,7 @@ use Rattle.mr_data.specs.Meaning.{apply_all}
 use Rattle.mr_data.specs.declared.given.Given.{Given}
 use Rattle.mr_effect.specs.Spelling.{text, texts}
 use Rattle.mr_effect.specs.declared.effect.Effect.{Effect}
-use Rattle.mr_plan.specs.Requests.{IsPlanned, halts, left, question_in, quits, rewrites}
+use Rattle.mr_plan.specs.Requests.{HasPlan, halts, left, question_in, rewrites}
 use Rattle.mr_cmd_server.specs.Commands.{rewriting}
 use Rattle.mr_cmd_server.specs.declared.question.Question.{Question}
 use Rattle.mr_data.specs.Rebuilding.{rebuilding}
@@ -33,14 +33,6 @@ offset_behind effects c = c.stream.offset + length (texts effects)
 -- effects are put behind the stream, and leave this dataset
 abbrev pub grown_by : List Effect → Dataset → Core → Core
 grown_by effects held c = record c { held = held; stream = after_bytes c.stream (texts effects) }
-
--- A request other than QUIT: its answer at this dataset, on a master (false) or a replica (true), and its effects there. They lead to
--- what it leaves, and the text of each is a command text, so that whoever reads their texts finds them again.
-pub record HasPlan (replica : Bool) (m : Dataset) (words : List (List ℕ)) (given : Given) (reply : Tree) (effects : List Effect) : Type 0 where
-  pub goes_on : quits words ≡ false
-  pub planned : IsPlanned replica words given m reply effects
-  pub leads : apply_all effects m ≡ Some (left replica words given m)
-  pub texts : All (λ e. IsCommandText commands (text e)) effects
 
 -- what a request leaves of a node's dataset
 abbrev pub left_of : Core → List (List ℕ) → Given → Dataset

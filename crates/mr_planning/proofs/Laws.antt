@@ -101,7 +101,8 @@ leading command now m h f = record {
 pub sent : (command : Command) (now : ℤ) (m : Dataset) → IsFaithful command now m → All IsShort (own_effects command now m) → HasCommandTexts command now m
 sent command now m f short =
     let ks = expired now command.keys m in
-    record { each = command_texts (effects command now m) m (after command now m) f.leads (All-append IsShort (dels ks) (own_effects command now m) (dels_short ks) short) }
+    let all = All-append IsShort (dels ks) (own_effects command now m) (dels_short ks) short in
+    record { each = command_texts (effects command now m) m (after command now m) f.leads all; short = all }
 
 pub faithful : (command : Command) (now : ℤ) (m : Dataset) → IsTrue (list_all fits command.keys) → IsFaithfulAt (command.outcome (before command now m)) (before command now m) → IsLawful command now m
 faithful command now m h f =

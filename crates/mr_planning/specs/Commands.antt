@@ -8,7 +8,7 @@ use Rattle.mr_entries.specs.Dataset.{Dataset}
 use Rattle.mr_data.specs.Dataset.{seen}
 use Rattle.mr_data.specs.Meaning.{apply_all}
 use Rattle.mr_entries.specs.declared.value.Entry.{Entry}
-use Rattle.mr_effect.specs.Spelling.{text}
+use Rattle.mr_effect.specs.Spelling.{text, IsShort}
 use Rattle.mr_effect.specs.declared.effect.Effect.{Effect}
 use Rattle.mr_planning.specs.Keys.{expired, purged, dels}
 use Rattle.mr_planning.specs.Answered.{Answered}
@@ -65,6 +65,7 @@ pub record IsFaithful (command : Command) (now : ℤ) (m : Dataset) : Type 0 whe
   pub leads : apply_all (effects command now m) m ≡ Some (after command now m)
   pub changes : (own_effects command now m ≡ []) ↔ (after command now m ≡ before command now m)
 
--- .. and their texts are command texts.
+-- .. and their texts are command texts, of no more words than a command may have.
 pub record HasCommandTexts (command : Command) (now : ℤ) (m : Dataset) : Type 0 where
   pub each : All (λ e. IsCommandText commands (text e)) (effects command now m)
+  pub short : All IsShort (effects command now m)

@@ -1,16 +1,15 @@
 // What a node tells of itself, and that the program is to end.
 ghost use Rattle.std.specs.Prelude.{◌≡◌, ◌↔◌, ◌⊎◌, Some, false, IfOk, IfErr, OnOk, IsErrOf};
 ghost use Rattle.mr_resp.specs.ReplyView.{view};
-ghost use Rattle.mr_info.specs.Info.{info_text};
 ghost use Rattle.mr_node.specs.Outs.{outs_with};
 ghost use Rattle.mr_node.specs.Parts.{HasAhead, Uses, halting_outs};
-ghost use Rattle.mr_node.specs.Telling.{answer_about, reply_about};
+ghost use Rattle.mr_node.specs.Telling.{answer_about, info_text, reply_about, role_reply};
 
 use crate::fault::NodeFault;
 use crate::node::Node;
 use crate::step::Step;
 use mr_cmd_server::Question;
-use mr_info::{info, role};
+use mr_info::{MasterLink, info, master_role, replica_role};
 use mr_links::LinkId;
 use mr_resp::Reply;
 use std::alloc::AllocError;
@@ -25,7 +24,7 @@ impl Node {
         if !self.up {
             return Err(NodeFault::Stopped);
         }
-        match info(self.alloc, self.replica, self.id, &self.stream) {
+        match info(self.alloc, self.replica, 0, self.id, None, &self.stream) {
             Ok(text) => Ok(text),
             Err(_) => Err(NodeFault::Memory),
         }
@@ -41,7 +40,18 @@ impl Node {
                 Err(_) => Err(AllocError),
             },
             Question::OtherSection => Ok(Reply::Bulk(Vec::new(self.alloc))),
-            Question::Role => role(self.alloc, self.replica, &self.stream),
+            Question::Role => self.role(),
+        }
+    }
+
+    /// ROLE's reply.
+    fn role(&self) -> Result<Reply, AllocError>
+        ensures { IfOk result (λ reply. view reply ≡ role_reply self.now.core.replica self.now.core.stream.offset) }
+    {
+        if self.replica {
+            replica_role(self.alloc, &self.stream, b"", 0, MasterLink::Connect)
+        } else {
+            master_role(self.alloc, &self.stream, &[])
         }
     }
 

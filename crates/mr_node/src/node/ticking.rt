@@ -4,7 +4,8 @@ ghost use Rattle.mr_effect.specs.Spelling.{size, text, texts};
 ghost use Rattle.mr_effect.specs.declared.effect.Effect.TheVariants as effect;
 ghost use Rattle.mr_data.specs.Meaning.{apply_all};
 ghost use Rattle.mr_node.specs.Served.{grown_by, offset_limit};
-ghost use Rattle.mr_node.specs.Ticks.{TickRow, IsDeletion, deletions};
+ghost use Rattle.mr_data.specs.Due.{deletions};
+ghost use Rattle.mr_node.specs.Ticks.{TickRow, IsDeletion};
 
 use crate::fault::NodeFault;
 use crate::node::{LIMIT, Node};

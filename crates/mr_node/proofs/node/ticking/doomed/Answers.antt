@@ -1,7 +1,6 @@
 use Rattle.std.proofs.Common.{rules, ◌≡◌, ℤ, take, refl, sym, ◌∙◌, ap, to_z, of_z, w64}
 use Rattle.std.proofs.lemmas.Int.{to_z-of_z}
-use Rattle.mr_data.specs.Due.{due}
-use Rattle.mr_node.specs.Ticks.{deletions, most_deleted}
+use Rattle.mr_data.specs.Due.{deletions, due, most_deleted}
 use Rattle.mr_node.proofs.Deletions.{begin, no_key, unchanged, grows, all_there}
 use Rattle.mr_node.proofs.node.ticking.doomed.Goals as goal
 

@@ -1,8 +1,7 @@
 use Rattle.std.proofs.Common.{◌≡◌, map, take}
 use Rattle.mr_effect.specs.Spelling.{texts}
 use Rattle.mr_effect.specs.declared.effect.Effect.TheVariants as effect
-use Rattle.mr_data.specs.Due.{due}
-use Rattle.mr_node.specs.Ticks.{most_deleted}
+use Rattle.mr_data.specs.Due.{due, most_deleted}
 use Rattle.mr_node.proofs.Deletions.{Growing}
 use Rattle.mr_node.proofs.node.ticking.doomed.Given as goal
 
