@@ -1,0 +1,18 @@
+//! A node that follows and is followed: its dataset, its stream, and its links. One call is one step, by its row.
+#![tactic(auto)]
+
+mod config;
+mod fault;
+mod node;
+mod noted;
+mod request;
+mod step;
+mod todo;
+
+pub use config::Config;
+pub use fault::NodeFault;
+pub use node::Node;
+pub use step::Step;
+
+#[cfg(test)]
+mod tests;
