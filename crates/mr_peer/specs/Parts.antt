@@ -23,8 +23,10 @@ use Rattle.mr_rows.specs.Telling.{Around, IsAround, answer_about}
 use Rattle.mr_rows.specs.Served.{IsQuiet}
 use Rattle.mr_peer.specs.Reading.{Wishes}
 
--- So many unread bytes of the link are used, and the core stays.
+-- So many unread bytes of the link are used, and the core stays. The replicas can be listed.
 pub record Uses (a : NodeState) (l : LinkId) (used : ℕ) (b : NodeState) : Type 0 where
+  pub names : List LinkId
+  pub listed : Lists names a.ends.open_links
   pub core : b.core ≡ a.core
   pub leaves : (end : EndState) → end_of a l ≡ Some end → Leaves a l b (used_of used end)
 

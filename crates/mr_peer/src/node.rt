@@ -100,6 +100,8 @@ impl Node {
         requires { HasAhead self.old.ends link used }
         ensures { Uses self.old link used self.new }
     {
+        // its clause lists the replicas
+        let _ = self.state.ends().replicas();
         self.state.take(link, used);
     }
 }

@@ -1,8 +1,10 @@
 // What is to be done about a client's unread bytes.
-ghost use Rattle.std.specs.Prelude.{◌≡◌, ◌<◌, length, map, IfOk, OnErr};
+ghost use Rattle.std.specs.Prelude.{◌≡◌, ◌<◌, ◌≤◌, length, map, IsTrue, IfOk, OnErr};
+ghost use Rattle.std.specs.List.{list_all};
 ghost use Rattle.std.specs.Cow.{cow_slice_items};
+ghost use Rattle.mr_value.specs.Words.{fits};
+ghost use Rattle.mr_resp.specs.Usual.{commands};
 ghost use Rattle.mr_ends.specs.Progresses.{AgreesAlong};
-ghost use Rattle.mr_plan.specs.Requests.{IsAnswerTo};
 ghost use Rattle.mr_rows.specs.ClientRows.{MayLack};
 ghost use Rattle.mr_peer.specs.Reading.{IsTodo, KeepsAlong, IsDone, carry_out};
 
@@ -77,7 +79,9 @@ fn request_todo(
     used: usize,
     given: Given,
 ) -> Result<Todo, AllocError>
-    requires { 0 < length words.now }
+    requires some { 0 < length words.now }
+    requires fit { IsTrue (list_all fits (map cow_slice_items words.now)) }
+    requires few { length words.now ≤ commands.words }
     ensures { IfOk result (λ t. IsDone replica (map cow_slice_items words.now) used given held.now t) }
 {
     match read(words) {

@@ -8,17 +8,24 @@ use mr_value::Word;
 use std::alloc::{AllocError, Global};
 use std::hash::RandomState;
 
+fn seed_of(rt: &HostRuntime) -> Result<RandomState, AllocError> {
+    match RandomState::new(rt) {
+        Ok(seed) => Ok(seed),
+        Err(_) => Err(AllocError),
+    }
+}
+
 fn state_of(rt: &HostRuntime, master: bool) -> Result<State, AllocError> {
     let alloc = rt.alloc();
     let lineage = Lineage::new(alloc, ReplId::new([170; 20]), 64, 0)?;
-    let held = Dataset::new(alloc, RandomState::new(&rt)?);
+    let held = Dataset::new(alloc, seed_of(rt)?);
     Ok(State::new(alloc, 6380, Course::new(lineage, master, master), held))
 }
 
 #[test]
 fn a_replica_that_is_promoted_has_no_master_and_a_fresh_id(rt: HostRuntime) -> Result<(), AllocError> {
     let mut state = state_of(&rt, false)?;
-    let link = state.dial(RandomState::new(&rt)?)?;
+    let link = state.dial(seed_of(&rt)?)?;
     assert_eq!(rt; state.followed(), Some(link));
     state.promote(ReplId::new([187; 20]));
     assert!(rt; state.master() && state.offers());

@@ -1,0 +1,123 @@
+-- What is to be done about a request, from its words.
+use Rattle.std.proofs.Common.{◌≡◌, ◌≤◌, ◌<◌, ℕ, List, [], ◌∷◌, ◌++◌, Bool, true, false, length, drop, refl, sym, ap, subst, ◌∙◌, arith, All, IsTrue}
+use Rattle.std.specs.Prelude.{Option, Some, None, Result, Ok, Err}
+use Rattle.std.specs.List.{list_all, AllByRecursion}
+use Rattle.std.specs.Cmp.Derive.{both_true}
+use Rattle.std.proofs.lemmas.Bool.{le-leb}
+use Rattle.std.proofs.lemmas.List.Elements.{recursion_from_All}
+use Rattle.mr_value.specs.Words.{fits}
+use Rattle.mr_resp.specs.Replies.{Tree, error}
+use Rattle.mr_resp.specs.ReplyView.{view}
+use Rattle.mr_resp.specs.Resumed.{Agrees}
+use Rattle.mr_resp.specs.Usual.{usual}
+use Rattle.mr_resp.specs.declared.progress.Progress.{Progress}
+use Rattle.mr_entries.specs.Dataset.{Dataset}
+use Rattle.mr_effect.specs.declared.effect.Effect.{Effect}
+use Rattle.mr_data.specs.Meaning.{apply_all}
+use Rattle.mr_data.specs.declared.given.Given.{Given}
+use Rattle.mr_data.specs.declared.plan.Plan.{Plan}
+use Rattle.mr_cmd_server.specs.declared.question.Question.{Question}
+use Rattle.mr_cmd_node.specs.declared.node_ask.NodeAsk.{NodeAsk}
+use Rattle.mr_ask.specs.Asks.{asked}
+use Rattle.mr_ask.specs.declared.ask.Ask.{Ask}
+use Rattle.mr_ask.specs.declared.ask.Ask.TheVariants as ask
+use Rattle.mr_words.specs.Faults.{fault_text}
+use Rattle.mr_words.specs.declared.fault.AskFault.{AskFault}
+use Rattle.mr_plan.specs.Requests.{AreSent, HasPlan, HasTexts, IsAnswerTo, IsPlannedAs, Leads, halting_by, closes, left_by, question_by, rewriting_by}
+use Rattle.mr_plan.specs.declared.requests.Answer.{Answer}
+use Rattle.mr_plan.specs.declared.requests.Answer.TheVariants as answer
+use Rattle.mr_plan.proofs.Leading.{no_texts}
+use Rattle.mr_ends.specs.Progresses.{AgreesAlong}
+use Rattle.mr_rows.specs.Requests.{Asks}
+use Rattle.mr_rows.specs.Served.{IsPlain}
+use Rattle.mr_peer.specs.Reading.{IsDone, IsTodo, KeepsAlong, Reads, carry_out}
+use Rattle.mr_peer.specs.declared.todo.Todo.{Todo}
+use Rattle.mr_peer.specs.declared.todo.Todo.TheVariants as todo
+
+-- ---- the progress, and words within the limit
+append_nil : (xs : List ℕ) → xs ++ [] ≡ xs
+append_nil [] = refl
+append_nil (x ∷ xs) = ap (λ ys. x ∷ ys) (append_nil xs)
+
+pub agrees_now : (p : Progress) (u : List ℕ) → AgreesAlong p u → Agrees usual p u
+agrees_now p u a = subst (λ z. Agrees usual p z) (append_nil u) (a.along [])
+
+pub not_le : (n m : ℕ) → (m ≤ n → ⊥) → n < m
+not_le n m h = omega (arith, h)
+
+within_by_recursion : (ws : List (List ℕ)) → AllByRecursion (λ (w : List ℕ). length w ≤ 16777216) ws → list_all fits ws ≡ true
+within_by_recursion [] h = refl
+within_by_recursion (w ∷ ws) h = both_true (le-leb (length w) 16777216 h.0) (within_by_recursion ws h.1)
+
+-- words within the limit, by the test
+pub all_fit : (ws : List (List ℕ)) → All (λ (w : List ℕ). length w ≤ 16777216) ws → IsTrue (list_all fits ws)
+all_fit ws a = within_by_recursion ws (recursion_from_All (λ (w : List ℕ). length w ≤ 16777216) ws a)
+
+-- ---- an answer to a command
+ok_is : (a b : Ask) → ◌≡◌ {A = Result Ask AskFault} (Ok a) (Ok b) → a ≡ b
+ok_is a b e = cc
+
+no_ok : (a : Ask) (f : AskFault) → ◌≡◌ {A = Result Ask AskFault} (Err f) (Ok a) → ⊥
+no_ok a f e = cc
+
+pub answer_done : (replica : Bool) (words : List (List ℕ)) (given : Given) (m : Dataset) (a : Ask) (x : Answer) (n : ℕ) → asked words ≡ Ok a → ((wish : NodeAsk) → a ≡ ask.Node wish → ⊥)
+    → IsAnswerTo replica a given m x → Leads x m (left_by (Ok a) replica given m) → HasTexts x → IsDone replica words n given m (carry_out x n)
+answer_done replica words given m a (answer.Run plan) n is other answers leads sent = (
+  refl,
+  record {
+    keeps_file = ap rewriting_by is ∙ answers.1;
+    runs_on = ap halting_by is ∙ answers.2;
+    asks_data = ap question_by is ∙ answers.3;
+    asks_no_node = λ wish asks. other wish (ok_is a (ask.Node wish) (sym is ∙ asks));
+  },
+  record {
+    goes_on = ap closes is ∙ answers.0;
+    planned = record { planned = subst (λ r. IsPlannedAs r replica given m (view plan.reply) plan.effects.items) (sym is) answers.4 };
+    leads = leads ∙ ap (λ r. Some (left_by r replica given m)) (sym is);
+    texts = sent.texts;
+    short = sent.short;
+  },
+)
+answer_done replica words given m a answer.Quit n is other answers leads sent = ap closes is ∙ answers
+answer_done replica words given m a answer.Rewrite n is other answers leads sent = (refl, ap rewriting_by is ∙ answers)
+answer_done replica words given m a (answer.Tell question) n is other answers leads sent = (refl, ap question_by is ∙ answers)
+answer_done replica words given m a answer.Halt n is other answers leads sent = (refl, ap halting_by is ∙ answers)
+
+-- .. to words that are no command
+pub fault_done : (replica : Bool) (words : List (List ℕ)) (given : Given) (m : Dataset) (f : AskFault) (plan : Plan) (n : ℕ) → asked words ≡ Err f → view plan.reply ≡ error (fault_text f) → plan.effects.items ≡ []
+    → IsDone replica words n given m (todo.Run n plan)
+fault_done replica words given m f plan n is told none = (
+  refl,
+  record {
+    keeps_file = ap rewriting_by is;
+    runs_on = ap halting_by is;
+    asks_data = ap question_by is;
+    asks_no_node = λ wish asks. no_ok (ask.Node wish) f (sym is ∙ asks);
+  },
+  record {
+    goes_on = ap closes is;
+    planned = record { planned = subst (λ r. IsPlannedAs r replica given m (view plan.reply) plan.effects.items) (sym is) (told, none) };
+    leads = ap (λ (es : List Effect). apply_all es m) none ∙ ap (λ r. Some (left_by r replica given m)) (sym is);
+    texts = (no_texts plan.effects.items none).texts;
+    short = (no_texts plan.effects.items none).short;
+  },
+)
+
+-- .. from words to unread bytes
+reads_at : (words : List (List ℕ)) (u : List ℕ) (n used : ℕ) → used ≡ n → n ≤ length u → Asks u words (drop n u) → Reads u used words
+reads_at words u n used same enough asks = subst (λ z. Reads u z words) (sym same) (record { enough = enough; asks = asks })
+
+pub done_todo : (replica : Bool) (words : List (List ℕ)) (u : List ℕ) (n : ℕ) (given : Given) (m : Dataset) (t : Todo) → n ≤ length u → Asks u words (drop n u) → IsDone replica words n given m t → IsTodo replica u given m t
+done_todo replica words u n given m (todo.Wait progress) enough asks d = absurd d
+done_todo replica words u n given m (todo.Skip used) enough asks d = absurd d
+done_todo replica words u n given m (todo.Refuse fault) enough asks d = absurd d
+done_todo replica words u n given m todo.Quit enough asks d = record { words = words; rest = drop n u; asks = asks; quit = d }
+done_todo replica words u n given m (todo.Rewrite used) enough asks d = record { words = words; reads = reads_at words u n used (d.0) enough asks; rewriting = d.1 }
+done_todo replica words u n given m (todo.Tell used question) enough asks d = record { words = words; reads = reads_at words u n used (d.0) enough asks; asked = d.1 }
+done_todo replica words u n given m (todo.Halt used) enough asks d = record { words = words; reads = reads_at words u n used (d.0) enough asks; halting = d.1 }
+done_todo replica words u n given m (todo.Run used plan) enough asks d = record { words = words; reads = reads_at words u n used (d.0) enough asks; plain = d.1; plan = d.2 }
+done_todo replica words u n given m (todo.Ask used request) enough asks d = (d.1, record { words = words; reads = reads_at words u n used (d.0) enough asks; asks = d.2 }, d.3)
+
+pub done_along : (replica : Bool) (words : List (List ℕ)) (u : List ℕ) (n : ℕ) (given : Given) (m : Dataset) (t : Todo) → IsDone replica words n given m t → KeepsAlong t u
+done_along replica words u n given m (todo.Wait progress) d = absurd d
+done_along replica words u n given m _ d = tt
