@@ -19,8 +19,12 @@ use Rattle.mr_data.specs.Meaning.{apply, apply_all}
 use Rattle.mr_data.specs.declared.due.DueKey.{DueKey}
 use Rattle.mr_data.specs.Due.{due, deletions, most_deleted, shown, HasWord, within}
 use Rattle.mr_outs.specs.Outs.{OutsState, no_outs}
-use Rattle.mr_rows.specs.TimeRows as time
-use Rattle.mr_peer.specs.Ticking.{IsLight}
+use Rattle.mr_rows.specs.State.{NodeState}
+use Rattle.mr_rows.specs.Growing.{FedTo}
+use Rattle.mr_rows.specs.TimeRows.{Beats, room_in}
+use Rattle.mr_peer.specs.Parts.{FeedsAll}
+use Rattle.mr_peer.specs.Ticking.{IsLight, PutsBeats, marked}
+use Rattle.mr_peer.specs.declared.node.ticking.Beats.{Beats as Told}
 
 one_goes : (k : Bytes) (m : Dataset) → IsTrue (fits k) → apply (effect.Del k) m ≡ Some (remove m k)
 unfolding apply change
@@ -134,3 +138,55 @@ grows {room} {all} {es} {rest} d ds base o p fitting e fs growing next outs_are 
 pub no_key : (ds : List DueKey) (n : ℕ) → length ds ≡ n → n ≡ 0 → ds ≡ []
 no_key [] n long none = refl
 no_key (d ∷ ds) n long none = absurd (omega (arith, long, none))
+
+-- ---- what has room, and what is behind it
+pub within_append : (es fs : List Effect) (room : ℕ) → length (texts es) ≤ room → within room (es ++ fs) ≡ es ++ within (room - length (texts es)) fs
+within_append [] fs room few = ap (λ (n : ℕ). within n fs) (let same : room ≡ room - 0 = omega arith in same)
+within_append (e ∷ es) fs room few =
+    let long : length (texts (e ∷ es)) ≡ size e + length (texts es) = length-append (text e) (texts es) in
+    let fit : nat_le (size e) room ≡ true = le-leb (size e) room (omega (arith, few, long)) in
+    ap (λ b. if b then e ∷ within (room - size e) (es ++ fs) else []) fit
+    ∙ ap (λ (xs : List Effect). e ∷ xs) (within_append es fs (room - size e) (omega (arith, few, long)))
+    ∙ ap (λ (n : ℕ). e ∷ (es ++ within n fs)) (let same : room - size e - length (texts es) ≡ room - length (texts (e ∷ es)) = omega (arith, long) in same)
+
+-- a heartbeat behind effects that have room
+pub beat_fits : (es : List Effect) (room : ℕ) → length (texts es) ≤ room → nat_le (length (texts es) + size effect.Ping) room ≡ true → es ++ effect.Ping ∷ [] ≡ within room (es ++ effect.Ping ∷ [])
+beat_fits es room few fits =
+    let fit : length (texts es) + size effect.Ping ≤ room = leb-true _ _ fits in
+    let alone : nat_le (size effect.Ping) (room - length (texts es)) ≡ true = le-leb _ _ (omega (arith, fit)) in
+    sym (within_append es (effect.Ping ∷ []) room few ∙ ap (λ b. es ++ (if b then effect.Ping ∷ [] else [])) alone)
+
+pub beat_is_over : (es : List Effect) (room : ℕ) → length (texts es) ≤ room → nat_le (length (texts es) + size effect.Ping) room ≡ false → es ≡ within room (es ++ effect.Ping ∷ [])
+beat_is_over es room few full =
+    let over : room < length (texts es) + size effect.Ping = leb-false _ _ full in
+    let alone : nat_le (size effect.Ping) (room - length (texts es)) ≡ false = lt-leb (size effect.Ping) (room - length (texts es)) (omega (arith, over, few)) in
+    sym (within_append es (effect.Ping ∷ []) room few ∙ ap (λ b. es ++ (if b then effect.Ping ∷ [] else [])) alone ∙ append-nil es)
+
+within_step : (b : Bool) (e : Effect) (xs es : List Effect) → length xs ≤ length es → length (if b then e ∷ xs else []) ≤ length (e ∷ es)
+within_step true e xs es few = omega (arith, few)
+within_step false e xs es few = omega arith
+
+pub within_few : (es : List Effect) (room : ℕ) → length (within room es) ≤ length es
+within_few [] room = omega arith
+within_few (e ∷ es) room = within_step (nat_le (size e) room) e (within (room - size e) es) es (within_few es (room - size e))
+
+whole_step : (b : Bool) (e : Effect) (xs es : List Effect) → (length xs ≡ length es → xs ≡ es) → length (if b then e ∷ xs else []) ≡ length (e ∷ es) → (if b then e ∷ xs else []) ≡ e ∷ es
+whole_step true e xs es next same = ap (λ (ys : List Effect). e ∷ ys) (next (omega (arith, same)))
+whole_step false e xs es next same = absurd (omega (arith, same))
+
+-- all have room where so many have
+pub within_whole : (es : List Effect) (room : ℕ) → length (within room es) ≡ length es → within room es ≡ es
+within_whole [] room same = refl
+within_whole (e ∷ es) room same = whole_step (nat_le (size e) room) e (within (room - size e) es) es (within_whole es (room - size e)) same
+
+-- ---- what a tick gives out
+pub puts : (a : NodeState) (now : ℤ) (told : Told) (o p : OutsState) → Beats a now told.effects.items (marked told.marks now a.core.mark) → All IsLight told.effects.items → length (texts told.effects.items) ≤ room_in a.core
+    → o ≡ record no_outs { grown = texts told.effects.items; appended = texts (deletions now a.core.held (room_in a.core)) } → FeedsAll a o p → PutsBeats a now told p
+puts a now told o p beats light enough is feeds = record {
+  beats = beats;
+  light = light;
+  within = enough;
+  names = feeds.names;
+  fed = subst (λ (z : OutsState). FedTo z.grown a feeds.names) is feeds.fed;
+  outs_are = feeds.outs_are ∙ ap (λ (z : OutsState). record z { fed = feeds.names }) is;
+}

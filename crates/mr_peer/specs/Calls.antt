@@ -1,9 +1,9 @@
 -- What the other calls on a node come to.
-use Rattle.std.specs.Prelude.{◌≡◌, ◌≢◌, ◌≤◌, ◌<◌, ◌^◌, ℕ, ℤ, List, [], true, false, Option, Some, None, Result, Ok, Err}
+use Rattle.std.specs.Prelude.{◌≡◌, ◌≢◌, ◌≤◌, ◌<◌, ◌^◌, ℕ, ℤ, List, [], true, false, Option, Some, None, Result, Ok, Err, length}
 use Rattle.mr_links.specs.declared.link_id.LinkId.{LinkId}
 use Rattle.mr_outs.specs.Outs.{OutsState}
 use Rattle.mr_ends.specs.State.EndState.{shut}
-use Rattle.mr_rows.specs.State.{NodeState, end_of, IsTooMuch, stopped_as}
+use Rattle.mr_rows.specs.State.{NodeState, Agrees, IsShut, IsTooMuch, MasterAgrees, ReplicaAgrees, end_of, stopped_as}
 use Rattle.mr_rows.specs.LinkRows.{Opens, Dials, Feeds}
 use Rattle.mr_rows.specs.TimeRows.{TickRow}
 use Rattle.mr_peer.specs.declared.fault.NodeFault.{NodeFault}
@@ -51,3 +51,12 @@ pub record OpensOn (a b : NodeState) : Type 0 where
   pub up : a.core.up ≡ true
   pub few : a.ends.opened < 2 ^ 62
   pub same : b ≡ a
+
+-- how many bytes of a link are unread
+pub record IsUnread (a : NodeState) (l : LinkId) (count : Option ℕ) : Type 0 where
+  pub down : a.core.up ≡ false → count ≡ None
+  pub absent : end_of a l ≡ None → count ≡ None
+  pub at_client : (u : List ℕ) → a.core.up ≡ true → Agrees a l u → count ≡ Some (length u)
+  pub at_replica : (u : List ℕ) → a.core.up ≡ true → ReplicaAgrees a l u → count ≡ Some (length u)
+  pub at_master : (u : List ℕ) → a.core.up ≡ true → MasterAgrees a l u → count ≡ Some (length u)
+  pub at_shut : a.core.up ≡ true → IsShut a l → count ≡ Some 0

@@ -1,5 +1,5 @@
 -- What the parts of a step do.
-use Rattle.std.specs.Prelude.{◌≡◌, ◌≢◌, ◌≤◌, ◌<◌, ◌+◌, ◌++◌, ℕ, ℤ, List, [], Bool, true, false, not, Option, Some, None, length}
+use Rattle.std.specs.Prelude.{◌≡◌, ◌≢◌, ◌≤◌, ◌<◌, ◌+◌, ◌++◌, ℕ, ℤ, List, [], Bool, true, false, not, Option, Some, None, length, if◌then◌else◌}
 use Rattle.mr_links.specs.declared.link_id.LinkId.{LinkId}
 use Rattle.mr_resp.specs.Replies.{Tree, error, reply_text}
 use Rattle.mr_entries.specs.Dataset.{Dataset}
@@ -19,9 +19,13 @@ use Rattle.mr_rows.specs.ClientRows.{IsAnswerToPsync}
 use Rattle.mr_rows.specs.Ends.{Leaves}
 use Rattle.mr_rows.specs.Growing.{FedTo, grown_by, offset_behind, offset_limit, limit_text}
 use Rattle.mr_info.specs.Info.{info_text}
-use Rattle.mr_rows.specs.Telling.{Around, IsAround, answer_about}
+use Rattle.mr_rows.specs.Telling.{Around, IsAround, answer_about, link_of}
 use Rattle.mr_rows.specs.Served.{IsQuiet}
+use Rattle.mr_info.specs.declared.roles.MasterLink.{MasterLink}
+use Rattle.mr_info.specs.declared.roles.MasterLink.TheVariants as link
 use Rattle.mr_peer.specs.Reading.{Wishes}
+use Rattle.mr_peer.specs.declared.role.Role.{Role}
+use Rattle.mr_peer.specs.declared.role.Role.TheVariants as role
 
 -- So many unread bytes of the link are used, and the core stays. The replicas can be listed.
 pub record Uses (a : NodeState) (l : LinkId) (used : ℕ) (b : NodeState) : Type 0 where
@@ -87,3 +91,12 @@ pub record TellsInfo (a : NodeState) (text : List ℕ) : Type 0 where
   pub count : ℕ
   pub replicas : ListsReplicas a count
   pub told : text ≡ info_text (not a.core.master) count a.core.lineage
+
+-- its role, and how far it has come with the link to its master
+abbrev pub role_at : MasterLink → Role
+role_at link.Connect = role.Connect
+role_at link.Sync = role.Sync
+role_at link.Connected = role.Connected
+
+abbrev pub role_of : NodeState → Role
+role_of a = if a.core.master then role.Master else role_at (link_of a.follow)

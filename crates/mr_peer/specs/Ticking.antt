@@ -1,12 +1,13 @@
 -- What the parts of a tick do.
-use Rattle.std.specs.Prelude.{◌≡◌, ◌≤◌, IsTrue, ℕ, ℤ, List, Bool, true, false, Option, Some, None, All, length, ◌<◌}
+use Rattle.std.specs.Prelude.{◌≡◌, ◌≤◌, IsTrue, ℕ, ℤ, List, Bool, true, false, Option, Some, None, All, length, map, ◌<◌}
 use Rattle.mr_links.specs.declared.link_id.LinkId.{LinkId}
 use Rattle.mr_value.specs.Words.{fits}
 use Rattle.mr_effect.specs.Spelling.{texts}
 use Rattle.mr_effect.specs.declared.effect.Effect.{Effect}
 use Rattle.mr_effect.specs.declared.effect.Effect.TheVariants as effect
 use Rattle.mr_entries.specs.Dataset.{Dataset}
-use Rattle.mr_data.specs.Due.{deletions}
+use Rattle.mr_data.specs.Due.{deletions, within}
+use Rattle.mr_data.specs.declared.due.DueKey.{DueKey}
 use Rattle.mr_outs.specs.Outs.{OutsState, no_outs}
 use Rattle.mr_rows.specs.State.{NodeState}
 use Rattle.mr_rows.specs.Growing.{FedTo, offset_limit}
@@ -27,6 +28,13 @@ abbrev pub IsLight : Effect → Type 0
 IsLight (effect.Del k) = IsTrue (fits k)
 IsLight effect.Ping = Unit {0}
 IsLight _ = ⊥
+
+-- The deletions of keys as far as there is room. Their texts are told.
+pub record Fitting (room : ℕ) (dues : List DueKey) (effects : List Effect) (outs : OutsState) : Type 0 where
+  pub effects_are : effects ≡ within room (map (λ d. effect.Del d.key.now) dues)
+  pub light : All IsLight effects
+  pub enough : length (texts effects) ≤ room
+  pub outs_are : outs ≡ record no_outs { grown = texts effects; appended = texts effects }
 
 -- The deletions as far as there is room, and whether that is all. Their texts are told.
 pub record Doomed (m : Dataset) (now : ℤ) (room : ℕ) (d : Deletions) (outs : OutsState) : Type 0 where

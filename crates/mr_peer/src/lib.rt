@@ -6,12 +6,14 @@ mod fault;
 mod node;
 mod noted;
 mod request;
+mod role;
 mod step;
 mod todo;
 
 pub use config::Config;
 pub use fault::NodeFault;
 pub use node::Node;
+pub use role::Role;
 pub use step::Step;
 
 #[cfg(test)]

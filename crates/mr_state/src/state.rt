@@ -2,7 +2,7 @@
 ghost use Rattle.std.specs.Prelude.{◌≡◌, true, None};
 ghost use Rattle.std.specs.FinMap as map;
 ghost use Rattle.std.specs.Option.{option_copied};
-ghost use Rattle.mr_course.specs.State.{name_of, phase_of};
+ghost use Rattle.mr_course.specs.State.{CountsUnread, name_of, phase_of};
 ghost use Rattle.mr_rows.specs.State.{IsNode};
 ghost use Rattle.mr_state.specs.Parts.{node_of};
 
@@ -130,6 +130,13 @@ impl State {
         ensures { result ≡ name_of self.now.follow }
     {
         self.course.name()
+    }
+
+    /// How many bytes of the master were fed and not used; 0 where none is followed.
+    pub fn unread_len(&self) -> u64
+        ensures { CountsUnread self.now.follow result }
+    {
+        self.course.unread_len()
     }
 
     /// What is waited for there.

@@ -2,7 +2,7 @@
 ghost use Rattle.std.specs.Prelude.{◌≡◌, ◌↔◌, true, false, None, IsTrue, length};
 ghost use Rattle.mr_rows.specs.State.{room_of};
 ghost use Rattle.mr_rows.specs.LinkRows.{closed_at};
-ghost use Rattle.mr_peer.specs.Calls.{DialRow, FeedRow, OpenRow, OpensNoMore, OpensOn};
+ghost use Rattle.mr_peer.specs.Calls.{DialRow, FeedRow, IsUnread, OpenRow, OpensNoMore, OpensOn};
 
 use crate::fault::NodeFault;
 use crate::node::Node;
@@ -83,6 +83,21 @@ impl Node {
         match end.kind() {
             Kind::Client | Kind::Replica => Some(end.room()),
             Kind::Upstream | Kind::Shut => Some(usize::MAX),
+        }
+    }
+
+    /// How many bytes were fed on a link and not used; none where the link isn't there or the node is stopped. It takes no memory.
+    pub fn unread(&self, link: LinkId) -> Option<usize>
+        ensures { IsUnread self.now link result }
+    {
+        if !self.state.up() {
+            return None;
+        }
+        let end = self.state.ends().get(link)?;
+        match end.kind() {
+            Kind::Client | Kind::Replica => Some(end.unread().len()),
+            Kind::Upstream => Some(self.state.unread_len() as usize),
+            Kind::Shut => Some(0),
         }
     }
 

@@ -9,10 +9,11 @@ ghost use Rattle.mr_ends.specs.Replicas.{Lists};
 ghost use Rattle.mr_rows.specs.Telling.{link_of};
 ghost use Rattle.mr_peer.specs.Reading.{Questions};
 ghost use Rattle.mr_peer.specs.Steps.{ClientStep, IsAt};
-ghost use Rattle.mr_peer.specs.Parts.{ListsReplicas, TellsInfo, TellsOf};
+ghost use Rattle.mr_peer.specs.Parts.{ListsReplicas, TellsInfo, TellsOf, role_of};
 
 use crate::fault::NodeFault;
 use crate::node::Node;
+use crate::role::Role;
 use crate::step::Step;
 use mr_cmd_server::Question;
 use mr_ends::End;
@@ -74,12 +75,12 @@ impl Node {
         match question {
             Question::Replication => Ok(Reply::Bulk(self.info_text()?)),
             Question::OtherSection => Ok(Reply::Bulk(Vec::new(self.alloc))),
-            Question::Role => self.role(),
+            Question::Role => self.role_reply(),
         }
     }
 
     /// ROLE's reply.
-    fn role(&self) -> Result<Reply, AllocError>
+    fn role_reply(&self) -> Result<Reply, AllocError>
         ensures { IfOk result (λ reply. TellsOf Question.Role self.now (view reply)) }
     {
         let stream = self.state.lineage().stream();
@@ -92,6 +93,20 @@ impl Node {
             Some(address) => {
                 replica_role(self.alloc, stream, address.host(), address.port(), self.master_link())
             }
+        }
+    }
+
+    /// The node's role and, of a replica, how far it has come with the link to its master, stopped or not. It takes no memory.
+    pub fn role(&self) -> Role
+        ensures { result ≡ role_of self.now }
+    {
+        if self.state.master() {
+            return Role::Master;
+        }
+        match self.master_link() {
+            MasterLink::Connect => Role::Connect,
+            MasterLink::Sync => Role::Sync,
+            MasterLink::Connected => Role::Connected,
         }
     }
 

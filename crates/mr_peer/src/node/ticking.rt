@@ -1,20 +1,21 @@
 // What a node does as time passes.
-ghost use Rattle.std.specs.Prelude.{◌≡◌, ◌≤ℤ◌, ◌+◌, ◌++◌, pos, [], true, false, length, nat_le, if◌then◌else◌, IfOk, IfSome, IfNone, OnOk};
+ghost use Rattle.std.specs.Prelude.{◌≡◌, ◌≤ℤ◌, ◌+◌, ◌++◌, pos, [], true, false, length, nat_le, if◌then◌else◌, All, IfOk, IfSome, IfNone, OnOk};
 ghost use Rattle.mr_effect.specs.Spelling.{size, text};
 ghost use Rattle.mr_effect.specs.declared.effect.Effect.TheVariants as effect;
 ghost use Rattle.mr_links.specs.declared.link_id.LinkId.{LinkId};
+ghost use Rattle.mr_data.specs.Due.{HasWord};
 ghost use Rattle.mr_data.specs.Given.{IsMoment};
 ghost use Rattle.mr_outs.specs.Outs.{no_outs};
 ghost use Rattle.mr_rows.specs.TimeRows.{IsStreaming};
 ghost use Rattle.mr_rows.specs.Acknowledging.{acknowledgement};
 ghost use Rattle.mr_peer.specs.Calls.{TickStep};
-ghost use Rattle.mr_peer.specs.Ticking.{IsSince, PutsBeats, Doomed, SinceBeat};
+ghost use Rattle.mr_peer.specs.Ticking.{Doomed, Fitting, IsSince, PutsBeats, SinceBeat};
 
 use crate::fault::NodeFault;
 use crate::node::Node;
 use crate::node::answering::LIMIT;
 use itoa::Buffer;
-use mr_data::{Dataset, Effect, Given};
+use mr_data::{Dataset, DueKey, Effect, Given};
 use mr_follow::Phase;
 use mr_links::LinkId;
 use mr_outs::Outs;
@@ -214,15 +215,30 @@ fn doomed(
 {
     let dues = held.due_keys(alloc, now, MOST_DELETED)?;
     let count = dues.len();
+    let effects = put_deletions(alloc, dues, room, outs)?;
+    let whole = effects.len() == count;
+    Ok(Deletions { effects, whole })
+}
+
+/// The deletions of these keys, as far as there is room. Their texts are put into the outs.
+fn put_deletions(
+    alloc: Global,
+    dues: Vec<DueKey<'_>>,
+    room: u64,
+    outs: &mut Outs,
+) -> Result<Vec<Effect<'static>>, AllocError>
+    requires outs { outs.old ≡ no_outs }
+    requires words { All HasWord dues.items }
+    ensures { IfOk result (λ es. Fitting room dues.items es.items outs.new) }
+{
     let mut effects = Vec::new(alloc);
     for due in dues {
         if !tell(outs, due.key, room)? {
-            break;
+            return Ok(effects);
         }
         effects.push(deletion(alloc, due.key)?)?;
     }
-    let whole = effects.len() == count;
-    Ok(Deletions { effects, whole })
+    Ok(effects)
 }
 
 /// Puts the text of a deletion into the outs, if there is room.
