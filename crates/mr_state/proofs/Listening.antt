@@ -14,9 +14,9 @@ use Rattle.mr_course.specs.declared.upstream.UpstreamFault.{UpstreamFault}
 use Rattle.mr_course.specs.declared.upstream.UpstreamFault.TheVariants as fault
 use Rattle.mr_ends.specs.State.{EndState, without}
 use Rattle.mr_outs.specs.Address.{AddressState}
-use Rattle.mr_rows.specs.State.{IsNode}
+use Rattle.mr_rows.specs.State.{IsNode, NodeState}
 use Rattle.mr_state.specs.Parts.{node_of, without_one}
-use Rattle.mr_state.specs.Listening.{ends_after, up_after}
+use Rattle.mr_state.specs.Listening.{Heard, ends_after, up_after}
 use Rattle.mr_state.proofs.Nodes.{alone_node, reading_node}
 
 -- some bytes may be unread at the link to the master
@@ -50,3 +50,14 @@ pub listened_node : (up : Bool) (port : ℕ) (upstream_is : Option AddressState)
 listened_node up port upstream_is mark c d m n ends told r i is l =
     let has = unread_of c l.name l.follow is l.found in
     heard_node up port upstream_is mark c m ends i l.name l.follow l.found r has.unread l.next d n told (l.row has.unread has.agrees)
+
+pub same_name : (c : CourseState) (name other : LinkId) (f : FollowState) → name_of c.follow ≡ Some name → c.follow ≡ Some (other, f) → name ≡ other
+same_name c name other f is found = one name other (sym is ∙ ap name_of found)
+  where
+    one : (a b : LinkId) → ◌≡◌ {A = Option LinkId} (Some a) (Some b) → a ≡ b
+    one a b e = cc
+
+pub heard_of : (up : Bool) (port : ℕ) (upstream_is : Option AddressState) (mark : Option ℤ) (c d : CourseState) (m n : Dataset) (ends : Links EndState) (told : List ℕ) (r : Result UpstreamStep UpstreamFault) (a : NodeState)
+    → node_of up port upstream_is mark c m ends ≡ a → (l : Listens c m r d n told) → Heard a r (node_of (up_after r up) port upstream_is mark d n (ends_after r l.name ends)) told
+heard_of up port upstream_is mark c d m n ends told r a same l =
+    subst (λ (z : NodeState). Heard z r (node_of (up_after r up) port upstream_is mark d n (ends_after r l.name ends)) told) same (record { course = d; listens = l; node = refl })

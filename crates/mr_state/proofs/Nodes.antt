@@ -1,12 +1,13 @@
 -- What is true of each node stays so.
 use Rattle.std.proofs.Common.{◌≡◌, ℕ, ℤ, List, Bool, true, false, cond, Option, None, Some, refl, sym, ap, subst, ◌∙◌}
-use Rattle.std.specs.FinMap.{get, get-insert, get-remove}
+use Rattle.std.specs.FinMap.{FinMap, get, get-insert, get-remove, insert}
+use Rattle.mr_links.specs.LinkId.{id_cmp}
 use Rattle.mr_links.specs.Links.{Links}
 use Rattle.mr_links.specs.declared.link_id.LinkId.{LinkId}
 use Rattle.mr_links.proofs.LinkRows.{ids_total}
 use Rattle.mr_follow.specs.State.{FollowState}
 use Rattle.mr_course.specs.State.{name_of}
-use Rattle.mr_ends.specs.State.{EndState, end_at, put_end, without, opened_as, serves, streams}
+use Rattle.mr_ends.specs.State.{EndState, end_at, put_end, without, opened_as, streams}
 use Rattle.mr_ends.specs.State.EndState.{client, replica, upstream, shut}
 use Rattle.mr_ends.specs.Replicas.{shut_where, ShutsReplicas}
 use Rattle.mr_ends.proofs.Naming.{at_or_not, at_or_other, silent}
@@ -23,9 +24,8 @@ none_some x e = cc
 some_is : {A : Type 0} (x y : A) → ◌≡◌ {A = Option A} (Some x) (Some y) → x ≡ y
 some_is x y e = cc
 
--- a served end is no master's
-served_not : (e : EndState) → serves e ≡ true → e ≡ upstream → ⊥
-served_not e s is = no_true (sym (ap serves is) ∙ s)
+pub get_put : (m : FinMap id_cmp EndState) (l : LinkId) (e : EndState) → get (insert m l e) l ≡ Some e
+get_put m l e = get-insert ids_total m l e l ∙ at_or_other l l (λ b. cond b (Some e) (get m l) ≡ Some e) (λ same. refl) (λ other. absurd (other refl))
 
 -- ---- a served end becomes another, or goes on
 at_put : (m : Links EndState) (l : LinkId) (e f : EndState) (r : Option (LinkId × FollowState)) → end_at m l ≡ Some e → (e ≡ upstream → ⊥) → FollowedAt m r → FollowedAt (put_end m l f) r
@@ -65,13 +65,13 @@ opened_node a l u i fresh = record {
 
 -- .. of the link to a master
 pub dialled_node : (a : NodeState) (l : LinkId) (f : FollowState) → IsNode a → a.follow ≡ None → a.core.master ≡ false → IsNode (record a { ends = opened_as a.ends l upstream; follow = Some (l, f) })
-dialled_node a l f i alone replica = record {
-  followed = get-insert ids_total a.ends.open_links l upstream l ∙ at_or_other l l (λ b. cond b (Some upstream) (get a.ends.open_links l) ≡ Some upstream) (λ same. refl) (λ other. absurd (other refl));
+dialled_node a l f i alone follows = record {
+  followed = get_put a.ends.open_links l upstream;
   only = λ x h. at_or_not x l (λ b. cond b (Some upstream) (get a.ends.open_links x) ≡ Some upstream → ◌≡◌ {A = Option LinkId} (Some l) (Some x)) (λ same q. ap Some (sym same))
       (λ q. absurd (none_some x (sym (ap name_of alone) ∙ i.only x q))) (sym (get-insert ids_total a.ends.open_links l upstream x) ∙ h);
   sends = λ x h. at_or_not x l (λ b. streams (cond b (Some upstream) (get a.ends.open_links x)) ≡ true → a.core.master ≡ true) (λ same q. absurd (no_true q)) (λ q. i.sends x q)
       (ap streams (sym (get-insert ids_total a.ends.open_links l upstream x)) ∙ h);
-  nobody = λ m. absurd (no_true (sym replica ∙ m));
+  nobody = λ m. absurd (no_true (sym follows ∙ m));
 }
 
 -- ---- an end that goes

@@ -20,8 +20,8 @@ use Rattle.mr_rows.specs.UpstreamRows.{ends_behind, node_behind}
 
 -- a node of these parts
 abbrev pub node_of : (up : Bool) (port : ℕ) → Option AddressState → Option ℤ → CourseState → Dataset → Links EndState → NodeState
-node_of up port upstream mark course held ends = record {
-  core = record { up = up; master = course.master; offers = course.offers; port = port; upstream = upstream; mark = mark; lineage = course.lineage; held = held };
+node_of up port told mark course held ends = record {
+  core = record { up = up; master = course.master; offers = course.offers; port = port; upstream = told; mark = mark; lineage = course.lineage; held = held };
   ends = ends;
   follow = course.follow;
 }

@@ -23,12 +23,14 @@ impl State {
         requires leads { Leads effects.items self.old.core.held }
         requires told { told.now ≡ texts effects.items }
         requires within { self.old.core.lineage.stream.offset + length (texts effects.items) ≤ offset_limit }
-        ensures ok { OnOk result (Commits self.old effects.items self.new) }
-        ensures spent { OnErr result (Spends self.old effects.items self.new) }
+        ensures ok { OnOk result (Commits self.old effects.entry.items self.new) }
+        ensures spent { OnErr result (Spends self.old effects.entry.items self.new) }
         // Effects that take no memory don't lack it.
-        ensures light { AllByRecursion NeedsNoMemory effects.items → IsOk result }
+        ensures light { AllByRecursion NeedsNoMemory effects.entry.items → IsOk result }
     {
         if effects.is_empty() {
+            // its clause bounds what the backlog holds: growing by nothing changes nothing
+            let _ = self.course.lineage().stream().end();
             return Ok(());
         }
         if self.held.apply_all(effects).is_err() {
