@@ -1,5 +1,5 @@
 -- A step at a replica's end.
-use Rattle.std.proofs.Common.{◌≡◌, ℕ, ℤ, List, drop, Some, refl}
+use Rattle.std.proofs.Common.{◌≡◌, ℕ, ℤ, List, true, drop, Some, refl}
 use Rattle.mr_links.specs.declared.link_id.LinkId.{LinkId}
 use Rattle.mr_cmd_node.specs.declared.node_ask.NodeAsk.TheVariants as node
 use Rattle.mr_ends.specs.State.{EndState}

@@ -49,17 +49,17 @@ followed_end ends (Some f) x at is = ap (end_at ends) (sym (some_is f.0 x is)) �
 
 -- a client's end is none that is followed
 not_followed : (a : NodeState) (l : LinkId) (u : List ℕ) → IsNode a → Agrees a l u → name_of a.follow ≡ Some l → ⊥
-not_followed a l u node at is = no_client (sym at.is ∙ followed_end a.ends a.follow l node.followed is)
+not_followed a l u is_node at is = no_client (sym at.is ∙ followed_end a.ends a.follow l is_node.followed is)
   where
     no_client : ◌≡◌ {A = Option EndState} (Some (client u)) (Some upstream) → ⊥
     no_client e = cc
 
 settles_alone : (a mid b : NodeState) (l : LinkId) (u rest : List ℕ) → IsNode a → Agrees a l u → Leaves a l mid (client rest) → b.ends ≡ without_one (name_of mid.follow) mid.ends
     → Settles a l b (client rest) [] (name_of a.follow)
-settles_alone a mid b l u rest node at leaves is =
+settles_alone a mid b l u rest is_node at leaves is =
     let ends : b.ends ≡ without_one (name_of a.follow) mid.ends = is ∙ ap (λ (f : Option (LinkId × FollowState)). without_one (name_of f) mid.ends) leaves.follow in
     record {
-      is = ap (λ z. end_at z l) ends ∙ (left_end (name_of a.follow) mid.ends l (not_followed a l u node at) ∙ leaves.is);
+      is = ap (λ z. end_at z l) ends ∙ (left_end (name_of a.follow) mid.ends l (not_followed a l u is_node at) ∙ leaves.is);
       shuts = λ x named. absurd (no_true named);
       none = λ x gone. ap (λ z. end_at z x) ends ∙ gone_end (name_of a.follow) mid.ends x gone;
       others = λ x ne named other. ap (λ z. end_at z x) ends ∙ (left_end (name_of a.follow) mid.ends x other ∙ leaves.others.stay x ne);
@@ -68,29 +68,29 @@ settles_alone a mid b l u rest node at leaves is =
 
 pub promote_row : (a mid b : NodeState) (l : LinkId) (u : List ℕ) (given : Given) (fresh : List ℕ) (used : ℕ) → IsNode a → IsAt a l u → a.core.master ≡ false → Wishes u used node.NoOne → Uses a l used mid → b ≡ promoted_as fresh mid
     → ClientRow a l u given fresh b (record no_outs { link = Some l; reply = reply_text done; closed = names_of (name_of a.follow); used = Some fresh })
-promote_row a mid b l u given fresh used node at replica w uses is =
+promote_row a mid b l u given fresh used is_node at follows w uses is =
     let leaves = uses.leaves (client u) at.agrees.is in
     ClientRow.promotes (record {
       up = at.up;
-      replica = replica;
+      replica = follows;
       words = w.words;
       rest = drop used u;
       asks = w.reads.asks;
       wish = w.asks;
       core = ap (λ (z : NodeState). z.core) is ∙ ap (λ (c : Core). record c { master = true; offers = true; upstream = None; mark = None; lineage = renamed fresh c.lineage }) uses.core;
       follow = ap (λ (z : NodeState). z.follow) is;
-      ends = settles_alone a mid b l u (drop used u) node at.agrees leaves (ap (λ (z : NodeState). z.ends) is);
+      ends = settles_alone a mid b l u (drop used u) is_node at.agrees leaves (ap (λ (z : NodeState). z.ends) is);
       outs_are = refl;
     })
 
 pub turn_row : (a mid b : NodeState) (l : LinkId) (u : List ℕ) (given : Given) (fresh : List ℕ) (used : ℕ) (address : AddressState) → IsNode a → IsAt a l u → a.core.master ≡ false → a.core.upstream ≢ Some address
     → Wishes u used (node.ReplicaOf address.host address.port) → Uses a l used mid → b ≡ turned_to address mid
     → ClientRow a l u given fresh b (record no_outs { link = Some l; reply = reply_text done; closed = names_of (name_of a.follow); follows = Some address })
-turn_row a mid b l u given fresh used address node at replica another w uses is =
+turn_row a mid b l u given fresh used address is_node at follows another w uses is =
     let leaves = uses.leaves (client u) at.agrees.is in
     ClientRow.turns (record {
       up = at.up;
-      replica = replica;
+      replica = follows;
       words = w.words;
       rest = drop used u;
       asks = w.reads.asks;
@@ -99,7 +99,7 @@ turn_row a mid b l u given fresh used address node at replica another w uses is 
       another = another;
       core = ap (λ (z : NodeState). z.core) is ∙ ap (λ (c : Core). record c { upstream = Some address }) uses.core;
       follow = ap (λ (z : NodeState). z.follow) is;
-      ends = settles_alone a mid b l u (drop used u) node at.agrees leaves (ap (λ (z : NodeState). z.ends) is);
+      ends = settles_alone a mid b l u (drop used u) is_node at.agrees leaves (ap (λ (z : NodeState). z.ends) is);
       outs_are = refl;
     })
 

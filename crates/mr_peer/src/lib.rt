@@ -15,6 +15,3 @@ pub use fault::NodeFault;
 pub use node::Node;
 pub use role::Role;
 pub use step::Step;
-
-#[cfg(test)]
-mod tests;

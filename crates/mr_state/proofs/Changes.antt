@@ -1,9 +1,7 @@
 -- What each change makes of a node is one.
 use Rattle.std.proofs.Common.{◌≡◌, ◌≤◌, ◌+◌, ◌-◌, ℕ, ℤ, List, [], ◌∷◌, ◌++◌, append-nil, Bool, true, false, cond, drop, length, Option, None, Some, refl, sym, ap, subst, ◌∙◌, arith}
 use Rattle.std.specs.Prelude.{Result, Ok, Err, OnOk, OnErr, IfOk}
-use Rattle.std.specs.Ordering.{eq_by_cmp}
 use Rattle.mr_links.specs.Links.{Links}
-use Rattle.mr_links.specs.LinkId.{id_cmp}
 use Rattle.mr_links.specs.declared.link_id.LinkId.{LinkId}
 use Rattle.mr_effect.specs.Spelling.{texts}
 use Rattle.mr_effect.specs.declared.effect.Effect.{Effect}
@@ -18,7 +16,7 @@ use Rattle.mr_ends.specs.Ending.{HasUnread, Takes, heard_of, used_of}
 use Rattle.mr_ends.specs.Parts.{HasAhead, HasRoom, HearsAt, IsClient, TurnsAt, UsesAt}
 use Rattle.mr_ends.proofs.Naming.{heard_streams, used_streams}
 use Rattle.mr_outs.specs.Address.{AddressState}
-use Rattle.mr_rows.specs.State.{Core, IsNode, NodeState}
+use Rattle.mr_rows.specs.State.{IsNode, NodeState}
 use Rattle.mr_rows.specs.LinkRows.{Opens, follow_without}
 use Rattle.mr_rows.specs.Growing.{grown_by}
 use Rattle.mr_state.specs.Parts.{Commits, node_of, with_ends, without_one}
@@ -70,6 +68,7 @@ turned_node a l n ends (Ok x) i is master h k =
   where
     no_client : (u : List ℕ) → client u ≡ upstream → ⊥
     no_client u e = cc
+
     no_replica : (u : List ℕ) → replica u ≡ upstream → ⊥
     no_replica u e = cc
 turned_node a l n ends (Err x) i is master h k = subst (λ z. IsNode (with_ends a z)) (sym k) i
@@ -85,6 +84,7 @@ shut_node a l e ends i found served is = subst (λ z. IsNode (with_ends a z)) (s
   where
     no_shut : shut ≡ upstream → ⊥
     no_shut q = cc
+
     no_true : false ≡ true → ⊥
     no_true q = cc
 

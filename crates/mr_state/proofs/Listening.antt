@@ -6,7 +6,7 @@ use Rattle.mr_links.specs.declared.link_id.LinkId.{LinkId}
 use Rattle.mr_entries.specs.Dataset.{Dataset}
 use Rattle.mr_repl.specs.Lineage.{LineageState}
 use Rattle.mr_follow.specs.State.{FollowState}
-use Rattle.mr_course.specs.State.{CourseState, HasUnread, IsCourse, IsReader, adopts, continues_as, grows, left, name_of, reads_on, spoiled}
+use Rattle.mr_course.specs.State.{CourseState, HasUnread, IsCourse, IsReader, adopts, continues_as, grows, name_of}
 use Rattle.mr_course.specs.Rows.{Listens, UpstreamRow}
 use Rattle.mr_course.specs.declared.upstream.UpstreamStep.{UpstreamStep}
 use Rattle.mr_course.specs.declared.upstream.UpstreamStep.TheVariants as outcome

@@ -1,5 +1,5 @@
 -- A step at the link to the master, carried into what the node holds.
-use Rattle.std.specs.Prelude.{◌≡◌, ℕ, List, Bool, true, false, Option, None, Some, Result, Ok, Err}
+use Rattle.std.specs.Prelude.{◌≡◌, ℕ, List, Bool, false, Option, None, Some, Result, Ok, Err}
 use Rattle.std.specs.Ordering.{eq_by_cmp}
 use Rattle.mr_links.specs.Links.{Links}
 use Rattle.mr_links.specs.LinkId.{id_cmp}

@@ -1,22 +1,19 @@
 -- What becomes of what a node holds.
-use Rattle.std.specs.Prelude.{◌≡◌, ◌≢◌, ℕ, ℤ, List, [], Bool, true, false, not, Option, None, Some}
+use Rattle.std.specs.Prelude.{◌≡◌, ◌≢◌, ℕ, ℤ, List, [], Bool, true, false, Option, None, Some}
 use Rattle.mr_links.specs.Links.{Links}
 use Rattle.mr_links.specs.declared.link_id.LinkId.{LinkId}
 use Rattle.mr_entries.specs.Dataset.{Dataset}
 use Rattle.mr_data.specs.Meaning.{apply_all}
 use Rattle.mr_effect.specs.declared.effect.Effect.{Effect}
-use Rattle.mr_repl.specs.Lineage.{LineageState, renamed}
-use Rattle.mr_follow.specs.State.{FollowState, started}
+use Rattle.mr_repl.specs.Lineage.{renamed}
+use Rattle.mr_follow.specs.State.{started}
 use Rattle.mr_course.specs.State.{CourseState, name_of, hears_more, offer_of}
-use Rattle.mr_course.specs.Rows.{Listens}
-use Rattle.mr_course.specs.declared.upstream.UpstreamStep.{UpstreamStep}
-use Rattle.mr_ends.specs.State.{EndState, put_end, without, opened_as}
-use Rattle.mr_ends.specs.State.EndState.{client, upstream}
+use Rattle.mr_ends.specs.State.{EndState, without, opened_as}
+use Rattle.mr_ends.specs.State.EndState.{upstream}
 use Rattle.mr_ends.specs.Replicas.{ShutsReplicas}
 use Rattle.mr_outs.specs.Address.{AddressState}
-use Rattle.mr_rows.specs.State.{NodeState, spent_as, course_of}
+use Rattle.mr_rows.specs.State.{NodeState, spent_as}
 use Rattle.mr_rows.specs.Growing.{grown_by}
-use Rattle.mr_rows.specs.UpstreamRows.{ends_behind, node_behind}
 
 -- a node of these parts
 abbrev pub node_of : (up : Bool) (port : ℕ) → Option AddressState → Option ℤ → CourseState → Dataset → Links EndState → NodeState

@@ -6,6 +6,3 @@ mod state;
 
 pub use spent::Spent;
 pub use state::State;
-
-#[cfg(test)]
-mod tests;

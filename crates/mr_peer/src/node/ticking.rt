@@ -44,7 +44,7 @@ enum Since {
 }
 
 /// Whether so many milliseconds have passed at this moment since the mark.
-fn since(mark: Option<i64>, now: i64, millis: i64) -> Since
+fn since_mark(mark: Option<i64>, now: i64, millis: i64) -> Since
     requires moment { IsMoment now }
     requires short { (pos 0 ≤ℤ millis) × (millis ≤ℤ pos 10000) }
     ensures { IsSince mark now millis result }
@@ -142,7 +142,7 @@ impl Node {
         if !whole {
             return Since::Waiting;
         }
-        match since(self.state.mark(), now, BEAT_AFTER) {
+        match since_mark(self.state.mark(), now, BEAT_AFTER) {
             Since::Passed => {
                 if self.state.ends().replicas().is_empty() {
                     Since::Waiting
@@ -161,7 +161,7 @@ impl Node {
         ensures { TickStep self.old now self.new result }
     {
         let mut outs = self.fresh_outs(None);
-        match since(self.state.mark(), now, ACKNOWLEDGE_AFTER) {
+        match since_mark(self.state.mark(), now, ACKNOWLEDGE_AFTER) {
             Since::Waiting => {}
             Since::Unmarked => self.state.set_mark(now),
             Since::Passed => {
@@ -229,7 +229,7 @@ fn put_deletions(
 ) -> Result<Vec<Effect<'static>>, AllocError>
     requires outs { outs.old ≡ no_outs }
     requires words { All HasWord dues.items }
-    ensures { IfOk result (λ es. Fitting room dues.items es.items outs.new) }
+    ensures { IfOk result (λ es. Fitting room dues.entry.items es.items outs.new) }
 {
     let mut effects = Vec::new(alloc);
     for due in dues {

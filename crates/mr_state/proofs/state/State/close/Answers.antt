@@ -1,5 +1,4 @@
 use Rattle.std.proofs.Common.{◌∙◌, ap, subst, sym}
-use Rattle.mr_course.specs.State.{name_of}
 use Rattle.mr_ends.specs.State.{without}
 use Rattle.mr_rows.specs.State.{IsNode}
 use Rattle.mr_state.specs.Parts.{node_of}
@@ -16,8 +15,8 @@ invariant_of-self c =
     elim c.if-is_name.branch [
       | then-is_name w ↦ subst (λ (s : Inside). IsNode (node_of s.up s.port s.upstream s.mark s.course s.held c.remove.new.self)) (sym w.self-inside-is)
           (leaves_node i.up i.port i.upstream i.mark i.course i.held i.ends c.self.invariant c.args.link w.leave.new.self c.remove.new.self (test ∙ w.if-is_name.true) w.leave.ensures
-            (c.remove.ensures ∙ ap (λ (s : Inside). without s.ends c.args.link) w.self-inside-is))
+          (c.remove.ensures ∙ ap (λ (s : Inside). without s.ends c.args.link) w.self-inside-is))
       | else-is_name w ↦ subst (λ (s : Inside). IsNode (node_of s.up s.port s.upstream s.mark s.course s.held c.remove.new.self)) (sym w.self-inside-is)
           (stays_node i.up i.port i.upstream i.mark i.course i.held i.ends c.self.invariant c.args.link c.remove.new.self (test ∙ w.if-is_name.false)
-            (c.remove.ensures ∙ ap (λ (s : Inside). without s.ends c.args.link) w.self-inside-is))
+          (c.remove.ensures ∙ ap (λ (s : Inside). without s.ends c.args.link) w.self-inside-is))
     ]

@@ -26,4 +26,4 @@ returns-clause-ok c =
     let applied : apply_all c.args.effects.items i.held ≡ Some c.apply_all.new.self = search rules in
     let bytes : c.args.told.now ≡ texts c.args.effects.items = c.requires.told in
     subst (λ (s : NodeState). Commits s c.args.effects.items (node_of i.up i.port i.upstream i.mark c.grow.new.self c.apply_all.new.self i.ends)) c.self.view_is
-      (commits_all i.up i.port i.upstream i.mark i.course c.grow.new.self i.held c.apply_all.new.self i.ends c.args.effects.items c.args.told.now applied bytes c.grow.ensures)
+    (commits_all i.up i.port i.upstream i.mark i.course c.grow.new.self i.held c.apply_all.new.self i.ends c.args.effects.items c.args.told.now applied bytes c.grow.ensures)

@@ -1,13 +1,12 @@
-use Rattle.std.proofs.Common.{◌∙◌, ◌≡◌, ap, Some, subst, sym}
+use Rattle.std.proofs.Common.{◌∙◌, ap, subst, sym}
 use Rattle.std.specs.Prelude.{Err, Ok, Result}
 use Rattle.mr_links.specs.declared.link_id.LinkId.{LinkId}
 use Rattle.mr_course.specs.Rows.{Listens}
-use Rattle.mr_course.specs.State.{name_of}
 use Rattle.mr_course.specs.declared.upstream.UpstreamFault.{UpstreamFault}
 use Rattle.mr_course.specs.declared.upstream.UpstreamStep.{UpstreamStep}
 use Rattle.mr_ends.specs.State.{EndState}
 use Rattle.mr_links.specs.Links.{Links}
-use Rattle.mr_rows.specs.State.{IsNode, NodeState}
+use Rattle.mr_rows.specs.State.{IsNode}
 use Rattle.mr_rows.specs.UpstreamRows.{ends_behind}
 use Rattle.mr_state.specs.Listening.{Heard}
 use Rattle.mr_state.specs.Parts.{node_of}
@@ -19,8 +18,8 @@ invariant_of-self-in-Ok c =
     let i = c.self.inside in
     let l = c.in-Ok.ensures in
     subst (λ (z : Links EndState). IsNode (node_of i.up i.port i.upstream i.mark c.listen.new.self c.listen.new.held z))
-      (sym (c.settle.ensures ∙ ap (λ (n : LinkId). ends_behind c.in-Ok.step n i.ends) (same_name i.course c.in-Some.name l.name l.follow (sym c.name.ensures.value ∙ c.in-Some.is) l.found)))
-      (listened_node i.up i.port i.upstream i.mark i.course c.listen.new.self i.held c.listen.new.held i.ends c.listen.new.out.items (Ok c.in-Ok.step) c.self.invariant c.name.ensures.course l)
+    (sym (c.settle.ensures ∙ ap (λ (n : LinkId). ends_behind c.in-Ok.step n i.ends) (same_name i.course c.in-Some.name l.name l.follow (sym c.name.ensures.value ∙ c.in-Some.is) l.found)))
+    (listened_node i.up i.port i.upstream i.mark i.course c.listen.new.self i.held c.listen.new.held i.ends c.listen.new.out.items (Ok c.in-Ok.step) c.self.invariant c.name.ensures.course l)
 
 pub returns-in-Err-Memory : goal.returns-in-Err-Memory
 returns-in-Err-Memory c =
@@ -39,5 +38,5 @@ returns-in-Ok c =
     let i = c.self.inside in
     let l = c.in-Ok.ensures in
     subst (λ (z : Links EndState). Heard c.args.self.now (Ok c.in-Ok.step) (node_of i.up i.port i.upstream i.mark c.listen.new.self c.listen.new.held z) c.listen.new.out.items)
-      (sym (c.settle.ensures ∙ ap (λ (n : LinkId). ends_behind c.in-Ok.step n i.ends) (same_name i.course c.in-Some.name l.name l.follow (sym c.name.ensures.value ∙ c.in-Some.is) l.found)))
-      (heard_of i.up i.port i.upstream i.mark i.course c.listen.new.self i.held c.listen.new.held i.ends c.listen.new.out.items (Ok c.in-Ok.step) c.args.self.now c.self.view_is l)
+    (sym (c.settle.ensures ∙ ap (λ (n : LinkId). ends_behind c.in-Ok.step n i.ends) (same_name i.course c.in-Some.name l.name l.follow (sym c.name.ensures.value ∙ c.in-Some.is) l.found)))
+    (heard_of i.up i.port i.upstream i.mark i.course c.listen.new.self i.held c.listen.new.held i.ends c.listen.new.out.items (Ok c.in-Ok.step) c.args.self.now c.self.view_is l)

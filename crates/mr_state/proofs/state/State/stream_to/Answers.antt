@@ -9,4 +9,4 @@ pub invariant_of-self : goal.invariant_of-self
 invariant_of-self c =
     let i = c.self.inside in
     turned_node (node_of i.up i.port i.upstream i.mark i.course i.held i.ends) c.args.link c.args.count c.turn.new.self c.turn.result c.self.invariant
-      (subst (λ (s : NodeState). IsClient s.ends c.args.link c.args.count) (sym c.self.view_is) c.requires.client) (ap (λ (s : NodeState). s.core.master) c.self.view_is ∙ c.requires.master) c.turn.ensures.ok c.turn.ensures.err
+    (subst (λ (s : NodeState). IsClient s.ends c.args.link c.args.count) (sym c.self.view_is) c.requires.client) (ap (λ (s : NodeState). s.core.master) c.self.view_is ∙ c.requires.master) c.turn.ensures.ok c.turn.ensures.err

@@ -9,4 +9,4 @@ pub invariant_of-self : goal.invariant_of-self
 invariant_of-self c =
     let i = c.self.inside in
     used_node (node_of i.up i.port i.upstream i.mark i.course i.held i.ends) c.args.link c.args.count c.take.new.self c.self.invariant
-      (subst (λ (s : NodeState). HasAhead s.ends c.args.link c.args.count) (sym c.self.view_is) c.requires) c.take.ensures
+    (subst (λ (s : NodeState). HasAhead s.ends c.args.link c.args.count) (sym c.self.view_is) c.requires) c.take.ensures
