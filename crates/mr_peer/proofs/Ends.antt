@@ -13,7 +13,7 @@ use Rattle.mr_ends.specs.State.EndState.{client, replica, upstream, shut}
 use Rattle.mr_ends.specs.Ending.{HasUnread, used_of}
 use Rattle.mr_ends.specs.Parts.{HasAhead, IsClient, UsesAt}
 use Rattle.mr_ends.specs.Replicas.{Lists}
-use Rattle.mr_rows.specs.State.{NodeState, end_of, OthersStay, Agrees, ReplicaAgrees, IsShut}
+use Rattle.mr_rows.specs.State.{IsNode, NodeState, end_of, OthersStay, Agrees, ReplicaAgrees, IsShut}
 use Rattle.mr_rows.specs.Ends.{Leaves}
 use Rattle.mr_state.specs.Parts.{OnlyEnds, with_ends}
 use Rattle.mr_peer.specs.Parts.{Uses}
@@ -42,8 +42,9 @@ put_leaves a b l e is = record {
 }
 
 -- so many bytes of a link are used
-pub uses_of : (a b : NodeState) (l : LinkId) (n : ℕ) (names : List LinkId) → Lists names a.ends.open_links → UsesAt a.ends l n b.ends → OnlyEnds a b → Uses a l n b
-uses_of a b l n names listed uses only = record {
+pub uses_of : (a b : NodeState) (l : LinkId) (n : ℕ) (names : List LinkId) → IsNode a → Lists names a.ends.open_links → UsesAt a.ends l n b.ends → OnlyEnds a b → Uses a l n b
+uses_of a b l n names is_node listed uses only = record {
+  is_node = is_node;
   names = names;
   listed = listed;
   core = ap (λ (z : NodeState). z.core) only;

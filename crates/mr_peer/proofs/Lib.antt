@@ -1,3 +1,4 @@
+pub mod Results
 pub mod Ends
 pub mod Rows
 pub mod Reading

@@ -66,9 +66,9 @@ settles_alone a mid b l u rest is_node at leaves is =
       opened = ap (λ (z : Links EndState). z.opened) ends ∙ (opened_as_before (name_of a.follow) mid.ends ∙ leaves.others.opened);
     }
 
-pub promote_row : (a mid b : NodeState) (l : LinkId) (u : List ℕ) (given : Given) (fresh : List ℕ) (used : ℕ) → IsNode a → IsAt a l u → a.core.master ≡ false → Wishes u used node.NoOne → Uses a l used mid → b ≡ promoted_as fresh mid
+pub promote_row : (a mid b : NodeState) (l : LinkId) (u : List ℕ) (given : Given) (fresh : List ℕ) (used : ℕ) → IsAt a l u → a.core.master ≡ false → Wishes u used node.NoOne → Uses a l used mid → b ≡ promoted_as fresh mid
     → ClientRow a l u given fresh b (record no_outs { link = Some l; reply = reply_text done; closed = names_of (name_of a.follow); used = Some fresh })
-promote_row a mid b l u given fresh used is_node at follows w uses is =
+promote_row a mid b l u given fresh used at follows w uses is =
     let leaves = uses.leaves (client u) at.agrees.is in
     ClientRow.promotes (record {
       up = at.up;
@@ -79,14 +79,14 @@ promote_row a mid b l u given fresh used is_node at follows w uses is =
       wish = w.asks;
       core = ap (λ (z : NodeState). z.core) is ∙ ap (λ (c : Core). record c { master = true; offers = true; upstream = None; mark = None; lineage = renamed fresh c.lineage }) uses.core;
       follow = ap (λ (z : NodeState). z.follow) is;
-      ends = settles_alone a mid b l u (drop used u) is_node at.agrees leaves (ap (λ (z : NodeState). z.ends) is);
+      ends = settles_alone a mid b l u (drop used u) uses.is_node at.agrees leaves (ap (λ (z : NodeState). z.ends) is);
       outs_are = refl;
     })
 
-pub turn_row : (a mid b : NodeState) (l : LinkId) (u : List ℕ) (given : Given) (fresh : List ℕ) (used : ℕ) (address : AddressState) → IsNode a → IsAt a l u → a.core.master ≡ false → a.core.upstream ≢ Some address
+pub turn_row : (a mid b : NodeState) (l : LinkId) (u : List ℕ) (given : Given) (fresh : List ℕ) (used : ℕ) (address : AddressState) → IsAt a l u → a.core.master ≡ false → a.core.upstream ≢ Some address
     → Wishes u used (node.ReplicaOf address.host address.port) → Uses a l used mid → b ≡ turned_to address mid
     → ClientRow a l u given fresh b (record no_outs { link = Some l; reply = reply_text done; closed = names_of (name_of a.follow); follows = Some address })
-turn_row a mid b l u given fresh used address is_node at follows another w uses is =
+turn_row a mid b l u given fresh used address at follows another w uses is =
     let leaves = uses.leaves (client u) at.agrees.is in
     ClientRow.turns (record {
       up = at.up;
@@ -99,7 +99,7 @@ turn_row a mid b l u given fresh used address is_node at follows another w uses 
       another = another;
       core = ap (λ (z : NodeState). z.core) is ∙ ap (λ (c : Core). record c { upstream = Some address }) uses.core;
       follow = ap (λ (z : NodeState). z.follow) is;
-      ends = settles_alone a mid b l u (drop used u) is_node at.agrees leaves (ap (λ (z : NodeState). z.ends) is);
+      ends = settles_alone a mid b l u (drop used u) uses.is_node at.agrees leaves (ap (λ (z : NodeState). z.ends) is);
       outs_are = refl;
     })
 
@@ -135,10 +135,10 @@ settles_obeying a mid b l u rest names at leaves shuts listed = record {
   opened = shuts.opened ∙ leaves.others.opened;
 }
 
-pub demote_row : (a mid b : NodeState) (l : LinkId) (u : List ℕ) (given : Given) (fresh : List ℕ) (used : ℕ) (address : AddressState) (names : List LinkId) → IsNode a → IsAt a l u → a.core.master ≡ true
+pub demote_row : (a mid b : NodeState) (l : LinkId) (u : List ℕ) (given : Given) (fresh : List ℕ) (used : ℕ) (address : AddressState) (names : List LinkId) → IsAt a l u → a.core.master ≡ true
     → Wishes u used (node.ReplicaOf address.host address.port) → Uses a l used mid → Obeys mid address b → Lists names a.ends.open_links
     → ClientRow a l u given fresh b (record no_outs { link = Some l; reply = reply_text done; closed = names; follows = Some address })
-demote_row a mid b l u given fresh used address names is_node at master w uses obeys listed =
+demote_row a mid b l u given fresh used address names at master w uses obeys listed =
     let leaves = uses.leaves (client u) at.agrees.is in
     ClientRow.demotes (record {
       up = at.up;
@@ -149,7 +149,7 @@ demote_row a mid b l u given fresh used address names is_node at master w uses o
       address = address;
       wish = w.asks;
       core = obeys.core ∙ ap (λ (c : Core). record c { master = false; offers = true; upstream = Some address; mark = None }) uses.core;
-      follow = obeys.follow ∙ (leaves.follow ∙ is_node.nobody master);
+      follow = obeys.follow ∙ (leaves.follow ∙ uses.is_node.nobody master);
       closed = listed;
       ends = settles_obeying a mid b l u (drop used u) names at.agrees leaves obeys.shuts listed;
       outs_are = refl;

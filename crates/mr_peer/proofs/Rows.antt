@@ -35,10 +35,10 @@ use Rattle.mr_peer.specs.Parts.{Keeps, TellsOf, Uses}
 use Rattle.mr_peer.specs.Steps.{IsAt}
 
 -- what stands around a node with these replicas, where they said nothing of themselves
-pub nobody : Replica
+abbrev pub nobody : Replica
 nobody = record { address = None; port = None; acknowledged = None }
 
-pub around_of : (a : NodeState) (names : List LinkId) → Around
+abbrev pub around_of : (a : NodeState) (names : List LinkId) → Around
 around_of a names = record { replicas = map (λ _. nobody) names; link = link_of a.follow }
 
 pub is_around_of : (a : NodeState) (names : List LinkId) → Lists names a.ends.open_links → IsAround a (around_of a names)
@@ -84,6 +84,9 @@ doomed_ends u fault d = Ends.doomed fault d refl
 
 pub quit_ends : (u : List ℕ) → Quits u → Ends u (reply_text done)
 quit_ends u q = Ends.quit q.words q.rest q.asks q.quit refl
+
+pub quit_lacks : (u : List ℕ) → Quits u → MayLack u
+quit_lacks u q = MayLack.asks q.words q.rest q.asks
 
 pub remakes_of : (m : Dataset) → apply_all (rebuilding m) empty ≡ Some m → All IsShort (rebuilding m) → Remakes (rebuilding m) m
 remakes_of m again short = record { again = again; texts = command_texts (rebuilding m) empty m again short; short = short }

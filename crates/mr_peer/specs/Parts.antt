@@ -14,7 +14,7 @@ use Rattle.mr_ends.specs.Ending.{used_of}
 use Rattle.mr_ends.specs.Replicas.{Lists}
 use Rattle.mr_outs.specs.Address.{AddressState}
 use Rattle.mr_outs.specs.Outs.{Output, OutsState, no_outs, growth, outs_with}
-use Rattle.mr_rows.specs.State.{NodeState, Core, end_of}
+use Rattle.mr_rows.specs.State.{Core, IsNode, NodeState, end_of}
 use Rattle.mr_rows.specs.ClientRows.{IsAnswerToPsync}
 use Rattle.mr_rows.specs.Ends.{Leaves}
 use Rattle.mr_rows.specs.Growing.{FedTo, grown_by, offset_behind, offset_limit, limit_text}
@@ -29,6 +29,7 @@ use Rattle.mr_peer.specs.declared.role.Role.TheVariants as role
 
 -- So many unread bytes of the link are used, and the core stays. The replicas can be listed.
 pub record Uses (a : NodeState) (l : LinkId) (used : ℕ) (b : NodeState) : Type 0 where
+  pub is_node : IsNode a
   pub names : List LinkId
   pub listed : Lists names a.ends.open_links
   pub core : b.core ≡ a.core

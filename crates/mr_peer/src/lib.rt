@@ -5,6 +5,7 @@ mod config;
 mod fault;
 mod node;
 mod noted;
+mod replies;
 mod request;
 mod role;
 mod step;

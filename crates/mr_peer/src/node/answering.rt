@@ -20,13 +20,13 @@ ghost use Rattle.mr_peer.specs.Parts.{AreEmpty, FeedsAll, Leads, Tells};
 
 use crate::fault::NodeFault;
 use crate::node::Node;
+use crate::replies::{done, past_the_limit, rewriting};
 use crate::step::Step;
 use mr_data::Plan;
 use mr_links::LinkId;
 use mr_outs::Outs;
 use mr_resp::{Fault, Reply};
 use std::alloc::AllocError;
-use std::borrow::CowSlice;
 
 /// No offset is greater.
 pub(crate) const LIMIT: u64 = 0x4000_0000_0000_0000;
@@ -70,8 +70,7 @@ impl Node {
         requires { (end : EndState) × (end_of self.old link ≡ Some end) × (serves end ≡ true) }
         ensures { (u : List ℕ) (given : Given) (fresh : List ℕ) → IsAt self.old link u → Quits u → ClientStep self.old link u given fresh self.new result }
     {
-        let reply = Reply::Simple(CowSlice::Borrowed(b"OK"));
-        self.dismiss(link, &reply)
+        self.dismiss(link, &done())
     }
 
     /// Sends a last reply, and closes the link.
@@ -94,10 +93,7 @@ impl Node {
         ensures { (u : List ℕ) (given : Given) (fresh : List ℕ) → IsAt self.old link u → Rewrites u used → ClientStep self.old link u given fresh self.new result }
     {
         let mut outs = self.fresh_outs(Some(link));
-        let reply = Reply::Simple(CowSlice::Borrowed(
-            b"Background append only file rewriting started",
-        ));
-        if outs.say(&reply).is_err() {
+        if outs.say(&rewriting()).is_err() {
             return Err(NodeFault::Memory);
         }
         let Ok(texts) = self.state.held().rebuild(self.alloc) else {
@@ -138,8 +134,7 @@ impl Node {
         outs.grow(plan.effects.as_slice())?;
         if outs.grown().len() as u64 > LIMIT - self.state.lineage().stream().end() {
             outs.drop_grown();
-            let reply = Reply::Error(CowSlice::Borrowed(b"ERR offset limit"));
-            outs.say(&reply)?;
+            outs.say(&past_the_limit())?;
             return Ok(false);
         }
         outs.say(&plan.reply)?;

@@ -7,13 +7,14 @@ ghost use Rattle.mr_cmd_node.specs.declared.node_ask.NodeAsk.{NodeAsk};
 ghost use Rattle.mr_cmd_node.specs.declared.node_ask.NodeAsk.TheVariants as node;
 ghost use Rattle.mr_ends.specs.Parts.{HasAhead, IsClient};
 ghost use Rattle.mr_outs.specs.Outs.{no_output};
-ghost use Rattle.mr_rows.specs.Served.{not_chained, says};
+ghost use Rattle.mr_rows.specs.Served.{says};
 ghost use Rattle.mr_peer.specs.Reading.{IsWish, Wishes};
 ghost use Rattle.mr_peer.specs.Steps.{ClientStep, IsAt};
 ghost use Rattle.mr_peer.specs.Parts.{Keeps};
 
 use crate::fault::NodeFault;
 use crate::node::Node;
+use crate::replies::{done, not_chained};
 use crate::request::NodeRequest;
 use crate::step::Step;
 use mr_ends::Introduction;
@@ -21,7 +22,6 @@ use mr_links::LinkId;
 use mr_outs::Address;
 use mr_repl::ReplId;
 use mr_resp::Reply;
-use std::borrow::CowSlice;
 
 impl Node {
     /// Does what is asked of the node, by its role.
@@ -115,16 +115,4 @@ impl Node {
         self.advance(link, used);
         Step::Done(outs)
     }
-}
-
-fn done() -> Reply
-    ensures { view result ≡ done }
-{
-    Reply::Simple(CowSlice::Borrowed(b"OK"))
-}
-
-fn not_chained() -> Reply
-    ensures { view result ≡ not_chained }
-{
-    Reply::Error(CowSlice::Borrowed(b"ERR replicas are not chained"))
 }
