@@ -1,6 +1,7 @@
 pub mod Results
 pub mod Ends
 pub mod Rows
+pub mod Asking
 pub mod Reading
 pub mod Roles
 pub mod Noting

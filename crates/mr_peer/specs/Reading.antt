@@ -24,7 +24,7 @@ use Rattle.mr_peer.specs.declared.todo.Todo.TheVariants as todo
 
 -- what is asked of the node, as it is kept
 abbrev pub IsWish : NodeAsk → NodeRequest → Type 0
-IsWish (node.Psync id wanted) (request.Stream kept from) = (kept.items ≡ id) × (from ≡ wanted)
+IsWish (node.Psync id wanted) (request.Stream wish) = (wish.id.items ≡ id) × (wish.wanted ≡ wanted)
 IsWish (node.ReplConf told) (request.Introduction introduction) = Unit {0}
 IsWish (node.Ack offset) (request.Acknowledgement kept) = kept ≡ offset
 IsWish (node.ReplicaOf host port) (request.Follow address) = address ≡ record { host = host; port = port }

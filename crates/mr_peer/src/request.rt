@@ -10,8 +10,8 @@ use std::alloc::{AllocError, Global};
 /// What a request asks of the node itself, with its words copied.
 #[derive(Drop)]
 pub(crate) enum NodeRequest {
-    /// The stream of this id, from this byte on.
-    Stream { id: Vec<u8>, wanted: i64 },
+    /// A stream from a byte on.
+    Stream(StreamWish),
     /// What a replica says of itself.
     Introduction(Introduction),
     /// How far a replica holds the stream.
@@ -22,15 +22,31 @@ pub(crate) enum NodeRequest {
     Lead,
 }
 
+/// The stream of this id is wanted, from this byte on.
+#[derive(Drop)]
+pub(crate) struct StreamWish {
+    pub id: Vec<u8>,
+    pub wanted: i64,
+}
+
+impl StreamWish {
+    /// The offset of the first byte that is wanted.
+    pub(crate) fn wanted(&self) -> i64
+        ensures { result ≡ self.now.wanted }
+    {
+        self.wanted
+    }
+}
+
 /// What the words ask of the node, copied.
 pub(crate) fn request_of(alloc: Global, ask: &NodeAsk<'_, '_>) -> Result<NodeRequest, AllocError>
     ensures { IfOk result (λ r. IsWish ask.now r) }
 {
     match ask {
-        NodeAsk::Psync { id, wanted } => Ok(NodeRequest::Stream {
+        NodeAsk::Psync { id, wanted } => Ok(NodeRequest::Stream(StreamWish {
             id: Vec::from_slice(alloc, id.as_slice())?,
             wanted: *wanted,
-        }),
+        })),
         NodeAsk::ReplConf { told } => Ok(NodeRequest::Introduction(introduction_of(alloc, told)?)),
         NodeAsk::Ack { offset } => Ok(NodeRequest::Acknowledgement(*offset)),
         NodeAsk::ReplicaOf { host, port } => {

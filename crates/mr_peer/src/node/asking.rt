@@ -36,9 +36,9 @@ impl Node {
         ensures { (u : List ℕ) (given : Given) (wish : NodeAsk) → IsAt self.old link u → Wishes u used wish → IsWish wish request → ClientStep self.old link u given fresh self.new result }
     {
         match request {
-            NodeRequest::Stream { id, wanted } => {
+            NodeRequest::Stream(wish) => {
                 if self.state.master() {
-                    self.synchronize(link, used, id.as_slice(), wanted)
+                    self.synchronize(link, used, &wish)
                 } else {
                     self.say(link, used, &not_chained())
                 }

@@ -15,6 +15,7 @@ ghost use Rattle.mr_peer.specs.Parts.{Offers};
 use crate::fault::NodeFault;
 use crate::node::Node;
 use crate::node::answering::LIMIT;
+use crate::request::StreamWish;
 use crate::step::Step;
 use mr_lines::{write_continue, write_full, write_length};
 use mr_links::LinkId;
@@ -28,15 +29,14 @@ impl Node {
         &mut self,
         link: LinkId,
         used: usize,
-        id: &[u8],
-        wanted: i64,
+        wish: &StreamWish,
     ) -> Result<Step, NodeFault>
         requires client { IsClient self.old.ends link used }
         requires master { self.old.core.master ≡ true }
-        ensures { (u : List ℕ) (given : Given) (fresh : List ℕ) → IsAt self.old link u → Wishes u used (node.Psync id.now wanted) → ClientStep self.old link u given fresh self.new result }
+        ensures { (u : List ℕ) (given : Given) (fresh : List ℕ) → IsAt self.old link u → Wishes u used (node.Psync wish.now.id.items wish.now.wanted) → ClientStep self.old link u given fresh self.new result }
     {
         let mut outs = self.fresh_outs(Some(link));
-        if self.put_stream(id, wanted, &mut outs).is_err() {
+        if self.put_stream(wish.id.as_slice(), wish.wanted(), &mut outs).is_err() {
             return Err(NodeFault::Memory);
         }
         if self.state.stream_to(link, used).is_err() {
