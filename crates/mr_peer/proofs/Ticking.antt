@@ -4,13 +4,11 @@ use Rattle.std.specs.Prelude.{IsTrue, IsOk, All, Bool, Result, Err, is_ok, nat_l
 use Rattle.std.specs.List.{AllByRecursion}
 use Rattle.std.specs.Option.{option_and_then}
 use Rattle.std.specs.FinMap.{remove}
-use Rattle.std.specs.Ordering.{eq_by_cmp}
 use Rattle.std.proofs.lemmas.Bool.{leb-true, leb-false, le-leb, lt-leb, eqb-true, eqb-false, true≢false}
 use Rattle.std.proofs.lemmas.Cmp.{eq_by_cmp_equiv}
 use Rattle.std.proofs.lemmas.List.{length-map}
 use Rattle.std.proofs.lemmas.List.Concat.{flat_map-append}
 use Rattle.std.proofs.lemmas.List.Elements.{All-head, All-tail, All-nil, All-push}
-use Rattle.mr_links.specs.LinkId.{id_cmp}
 use Rattle.mr_links.specs.declared.link_id.LinkId.{LinkId}
 use Rattle.mr_links.proofs.LinkRows.{ids_total}
 use Rattle.mr_map.specs.Bytes.{Bytes}
@@ -203,7 +201,7 @@ fills {room} {dues} {rest} {es} d ds o p fitting growing next outs_are test so s
     let here : o.grown ≡ texts es = ap (λ (x : OutsState). x.grown) outs_are in
     let full : nat_le (length (texts es) + size (effect.Del d.key.now)) room ≡ false = ap (λ (bs : List ℕ). nat_le (length bs + size (effect.Del d.key.now)) room) (sym here) ∙ sym test ∙ so in
     fitting_of p growing (no_more (subst (λ (ks : List DueKey). Growing room (deletions_of dues) es ks) next growing) full)
-        (shows ∙ ap (λ b. if b then record o { grown = o.grown ++ text (effect.Del d.key.now); appended = o.appended ++ text (effect.Del d.key.now) } else o) so ∙ outs_are)
+    (shows ∙ ap (λ b. if b then record o { grown = o.grown ++ text (effect.Del d.key.now); appended = o.appended ++ text (effect.Del d.key.now) } else o) so ∙ outs_are)
 
 less : (n m : ℕ) → n ≤ m → (n ≡ m → ⊥) → n < m
 less n m few apart = omega (arith, few, apart)
@@ -249,10 +247,12 @@ writes_as a now {told} {effects} {marks} {are} {o} {p} same marks_are outs_are h
     subst (λ (v : Vec Effect Global). Writes a now v.items are p) (sym same)
     (subst (λ (b : Bool). Writes a now effects.items b p) (sym marks_are) (subst (λ (x : OutsState). Writes a now effects.items marks x) (sym outs_are) h))
 
+-- with the deletions of a tick
 module _ (a : NodeState) (now : ℤ) (d : Deletions) (outs : OutsState) (dooms : Doomed a.core.held now (room_in a.core) d outs) where
   file_is : outs ≡ record no_outs { grown = texts d.effects.items; appended = texts (deletions now a.core.held (room_in a.core)) }
   file_is = dooms.outs_are ∙ ap (λ (es : List Effect). record no_outs { grown = texts d.effects.items; appended = texts es }) dooms.effects
 
+  -- what is written, by how the moment stands to the mark
   waiting_beats : {s : Since} → SinceBeat a now d.whole s → s ≡ since.Waiting → Beats a now d.effects.items a.core.mark
   waiting_beats (SinceBeat.cut over is) e = Beats.cut (dooms.cut over) dooms.effects refl
   waiting_beats (SinceBeat.waits so waiting is) e = Beats.waits (dooms.whole so) waiting (dooms.effects ∙ dooms.whole so) refl
@@ -287,6 +287,7 @@ module _ (a : NodeState) (now : ℤ) (d : Deletions) (outs : OutsState) (dooms :
   grown_are : outs.grown ≡ texts d.effects.items
   grown_are = ap (λ (o : OutsState). o.grown) file_is
 
+  -- whether a heartbeat has room
   tests_are : (fitting : Bool) (room : ℕ) → room ≡ room_in a.core → fitting ≡ nat_le (length outs.grown + size effect.Ping) room → fitting ≡ nat_le (length (texts d.effects.items) + size effect.Ping) (room_in a.core)
   tests_are fitting room room_is test = test ∙ ap (λ n. nat_le (length outs.grown + size effect.Ping) n) room_is ∙ ap (λ (bs : List ℕ). nat_le (length bs + size effect.Ping) (room_in a.core)) grown_are
 
@@ -318,6 +319,7 @@ module _ (a : NodeState) (now : ℤ) (d : Deletions) (outs : OutsState) (dooms :
 has_room : (offset long : ℕ) → offset ≤ offset_limit → long ≤ offset_limit - offset → offset + long ≤ offset_limit
 has_room offset long within enough = omega (arith, within, enough)
 
+-- .. and is sent to the replicas
 pub puts : (a : NodeState) (now : ℤ) (told : Told) (o p : OutsState) → a.core.lineage.stream.offset ≤ offset_limit → Writes a now told.effects.items told.marks o → FeedsAll a o p → PutsBeats a now told p
 puts a now told o p within writes feeds = record {
   beats = writes.beats;
@@ -349,6 +351,6 @@ ticks a b c now told outs mark up master put commits is mark_is =
       outs_are = put.outs_are ∙ ap (λ (names : List LinkId). record no_outs { grown = texts told.effects.items; appended = texts (deletions now a.core.held (room_in a.core)); fed = names }) (sym fed_is);
     })
 
--- no answer that was given is a lack
+-- what went well did not fail
 pub never_lacks : {E : Type 0} (r : Result (Unit {0}) E) (x : E) → r ≡ Err x → IsOk r → ⊥
 never_lacks r x lacks ok = true≢false (sym ok ∙ ap is_ok lacks)

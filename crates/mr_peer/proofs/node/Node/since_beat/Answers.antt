@@ -1,8 +1,7 @@
-use Rattle.std.proofs.Common.{rules, ◌≡◌, ℤ, Option, true, refl, sym, subst, ap, to_z, of_z, w64, ◌∙◌}
+use Rattle.std.proofs.Common.{rules, ◌≡◌, ℤ, Option, true, refl, sym, subst, ap, w64, ◌∙◌}
 use Rattle.std.proofs.lemmas.Int.{to_z-of_z}
 use Rattle.mr_rows.specs.State.{NodeState}
 use Rattle.mr_rows.specs.TimeRows.{HasPassed, beat_after}
-use Rattle.mr_links.specs.declared.link_id.LinkId.{LinkId}
 use Rattle.mr_ends.specs.Replicas.{Lists}
 use Rattle.mr_peer.specs.Ticking.{SinceBeat}
 use Rattle.mr_peer.proofs.Ticking.{some_listed}

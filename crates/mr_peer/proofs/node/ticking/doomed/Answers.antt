@@ -1,6 +1,5 @@
-use Rattle.std.proofs.Common.{rules, ◌≡◌, ℤ, length, nat_eq, to_z, of_z, w64, sym, subst, ap, ◌∙◌}
+use Rattle.std.proofs.Common.{rules, ◌≡◌, ℤ, length, nat_eq, to_z, of_z, w64, subst}
 use Rattle.std.proofs.lemmas.Int.{to_z-of_z}
-use Rattle.mr_data.specs.Due.{due, most_deleted, shown}
 use Rattle.mr_peer.specs.Ticking.{Doomed}
 use Rattle.mr_peer.specs.declared.node.ticking.Deletions.{Deletions}
 use Rattle.mr_peer.proofs.Ticking.{doomed_of}

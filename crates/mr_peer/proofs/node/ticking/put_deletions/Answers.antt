@@ -1,4 +1,4 @@
-use Rattle.std.proofs.Common.{◌≡◌, refl, sym, ◌∙◌, ap}
+use Rattle.std.proofs.Common.{refl, sym, ◌∙◌, ap}
 use Rattle.mr_outs.specs.Outs.{OutsState, no_outs}
 use Rattle.mr_peer.proofs.Ticking.{all_there, begin, fills, fitting_of, grows, no_key, unchanged}
 use Rattle.mr_peer.proofs.node.ticking.put_deletions.Goals as goal
