@@ -1,5 +1,5 @@
 -- What the parts of a tick do.
-use Rattle.std.specs.Prelude.{◌≡◌, ◌≤◌, IsTrue, ℕ, ℤ, List, Bool, true, false, Option, Some, None, All, length, map, ◌<◌}
+use Rattle.std.specs.Prelude.{◌≡◌, ◌≤◌, IsTrue, ℕ, ℤ, List, Bool, true, false, Option, Some, All, length, map, ◌<◌}
 use Rattle.mr_links.specs.declared.link_id.LinkId.{LinkId}
 use Rattle.mr_value.specs.Words.{fits}
 use Rattle.mr_effect.specs.Spelling.{texts}
@@ -10,7 +10,7 @@ use Rattle.mr_data.specs.Due.{deletions, within}
 use Rattle.mr_data.specs.declared.due.DueKey.{DueKey}
 use Rattle.mr_outs.specs.Outs.{OutsState, no_outs}
 use Rattle.mr_rows.specs.State.{NodeState}
-use Rattle.mr_rows.specs.Growing.{FedTo, offset_limit}
+use Rattle.mr_rows.specs.Growing.{FedTo, offset_behind, offset_limit}
 use Rattle.mr_rows.specs.TimeRows.{Beats, HasNone, HasPassed, HasReplicas, IsUnmarked, IsWaiting, beat_after, room_in}
 use Rattle.mr_rows.specs.TimeRows as time
 use Rattle.mr_peer.specs.declared.node.ticking.Since.{Since}
@@ -62,7 +62,7 @@ marked false now mark = mark
 pub record PutsBeats (a : NodeState) (now : ℤ) (told : Told) (outs : OutsState) : Type 0 where
   pub beats : Beats a now told.effects.items (marked told.marks now a.core.mark)
   pub light : All IsLight told.effects.items
-  pub within : length (texts told.effects.items) ≤ room_in a.core
+  pub within : offset_behind told.effects.items a.core ≤ offset_limit
   pub names : List LinkId
   pub fed : FedTo (texts told.effects.items) a names
   pub outs_are : outs ≡ record no_outs { grown = texts told.effects.items; appended = texts (deletions now a.core.held (room_in a.core)); fed = names }

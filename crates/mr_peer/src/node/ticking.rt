@@ -195,7 +195,9 @@ impl Node {
         ensures { OnOk result (outs.new ≡ record outs.old { reply = acknowledgement self.now.core.lineage.stream.offset }) }
     {
         let mut buffer = Buffer::new();
-        let offset = buffer.format(self.state.lineage().stream().end()).as_bytes();
+        let offset = buffer
+            .format(self.state.lineage().stream().end())
+            .as_bytes();
         let mut line = Vec::new(self.alloc);
         write_request(&[b"REPLCONF", b"ACK", offset], &mut line)?;
         outs.say_bytes(line.as_slice())
