@@ -1,14 +1,17 @@
 -- What is to be done about a request, from its words.
-use Rattle.std.proofs.Common.{◌≡◌, ◌≤◌, ◌<◌, ℕ, List, [], ◌∷◌, ◌++◌, Bool, true, false, length, drop, refl, sym, ap, subst, ◌∙◌, arith, All, IsTrue}
-use Rattle.std.specs.Prelude.{Option, Some, None, Result, Ok, Err}
+use Rattle.std.proofs.Common.{◌≡◌, ◌≤◌, ◌<◌, ℕ, List, [], ◌∷◌, ◌++◌, Bool, true, false, length, take, drop, refl, sym, ap, subst, ◌∙◌, arith, All, IsTrue}
+use Rattle.std.specs.Prelude.{Option, Some, None, Result, Ok, Err, IfOk, OnErr}
 use Rattle.std.specs.List.{list_all, AllByRecursion}
 use Rattle.std.specs.Cmp.Derive.{both_true}
 use Rattle.std.proofs.lemmas.Bool.{le-leb}
+use Rattle.std.proofs.lemmas.List.{take-append-drop}
 use Rattle.std.proofs.lemmas.List.Elements.{recursion_from_All}
 use Rattle.mr_value.specs.Words.{fits}
 use Rattle.mr_resp.specs.Replies.{Tree, error}
 use Rattle.mr_resp.specs.ReplyView.{view}
+use Rattle.mr_resp.specs.Request.{IsRequest}
 use Rattle.mr_resp.specs.Resumed.{Agrees}
+use Rattle.mr_resp.specs.Scans.{BeginsWithRequest}
 use Rattle.mr_resp.specs.Usual.{usual}
 use Rattle.mr_resp.specs.declared.progress.Progress.{Progress}
 use Rattle.mr_entries.specs.Dataset.{Dataset}
@@ -28,6 +31,7 @@ use Rattle.mr_plan.specs.declared.requests.Answer.{Answer}
 use Rattle.mr_plan.specs.declared.requests.Answer.TheVariants as answer
 use Rattle.mr_plan.proofs.Leading.{no_texts}
 use Rattle.mr_ends.specs.Progresses.{AgreesAlong}
+use Rattle.mr_rows.specs.ClientRows.{MayLack}
 use Rattle.mr_rows.specs.Requests.{Asks}
 use Rattle.mr_rows.specs.Served.{IsPlain}
 use Rattle.mr_peer.specs.Reading.{IsDone, IsTodo, KeepsAlong, Reads, carry_out}
@@ -52,6 +56,18 @@ within_by_recursion (w ∷ ws) h = both_true (le-leb (length w) 16777216 h.0) (w
 -- words within the limit, by the test
 pub all_fit : (ws : List (List ℕ)) → All (λ (w : List ℕ). length w ≤ 16777216) ws → IsTrue (list_all fits ws)
 all_fit ws a = within_by_recursion ws (recursion_from_All (λ (w : List ℕ). length w ≤ 16777216) ws a)
+
+-- ---- a request that was read
+pub asked_at : (u : List ℕ) (n : ℕ) (words : List (List ℕ)) → IsRequest usual (take n u) words → Asks u words (drop n u)
+asked_at u n words r = record { text = take n u; begins = sym (take-append-drop n u); request = r }
+
+-- .. for whose words memory was lacking
+pub may_lack : (u : List ℕ) → BeginsWithRequest usual u → MayLack u
+may_lack u b = MayLack.asks b.words (drop b.used u) (asked_at u b.used b.words b.request)
+
+pub in_any_case : {A E : Type 0} (r : Result A E) (P : Type 0) → P → OnErr r P
+in_any_case (Ok x) P h = tt
+in_any_case (Err e) P h = h
 
 -- ---- an answer to a command
 ok_is : (a b : Ask) → ◌≡◌ {A = Result Ask AskFault} (Ok a) (Ok b) → a ≡ b
@@ -117,6 +133,11 @@ done_todo replica words u n given m (todo.Tell used question) enough asks d = re
 done_todo replica words u n given m (todo.Halt used) enough asks d = record { words = words; reads = reads_at words u n used (d.0) enough asks; halting = d.1 }
 done_todo replica words u n given m (todo.Run used plan) enough asks d = record { words = words; reads = reads_at words u n used (d.0) enough asks; plain = d.1; plan = d.2 }
 done_todo replica words u n given m (todo.Ask used request) enough asks d = (d.1, record { words = words; reads = reads_at words u n used (d.0) enough asks; asks = d.2 }, d.3)
+
+-- .. where memory wasn't lacking
+pub done_all : {E : Type 0} (r : Result Todo E) (replica : Bool) (words : List (List ℕ)) (u : List ℕ) (n : ℕ) (given : Given) (m : Dataset) → n ≤ length u → Asks u words (drop n u) → IfOk r (λ t. IsDone replica words n given m t) → IfOk r (λ t. IsTodo replica u given m t)
+done_all (Ok t) replica words u n given m enough asks d = done_todo replica words u n given m t enough asks d
+done_all (Err e) replica words u n given m enough asks d = tt
 
 pub done_along : (replica : Bool) (words : List (List ℕ)) (u : List ℕ) (n : ℕ) (given : Given) (m : Dataset) (t : Todo) → IsDone replica words n given m t → KeepsAlong t u
 done_along replica words u n given m (todo.Wait progress) d = absurd d
