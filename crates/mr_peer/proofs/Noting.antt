@@ -4,7 +4,6 @@ use Rattle.mr_links.specs.declared.link_id.LinkId.{LinkId}
 use Rattle.mr_resp.specs.Scans.{BeginsWithRequest}
 use Rattle.mr_resp.specs.Usual.{usual}
 use Rattle.mr_cmd_node.specs.declared.node_ask.NodeAsk.TheVariants as node
-use Rattle.mr_ends.specs.State.{EndState}
 use Rattle.mr_ends.specs.State.EndState.{replica, shut}
 use Rattle.mr_outs.specs.Outs.{no_outs}
 use Rattle.mr_rows.specs.State.{NodeState}
@@ -26,7 +25,12 @@ uses_as {a} {m} {b} {n} l used before behind uses = subst (λ (z : NodeState). U
 
 note_row : (a b : NodeState) (l : LinkId) (u : List ℕ) (used : ℕ) → IsAtReplica a l u → IsExpected u (drop used u) → Uses a l used b → ReplicaRow a l u b (record no_outs { link = Some l })
 note_row a b l u used at expected uses = ReplicaRow.notes (record {
-  up = at.up; rest = drop used u; expected = expected; core = uses.core; leaves = uses.leaves (replica u) at.agrees.is; outs_are = refl;
+  up = at.up;
+  rest = drop used u;
+  expected = expected;
+  core = uses.core;
+  leaves = uses.leaves (replica u) at.agrees.is;
+  outs_are = refl;
 })
 
 pub skip_row : (a b : NodeState) (l : LinkId) (u : List ℕ) (used : ℕ) → IsAtReplica a l u → Passes u used → Uses a l used b → ReplicaRow a l u b (record no_outs { link = Some l })
@@ -37,5 +41,11 @@ acknowledgement_row a b l u used offset at w uses = note_row a b l u used at (Is
 
 pub part_row : (a b : NodeState) (l : LinkId) (u : List ℕ) → IsAtReplica a l u → IsUnwanted u → b.core ≡ a.core → Leaves a l b shut → ReplicaRow a l u b (record no_outs { link = Some l; closes = true })
 part_row a b l u at unwanted core leaves = ReplicaRow.parts (record {
-  up = at.up; unwanted = unwanted; core = core; follow = leaves.follow; shut = record { is = leaves.is }; others = leaves.others; outs_are = refl;
+  up = at.up;
+  unwanted = unwanted;
+  core = core;
+  follow = leaves.follow;
+  shut = record { is = leaves.is };
+  others = leaves.others;
+  outs_are = refl;
 })

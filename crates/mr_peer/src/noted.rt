@@ -24,7 +24,11 @@ pub(crate) enum Noted {
 }
 
 /// Reads. Nothing changes.
-pub(crate) fn noted_of(alloc: Global, unread: &[u8], progress: Progress) -> Result<Noted, AllocError>
+pub(crate) fn noted_of(
+    alloc: Global,
+    unread: &[u8],
+    progress: Progress,
+) -> Result<Noted, AllocError>
     requires { AgreesAlong progress unread.now }
     ensures noted { IfOk result (λ n. IsNoted unread.now n) }
     ensures along { IfOk result (λ n. KeepsNoted n unread.now) }

@@ -1,4 +1,4 @@
-use Rattle.std.proofs.Common.{◌≡◌, refl, sym, ap, subst, ◌∙◌, true, Some}
+use Rattle.std.proofs.Common.{refl, sym, ap, subst, ◌∙◌, true}
 use Rattle.mr_ends.specs.State.{put_end}
 use Rattle.mr_ends.specs.State.EndState.{replica, shut}
 use Rattle.mr_state.specs.Parts.{with_ends}
@@ -45,13 +45,13 @@ returns c = λ u at.
     let fresh = c.fresh_outs-outs.ensures in
     elim c.match-noted-3.branch [
       | in-Skip w ↦ subst (λ (o : OutsState). ReplicaRow a l u b o) (sym (w.outs-is ∙ fresh.outs))
-            (skip_row a b l u w.in-Skip.used at (subst (IsNoted u) w.in-Skip.is said.0) (uses_as l w.in-Skip.used fresh.same w.self-is w.advance.ensures))
+          (skip_row a b l u w.in-Skip.used at (subst (IsNoted u) w.in-Skip.is said.0) (uses_as l w.in-Skip.used fresh.same w.self-is w.advance.ensures))
       | in-Acknowledgement w ↦ subst (λ (o : OutsState). ReplicaRow a l u b o) (sym (w.outs-is ∙ fresh.outs))
-            (acknowledgement_row a b l u w.in-Acknowledgement.used w.in-Acknowledgement.offset at (subst (IsNoted u) w.in-Acknowledgement.is said.0)
-            (uses_as l w.in-Acknowledgement.used (w.acknowledge.ensures ∙ w.self-in-Acknowledgement.view_is ∙ fresh.same) w.self-is w.advance-in-Acknowledgement.ensures))
+          (acknowledgement_row a b l u w.in-Acknowledgement.used w.in-Acknowledgement.offset at (subst (IsNoted u) w.in-Acknowledgement.is said.0)
+          (uses_as l w.in-Acknowledgement.used (w.acknowledge.ensures ∙ w.self-in-Acknowledgement.view_is ∙ fresh.same) w.self-is w.advance-in-Acknowledgement.ensures))
       | in-Part w ↦
-            let before = w.self-in-Part.view_is ∙ fresh.same in
-            let is = w.self-is ∙ w.shut.ensures ∙ ap (λ (z : NodeState). with_ends z (put_end z.ends l shut)) before in
-            subst (λ (o : OutsState). ReplicaRow a l u b o) (sym (w.outs-is ∙ w.close.ensures ∙ ap (λ (o : OutsState). record o { closes = true }) fresh.outs))
-            (part_row a b l u at (subst (IsNoted u) w.in-Part.is said.0) (ap (λ (z : NodeState). z.core) is) (put_leaves a b l shut is))
+          let before = w.self-in-Part.view_is ∙ fresh.same in
+          let is = w.self-is ∙ w.shut.ensures ∙ ap (λ (z : NodeState). with_ends z (put_end z.ends l shut)) before in
+          subst (λ (o : OutsState). ReplicaRow a l u b o) (sym (w.outs-is ∙ w.close.ensures ∙ ap (λ (o : OutsState). record o { closes = true }) fresh.outs))
+          (part_row a b l u at (subst (IsNoted u) w.in-Part.is said.0) (ap (λ (z : NodeState). z.core) is) (put_leaves a b l shut is))
     ]
