@@ -1,5 +1,5 @@
 // What is to be done about a replica's unread bytes.
-ghost use Rattle.std.specs.Prelude.{◌≡◌, ◌<◌, length, map, IfOk, OnErr, IfSome, IfNone};
+ghost use Rattle.std.specs.Prelude.{◌<◌, length, map, IfOk, OnErr, IfSome, IfNone};
 ghost use Rattle.std.specs.Cow.{cow_slice_items};
 ghost use Rattle.mr_ends.specs.Progresses.{AgreesAlong};
 ghost use Rattle.mr_peer.specs.Noting.{IsNoted, BeginsWithWords, KeepsNoted, Acknowledges, AcknowledgesNothing};
