@@ -1,5 +1,5 @@
 // What is to be done about a replica's unread bytes.
-ghost use Rattle.std.specs.Prelude.{◌≡◌, ◌<◌, length, map, IfOk, OnErr, IfSome, IfNone};
+ghost use Rattle.std.specs.Prelude.{◌<◌, length, map, IfOk, OnErr, IfSome, IfNone};
 ghost use Rattle.std.specs.Cow.{cow_slice_items};
 ghost use Rattle.mr_ends.specs.Progresses.{AgreesAlong};
 ghost use Rattle.mr_peer.specs.Noting.{IsNoted, BeginsWithWords, KeepsNoted, Acknowledges, AcknowledgesNothing};
@@ -24,7 +24,11 @@ pub(crate) enum Noted {
 }
 
 /// Reads. Nothing changes.
-pub(crate) fn noted_of(alloc: Global, unread: &[u8], progress: Progress) -> Result<Noted, AllocError>
+pub(crate) fn noted_of(
+    alloc: Global,
+    unread: &[u8],
+    progress: Progress,
+) -> Result<Noted, AllocError>
     requires { AgreesAlong progress unread.now }
     ensures noted { IfOk result (λ n. IsNoted unread.now n) }
     ensures along { IfOk result (λ n. KeepsNoted n unread.now) }

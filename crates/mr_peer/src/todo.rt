@@ -92,11 +92,13 @@ fn request_todo(
                 effects: Vec::new(alloc),
             },
         }),
-        Ok(Ask::Node(ask)) => Ok(Todo::Ask {
-            used,
-            request: request_of(alloc, &ask)?,
-        }),
-        Ok(ask) => Ok(carry_out(answer_to(alloc, held, replica, &ask, given)?, used)),
+        Ok(ask) => match &ask {
+            Ask::Node(wish) => Ok(Todo::Ask {
+                used,
+                request: request_of(alloc, wish)?,
+            }),
+            _ => Ok(carry_out(answer_to(alloc, held, replica, &ask, given)?, used)),
+        },
     }
 }
 

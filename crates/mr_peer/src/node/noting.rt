@@ -1,5 +1,5 @@
 // A step at a replica's end.
-ghost use Rattle.std.specs.Prelude.{◌≡◌, ℕ, List, true, Some};
+ghost use Rattle.std.specs.Prelude.{ℕ, List};
 ghost use Rattle.mr_rows.specs.State.{ReplicaAgrees};
 ghost use Rattle.mr_peer.specs.Steps.{IsAtReplica, ReplicaStep};
 ghost use Rattle.mr_peer.specs.Noting.{NotedAt};
