@@ -10,7 +10,8 @@ use Rattle.mr_links.specs.declared.link_id.LinkId.{LinkId}
 use Rattle.mr_links.proofs.LinkRows.{ids_total, exact_ids}
 use Rattle.mr_ends.specs.State.{EndState, end_at, put_end, serves, unread_in}
 use Rattle.mr_ends.specs.State.EndState.{client, replica, upstream, shut}
-use Rattle.mr_ends.specs.Ending.{HasUnread, used_of}
+use Rattle.mr_ends.specs.Ending.{kind_of, used_of}
+use Rattle.mr_ends.specs.declared.kind.Kind.TheVariants as kind
 use Rattle.mr_ends.specs.Parts.{HasAhead, IsClient, UsesAt}
 use Rattle.mr_ends.specs.Replicas.{Lists}
 use Rattle.mr_rows.specs.State.{IsNode, NodeState, end_of, OthersStay, Agrees, ReplicaAgrees, IsShut}
@@ -72,3 +73,28 @@ client_of a l u n at enough = record { unread = u; found = at.is; enough = enoug
 
 pub client_ahead : (a : NodeState) (l : LinkId) (n : ℕ) → IsClient a.ends l n → HasAhead a.ends l n
 client_ahead a l n is = record { end = client is.unread; found = is.found; enough = is.enough }
+
+-- ---- whose an end is
+pub kind_client : (e : EndState) → kind.Client ≡ kind_of e → (u : List ℕ) × (e ≡ client u)
+kind_client (client u) is = (u, refl)
+kind_client (replica u) is = absurd (cc)
+kind_client upstream is = absurd (cc)
+kind_client shut is = absurd (cc)
+
+pub kind_replica : (e : EndState) → kind.Replica ≡ kind_of e → (u : List ℕ) × (e ≡ replica u)
+kind_replica (client u) is = absurd (cc)
+kind_replica (replica u) is = (u, refl)
+kind_replica upstream is = absurd (cc)
+kind_replica shut is = absurd (cc)
+
+pub kind_upstream : (e : EndState) → kind.Upstream ≡ kind_of e → e ≡ upstream
+kind_upstream (client u) is = absurd (cc)
+kind_upstream (replica u) is = absurd (cc)
+kind_upstream upstream is = refl
+kind_upstream shut is = absurd (cc)
+
+pub kind_shut : (e : EndState) → kind.Shut ≡ kind_of e → e ≡ shut
+kind_shut (client u) is = absurd (cc)
+kind_shut (replica u) is = absurd (cc)
+kind_shut upstream is = absurd (cc)
+kind_shut shut is = refl

@@ -29,7 +29,7 @@ use Rattle.mr_plan.specs.declared.requests.Answer.TheVariants as answer
 use Rattle.mr_ends.specs.Progresses.{AgreesAlong}
 use Rattle.mr_rows.specs.ClientRows.{MayLack}
 use Rattle.mr_rows.specs.Requests.{Asks}
-use Rattle.mr_peer.specs.Reading.{IsDone, IsTodo, Reads, carry_out}
+use Rattle.mr_peer.specs.Reading.{KeepsAlong, IsDone, IsTodo, Reads, carry_out}
 use Rattle.mr_peer.specs.declared.todo.Todo.{Todo}
 use Rattle.mr_peer.specs.declared.todo.Todo.TheVariants as todo
 
@@ -106,3 +106,7 @@ done_todo replica words u n given m (todo.Ask used request) enough asks d = (d.1
 pub done_all : {E : Type 0} (r : Result Todo E) (replica : Bool) (words : List (List ℕ)) (u : List ℕ) (n : ℕ) (given : Given) (m : Dataset) → n ≤ length u → Asks u words (drop n u) → IfOk r (λ t. IsDone replica words n given m t) → IfOk r (λ t. IsTodo replica u given m t)
 done_all (Ok t) replica words u n given m enough asks d = done_todo replica words u n given m t enough asks d
 done_all (Err e) replica words u n given m enough asks d = tt
+
+-- what is to be done, once it is known which it is
+pub found_as : (replica : Bool) (u : List ℕ) (given : Given) (m : Dataset) (t s : Todo) → t ≡ s → IsTodo replica u given m t × KeepsAlong t u → IsTodo replica u given m s × KeepsAlong s u
+found_as replica u given m t s is h = subst (λ z. IsTodo replica u given m z × KeepsAlong z u) is h

@@ -1,5 +1,5 @@
 // What a request asks of the node itself.
-ghost use Rattle.std.specs.Prelude.{IfOk};
+ghost use Rattle.std.specs.Prelude.{◌≡◌, IfOk};
 ghost use Rattle.mr_peer.specs.Reading.{IsWish};
 
 use mr_cmd_node::{NodeAsk, ReplicaOption, Told};
