@@ -1,4 +1,4 @@
-"""The pages: each file that one of them links to or names is there, and so is each edit that docs/PROMISES.md names."""
+"""The pages: each file that one of them links to or names is there, and so is each edit that docs/PROMISES.md names; lines of prose are short."""
 
 import glob
 import os
@@ -7,6 +7,8 @@ import unittest
 
 from program import ROOT
 
+# how many columns a line of prose has at most
+COLUMNS = 120
 LINK = re.compile(r"\]\(([^)#\s]+)?(#[^)\s]+)?\)")
 # a path of the repository, as it is named in a page
 NAMED = re.compile(r"`((?:crates/)?(?:mr_\w+|minired|rehearse\w*)/(?:src|specs|proofs|must-fail)/[\w/.-]+|(?:docs|tests|tools|bench)/[\w/.-]+\.\w+)`")
@@ -30,6 +32,19 @@ def pages():
 def without_code(text):
     """The text without blocks and pieces of code."""
     return re.sub(r"`[^`\n]*`", "", re.sub(r"^```.*?^```", "", text, flags=re.M | re.S))
+
+
+def prose(text):
+    """The lines of a page, by their numbers, without tables and blocks of code."""
+    lines, is_fenced, is_code, before = {}, False, False, ""
+    for number, line in enumerate(text.split("\n"), 1):
+        is_fence = line.lstrip().startswith("```")
+        # a block without fences stands behind an empty line; what goes on in a list doesn't
+        is_code = line.startswith("    ") and (is_code or not before.strip())
+        if not (is_fenced or is_fence or is_code or line.lstrip().startswith("|")):
+            lines[number] = line
+        is_fenced, before = is_fenced != is_fence, line
+    return lines
 
 
 def anchors(text):
@@ -63,6 +78,16 @@ class Links(unittest.TestCase):
                 if "*" not in path and "NAME" not in path and "must-fail" not in path and not there(whole):
                     lost.append((page, path))
         self.assertEqual(lost, [])
+
+
+class Prose(unittest.TestCase):
+    def test_no_line_is_longer_than_120_columns(self):
+        long = [(page, number, len(line)) for page, text in pages().items() for number, line in prose(text).items() if len(line) > COLUMNS]
+        self.assertEqual(long, [])
+
+    def test_tables_and_code_are_no_prose(self):
+        text = "one\n\n    code\n    more\n\n- two\n    goes on\n\n| a |\n|---|\n\n```text\nthree\n```\nfour"
+        self.assertEqual([line for line in prose(text).values() if line], ["one", "- two", "    goes on", "four"])
 
 
 class Edits(unittest.TestCase):
