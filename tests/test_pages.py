@@ -9,6 +9,10 @@ from program import ROOT
 
 # how many columns a line of prose has at most
 COLUMNS = 120
+# how many rows the page of a crate has at most, and what each says; rooms say some of it once
+ROWS = 60
+SAID = ("**A contract sees**", "**Claims**")
+LEFT_OPEN = ("ot claimed", "#what-all-rooms-share")
 LINK = re.compile(r"\]\(([^)#\s]+)?(#[^)\s]+)?\)")
 # a path of the repository, as it is named in a page
 NAMED = re.compile(r"`((?:crates/)?(?:mr_\w+|minired|rehearse\w*)/(?:src|specs|proofs|must-fail)/[\w/.-]+|(?:docs|tests|tools|bench)/[\w/.-]+\.\w+)`")
@@ -78,6 +82,20 @@ class Links(unittest.TestCase):
                 if "*" not in path and "NAME" not in path and "must-fail" not in path and not there(whole):
                     lost.append((page, path))
         self.assertEqual(lost, [])
+
+
+class Crates(unittest.TestCase):
+    """Each library has a page of its own, of one page at most, that says the same things of it."""
+
+    def test_each_library_has_a_short_page(self):
+        texts = pages()
+        bad = []
+        for root in found("crates/*/src/lib.rt"):
+            page = os.path.join(os.path.dirname(os.path.dirname(root)), "README.md")
+            rows, text = texts.get(page, "").count("\n"), " ".join(texts.get(page, "").split())
+            if not 0 < rows <= ROWS or any(it not in text for it in SAID) or not any(it in text for it in LEFT_OPEN):
+                bad.append(page)
+        self.assertEqual(bad, [])
 
 
 class Prose(unittest.TestCase):
