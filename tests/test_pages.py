@@ -30,7 +30,7 @@ def read(page):
 
 def pages():
     """The text of each page."""
-    return {page: read(page) for page in ["README.md", *found("docs/*.md"), *found("crates/*/README.md")]}
+    return {page: read(page) for page in ["README.md", "tests/README.md", *found("docs/*.md"), *found("crates/*/README.md")]}
 
 
 def without_code(text):
@@ -96,6 +96,13 @@ class Crates(unittest.TestCase):
             if not 0 < rows <= ROWS or any(it not in text for it in SAID) or not any(it in text for it in LEFT_OPEN):
                 bad.append(page)
         self.assertEqual(bad, [])
+
+
+class Tests(unittest.TestCase):
+    def test_each_file_of_the_tests_is_told_of(self):
+        text = read("tests/README.md")
+        files = [os.path.basename(it) for it in [*found("tests/*.py"), *found("tests/*.c"), *found("tests/*.txt")]]
+        self.assertEqual([it for it in files if f"`{it}`" not in text], [])
 
 
 class Prose(unittest.TestCase):
