@@ -115,6 +115,22 @@ class Prose(unittest.TestCase):
         self.assertEqual([line for line in prose(text).values() if line], ["one", "- two", "    goes on", "four"])
 
 
+class Walk(unittest.TestCase):
+    """The way of a byte, in docs/ARCHITECTURE.md."""
+
+    def test_it_has_as_many_files_and_crates_as_it_says(self):
+        walk, said = re.search(r"^## The way of a byte$(.*?)^These are (\d+ files of \d+ crates)", read("docs/ARCHITECTURE.md"), re.M | re.S).groups()
+        files = re.findall(r"`(\w+/src/[\w/]+\.rt)`", walk)
+        self.assertEqual(sorted(set(files)), sorted(files))
+        self.assertEqual(f"{len(files)} files of {len({it.split('/')[0] for it in files})} crates", said)
+
+    def test_the_drawing_has_each_crate(self):
+        drawing = re.search(r"^```text$(.*?)^```$", read("docs/ARCHITECTURE.md"), re.M | re.S)[1]
+        # rooms stand there without what all their names begin with
+        crates = [os.path.basename(it).replace("mr_cmd_", "_") for it in found("crates/*")]
+        self.assertEqual([it for it in crates if not re.search(rf"{it}\b", drawing)], [])
+
+
 class Edits(unittest.TestCase):
     """The gate plays the tables in a copy without the edits: there nothing is looked up."""
 
