@@ -211,6 +211,10 @@ class Lines(unittest.TestCase):
     def test_a_build_from_nothing_says_no_count(self):
         self.assertEqual(Progress(25, 0).begins(2), "building: 25 crates, on 2 processors")
 
+    def test_a_first_build_names_what_is_there_sooner(self):
+        said = Progress(25, 3).begins(2, is_first=True)
+        self.assertEqual(said, "building: 25 crates, 3 of them proved already, on 2 processors; ./minired try WORDS.. runs the program unproved, in two or three minutes")
+
     def test_times(self):
         self.assertEqual([length_of(it) for it in (0, 59.4, 60, 119, 3661)], ["0 s", "59 s", "1 min", "1 min", "61 min"])
 
@@ -250,11 +254,11 @@ class OfATinyProgram(unittest.TestCase):
         seen = [started.stderr.readline().rstrip() for _ in range(2)]
         os.killpg(started.pid, signal.SIGTERM)
         started.communicate()
-        self.assertRegex(seen[0], r"^minired: building: 3 crates, on \d+ processors$")
+        self.assertRegex(seen[0], r"^minired: building: 3 crates, on \d+ processors; \./minired try WORDS\.\. runs the program unproved, in two or three minutes$")
         self.assertRegex(seen[1], r"^minired: proved low, 1 of 3 crates, \d+ (s|min)$")
         status, lines = self.build()
         self.assertEqual(status, 0, lines)
-        self.assertRegex(lines[0], r"^minired: building: 3 crates, [12] of them proved already, on \d+ processors$")
+        self.assertRegex(lines[0], r"^minired: building: 3 crates, [12] of them proved already, on \d+ processors; \./minired try ")
         self.assertEqual(lines[-1], "minired: proved minired, 3 of 3 crates, TIME")
         self.assertEqual(self.build(), (0, []))
 

@@ -70,6 +70,12 @@ class Index(unittest.TestCase):
             write(root, self.FILES)
             self.assertEqual(definitions.index(root), self.INDEX)
 
+    def test_a_long_line_goes_on_below(self):
+        with tempfile.TemporaryDirectory() as root:
+            write(root, {"crates.txt": "low:\n", "crates/low/specs/Only.antt": "-- " + "word " * 35 + "\n"})
+            first, second = definitions.index(root)[3:]
+            self.assertEqual((len(first), second), (120, "  " + " ".join(["word"] * 19)))
+
     def test_what_stands_around_the_index_stays(self):
         with tempfile.TemporaryDirectory() as root:
             write(root, self.FILES)

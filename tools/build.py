@@ -19,6 +19,8 @@ LOG = os.path.join(ROOT, "out", "build.log")
 SHOWN = 30
 # how many processors one crate may use where others wait for it
 MOST = 4
+# what who waits for a first build can do
+MEANWHILE = "./minired try WORDS.. runs the program unproved, in two or three minutes"
 
 
 def say(text):
@@ -47,14 +49,21 @@ class Progress:
     def __init__(self, crates, proved, clock=time.monotonic):
         self.crates, self.proved, self.clock, self.begun = crates, proved, clock, clock()
 
-    def begins(self, lanes):
+    def begins(self, lanes, is_first=False):
+        """The first line. That of a first build, which takes long, names what is there sooner."""
         already = f", {self.proved} of them proved already" if self.proved else ""
-        return f"building: {self.crates} crates{already}, on {lanes} processors"
+        meanwhile = f"; {MEANWHILE}" if is_first else ""
+        return f"building: {self.crates} crates{already}, on {lanes} processors{meanwhile}"
 
     def after(self, name):
         """Counts a crate that is proved now."""
         self.proved += 1
         return f"proved {name}, {self.proved} of {self.crates} crates, {length_of(self.clock() - self.begun)}"
+
+
+def program_of(crate):
+    """The file of the built program."""
+    return os.path.join(crate.folder, "out", PROGRAM)
 
 
 def last_lines(text, count=SHOWN):
@@ -89,7 +98,7 @@ class Build:
         """Proves the libraries that the program stands on, and returns how far the build is then, or None where one isn't proved."""
         waiting = {it.name: it for it in crates if it.is_library() and not it.is_proved()}
         progress = Progress(len(crates), len(crates) - len(waiting) - 1)
-        say(progress.begins(self.lanes))
+        say(progress.begins(self.lanes, not os.path.exists(program_of(crates[-1]))))
         tasks = [self.task(it, waiting) for it in waiting.values()]
         for task, outcome in in_lanes(tasks, self.lanes, self.kit.memory(), MOST):
             if not self.ended(task.name, outcome, progress):
@@ -101,7 +110,7 @@ class Build:
         ends_well = self.ended(crate.name, self.prove(crate, min(self.lanes, MOST)), progress)
         if ends_well:
             # the launcher tells by the time, also where the program has stayed as it was
-            os.utime(os.path.join(crate.folder, "out", PROGRAM))
+            os.utime(program_of(crate))
         return ends_well
 
     def ended(self, name, outcome, progress):

@@ -6,6 +6,7 @@ has no text of its own: where a file begins with no comment, the names of its pu
 import os
 import re
 import sys
+import textwrap
 
 ROOT = os.path.dirname(os.path.dirname(os.path.abspath(__file__)))
 PAGE = os.path.join("docs", "DEFINITIONS.md")
@@ -14,6 +15,9 @@ ENDS = "<!-- The index ends. -->"
 DEFINED = re.compile(r"^\s*(?:(?:abbrev|unfoldable) )?pub (?:(?:record|data) (\w+)|(\w+) :)", re.M)
 # fields of a record and cases of a type stand deeper; those of a mutual block are told by the line above
 FIELD = re.compile(r"^  +pub \w+ :.*$", re.M)
+# how many columns a line of a page has at most, and how a line of the index is broken there
+COLUMNS = 120
+BREAKING = {"subsequent_indent": "  ", "break_long_words": False, "break_on_hyphens": False}
 MODULES = re.compile(r"\s*(?:pub mod \w+\s*)*\Z")
 
 
@@ -56,7 +60,8 @@ def index(root):
         folder = os.path.join(root, "crates", crate, "specs")
         files = sorted(os.listdir(folder)) if os.path.isdir(folder) else []
         told = [(name[:-5], said(read(os.path.join(folder, name)))) for name in files if name.endswith(".antt")]
-        rows = [f"- [{name}](../crates/{crate}/specs/{name}.antt): {what}" for name, what in told if what]
+        items = [f"- [{name}](../crates/{crate}/specs/{name}.antt): {what}" for name, what in told if what]
+        rows = [row for item in items for row in textwrap.wrap(item, COLUMNS, **BREAKING)]
         if rows:
             lines += ["", f"### `{crate}`", "", *rows]
     return lines
