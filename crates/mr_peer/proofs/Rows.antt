@@ -35,10 +35,10 @@ use Rattle.mr_peer.specs.Parts.{Keeps, TellsOf, Uses}
 use Rattle.mr_peer.specs.Steps.{IsAt}
 
 -- what stands around a node with these replicas, where they said nothing of themselves
-pub nobody : Replica
+abbrev pub nobody : Replica
 nobody = record { address = None; port = None; acknowledged = None }
 
-pub around_of : (a : NodeState) (names : List LinkId) → Around
+abbrev pub around_of : (a : NodeState) (names : List LinkId) → Around
 around_of a names = record { replicas = map (λ _. nobody) names; link = link_of a.follow }
 
 pub is_around_of : (a : NodeState) (names : List LinkId) → Lists names a.ends.open_links → IsAround a (around_of a names)

@@ -74,7 +74,11 @@ impl Node {
     {
         match question {
             Question::Replication => Ok(Reply::Bulk(self.info_text()?)),
-            Question::OtherSection => Ok(Reply::Bulk(Vec::new(self.alloc))),
+            Question::OtherSection => {
+                // its clause lists the replicas
+                let _ = self.state.ends().replicas();
+                Ok(Reply::Bulk(Vec::new(self.alloc)))
+            }
             Question::Role => self.role_reply(),
         }
     }
@@ -88,6 +92,8 @@ impl Node {
             let replicas = self.seen_replicas()?;
             return master_role(self.alloc, stream, replicas.as_slice());
         }
+        // its clause lists the replicas
+        let _ = self.state.ends().replicas();
         match self.state.upstream() {
             None => replica_role(self.alloc, stream, b"", 0, self.master_link()),
             Some(address) => {
