@@ -1,11 +1,12 @@
 -- What a node tells of itself.
-use Rattle.std.proofs.Common.{rules, Vec, Global, ◌≡◌, ℕ, List, [], Bool, true, false, not, length, map, Option, None, Some, refl, sym, ap, subst, ◌∙◌}
+use Rattle.std.proofs.Common.{Vec, Global, ◌≡◌, ℕ, List, [], Bool, true, false, not, length, Option, refl, sym, ap, subst, ◌∙◌}
 use Rattle.std.specs.Prelude.{Result, Ok, Err, IfOk, if◌then◌else◌}
 use Rattle.std.proofs.lemmas.List.{length-map}
 use Rattle.mr_links.specs.declared.link_id.LinkId.{LinkId}
 use Rattle.mr_resp.specs.Replies.{Tree, bytes}
 use Rattle.mr_resp.specs.ReplyView.{view, view_step}
 use Rattle.mr_resp.specs.declared.reply.Reply.{Bulk, Reply-F, fold-roll-Reply}
+use Rattle.mr_resp.specs.declared.reply.Reply.TheVariants.{rolls-Bulk}
 use Rattle.mr_info.specs.Info.{info_text}
 use Rattle.mr_info.specs.Roles.{master_reply, replica_reply}
 use Rattle.mr_info.specs.declared.roles.MasterLink.{MasterLink}
@@ -25,7 +26,7 @@ if_ok_map (Ok x) f p = f x p
 if_ok_map (Err y) f p = tt
 
 bulk_is : (v : Vec ℕ Global) → view (Bulk v) ≡ bytes v.items
-bulk_is v = fold-roll-Reply Tree view_step (Reply-F.Bulk v)
+bulk_is v = ap view (sym (rolls-Bulk v)) ∙ fold-roll-Reply Tree view_step (Reply-F.Bulk v)
 
 -- ---- INFO
 pub info_told : (a : NodeState) (text : List ℕ) (names : List LinkId) → Lists names a.ends.open_links → text ≡ info_text (not a.core.master) (length names) a.core.lineage → TellsInfo a text
@@ -58,7 +59,7 @@ pub replica_answered : (a : NodeState) (reply : Tree) (names : List LinkId) (off
 unfolding answer_about role_answer
 replica_answered a reply names offset address link is listed at from follows told =
     let own : replica_reply offset (host_of address) (port_of address) link ≡ replica_reply a.core.lineage.stream.offset (host_of a.core.upstream) (port_of a.core.upstream) (link_of a.follow) =
-        λ i. replica_reply (at i) (host_of (from i)) (port_of (from i)) (follows i) in
+    λ i. replica_reply (at i) (host_of (from i)) (port_of (from i)) (follows i) in
     record {
       around = around_of a names;
       is_around = is_around_of a names listed;

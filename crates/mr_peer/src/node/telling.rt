@@ -54,7 +54,12 @@ impl Node {
     }
 
     /// Answers what is asked about the node.
-    pub(crate) fn tell(&mut self, link: LinkId, used: usize, question: Question) -> Result<Step, NodeFault>
+    pub(crate) fn tell(
+        &mut self,
+        link: LinkId,
+        used: usize,
+        question: Question,
+    ) -> Result<Step, NodeFault>
         requires { HasAhead self.old.ends link used }
         ensures { (u : List ℕ) (given : Given) (fresh : List ℕ) → IsAt self.old link u → Questions u used question → ClientStep self.old link u given fresh self.new result }
     {
@@ -97,7 +102,13 @@ impl Node {
         match self.state.upstream() {
             None => replica_role(self.alloc, stream, b"", 0, self.master_link()),
             Some(address) => {
-                replica_role(self.alloc, stream, address.host(), address.port(), self.master_link())
+                replica_role(
+                    self.alloc,
+                    stream,
+                    address.host(),
+                    address.port(),
+                    self.master_link(),
+                )
             }
         }
     }

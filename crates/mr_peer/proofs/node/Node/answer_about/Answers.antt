@@ -13,4 +13,4 @@ pub returns-in-OtherSection : goal.returns-in-OtherSection
 returns-in-OtherSection c =
     let ends : c.ends.result.now ≡ c.args.self.now.ends = c.ends.ensures.ends ∙ ap (λ (z : NodeState). z.ends) c.self.view_is in
     nothing_answered c.args.self.now c.args.question c.new.result c.replicas.result.now c.in-OtherSection.is
-        (subst (λ (z : Links EndState). Lists c.replicas.result.now z.open_links) ends c.replicas.ensures) c.new.ensures.items
+    (subst (λ (z : Links EndState). Lists c.replicas.result.now z.open_links) ends c.replicas.ensures) c.new.ensures.items

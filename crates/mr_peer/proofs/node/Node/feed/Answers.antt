@@ -31,13 +31,19 @@ returns-in-Ok c =
           let served : serves end ≡ true = kind_serves end (subst (λ (k : Kind). (k ≡ kind.Client) ⊎ (k ≡ kind.Replica)) c.kind.ensures w.in-Client.is) in
           let heard : HearsAt c.self.inside.state.ends c.args.link c.args.bytes.now w.hear-fed.new.self.ends = went w.hear-fed.result c.in-Ok.field-0 (sym w.fed-is ∙ c.in-Ok.is) w.hear-fed.ensures.ok in
           let first : end_of c.self.inside.state c.args.link ≡ Some end = ap (λ (z : NodeState). end_of z c.args.link) c.self.view_is ∙ found in
-          let put : w.hear-fed.new.self ≡ with_ends c.self.inside.state (put_end c.self.inside.state.ends c.args.link (heard_of c.args.bytes.now end)) = w.hear-fed.ensures.only ∙ ap (with_ends c.self.inside.state) (heard end first) in
-          (up, there, feeds_served a c.match-kind.self c.args.link end c.args.bytes.now node found served
-              (w.self-is ∙ (put ∙ ap (λ (z : NodeState). with_ends z (put_end z.ends c.args.link (heard_of c.args.bytes.now end))) c.self.view_is)))
+          let put : w.hear-fed.new.self ≡ with_ends c.self.inside.state (put_end c.self.inside.state.ends c.args.link (heard_of c.args.bytes.now end)) = w.hear-fed.ensures.only ∙ ap (with_ends c.self.inside.state) (heard end first) in (
+            up,
+            there,
+            feeds_served a c.match-kind.self c.args.link end c.args.bytes.now node found served
+                (w.self-is ∙ (put ∙ ap (λ (z : NodeState). with_ends z (put_end z.ends c.args.link (heard_of c.args.bytes.now end))) c.self.view_is)),
+          )
       | in-Upstream w ↦
-          let fed : w.hear_master-fed.new.self ≡ fed_as c.args.bytes.now c.self.inside.state = went w.hear_master-fed.result c.in-Ok.field-0 (sym w.fed-is ∙ c.in-Ok.is) w.hear_master-fed.ensures.ok in
-          (up, there, feeds_master a c.match-kind.self c.args.link c.args.bytes.now w.fed_bytes_are_unread.ensures (found ∙ ap Some (kind_upstream end (was kind.Upstream w.in-Upstream.is)))
-              (w.self-is ∙ (fed ∙ ap (fed_as c.args.bytes.now) c.self.view_is)))
+          let fed : w.hear_master-fed.new.self ≡ fed_as c.args.bytes.now c.self.inside.state = went w.hear_master-fed.result c.in-Ok.field-0 (sym w.fed-is ∙ c.in-Ok.is) w.hear_master-fed.ensures.ok in (
+            up,
+            there,
+            feeds_master a c.match-kind.self c.args.link c.args.bytes.now w.fed_bytes_are_unread.ensures (found ∙ ap Some (kind_upstream end (was kind.Upstream w.in-Upstream.is)))
+                (w.self-is ∙ (fed ∙ ap (fed_as c.args.bytes.now) c.self.view_is)),
+          )
       | in-Shut w ↦ (up, there, feeds_shut a c.match-kind.self c.args.link c.args.bytes.now node (found ∙ ap Some (kind_shut end (was kind.Shut w.in-Shut.is))) w.self-is)
     ]
   where

@@ -1,11 +1,9 @@
-use Rattle.std.proofs.Common.{◌≡◌, ℕ, List, Option, Bool, not, length, sym, ap, subst, ◌∙◌}
+use Rattle.std.proofs.Common.{◌≡◌, not, length, ap, subst, ◌∙◌}
 use Rattle.mr_info.specs.Info.{info_text}
 use Rattle.mr_links.specs.Links.{Links}
 use Rattle.mr_ends.specs.State.{EndState}
 use Rattle.mr_ends.specs.Replicas.{Lists}
-use Rattle.mr_repl.specs.Lineage.{LineageState}
 use Rattle.mr_rows.specs.State.{NodeState}
-use Rattle.mr_peer.specs.Parts.{TellsInfo}
 use Rattle.mr_peer.proofs.Telling.{if_ok_map, info_told}
 use Rattle.mr_peer.proofs.node.Node.info_text.Goals as goal
 

@@ -1,14 +1,11 @@
-use Rattle.std.proofs.Common.{◌≡◌, ◌++◌, ℕ, List, Option, None, Some, true, false, length, sym, ap, subst, ◌∙◌, rules}
+use Rattle.std.proofs.Common.{◌≡◌, ℕ, None, Some, true, false, length, sym, ap, subst, ◌∙◌, rules}
 use Rattle.mr_info.specs.Roles.{master_reply, replica_reply}
 use Rattle.mr_links.specs.Links.{Links}
 use Rattle.mr_ends.specs.State.{EndState}
 use Rattle.mr_ends.specs.Replicas.{Lists}
-use Rattle.mr_outs.specs.Address.{AddressState}
 use Rattle.mr_rows.specs.State.{NodeState}
-use Rattle.mr_rows.specs.Telling.{host_of, link_of, port_of}
-use Rattle.mr_resp.specs.Replies.{Tree}
 use Rattle.mr_resp.specs.ReplyView.{view}
-use Rattle.mr_peer.specs.Parts.{ListsReplicas, TellsOf}
+use Rattle.mr_peer.specs.Parts.{ListsReplicas}
 use Rattle.mr_peer.proofs.Telling.{if_ok_map, master_answered, replica_answered}
 use Rattle.mr_peer.proofs.node.Node.role_reply.Goals as goal
 
@@ -42,4 +39,4 @@ returns-in-Some c =
     let listed : Lists names a.ends.open_links = subst (λ (z : Links EndState). Lists names z.open_links) ends c.replicas.ensures in
     let somebody : Some c.in-Some.address.now ≡ a.core.upstream = c.in-Some.ensures ∙ ap (λ (z : NodeState). z.core.upstream) c.self.view_is in
     if_ok_map c.replica_role-in-Some.result (λ reply told. replica_answered a (view reply) names c.stream-stream.result.now.offset (Some c.in-Some.address.now) c.master_link-in-Some.result replica listed offset somebody c.master_link-in-Some.ensures
-        (told ∙ (λ i. replica_reply c.stream-stream.result.now.offset (c.host.ensures i) (c.port.ensures i) c.master_link-in-Some.result))) c.replica_role-in-Some.ensures
+    (told ∙ (λ i. replica_reply c.stream-stream.result.now.offset (c.host.ensures i) (c.port.ensures i) c.master_link-in-Some.result))) c.replica_role-in-Some.ensures

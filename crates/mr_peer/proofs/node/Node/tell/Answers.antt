@@ -23,7 +23,7 @@ returns c = λ u given fresh at q.
     let uses : Uses a c.args.link c.args.used c.advance.new.self = subst (λ (z : NodeState). Uses z c.args.link c.args.used c.advance.new.self) c.fresh_outs-outs.ensures.same c.advance.ensures in
     let said : c.say.new.self ≡ record c.fresh_outs-outs.result { reply = c.fresh_outs-outs.result.reply ++ reply_text (view c.in-Ok.reply) } = went_well c.say.result (sym c.is_err.ensures.value ∙ c.if-is_err.false) c.say.ensures in
     let outs : c.say.new.self ≡ outs_with (Some c.args.link) (reply_about c.args.question a.core told.around) =
-        said ∙ (ap (λ (z : OutsState). record z { reply = z.reply ++ reply_text (view c.in-Ok.reply) }) c.fresh_outs-outs.ensures.outs
-            ∙ ap (λ (z : Tree). outs_with (Some c.args.link) (record no_output { said = reply_text z })) told.told) in
+    said ∙ (ap (λ (z : OutsState). record z { reply = z.reply ++ reply_text (view c.in-Ok.reply) }) c.fresh_outs-outs.ensures.outs
+    ∙ ap (λ (z : Tree). outs_with (Some c.args.link) (record no_output { said = reply_text z })) told.told) in
     subst (λ (z : OutsState). ClientRow a c.args.link u given fresh c.advance.new.self z) (sym outs)
-        (tell_row a c.advance.new.self c.args.link u given fresh c.args.used c.args.question told.around at q told.is_around uses)
+    (tell_row a c.advance.new.self c.args.link u given fresh c.args.used c.args.question told.around at q told.is_around uses)

@@ -1,4 +1,4 @@
-use Rattle.std.proofs.Common.{◌≡◌, bytes_eq, ap, ◌∙◌}
+use Rattle.std.proofs.Common.{bytes_eq, ap, ◌∙◌}
 use Rattle.mr_peer.proofs.Linking.{beat_is, ping_bytes}
 use Rattle.mr_peer.proofs.node.following.is_beat.Goals as goal
 
