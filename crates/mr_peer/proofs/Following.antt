@@ -1,17 +1,14 @@
 -- A step at the link to the master.
-use Rattle.std.proofs.Common.{◌≡◌, ◌≢◌, ℕ, List, true, Option, Some, refl, sym, ap, subst, ◌∙◌}
+use Rattle.std.proofs.Common.{◌≡◌, ℕ, List, true, Some, sym, ap, ◌∙◌}
 use Rattle.std.specs.Prelude.{Result, Ok, Err}
-use Rattle.mr_links.specs.Links.{Links}
 use Rattle.mr_links.specs.declared.link_id.LinkId.{LinkId}
 use Rattle.mr_entries.specs.Dataset.{Dataset}
-use Rattle.mr_follow.specs.State.{FollowState}
 use Rattle.mr_course.specs.State.{CourseState, name_of}
 use Rattle.mr_course.specs.Rows.{Listens}
 use Rattle.mr_course.specs.declared.upstream.UpstreamStep.{UpstreamStep}
 use Rattle.mr_course.specs.declared.upstream.UpstreamStep.TheVariants as outcome
 use Rattle.mr_course.specs.declared.upstream.UpstreamFault.{UpstreamFault}
 use Rattle.mr_course.specs.declared.upstream.UpstreamFault.TheVariants as fault
-use Rattle.mr_ends.specs.State.{EndState}
 use Rattle.mr_outs.specs.Outs.{OutsState}
 use Rattle.mr_rows.specs.State.{NodeState, course_of}
 use Rattle.mr_rows.specs.UpstreamRows.{Hears, Lacks, Spends, Waits, ends_behind, node_behind, outs_behind}
@@ -30,14 +27,21 @@ module _ (a b : NodeState) (l : LinkId) (told : List ℕ) (followed : name_of a.
 
   pub spends_of : Heard a (Err fault.Stopped) b told → Spends a l b
   spends_of h = record {
-    course = h.course; told = told; listens = h.listens; named = named_at h.listens;
+    course = h.course;
+    told = told;
+    listens = h.listens;
+    named = named_at h.listens;
     down = ap (λ (z : NodeState). z.core.up) h.node;
     ends = ap (λ (z : NodeState). z.ends) h.node;
   }
 
   pub hears_of : (step : UpstreamStep) (outs : OutsState) → a.core.up ≡ true → Heard a (Ok step) b told → outs ≡ outs_behind step l told → Hears a l step b outs
   hears_of step outs up h gives = record {
-    up = up; course = h.course; told = told; listens = h.listens; named = named_at h.listens;
+    up = up;
+    course = h.course;
+    told = told;
+    listens = h.listens;
+    named = named_at h.listens;
     node = h.node ∙ ap (λ (name : LinkId). node_behind a h.course b.core.held (ends_behind step name a.ends)) (named_at h.listens);
     outs_are = gives;
   }

@@ -7,3 +7,5 @@ pub mod Roles
 pub mod Noting
 pub mod Following
 pub mod Ticking
+pub mod Linking
+pub mod Telling

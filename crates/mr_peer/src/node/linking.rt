@@ -8,6 +8,7 @@ use crate::fault::NodeFault;
 use crate::node::Node;
 use crate::node::answering::LIMIT;
 use mr_ends::Kind;
+use mr_follow::fed_bytes_are_unread;
 use mr_links::LinkId;
 use mr_outs::Outs;
 use std::hash::RandomState;
@@ -121,7 +122,10 @@ impl Node {
                 }
                 self.state.hear(link, bytes)
             }
-            Kind::Upstream => self.state.hear_master(bytes),
+            Kind::Upstream => {
+                fed_bytes_are_unread();
+                self.state.hear_master(bytes)
+            }
             Kind::Shut => Ok(()),
         };
         match fed {

@@ -54,7 +54,12 @@ impl Node {
     }
 
     /// Answers what is asked about the node.
-    pub(crate) fn tell(&mut self, link: LinkId, used: usize, question: Question) -> Result<Step, NodeFault>
+    pub(crate) fn tell(
+        &mut self,
+        link: LinkId,
+        used: usize,
+        question: Question,
+    ) -> Result<Step, NodeFault>
         requires { HasAhead self.old.ends link used }
         ensures { (u : List ℕ) (given : Given) (fresh : List ℕ) → IsAt self.old link u → Questions u used question → ClientStep self.old link u given fresh self.new result }
     {
@@ -74,7 +79,11 @@ impl Node {
     {
         match question {
             Question::Replication => Ok(Reply::Bulk(self.info_text()?)),
-            Question::OtherSection => Ok(Reply::Bulk(Vec::new(self.alloc))),
+            Question::OtherSection => {
+                // its clause lists the replicas
+                let _ = self.state.ends().replicas();
+                Ok(Reply::Bulk(Vec::new(self.alloc)))
+            }
             Question::Role => self.role_reply(),
         }
     }
@@ -88,10 +97,18 @@ impl Node {
             let replicas = self.seen_replicas()?;
             return master_role(self.alloc, stream, replicas.as_slice());
         }
+        // its clause lists the replicas
+        let _ = self.state.ends().replicas();
         match self.state.upstream() {
             None => replica_role(self.alloc, stream, b"", 0, self.master_link()),
             Some(address) => {
-                replica_role(self.alloc, stream, address.host(), address.port(), self.master_link())
+                replica_role(
+                    self.alloc,
+                    stream,
+                    address.host(),
+                    address.port(),
+                    self.master_link(),
+                )
             }
         }
     }
