@@ -1,20 +1,19 @@
 -- A node's ends of its links, as a map.
-use Rattle.std.proofs.Common.{◌≡◌, ◌≢◌, ◌≤◌, ℕ, List, Bool, true, false, cond, Option, None, Some, length, refl, sym, ap, subst, ◌∙◌}
+use Rattle.std.proofs.Common.{◌≡◌, ◌≢◌, ◌≤◌, ℕ, List, true, false, cond, Option, None, Some, length, refl, sym, ap, ◌∙◌}
 use Rattle.std.specs.Ordering.{eq_by_cmp}
-use Rattle.std.specs.FinMap.{FinMap, get, insert, remove, get-insert, get-remove}
+use Rattle.std.specs.FinMap.{FinMap, get, insert, get-insert}
 use Rattle.std.proofs.lemmas.Cmp.{eq_by_cmp_equiv}
 use Rattle.std.proofs.lemmas.Map.Views.{tells_apart}
 use Rattle.mr_links.specs.LinkId.{id_cmp}
-use Rattle.mr_links.specs.Links.{Links}
 use Rattle.mr_links.specs.declared.link_id.LinkId.{LinkId}
 use Rattle.mr_links.proofs.LinkRows.{ids_total, exact_ids}
-use Rattle.mr_ends.specs.State.{EndState, end_at, put_end, serves, unread_in}
+use Rattle.mr_ends.specs.State.{EndState, put_end}
 use Rattle.mr_ends.specs.State.EndState.{client, replica, upstream, shut}
 use Rattle.mr_ends.specs.Ending.{kind_of, used_of}
 use Rattle.mr_ends.specs.declared.kind.Kind.TheVariants as kind
 use Rattle.mr_ends.specs.Parts.{HasAhead, IsClient, UsesAt}
 use Rattle.mr_ends.specs.Replicas.{Lists}
-use Rattle.mr_rows.specs.State.{IsNode, NodeState, end_of, OthersStay, Agrees, ReplicaAgrees, IsShut}
+use Rattle.mr_rows.specs.State.{IsNode, NodeState, end_of, Agrees, ReplicaAgrees}
 use Rattle.mr_rows.specs.Ends.{Leaves}
 use Rattle.mr_state.specs.Parts.{OnlyEnds, with_ends}
 use Rattle.mr_peer.specs.Parts.{Uses}

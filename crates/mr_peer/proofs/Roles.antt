@@ -1,5 +1,5 @@
 -- A change of roles, from what becomes of the ends.
-use Rattle.std.proofs.Common.{◌≡◌, ◌≢◌, ℕ, ℤ, List, [], Bool, true, false, cond, drop, Option, None, Some, refl, sym, ap, subst, ◌∙◌}
+use Rattle.std.proofs.Common.{◌≡◌, ◌≢◌, ℕ, ℤ, List, [], true, false, cond, drop, Option, None, Some, refl, sym, ap, ◌∙◌}
 use Rattle.std.specs.FinMap.{get, get-remove}
 use Rattle.mr_links.specs.Links.{Links}
 use Rattle.mr_links.specs.declared.link_id.LinkId.{LinkId}
@@ -14,15 +14,15 @@ use Rattle.mr_course.specs.State.{name_of}
 use Rattle.mr_ends.specs.State.{EndState, end_at, streams}
 use Rattle.mr_ends.specs.State.EndState.{client, replica, upstream, shut}
 use Rattle.mr_ends.specs.Parts.{TurnsAt}
-use Rattle.mr_ends.specs.Replicas.{Lists, ShutsReplicas, is_named, shut_where}
+use Rattle.mr_ends.specs.Replicas.{Lists, ShutsReplicas, shut_where}
 use Rattle.mr_ends.proofs.Naming.{at_or_other}
 use Rattle.mr_outs.specs.Address.{AddressState}
-use Rattle.mr_outs.specs.Outs.{OutsState, no_outs}
+use Rattle.mr_outs.specs.Outs.{no_outs}
 use Rattle.mr_rows.specs.State.{Core, NodeState, Agrees, FollowedAt, IsNode, end_of}
 use Rattle.mr_rows.specs.Ends.{Leaves, Settles, names_of}
-use Rattle.mr_rows.specs.ClientRows.{ClientRow, Demotes, IsAnswerToPsync, Promotes, Synchronizes, Turns}
-use Rattle.mr_state.specs.Parts.{Obeys, OnlyEnds, alone, promoted_as, turned_to, with_ends, without_one}
-use Rattle.mr_peer.specs.Parts.{Offers, Uses}
+use Rattle.mr_rows.specs.ClientRows.{ClientRow, IsAnswerToPsync}
+use Rattle.mr_state.specs.Parts.{Obeys, OnlyEnds, promoted_as, turned_to, with_ends, without_one}
+use Rattle.mr_peer.specs.Parts.{Uses}
 use Rattle.mr_peer.specs.Reading.{Wishes}
 use Rattle.mr_peer.specs.Steps.{IsAt}
 use Rattle.mr_peer.proofs.Ends.{none_some, put_leaves, some_is}

@@ -1,16 +1,15 @@
 -- From what the parts of a step do to the step's row.
 use Rattle.std.specs.Prelude.{All}
 use Rattle.std.specs.FinMap.{empty}
-use Rattle.std.proofs.Common.{◌≡◌, ◌<◌, ◌≤◌, ℕ, ℤ, List, [], ◌∷◌, true, false, not, drop, length, map, Option, None, Some, refl, sym, ap, subst, ◌∙◌}
+use Rattle.std.proofs.Common.{◌≡◌, ◌<◌, ◌≤◌, ℕ, List, [], true, not, drop, map, Option, None, Some, refl, sym, ap, subst, ◌∙◌}
 use Rattle.std.proofs.lemmas.List.{length-map}
 use Rattle.mr_links.specs.declared.link_id.LinkId.{LinkId}
-use Rattle.mr_resp.specs.Replies.{Tree, error, reply_text}
+use Rattle.mr_resp.specs.Replies.{error, reply_text}
 use Rattle.mr_resp.specs.Faults.{fault_text}
 use Rattle.mr_resp.specs.ReplyView.{view}
 use Rattle.mr_resp.specs.declared.fault.Fault.{Fault}
 use Rattle.mr_entries.specs.Dataset.{Dataset}
 use Rattle.mr_effect.specs.Spelling.{texts, IsShort}
-use Rattle.mr_effect.specs.declared.effect.Effect.{Effect}
 use Rattle.mr_data.specs.Meaning.{apply_all}
 use Rattle.mr_data.specs.Rebuilding.{rebuilding}
 use Rattle.mr_data.specs.declared.given.Given.{Given}
@@ -19,19 +18,18 @@ use Rattle.mr_cmd_server.specs.declared.question.Question.{Question}
 use Rattle.mr_planning.specs.Answered.{done}
 use Rattle.mr_planning.proofs.Laws.{command_texts}
 use Rattle.mr_info.specs.declared.roles.Replica.{Replica}
-use Rattle.mr_ends.specs.State.{EndState}
 use Rattle.mr_ends.specs.State.EndState.{client, shut}
 use Rattle.mr_ends.specs.Replicas.{Lists}
-use Rattle.mr_outs.specs.Outs.{Output, OutsState, no_outs, no_output, growth, outs_with}
-use Rattle.mr_rows.specs.State.{NodeState, Core, Agrees, OthersStay, end_of}
-use Rattle.mr_rows.specs.Requests.{Asks, IsDoomedBy}
+use Rattle.mr_outs.specs.Outs.{Output, no_outs, no_output, growth, outs_with}
+use Rattle.mr_rows.specs.State.{NodeState, end_of}
+use Rattle.mr_rows.specs.Requests.{IsDoomedBy}
 use Rattle.mr_rows.specs.Growing.{FedTo, Remakes, grown_by, offset_behind, offset_limit, limit_text}
 use Rattle.mr_rows.specs.Ends.{Leaves}
 use Rattle.mr_rows.specs.Telling.{Around, IsAround, link_of, reply_about}
 use Rattle.mr_rows.specs.Served.{Answered, Served, left_of, rewritten_as, says}
-use Rattle.mr_rows.specs.ClientRows.{ClientRow, Ends, MayLack, Serves, Stops}
+use Rattle.mr_rows.specs.ClientRows.{ClientRow, Ends, MayLack, Stops}
 use Rattle.mr_peer.specs.Reading.{HaltsAt, Passes, Questions, Quits, Reads, Rewrites, Runs}
-use Rattle.mr_peer.specs.Parts.{Keeps, TellsOf, Uses}
+use Rattle.mr_peer.specs.Parts.{Keeps, Uses}
 use Rattle.mr_peer.specs.Steps.{IsAt}
 
 -- what stands around a node with these replicas, where they said nothing of themselves
@@ -76,7 +74,14 @@ halt_row a b l u given fresh used at h uses = ClientRow.halts (record {
 pub last_row : (a b : NodeState) (l : LinkId) (u last : List ℕ) (given : Given) (fresh : List ℕ) → IsAt a l u → Ends u last → b.core ≡ a.core → Leaves a l b shut
     → ClientRow a l u given fresh b (record no_outs { link = Some l; reply = last; closes = true })
 last_row a b l u last given fresh at ends core leaves = ClientRow.closes (record {
-  up = at.up; last = last; ends = ends; core = core; follow = leaves.follow; shut = record { is = leaves.is }; others = leaves.others; outs_are = refl;
+  up = at.up;
+  last = last;
+  ends = ends;
+  core = core;
+  follow = leaves.follow;
+  shut = record { is = leaves.is };
+  others = leaves.others;
+  outs_are = refl;
 })
 
 pub doomed_ends : (u : List ℕ) (fault : Fault) → IsDoomedBy u fault → Ends u (reply_text (error (fault_text fault)))
@@ -95,19 +100,19 @@ pub rewrite_row : (a b : NodeState) (l : LinkId) (u : List ℕ) (given : Given) 
     → ClientRow a l u given fresh b (outs_with (Some l) (rewritten_as a.core.held))
 rewrite_row a b l u given fresh used at r remakes uses =
     serve_row a b l u given fresh used (rewritten_as a.core.held) (around_of a uses.names) at uses (is_around_of a uses.names uses.listed) refl
-      (Served.request r.words r.reads.asks (Answered.rewritten r.rewriting remakes uses.core refl))
+    (Served.request r.words r.reads.asks (Answered.rewritten r.rewriting remakes uses.core refl))
 
 pub tell_row : (a b : NodeState) (l : LinkId) (u : List ℕ) (given : Given) (fresh : List ℕ) (used : ℕ) (question : Question) (around : Around) → IsAt a l u → Questions u used question → IsAround a around → Uses a l used b
     → ClientRow a l u given fresh b (outs_with (Some l) (reply_about question a.core around))
 tell_row a b l u given fresh used question around at q is_around uses =
     serve_row a b l u given fresh used (reply_about question a.core around) around at uses is_around refl
-      (Served.request q.words q.reads.asks (Answered.tells question q.asked uses.core refl))
+    (Served.request q.words q.reads.asks (Answered.tells question q.asked uses.core refl))
 
 pub keep_row : (a b : NodeState) (l : LinkId) (u : List ℕ) (given : Given) (fresh : List ℕ) (used : ℕ) (out : Output) → IsAt a l u → Keeps a.core u used out → out.grown ≡ [] → Uses a l used b
     → ClientRow a l u given fresh b (outs_with (Some l) out)
 keep_row a b l u given fresh used out at k none uses =
     serve_row a b l u given fresh used out (around_of a uses.names) at uses (is_around_of a uses.names uses.listed) none
-      (Served.request k.wishes.words k.wishes.reads.asks (Answered.keeps_role k.wish k.wishes.asks k.quiet uses.core))
+    (Served.request k.wishes.words k.wishes.reads.asks (Answered.keeps_role k.wish k.wishes.asks k.quiet uses.core))
 
 -- memory may be lacking for each of them
 pub lacks_words : (u : List ℕ) (used : ℕ) (words : List (List ℕ)) → Reads u used words → MayLack u
@@ -118,7 +123,7 @@ pub beyond_row : (a b : NodeState) (l : LinkId) (u : List ℕ) (given : Given) (
     → offset_limit < offset_behind p.effects.items a.core → Uses a l used b → ClientRow a l u given fresh b (outs_with (Some l) (says (error limit_text)))
 beyond_row a b l u given fresh used p at r beyond uses =
     serve_row a b l u given fresh used (says (error limit_text)) (around_of a uses.names) at uses (is_around_of a uses.names uses.listed) refl
-      (Served.request r.words r.reads.asks (Answered.beyond r.plain (view p.reply) p.effects.items r.plan beyond uses.core refl))
+    (Served.request r.words r.reads.asks (Answered.beyond r.plain (view p.reply) p.effects.items r.plan beyond uses.core refl))
 
 -- the effects are applied, and their texts sent to all replicas
 pub within_row : (a mid b : NodeState) (l : LinkId) (u : List ℕ) (given : Given) (fresh : List ℕ) (used : ℕ) (p : Plan) (held : Dataset) (fed : List LinkId) → IsAt a l u → Runs (not a.core.master) u given a.core.held used p

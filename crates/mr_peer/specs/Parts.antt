@@ -1,5 +1,5 @@
 -- What the parts of a step do.
-use Rattle.std.specs.Prelude.{◌≡◌, ◌≢◌, ◌≤◌, ◌<◌, ◌+◌, ◌++◌, ℕ, ℤ, List, [], Bool, true, false, not, Option, Some, None, length, if◌then◌else◌}
+use Rattle.std.specs.Prelude.{◌≡◌, ◌≤◌, ◌<◌, ℕ, ℤ, List, [], Bool, true, false, not, Some, length, if◌then◌else◌}
 use Rattle.mr_links.specs.declared.link_id.LinkId.{LinkId}
 use Rattle.mr_resp.specs.Replies.{Tree, error, reply_text}
 use Rattle.mr_entries.specs.Dataset.{Dataset}
@@ -12,8 +12,7 @@ use Rattle.mr_cmd_server.specs.declared.question.Question.{Question}
 use Rattle.mr_ends.specs.State.{EndState}
 use Rattle.mr_ends.specs.Ending.{used_of}
 use Rattle.mr_ends.specs.Replicas.{Lists}
-use Rattle.mr_outs.specs.Address.{AddressState}
-use Rattle.mr_outs.specs.Outs.{Output, OutsState, no_outs, growth, outs_with}
+use Rattle.mr_outs.specs.Outs.{Output, OutsState}
 use Rattle.mr_rows.specs.State.{Core, IsNode, NodeState, end_of}
 use Rattle.mr_rows.specs.ClientRows.{IsAnswerToPsync}
 use Rattle.mr_rows.specs.Ends.{Leaves}

@@ -7,13 +7,11 @@ use Rattle.mr_data.specs.declared.plan.Plan.{Plan}
 use Rattle.mr_cmd_server.specs.declared.question.Question.{Question}
 use Rattle.mr_cmd_node.specs.declared.node_ask.NodeAsk.{NodeAsk}
 use Rattle.mr_cmd_node.specs.declared.node_ask.NodeAsk.TheVariants as node
-use Rattle.mr_ask.specs.Asks.{asked}
 use Rattle.mr_plan.specs.Requests.{HasPlan, halts, question_in, quits, rewrites}
 use Rattle.mr_plan.specs.declared.requests.Answer.{Answer}
 use Rattle.mr_plan.specs.declared.requests.Answer.TheVariants as answer
 use Rattle.mr_ends.specs.State.{full}
 use Rattle.mr_ends.specs.Progresses.{AgreesAlong}
-use Rattle.mr_outs.specs.Address.{AddressState}
 use Rattle.mr_rows.specs.Requests.{Asks, AsksNothing, Waits, IsDoomedBy}
 use Rattle.mr_rows.specs.ClientRows.{MayLack}
 use Rattle.mr_rows.specs.Served.{AsksNode, IsPlain}

@@ -57,7 +57,12 @@ impl Node {
     }
 
     /// Follows another, by the node's role: whom a replica follows already it goes on to follow.
-    fn follow_another(&mut self, link: LinkId, used: usize, address: Address) -> Result<Step, NodeFault>
+    fn follow_another(
+        &mut self,
+        link: LinkId,
+        used: usize,
+        address: Address,
+    ) -> Result<Step, NodeFault>
         requires { IsClient self.old.ends link used }
         ensures { (u : List ℕ) (given : Given) (fresh : List ℕ) → IsAt self.old link u → Wishes u used (node.ReplicaOf address.host address.port) → ClientStep self.old link u given fresh self.new result }
     {
@@ -94,7 +99,12 @@ impl Node {
     }
 
     /// Answers OK to what a replica says of itself, and keeps it.
-    fn introduce(&mut self, link: LinkId, used: usize, introduction: Introduction) -> Result<Step, NodeFault>
+    fn introduce(
+        &mut self,
+        link: LinkId,
+        used: usize,
+        introduction: Introduction,
+    ) -> Result<Step, NodeFault>
         requires { HasAhead self.old.ends link used }
         ensures { (u : List ℕ) (given : Given) (fresh : List ℕ) → IsAt self.old link u → Keeps self.old.core u used (says done) → ClientStep self.old link u given fresh self.new result }
     {

@@ -23,7 +23,12 @@ use std::alloc::AllocError;
 
 impl Node {
     /// A replica is a master from now on, and its stream goes on under the fresh id.
-    pub(crate) fn promote(&mut self, link: LinkId, used: usize, fresh: ReplId) -> Result<Step, NodeFault>
+    pub(crate) fn promote(
+        &mut self,
+        link: LinkId,
+        used: usize,
+        fresh: ReplId,
+    ) -> Result<Step, NodeFault>
         requires ahead { HasAhead self.old.ends link used }
         requires replica { self.old.core.master ≡ false }
         ensures { (u : List ℕ) (given : Given) → IsAt self.old link u → Wishes u used node.NoOne → ClientStep self.old link u given fresh self.new result }
@@ -39,14 +44,21 @@ impl Node {
     }
 
     /// A replica is to follow another.
-    pub(crate) fn turn(&mut self, link: LinkId, used: usize, address: Address) -> Result<Step, NodeFault>
+    pub(crate) fn turn(
+        &mut self,
+        link: LinkId,
+        used: usize,
+        address: Address,
+    ) -> Result<Step, NodeFault>
         requires ahead { HasAhead self.old.ends link used }
         requires replica { self.old.core.master ≡ false }
         requires another { self.old.core.upstream ≢ Some address }
         ensures { (u : List ℕ) (given : Given) (fresh : List ℕ) → IsAt self.old link u → Wishes u used (node.ReplicaOf address.host address.port) → ClientStep self.old link u given fresh self.new result }
     {
         let mut outs = self.fresh_outs(Some(link));
-        if self.put_leaving(&mut outs).is_err() || self.put_following(&address, &mut outs).is_err() {
+        if self.put_leaving(&mut outs).is_err()
+            || self.put_following(&address, &mut outs).is_err()
+        {
             return Err(NodeFault::Memory);
         }
         self.advance(link, used);
@@ -55,13 +67,20 @@ impl Node {
     }
 
     /// A master becomes a replica, and closes its replicas' links.
-    pub(crate) fn demote(&mut self, link: LinkId, used: usize, address: Address) -> Result<Step, NodeFault>
+    pub(crate) fn demote(
+        &mut self,
+        link: LinkId,
+        used: usize,
+        address: Address,
+    ) -> Result<Step, NodeFault>
         requires ahead { HasAhead self.old.ends link used }
         requires master { self.old.core.master ≡ true }
         ensures { (u : List ℕ) (given : Given) (fresh : List ℕ) → IsAt self.old link u → Wishes u used (node.ReplicaOf address.host address.port) → ClientStep self.old link u given fresh self.new result }
     {
         let mut outs = self.fresh_outs(Some(link));
-        if self.put_dismissal(&mut outs).is_err() || self.put_following(&address, &mut outs).is_err() {
+        if self.put_dismissal(&mut outs).is_err()
+            || self.put_following(&address, &mut outs).is_err()
+        {
             return Err(NodeFault::Memory);
         }
         self.advance(link, used);

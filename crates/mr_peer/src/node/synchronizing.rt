@@ -36,7 +36,10 @@ impl Node {
         ensures { (u : List ℕ) (given : Given) (fresh : List ℕ) → IsAt self.old link u → Wishes u used (node.Psync wish.now.id.items wish.now.wanted) → ClientStep self.old link u given fresh self.new result }
     {
         let mut outs = self.fresh_outs(Some(link));
-        if self.put_stream(wish.id.as_slice(), wish.wanted(), &mut outs).is_err() {
+        if self
+            .put_stream(wish.id.as_slice(), wish.wanted(), &mut outs)
+            .is_err()
+        {
             return Err(NodeFault::Memory);
         }
         if self.state.stream_to(link, used).is_err() {
@@ -76,7 +79,7 @@ impl Node {
         requires { outs.old.reply ≡ [] }
         ensures remakes { OnOk result (Remakes (rebuilding self.now.core.held) self.now.core.held) }
         ensures text { OnOk result (outs.new ≡ record outs.old {
-          reply = reply_line (FullResync self.now.core.lineage.id self.now.core.lineage.stream.offset) ++ (length_line (length (rebuilt self.now.core.held)) ++ rebuilt self.now.core.held)
+          reply = reply_line (FullResync self.now.core.lineage.id self.now.core.lineage.stream.offset) ++ (length_line (length (rebuilt self.now.core.held)) ++ rebuilt self.now.core.held);
         }) }
     {
         let lineage = self.state.lineage();

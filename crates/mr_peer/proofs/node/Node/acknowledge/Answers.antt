@@ -10,5 +10,5 @@ pub returns : goal.returns
 returns c = λ u given fresh at k.
     let a = c.args.self.now in let b = c.advance.new.self in
     subst (λ (o : OutsState). ClientRow a c.args.link u given fresh b o) (sym c.fresh_outs-outs.ensures.outs)
-      (keep_row a b c.args.link u given fresh c.args.used no_output at k refl
-        (subst (λ (s : NodeState). Uses s c.args.link c.args.used b) (c.acknowledge.ensures ∙ (c.self.view_is ∙ c.fresh_outs-outs.ensures.same)) c.advance.ensures))
+    (keep_row a b c.args.link u given fresh c.args.used no_output at k refl
+    (subst (λ (s : NodeState). Uses s c.args.link c.args.used b) (c.acknowledge.ensures ∙ (c.self.view_is ∙ c.fresh_outs-outs.ensures.same)) c.advance.ensures))

@@ -1,4 +1,4 @@
-use Rattle.std.proofs.Common.{ap, subst, ◌∙◌}
+use Rattle.std.proofs.Common.{subst}
 use Rattle.mr_links.specs.Links.{Links}
 use Rattle.mr_ends.specs.State.{EndState}
 use Rattle.mr_ends.specs.Replicas.{Lists}
@@ -11,4 +11,4 @@ pub returns : goal.returns
 returns c =
     let names = c.replicas.result.now in
     subst (λ (s : NodeState). Uses s c.args.link c.args.used c.take.new.self) c.self.view_is
-      (uses_of c.self.inside.state c.take.new.self c.args.link c.args.used names c.ends.ensures.node (subst (λ (e : Links EndState). Lists names e.open_links) c.ends.ensures.ends c.replicas.ensures) c.take.ensures.uses c.take.ensures.only)
+    (uses_of c.self.inside.state c.take.new.self c.args.link c.args.used names c.ends.ensures.node (subst (λ (e : Links EndState). Lists names e.open_links) c.ends.ensures.ends c.replicas.ensures) c.take.ensures.uses c.take.ensures.only)

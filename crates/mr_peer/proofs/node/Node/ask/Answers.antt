@@ -1,8 +1,6 @@
-use Rattle.std.proofs.Common.{◌≡◌, ap, false, refl, rules, subst, sym, true, ◌∙◌}
+use Rattle.std.proofs.Common.{◌≡◌, false, rules, subst, sym, true}
 use Rattle.mr_resp.specs.Replies.{Tree}
 use Rattle.mr_cmd_node.specs.declared.node_ask.NodeAsk.{NodeAsk}
-use Rattle.mr_cmd_node.specs.declared.node_ask.NodeAsk.TheVariants as node
-use Rattle.mr_rows.specs.State.{NodeState}
 use Rattle.mr_rows.specs.Served.{says}
 use Rattle.mr_peer.specs.Parts.{Keeps}
 use Rattle.mr_peer.specs.Reading.{IsWish, Wishes}
@@ -20,7 +18,7 @@ returns-in-Stream c = λ u given wish at w is.
     let told = of_stream wish c.in-Stream.wish (subst (IsWish wish) c.in-Stream.is is) in
     let follows : a.core.master ≡ false = search rules in
     c.say.ensures u given c.args.fresh at
-      (subst (λ (t : Tree). Keeps a.core u c.args.used (says t)) (sym c.not_chained.ensures) (keeps_unchained a.core u c.args.used wish w c.in-Stream.wish.id.items c.in-Stream.wish.wanted told follows))
+    (subst (λ (t : Tree). Keeps a.core u c.args.used (says t)) (sym c.not_chained.ensures) (keeps_unchained a.core u c.args.used wish w c.in-Stream.wish.id.items c.in-Stream.wish.wanted told follows))
 
 pub returns-in-Introduction : goal.returns-in-Introduction
 returns-in-Introduction c = λ u given wish at w is.
@@ -43,7 +41,7 @@ returns-then-master-2 c = λ u given wish at w is.
     let told = of_lead wish (subst (IsWish wish) c.in-Lead.is is) in
     let leads : a.core.master ≡ true = search rules in
     c.say-then-master-2.ensures u given c.args.fresh at
-      (subst (λ (t : Tree). Keeps a.core u c.args.used (says t)) (sym c.done.ensures) (keeps_master a.core u c.args.used wish w told leads))
+    (subst (λ (t : Tree). Keeps a.core u c.args.used (says t)) (sym c.done.ensures) (keeps_master a.core u c.args.used wish w told leads))
 
 pub returns : goal.returns
 returns c = λ u given wish at w is.

@@ -33,7 +33,7 @@ returns c = λ u given fresh at r.
     let feeds : FeedsAll a c.args.outs c.feed_replicas.new.outs = on_ok_is c.feed_replicas.result _ (sym c.is_err.ensures.value ∙ c.if-is_err.false) c.feed_replicas.ensures in
     let commits : Commits a es c.commit.new.self = subst (λ (s : NodeState). Commits s es c.commit.new.self) c.self.view_is (on_ok_is c.commit.result _ (sym c.is_err-2.ensures.value ∙ c.if-is_err-2.false) c.commit.ensures.ok) in
     let outs : c.feed_replicas.new.outs ≡ record (outs_with (Some c.args.link) (record (growth (texts es)) { said = reply_text (view c.args.plan.reply) })) { fed = feeds.names } =
-        feeds.outs_are ∙ ap (λ (o : OutsState). record o { fed = feeds.names }) c.requires.outs in
+    feeds.outs_are ∙ ap (λ (o : OutsState). record o { fed = feeds.names }) c.requires.outs in
     subst (λ (o : OutsState). ClientRow a c.args.link u given fresh b o) (sym outs)
-      (within_row a c.commit.new.self b c.args.link u given fresh c.args.used c.args.plan commits.held feeds.names at r c.requires.within commits.applied commits.node c.advance.ensures
-        (subst (λ (o : OutsState). FedTo o.grown a feeds.names) c.requires.outs feeds.fed))
+    (within_row a c.commit.new.self b c.args.link u given fresh c.args.used c.args.plan commits.held feeds.names at r c.requires.within commits.applied commits.node c.advance.ensures
+    (subst (λ (o : OutsState). FedTo o.grown a feeds.names) c.requires.outs feeds.fed))

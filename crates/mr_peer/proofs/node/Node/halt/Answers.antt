@@ -11,4 +11,4 @@ returns c = λ u given fresh at h.
     let a = c.args.self.now in let b = c.advance.new.self in
     let outs : c.halt.new.self ≡ record no_outs { link = Some c.args.link; halts = true } = search rules in
     subst (λ (o : OutsState). ClientRow a c.args.link u given fresh b o) (sym outs)
-      (halt_row a b c.args.link u given fresh c.args.used at h (subst (λ (s : NodeState). Uses s c.args.link c.args.used b) c.fresh_outs-outs.ensures.same c.advance.ensures))
+    (halt_row a b c.args.link u given fresh c.args.used at h (subst (λ (s : NodeState). Uses s c.args.link c.args.used b) c.fresh_outs-outs.ensures.same c.advance.ensures))

@@ -1,4 +1,4 @@
-use Rattle.std.proofs.Common.{ap, subst, sym, ◌∙◌}
+use Rattle.std.proofs.Common.{subst, sym, ◌∙◌}
 use Rattle.mr_resp.specs.Replies.{Tree}
 use Rattle.mr_rows.specs.State.{NodeState}
 use Rattle.mr_rows.specs.Served.{says}

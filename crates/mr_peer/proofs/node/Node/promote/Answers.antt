@@ -1,4 +1,4 @@
-use Rattle.std.proofs.Common.{◌≡◌, ◌++◌, ap, Some, subst, sym, ◌∙◌}
+use Rattle.std.proofs.Common.{◌≡◌, ap, Some, subst, sym, ◌∙◌}
 use Rattle.mr_resp.specs.Replies.{reply_text}
 use Rattle.mr_planning.specs.Answered.{done}
 use Rattle.mr_course.specs.State.{name_of}
@@ -22,8 +22,8 @@ returns c = λ u given at w.
     let uses = subst (λ (s : NodeState). Uses s l c.args.used mid) c.fresh_outs-outs.ensures.same c.advance.ensures in
     let left = on_ok_is c.put_leaving.result _ (sym c.is_err.ensures.value ∙ c.if-is_err.false) c.put_leaving.ensures in
     let outs : c.take_id.new.self ≡ record no_outs { link = Some l; reply = reply_text done; closed = names_of (name_of a.follow); used = Some c.args.fresh } =
-        c.take_id.ensures ∙ ap (λ (o : OutsState). record o { used = Some c.args.fresh })
-          (left ∙ (ap (λ (o : OutsState). record o { reply = reply_text done; closed = names_of (name_of c.fresh_outs-outs.new.self.follow) }) c.fresh_outs-outs.ensures.outs
-          ∙ ap (λ (s : NodeState). record no_outs { link = Some l; reply = reply_text done; closed = names_of (name_of s.follow) }) c.fresh_outs-outs.ensures.same)) in
+    c.take_id.ensures ∙ ap (λ (o : OutsState). record o { used = Some c.args.fresh })
+    (left ∙ (ap (λ (o : OutsState). record o { reply = reply_text done; closed = names_of (name_of c.fresh_outs-outs.new.self.follow) }) c.fresh_outs-outs.ensures.outs
+    ∙ ap (λ (s : NodeState). record no_outs { link = Some l; reply = reply_text done; closed = names_of (name_of s.follow) }) c.fresh_outs-outs.ensures.same)) in
     subst (λ (o : OutsState). ClientRow a l u given c.args.fresh b o) (sym outs)
-      (promote_row a mid b l u given c.args.fresh c.args.used at c.requires.replica w uses (c.promote.ensures ∙ ap (λ (s : NodeState). promoted_as c.args.fresh s) c.self.view_is))
+    (promote_row a mid b l u given c.args.fresh c.args.used at c.requires.replica w uses (c.promote.ensures ∙ ap (λ (s : NodeState). promoted_as c.args.fresh s) c.self.view_is))

@@ -11,4 +11,4 @@ pub returns-clause-remakes : goal.returns-clause-remakes
 returns-clause-remakes c =
     let held : c.held.result.now ≡ c.args.self.now.core.held = c.held.ensures ∙ ap (λ (s : NodeState). s.core.held) c.self.view_is in
     on_any c.say_bytes-2.result (Remakes (rebuilding c.args.self.now.core.held) c.args.self.now.core.held)
-      (subst (λ (m : Dataset). Remakes (rebuilding m) m) held (remakes_of c.held.result.now c.in_ok-texts.ensures.again c.in_ok-texts.ensures.short))
+    (subst (λ (m : Dataset). Remakes (rebuilding m) m) held (remakes_of c.held.result.now c.in_ok-texts.ensures.again c.in_ok-texts.ensures.short))

@@ -1,4 +1,4 @@
-use Rattle.std.proofs.Common.{ap, refl, subst, sym}
+use Rattle.std.proofs.Common.{refl, subst, sym}
 use Rattle.mr_resp.specs.Replies.{Tree, reply_text}
 use Rattle.mr_rows.specs.ClientRows.{Ends, MayLack}
 use Rattle.mr_peer.proofs.Rows.{doomed_ends}

@@ -26,11 +26,11 @@ returns c = λ u given fresh at r.
     let held : c.held.result.now ≡ a.core.held = c.held.ensures ∙ ap (λ (s : NodeState). s.core.held) (c.self.view_is ∙ c.fresh_outs-outs.ensures.same) in
     let texts : c.in-Ok.texts.items ≡ rebuilt c.held.result.now = search rules in
     let outs : c.replace.new.self ≡ record no_outs { link = Some c.args.link; reply = reply_text (view c.rewriting.result); replaced = Some c.in-Ok.texts.items } =
-        c.replace.ensures ∙ ap (λ (o : OutsState). record o { replaced = Some c.in-Ok.texts.items })
-          (on_ok_is c.say.result _ (sym c.is_err.ensures.value ∙ c.if-is_err.false) c.say.ensures ∙ ap (λ (o : OutsState). record o { reply = o.reply ++ reply_text (view c.rewriting.result) }) c.fresh_outs-outs.ensures.outs) in
+    c.replace.ensures ∙ ap (λ (o : OutsState). record o { replaced = Some c.in-Ok.texts.items })
+    (on_ok_is c.say.result _ (sym c.is_err.ensures.value ∙ c.if-is_err.false) c.say.ensures ∙ ap (λ (o : OutsState). record o { reply = o.reply ++ reply_text (view c.rewriting.result) }) c.fresh_outs-outs.ensures.outs) in
     let whole : c.replace.new.self ≡ outs_with (Some c.args.link) (rewritten_as a.core.held) =
-        outs ∙ (ap (λ (t : Tree). record no_outs { link = Some c.args.link; reply = reply_text t; replaced = Some c.in-Ok.texts.items }) c.rewriting.ensures
-        ∙ ap (λ (bs : List ℕ). record no_outs { link = Some c.args.link; reply = reply_text rewriting; replaced = Some bs }) (texts ∙ ap (λ (m : Dataset). rebuilt m) held)) in
+    outs ∙ (ap (λ (t : Tree). record no_outs { link = Some c.args.link; reply = reply_text t; replaced = Some c.in-Ok.texts.items }) c.rewriting.ensures
+    ∙ ap (λ (bs : List ℕ). record no_outs { link = Some c.args.link; reply = reply_text rewriting; replaced = Some bs }) (texts ∙ ap (λ (m : Dataset). rebuilt m) held)) in
     let remakes = subst (λ (m : Dataset). Remakes (rebuilding m) m) held (remakes_of c.held.result.now c.in-Ok.ensures.again c.in-Ok.ensures.short) in
     subst (λ (o : OutsState). ClientRow a c.args.link u given fresh b o) (sym whole)
-      (rewrite_row a b c.args.link u given fresh c.args.used at r remakes (subst (λ (s : NodeState). Uses s c.args.link c.args.used b) c.fresh_outs-outs.ensures.same c.advance.ensures))
+    (rewrite_row a b c.args.link u given fresh c.args.used at r remakes (subst (λ (s : NodeState). Uses s c.args.link c.args.used b) c.fresh_outs-outs.ensures.same c.advance.ensures))

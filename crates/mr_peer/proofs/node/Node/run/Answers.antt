@@ -1,4 +1,4 @@
-use Rattle.std.proofs.Common.{◌≡◌, ◌<◌, Bool, ap, false, not, Some, subst, sym, ◌∙◌}
+use Rattle.std.proofs.Common.{◌≡◌, ◌<◌, Bool, ap, not, Some, subst, sym, ◌∙◌}
 use Rattle.mr_resp.specs.Replies.{error, reply_text}
 use Rattle.mr_resp.specs.ReplyView.{view}
 use Rattle.mr_outs.specs.Outs.{OutsState, outs_with}
@@ -22,7 +22,7 @@ pub returns-in-Ok-true : goal.returns-in-Ok-true
 returns-in-Ok-true c = λ u given fresh at r.
     let same = c.fresh_outs-outs.ensures.same in let l = c.args.link in
     subst (λ (s : NodeState). ClientStep s l u given fresh c.commit.new.self c.commit.result) same
-      (c.commit.ensures u given fresh (subst (λ (s : NodeState). IsAt s l u) (sym same) at) (subst (λ (s : NodeState). Runs (not s.core.master) u given s.core.held c.args.used c.args.plan) (sym same) r))
+    (c.commit.ensures u given fresh (subst (λ (s : NodeState). IsAt s l u) (sym same) at) (subst (λ (s : NodeState). Runs (not s.core.master) u given s.core.held c.args.used c.args.plan) (sym same) r))
 
 pub returns-in-Ok-false : goal.returns-in-Ok-false
 returns-in-Ok-false c = λ u given fresh at r.
@@ -32,4 +32,4 @@ returns-in-Ok-false c = λ u given fresh at r.
     let beyond = subst (λ (s : NodeState). offset_limit < offset_behind c.args.plan.effects.items s.core) same told.0 in
     let outs : c.put_answer.new.outs ≡ outs_with (Some l) (says (error limit_text)) = told.1 ∙ ap (λ (o : OutsState). record o { reply = reply_text (error limit_text) }) c.fresh_outs-outs.ensures.outs in
     subst (λ (o : OutsState). ClientRow a l u given fresh b o) (sym outs)
-      (beyond_row a b l u given fresh c.args.used c.args.plan at r beyond (subst (λ (s : NodeState). Uses s l c.args.used b) same c.advance.ensures))
+    (beyond_row a b l u given fresh c.args.used c.args.plan at r beyond (subst (λ (s : NodeState). Uses s l c.args.used b) same c.advance.ensures))

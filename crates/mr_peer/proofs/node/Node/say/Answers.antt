@@ -17,6 +17,6 @@ pub returns : goal.returns
 returns c = λ u given fresh at k.
     let a = c.args.self.now in let b = c.advance.new.self in
     let outs : c.say.new.self ≡ record no_outs { link = Some c.args.link; reply = reply_text (view c.args.reply.now) } =
-        on_ok_is c.say.result _ (sym c.is_err.ensures.value ∙ c.if-is_err.false) c.say.ensures ∙ ap (λ (o : OutsState). record o { reply = o.reply ++ reply_text (view c.args.reply.now) }) c.fresh_outs-outs.ensures.outs in
+    on_ok_is c.say.result _ (sym c.is_err.ensures.value ∙ c.if-is_err.false) c.say.ensures ∙ ap (λ (o : OutsState). record o { reply = o.reply ++ reply_text (view c.args.reply.now) }) c.fresh_outs-outs.ensures.outs in
     subst (λ (o : OutsState). ClientRow a c.args.link u given fresh b o) (sym outs)
-      (keep_row a b c.args.link u given fresh c.args.used (says (view c.args.reply.now)) at k refl (subst (λ (s : NodeState). Uses s c.args.link c.args.used b) c.fresh_outs-outs.ensures.same c.advance.ensures))
+    (keep_row a b c.args.link u given fresh c.args.used (says (view c.args.reply.now)) at k refl (subst (λ (s : NodeState). Uses s c.args.link c.args.used b) c.fresh_outs-outs.ensures.same c.advance.ensures))

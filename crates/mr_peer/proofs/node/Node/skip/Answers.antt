@@ -10,4 +10,4 @@ pub returns : goal.returns
 returns c = λ u given fresh at p.
     let a = c.args.self.now in let b = c.advance.new.self in
     subst (λ (o : OutsState). ClientRow a c.args.link u given fresh b o) (sym c.fresh_outs-outs.ensures.outs)
-      (skip_row a b c.args.link u given fresh c.args.used at p (subst (λ (s : NodeState). Uses s c.args.link c.args.used b) c.fresh_outs-outs.ensures.same c.advance.ensures))
+    (skip_row a b c.args.link u given fresh c.args.used at p (subst (λ (s : NodeState). Uses s c.args.link c.args.used b) c.fresh_outs-outs.ensures.same c.advance.ensures))

@@ -1,7 +1,5 @@
-use Rattle.std.proofs.Common.{◌≡◌, ap, Some, sym, true, rules, ◌∙◌}
-use Rattle.mr_links.specs.Links.{Links}
-use Rattle.mr_ends.specs.State.{EndState, end_at}
-use Rattle.mr_rows.specs.State.{NodeState, end_of}
+use Rattle.std.proofs.Common.{◌≡◌, ap, Some, true, rules, ◌∙◌}
+use Rattle.mr_rows.specs.State.{end_of}
 use Rattle.mr_peer.proofs.Ends.{kind_client, kind_replica}
 use Rattle.mr_peer.proofs.node.Node.step.Goals as goal
 

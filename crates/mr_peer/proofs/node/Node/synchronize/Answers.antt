@@ -5,7 +5,6 @@ use Rattle.mr_outs.specs.Outs.{OutsState, no_outs}
 use Rattle.mr_rows.specs.State.{NodeState}
 use Rattle.mr_rows.specs.ClientRows.{ClientRow, IsAnswerToPsync}
 use Rattle.mr_state.specs.Parts.{OnlyEnds}
-use Rattle.mr_peer.specs.Parts.{Offers}
 use Rattle.mr_peer.proofs.Results.{on_err_is, on_ok_is}
 use Rattle.mr_peer.proofs.Roles.{synchronize_row}
 use Rattle.mr_peer.proofs.Rows.{lacks_words}
@@ -32,8 +31,8 @@ returns c = λ u given fresh at w.
     let f = c.fresh_outs-outs.new.self.core in
     let fits : FitsSigned w64 c.wanted.result = search rules in
     let answer = subst (λ (s : NodeState). IsAnswerToPsync s.core.lineage s.core.held wish.id.items wish.wanted offers.text) same
-        (subst (λ (z : ℤ). IsAnswerToPsync f.lineage f.held wish.id.items z offers.text) (to_z-of_z w64 c.wanted.result fits ∙ c.wanted.ensures)
-        (subst (λ (z : List ℕ). IsAnswerToPsync f.lineage f.held z (to_z w64 (of_z w64 c.wanted.result)) offers.text) c.as_slice.ensures.value offers.answer)) in
+    (subst (λ (z : ℤ). IsAnswerToPsync f.lineage f.held wish.id.items z offers.text) (to_z-of_z w64 c.wanted.result fits ∙ c.wanted.ensures)
+    (subst (λ (z : List ℕ). IsAnswerToPsync f.lineage f.held z (to_z w64 (of_z w64 c.wanted.result)) offers.text) c.as_slice.ensures.value offers.answer)) in
     let outs : c.put_stream.new.outs ≡ record no_outs { link = Some l; reply = offers.text } = offers.outs_are ∙ ap (λ (o : OutsState). record o { reply = offers.text }) c.fresh_outs-outs.ensures.outs in
     subst (λ (o : OutsState). ClientRow a l u given fresh b o) (sym outs)
-      (synchronize_row a b l u given fresh c.args.used wish.id.items wish.wanted offers.text at c.requires.master w answer turns only)
+    (synchronize_row a b l u given fresh c.args.used wish.id.items wish.wanted offers.text at c.requires.master w answer turns only)
