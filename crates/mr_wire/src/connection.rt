@@ -65,7 +65,7 @@ impl Connection {
     }
 
     /// Has small writes go out at once. Whether they do.
-    pub(crate) fn hurry(&self) -> bool {
+    pub(crate) fn send_at_once(&self) -> bool {
         self.stream.set_nodelay(true).is_ok()
     }
 

@@ -43,7 +43,8 @@ pub enum Waiting {
 const MOST_LINKS: u64 = 1 << 62;
 
 /// A wire in memory. Each wait, each accept and each connect takes the next of its list: at its end a wait succeeds, nothing is
-/// accepted, and a connect fails. Behind each wait all open links are named, in the order of their places. Where memory runs out it fails.
+/// accepted, and a connect fails. Behind each wait all open links are named, in the order of their places. Where memory runs out it
+/// fails.
 #[derive(Drop)]
 pub struct MemWire {
     alloc: Global,

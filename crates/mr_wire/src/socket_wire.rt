@@ -89,7 +89,7 @@ impl SocketWire {
         ensures later { self.old.failed.count ≤ self.new.failed.count }
         ensures cause { OnErr result (Rose self.old.failed.count self.new.failed.count) }
     {
-        if self.links.opened() >= MOST_LINKS || !connection.hurry() {
+        if self.links.opened() >= MOST_LINKS || !connection.send_at_once() {
             return Err(self.failed.failure());
         }
         let Ok(link) = self.links.insert(connection) else {

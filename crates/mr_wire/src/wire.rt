@@ -51,8 +51,9 @@ pub trait Wire {
         ensures later { failures self.old ≤ failures self.new }
         ensures cause { OnErr result (Rose (failures self.old) (failures self.new)) };
 
-    /// Opens a link to a peer. The host is an IPv4 address as text or `localhost`; any other fails, and no name is looked up. The call
-    /// doesn't wait: until the peer has answered, nothing can be moved. Where it refuses, the next read or write fails or finds the end.
+    /// Opens a link to a peer. The host is an IPv4 address as text, or `localhost`: any other fails, for no name is looked up. The
+    /// call doesn't wait: until the peer has answered, nothing can be moved on the link. Where it refuses, the next read or write
+    /// fails, or finds the end.
     fn connect(&mut self, host: &[u8], port: u16) -> Result<LinkId, Failed>
         ensures ok { IfOk result (λ link. Connects (links self.old) host.now port link (links self.new)) }
         ensures err { OnErr result (AcceptsNone (links self.old) (links self.new)) }
