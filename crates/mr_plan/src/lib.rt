@@ -8,5 +8,5 @@ mod writing;
 
 pub use laws::others_have_no_effects;
 pub use planning::plan;
-pub use requests::{Answer, plan_words};
+pub use requests::{Answer, answer_to, plan_words};
 pub use writing::writes;

@@ -61,8 +61,9 @@ pub fn plan_words(
     }
 }
 
+/// What is done about a command by a master or by a replica, as of its words.
 #[tactic(auto, using(crate::proofs::Leading::on_master, crate::proofs::Leading::on_replica, crate::proofs::Leading::leads_on_replica, crate::proofs::Leading::no_texts))]
-fn answer_to(
+pub fn answer_to(
     alloc: Global,
     held: &Dataset,
     replica: bool,

@@ -1,0 +1,11 @@
+pub mod Results
+pub mod Ends
+pub mod Rows
+pub mod Asking
+pub mod Reading
+pub mod Roles
+pub mod Noting
+pub mod Following
+pub mod Ticking
+pub mod Linking
+pub mod Telling

@@ -1,0 +1,14 @@
+use Rattle.std.proofs.Common.{subst}
+use Rattle.mr_links.specs.Links.{Links}
+use Rattle.mr_ends.specs.State.{EndState}
+use Rattle.mr_ends.specs.Replicas.{Lists}
+use Rattle.mr_rows.specs.State.{NodeState}
+use Rattle.mr_peer.specs.Parts.{Uses}
+use Rattle.mr_peer.proofs.Ends.{uses_of}
+use Rattle.mr_peer.proofs.node.Node.advance.Goals as goal
+
+pub returns : goal.returns
+returns c =
+    let names = c.replicas.result.now in
+    subst (λ (s : NodeState). Uses s c.args.link c.args.used c.take.new.self) c.self.view_is
+    (uses_of c.self.inside.state c.take.new.self c.args.link c.args.used names c.ends.ensures.node (subst (λ (e : Links EndState). Lists names e.open_links) c.ends.ensures.ends c.replicas.ensures) c.take.ensures.uses c.take.ensures.only)

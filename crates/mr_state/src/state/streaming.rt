@@ -1,0 +1,95 @@
+// The stream and the dataset, as effects come from clients, from the clock or from the master.
+ghost use Rattle.std.specs.Prelude.{◌≡◌, ◌≢◌, ◌≤◌, ◌+◌, [], true, false, length, OnOk, OnErr, IsOk, IsSome};
+ghost use Rattle.std.specs.List.{AllByRecursion};
+ghost use Rattle.mr_effect.specs.Spelling.{texts};
+ghost use Rattle.mr_entries.specs.Changes.{NeedsNoMemory};
+ghost use Rattle.mr_rows.specs.Growing.{offset_limit};
+ghost use Rattle.mr_rows.specs.State.{stopped_as};
+ghost use Rattle.mr_rows.specs.UpstreamRows.{ends_behind};
+ghost use Rattle.mr_state.specs.Parts.{Commits, Leads, Spends, marked_at};
+ghost use Rattle.mr_state.specs.Listening.{Heard};
+
+use crate::spent::Spent;
+use crate::state::State;
+use mr_course::{UpstreamFault, UpstreamStep};
+use mr_data::Effect;
+use mr_ends::Ends;
+use mr_links::LinkId;
+
+impl State {
+    /// Applies effects, and puts their texts behind the stream. Where memory runs out the dataset is spent, and the node stops.
+    pub fn commit(&mut self, effects: Vec<Effect<'static>>, told: &[u8]) -> Result<(), Spent>
+        requires master { effects.items ≢ [] → self.old.core.master ≡ true }
+        requires leads { Leads effects.items self.old.core.held }
+        requires told { told.now ≡ texts effects.items }
+        requires within { self.old.core.lineage.stream.offset + length (texts effects.items) ≤ offset_limit }
+        ensures ok { OnOk result (Commits self.old effects.entry.items self.new) }
+        ensures spent { OnErr result (Spends self.old effects.entry.items self.new) }
+        // Effects that take no memory don't lack it.
+        ensures light { AllByRecursion NeedsNoMemory effects.entry.items → IsOk result }
+    {
+        if effects.is_empty() {
+            // its clause bounds what the backlog holds: growing by nothing changes nothing
+            let _ = self.course.lineage().stream().end();
+            return Ok(());
+        }
+        if self.held.apply_all(effects).is_err() {
+            self.up = false;
+            return Err(Spent);
+        }
+        self.course.grow(told);
+        Ok(())
+    }
+
+    /// Makes a step at the link to the master. What is to be sent, what was applied, or what rebuilds a snapshot is put into `out`.
+    pub fn listen(&mut self, out: &mut Vec<u8>) -> Result<UpstreamStep, UpstreamFault>
+        requires follows { IsSome self.old.follow }
+        requires empty { out.old.items ≡ [] }
+        ensures { Heard self.old result self.new out.new.items }
+    {
+        let Some(name) = self.course.name() else {
+            unreachable!()
+        };
+        match self.course.listen(self.alloc, &mut self.held, out) {
+            Err(UpstreamFault::Memory) => Err(UpstreamFault::Memory),
+            Err(UpstreamFault::Stopped) => {
+                self.up = false;
+                Err(UpstreamFault::Stopped)
+            }
+            Ok(step) => {
+                settle(&mut self.ends, step, name);
+                Ok(step)
+            }
+        }
+    }
+
+    /// The moment from which the next heartbeat or acknowledgement is counted is this.
+    pub fn set_mark(&mut self, now: i64)
+        ensures { self.new ≡ marked_at now self.old }
+    {
+        self.mark = Some(now);
+    }
+
+    /// The node stops, and nothing else of it changes. A stopped node stays as it is.
+    pub fn stop(&mut self)
+        ensures stops { self.new ≡ stopped_as self.old }
+        ensures down { self.old.core.up ≡ false → self.new ≡ self.old }
+    {
+        self.up = false;
+    }
+}
+
+/// The end of the link to the master goes where the master is left.
+fn settle(ends: &mut Ends, step: UpstreamStep, name: LinkId)
+    ensures { ends.new ≡ ends_behind step name ends.old }
+{
+    match step {
+        UpstreamStep::Left | UpstreamStep::Spoiled => ends.remove(name),
+        UpstreamStep::Idle
+        | UpstreamStep::Said
+        | UpstreamStep::Announced
+        | UpstreamStep::Continued
+        | UpstreamStep::Loaded
+        | UpstreamStep::Applied => {}
+    }
+}
