@@ -1,0 +1,4 @@
+pub mod Places
+pub mod Unread
+pub mod Seen
+pub mod Keeping
