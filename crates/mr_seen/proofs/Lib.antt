@@ -4,3 +4,7 @@ pub mod Seen
 pub mod Keeping
 pub mod Reading
 pub mod Others
+pub mod Asking
+pub mod Steps
+pub mod Clients
+pub mod Roles

@@ -18,7 +18,7 @@ use Rattle.mr_seen.specs.Way.{unread}
 use Rattle.mr_seen.specs.State.{Link, Slot, WorldState}
 use Rattle.mr_seen.specs.Seeing.{seen}
 use Rattle.mr_seen.specs.Books.{entry_of, IsBook}
-use Rattle.mr_seen.specs.Worlds.{IsWorld}
+use Rattle.mr_seen.specs.Worlds.{IsSound, IsWorld}
 use Rattle.mr_seen.specs.Carrying.{stepped, put_node}
 
 -- From the one World to the other there is one event of histories: of the Worlds that are seen, with what is known of each id.
@@ -46,7 +46,7 @@ IsCounted a = length (rebuilt a.core.held) ≤ most_counted
 
 abbrev pub ClientStepsAreRows : Type 0
 ClientStepsAreRows = (w : WorldState) (book : Book minired) (l : ℕ) (k : Link) (s : Slot) (given : Given) (fresh : List ℕ) (b : NodeState) (outs : OutsState)
-    → Holds w book → IsServed w l k s → k.streams ≡ false → entry_of w.book fresh ≡ None
+    → Holds w book → IsServed w l k s → k.streams ≡ false → entry_of w.book fresh ≡ None → IsSound b
     → (Synchronizes s.node k.name (unread k.ask) b outs → IsCounted s.node)
     → ClientRow s.node k.name (unread k.ask) given fresh b outs
     → IsEvent w book (events.Event.Step l Server given fresh) (stepped w k.to s l k b outs)
