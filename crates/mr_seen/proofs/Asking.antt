@@ -190,7 +190,7 @@ wanted_or t z = go (id_or t) z
     go (inr n) z = (None, λ id o w. n (id, w.is_id, sym w.id_is))
 
 -- each kind asks something
-pub asks_some : (k : Kind) → (r : Request (List ℕ)) × Asks k r
+unfoldable pub asks_some : (k : Kind) → (r : Request (List ℕ)) × Asks k r
 asks_some handshake = (Handshake, refl)
 asks_some (psync id wanted) = let q = wanted_or id wanted in (Psync q.0, (q.0, q.1, refl))
 asks_some ack = (Ack, refl)

@@ -8,3 +8,8 @@ pub mod Asking
 pub mod Steps
 pub mod Clients
 pub mod Roles
+pub mod Replicas
+pub mod Lines
+pub mod Hearing
+pub mod Leaving
+pub mod Masters

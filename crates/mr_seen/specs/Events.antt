@@ -2,10 +2,13 @@
 use Rattle.std.specs.Prelude.{◌≡◌, ◌≤◌, ℕ, List, Bool, true, false, Option, None, Some, length, slice_get}
 use Rattle.mr_data.specs.declared.given.Given.{Given}
 use Rattle.mr_lines.specs.Lines.{most_counted}
-use Rattle.mr_outs.specs.Outs.{OutsState}
+use Rattle.mr_links.specs.declared.link_id.LinkId.{LinkId}
+use Rattle.mr_course.specs.declared.upstream.UpstreamStep.{UpstreamStep}
+use Rattle.mr_outs.specs.Outs.{OutsState, no_outs}
 use Rattle.mr_history.specs.History.{Book}
 use Rattle.mr_history.specs.Event as events
 use Rattle.mr_history.specs.Event.Side.{Server, Dialler}
+use Rattle.mr_history.specs.Changing.{Still}
 use Rattle.mr_history.specs.Rows.{Row}
 use Rattle.mr_history.specs.Invariant.{Invariant}
 use Rattle.mr_language.specs.Minired.{minired}
@@ -14,12 +17,13 @@ use Rattle.mr_rows.specs.Growing.{rebuilt}
 use Rattle.mr_rows.specs.ClientRows.{ClientRow, Synchronizes}
 use Rattle.mr_rows.specs.ClientRows as client
 use Rattle.mr_rows.specs.ReplicaRows.{ReplicaRow}
+use Rattle.mr_rows.specs.UpstreamRows as master
 use Rattle.mr_seen.specs.Way.{unread}
 use Rattle.mr_seen.specs.State.{Link, Slot, WorldState}
 use Rattle.mr_seen.specs.Seeing.{seen}
 use Rattle.mr_seen.specs.Books.{entry_of, IsBook}
 use Rattle.mr_seen.specs.Worlds.{IsSound, IsWorld}
-use Rattle.mr_seen.specs.Carrying.{stepped, put_node}
+use Rattle.mr_seen.specs.Carrying.{stepped, followed, put_node}
 
 -- From the one World to the other there is one event of histories: of the Worlds that are seen, with what is known of each id.
 pub record IsEvent (w : WorldState) (book : Book minired) (e : events.Event minired) (v : WorldState) : Type 0 where
@@ -50,3 +54,54 @@ ClientStepsAreRows = (w : WorldState) (book : Book minired) (l : ℕ) (k : Link)
     → (Synchronizes s.node k.name (unread k.ask) b outs → IsCounted s.node)
     → ClientRow s.node k.name (unread k.ask) given fresh b outs
     → IsEvent w book (events.Event.Step l Server given fresh) (stepped w k.to s l k b outs)
+
+abbrev pub ReplicaStepsAreRows : Type 0
+ReplicaStepsAreRows = (w : WorldState) (book : Book minired) (l : ℕ) (k : Link) (s : Slot) (given : Given) (fresh : List ℕ) (b : NodeState) (outs : OutsState)
+    → Holds w book → IsServed w l k s → k.streams ≡ true
+    → ReplicaRow s.node k.name (unread k.ask) b outs
+    → IsEvent w book (events.Event.Step l Server given fresh) (stepped w k.to s l k b outs)
+
+-- at either end
+abbrev pub IdleStepsAreRows : Type 0
+IdleStepsAreRows = (w : WorldState) (book : Book minired) (l : ℕ) (k : Link) (s : Slot) (given : Given) (fresh : List ℕ) (b : NodeState)
+    → Holds w book → IsServed w l k s
+    → client.Idles s.node (unread k.ask) b
+    → IsEvent w book (events.Event.Step l Server given fresh) (put_node w k.to s b)
+
+-- A node stops in a step: it spent its dataset, or there is no memory for what it gave out.
+abbrev pub StopsAreRows : Type 0
+StopsAreRows = (w : WorldState) (book : Book minired) (l : ℕ) (k : Link) (s : Slot) (given : Given) (fresh : List ℕ) (b : NodeState)
+    → Holds w book → IsServed w l k s
+    → b.core.up ≡ false
+    → IsEvent w book (events.Event.Step l Server given fresh) (put_node w k.to s b)
+
+-- ---- the link to the master
+-- The node n has the slot s and runs, and k is the link that it dialled last.
+pub record IsFollowed (w : WorldState) (n : ℕ) (s : Slot) (k : Link) : Type 0 where
+  pub at : slice_get w.slots n ≡ Some s
+  pub found : slice_get w.links s.dialled ≡ Some k
+  pub up : s.node.core.up ≡ true
+
+abbrev pub MasterStepsAreRows : Type 0
+MasterStepsAreRows = (w : WorldState) (book : Book minired) (n : ℕ) (s : Slot) (k : Link) (name : LinkId) (step : UpstreamStep) (given : Given) (fresh : List ℕ) (b : NodeState) (outs : OutsState)
+    → Holds w book → IsFollowed w n s k
+    → master.Hears s.node name step b outs
+    → IsEvent w book (events.Event.Step s.dialled Dialler given fresh) (followed w n s k b outs)
+
+abbrev pub WaitsAreRows : Type 0
+WaitsAreRows = (w : WorldState) (book : Book minired) (n : ℕ) (s : Slot) (k : Link) (name : LinkId) (given : Given) (fresh : List ℕ) (b : NodeState)
+    → Holds w book → IsFollowed w n s k
+    → master.Waits s.node name b
+    → IsEvent w book (events.Event.Step s.dialled Dialler given fresh) (followed w n s k b no_outs)
+
+abbrev pub LacksAreUnseen : Type 0
+LacksAreUnseen = (w : WorldState) (book : Book minired) (n : ℕ) (s : Slot) (k : Link) (name : LinkId) (b : NodeState)
+    → Holds w book → IsFollowed w n s k
+    → master.Lacks s.node name b
+    → Still (seen w book) (seen (followed w n s k b no_outs) book)
+
+abbrev pub SpendsAreRows : Type 0
+SpendsAreRows = (w : WorldState) (book : Book minired) (n : ℕ) (s : Slot) (k : Link) (name : LinkId) (given : Given) (fresh : List ℕ) (b : NodeState)
+    → Holds w book → IsFollowed w n s k
+    → master.Spends s.node name b
+    → IsEvent w book (events.Event.Step s.dialled Dialler given fresh) (put_node w n s b)
