@@ -13,3 +13,5 @@ pub mod Lines
 pub mod Hearing
 pub mod Leaving
 pub mod Masters
+pub mod Linking
+pub mod Times

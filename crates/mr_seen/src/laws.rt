@@ -1,5 +1,5 @@
 //! That what each call on a node of a World does is a row of histories. No function here does anything: each is the law that it ensures.
-ghost use Rattle.mr_seen.specs.Events.{ClientStepsAreRows, IdleStepsAreRows, LacksAreUnseen, MasterStepsAreRows, ReplicaStepsAreRows, SpendsAreRows, StopsAreRows, WaitsAreRows};
+ghost use Rattle.mr_seen.specs.Events.{ClientStepsAreRows, DialsAreRows, IdleStepsAreRows, LacksAreUnseen, MasterBreaksAreRows, MasterFeedsAreRows, MasterStepsAreRows, OpenStopsAreRows, OpensAreRows, ReplicaStepsAreRows, ServerBreaksAreRows, ServerFeedsAreRows, SpendsAreRows, StopsAreRows, TicksAreRows, WaitsAreRows};
 
 /// A step at a client's end by its exact row, with what it gives out carried, is a step by a row of histories, of the World that is seen.
 pub fn client_steps_are_rows()
@@ -39,4 +39,32 @@ pub fn lacks_are_unseen()
 /// One in which the node stops is one.
 pub fn spends_are_rows()
     ensures { SpendsAreRows }
+{}
+
+/// A tick by its exact row is a tick by a row of histories.
+pub fn ticks_are_rows()
+    ensures { TicksAreRows }
+{}
+
+/// A link that is opened is one of histories, or the node stops there too.
+pub fn opens_are_rows()
+    ensures opens { OpensAreRows }
+    ensures stops { OpenStopsAreRows }
+{}
+
+/// A master that is dialled is dialled in histories.
+pub fn dials_are_rows()
+    ensures { DialsAreRows }
+{}
+
+/// Bytes that an end is fed are delivered there in histories.
+pub fn feeds_are_rows()
+    ensures served { ServerFeedsAreRows }
+    ensures master { MasterFeedsAreRows }
+{}
+
+/// A link that is closed breaks at that end in histories.
+pub fn breaks_are_rows()
+    ensures served { ServerBreaksAreRows }
+    ensures master { MasterBreaksAreRows }
 {}
