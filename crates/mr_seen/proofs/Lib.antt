@@ -1,0 +1,17 @@
+pub mod Places
+pub mod Unread
+pub mod Seen
+pub mod Keeping
+pub mod Reading
+pub mod Others
+pub mod Asking
+pub mod Steps
+pub mod Clients
+pub mod Roles
+pub mod Replicas
+pub mod Lines
+pub mod Hearing
+pub mod Leaving
+pub mod Masters
+pub mod Linking
+pub mod Times
