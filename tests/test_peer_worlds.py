@@ -1,31 +1,38 @@
 """Random worlds of nodes beside the plain model: each call on a node is made on the model's too, and what comes of both is compared, out by out.
 
-    PEER_SECONDS=600 PEER_SEED=1000 python3 -m unittest test_peer_worlds
+    PEER_SECONDS=600 python3 -m unittest test_peer_worlds
+    python3 tests/test_peer_worlds.py SECONDS SEED
 
-looks at worlds for so long, from this seed on. Known and meant: a link to its master that a node gave up is gone at that node, and a node's replicas stand in the
-order in which they became replicas."""
+look at worlds for so long; the second one from this seed on, and it tells what there was. Meant otherwise than in the model: a link to its master that a node gave up
+is gone at that node, and a node's replicas stand in the order in which they became replicas."""
 
 import os
 import random
+import sys
 import time
 import unittest
 from collections import Counter
 
 from dataset_model import Given, texts
-from node_model import CLOSED, IDLE, MASTER, MOST_OFFSET, REPLICA, Append, Close, Follow, Grow, Halt, Node, NodeFault, Replace, Send, Used
-from peers import GREETED, PING, Peer, PeerFault, Playing
+from node_model import LIMIT, MASTER, MOST_OFFSET, REPLICA, Append, Close, Follow, Grow, Halt, Node, NodeFault, Replace, Send, Used
+from peers import FRESH, GREETED, PING, Peer, PeerFault, Playing, Program
 from program import request
-from world_model import NOWHERE, Place, Refusal, World, answer
+from world_model import Place, World, answer
 from world_scripts import Scripter
 
-SECONDS, SEED = int(os.environ.get("PEER_SECONDS", "20")), int(os.environ.get("PEER_SEED", "0"))
+SECONDS = int(os.environ.get("PEER_SECONDS", "20"))
 EVENTS_OF_A_WORLD = 1_500
 ENDLESS = 2**64 - 1
 # what a master played by chance sends: texts of effects, and what is none
 EFFECTS = [PING, request("SET", "k", "v"), request("SET", "l", "w", "PXAT", "900"), request("DEL", "k"), request("SADD", "s", "a", "b"), request("RPUSH", "q", "x", "y")]
 EFFECTS += [request("LPUSH", "q", "z"), request("LPOP", "q", "1"), request("SREM", "s", "a"), request("INCRBY", "n", "5"), request("PEXPIREAT", "k", "800"), request("FLUSHALL")]
 SPOILED = [request("FOO"), request("GET", "k"), b"\r\n", b"+OK\r\n", b"*0\r\n", request("set", "k", "v"), request("LPOP", "none", "1"), request("PING", "x"), b"*1\r\n$4\r\nPINGxx"]
-BAD_ANSWERS = [b"+OK\r\n", b"-ERR no\r\n", b"$5\r\n", b"+CONTINUE \r\n", b"+FULLRESYNC %s -1\r\n" % (b"b" * 40), b"+FULLRESYNC %s 5 \r\n" % (b"b" * 40), b"+" + 1025 * b"x", b"x", b"+a\rb"]
+BAD_ANSWERS = [b"+OK\r\n", b"-ERR no\r\n", b"$5\r\n", b"+CONTINUE \r\n", b"+FULLRESYNC %s -1\r\n" % (b"b" * 40), b"+FULLRESYNC %s 5 \r\n" % (b"b" * 40), b"x", b"+a\rb"]
+BAD_ANSWERS += [b"+FULLRESYNC %s %d\r\n$0\r\n" % (b"b" * 40, MOST_OFFSET + 1), b"+FULLRESYNC %s 5\r\n+OK\r\n" % (b"b" * 40)]
+# lines about as long as one may be
+LONG_ANSWERS = [b"+" + count * b"x" + b"\r\n" for count in (1022, 1023, 1024, 1025)]
+# what is there at an offset near the limit
+PAST = request("SET", "l", "w", "PXAT", "900") + request("SET", "k", "v", "PXAT", "800") + request("SET", "m", "v", "PXAT", "800")
 
 
 class Difference(AssertionError):
@@ -101,7 +108,7 @@ class Pair(Node):
         done = self.both("step", lambda: self.stepped(link, given, fresh), lambda: self.peer.step(link - 1, given.now, fresh.decode(), given.word), tell)
         self.look_at(link)
         for out in done if isinstance(done, list) else []:
-            self.counts[type(out).__name__] += 1
+            self.counts["offset limit" if out == Send(link, LIMIT) else type(out).__name__] += 1
         return done
 
     def stepped(self, link, given, fresh):
@@ -128,7 +135,7 @@ class Pair(Node):
 
     def tries(self, link):
         """Feeds and steps on a link that is closed or gone."""
-        for call in (lambda: self.feed(link, self.chance.choice([b"", b"PING\r\n"])), lambda: self.step(link, Given(0, 0), b"1" * 40)):
+        for call in (lambda: self.feed(link, self.chance.choice([b"", b"PING\r\n"])), lambda: self.step(link, Given(0), FRESH.encode())):
             try:
                 call()
             except NodeFault:
@@ -166,11 +173,13 @@ class Pair(Node):
 
 
 class Pairs(World):
-    """A world of such pairs, without a book. A node is started without keys, and under a port of its own."""
+    """A world of such pairs, without histories. A node is started without keys, and under a port of its own."""
 
     def __init__(self, program, chance, counts, backlog):
         super().__init__(backlog)
         self.program, self.chance, self.counts = program, chance, counts
+        # by node, the link to a master that is none of the nodes, and what comes on it yet
+        self.masters = {}
 
     def pair(self, number, id, is_replica):
         self.book[id], port = None, self.chance.choice([0, 6379, 65_535])
@@ -189,15 +198,17 @@ class Pairs(World):
             for end in ends:
                 if end.node == node and end.is_open:
                     self.close(end)
+        self.masters.pop(node, None)
         place.is_replica = self.chance.random() < 0.5
         place.node, place.file = self.pair(node, id, place.is_replica), b""
 
     def carry_out(self, number, outs):
+        """Some links of the node are none of the world's."""
         ends = {end.name: end for pair in self.links for end in pair if end.node == number and end.is_open}
         for out in outs:
-            if isinstance(out, Send):
+            if isinstance(out, Send) and out.link in ends:
                 ends[out.link].sent += out.data
-            elif isinstance(out, Close):
+            elif isinstance(out, Close) and out.link in ends:
                 self.close(ends[out.link])
             elif isinstance(out, Used):
                 self.book[out.id] = None
@@ -205,36 +216,74 @@ class Pairs(World):
     # ---- what no script says
 
     def plays_master(self, number, id):
-        """A node that waits dials somebody who says what masters say, or nearly so, and in any pieces."""
+        """A node that waits dials somebody who says what masters say, or nearly so, and in any pieces; or more of that comes."""
         node, chance = self.node(number), self.chance
-        if not node.waits() or node.is_stopped:
+        if node.is_stopped:
             return
-        link, _ = node.dial()
-        data = self.master_says(node, id)
-        while data and chance.random() < 0.98:
+        if node.waits():
+            self.masters[number] = node.dial()[0], self.master_says(node, id)
+        link, data = self.masters.pop(number, (None, b""))
+        if link not in node.open_ends(MASTER):
+            return
+        data = data or self.stream_says()
+        while data and chance.random() < 0.97:
             count = chance.choice([1, 7, 12, 17, 30, len(data), len(data), chance.randint(1, len(data))])
-            try:
-                node.feed(link, data[:count])
-                for _ in range(chance.randint(0, 8)):
-                    node.step(link, Given(chance.randrange(1000), 0), id)
-                if chance.random() < 0.2:
-                    node.tick(Given(chance.randrange(5000)))
-            except NodeFault:
+            if not self.hears(node, link, data[:count], id):
                 break
             data = data[count:]
-        node.close(link)
+        if chance.random() < 0.6:
+            node.close(link)
+        else:
+            self.masters[number] = link, data
+
+    def hears(self, node, link, data, id):
+        """Whether the node still listens after that."""
+        chance = self.chance
+        try:
+            node.feed(link, data)
+            for _ in range(chance.randint(0, 8)):
+                node.step(link, Given(chance.randrange(1000)), id)
+            if chance.random() < 0.2:
+                node.tick(Given(chance.randrange(5000)))
+        except NodeFault:
+            return False
+        return True
+
+    def stream_says(self):
+        return b"".join(self.chance.choice(SPOILED if self.chance.random() < 0.04 else EFFECTS) for _ in range(self.chance.randint(0, 8)))
 
     def master_says(self, node, id):
         chance = self.chance
-        if chance.random() < 0.1:
-            return GREETED[: chance.choice([0, 7, 12, 17])] + chance.choice(BAD_ANSWERS)
-        stream = b"".join(chance.choice(SPOILED if chance.random() < 0.04 else EFFECTS) for _ in range(chance.randint(0, 8)))
+        if chance.random() < 0.2:
+            return GREETED[: chance.choice([0, 7, 12, 17, 17])] + chance.choice([*BAD_ANSWERS, *LONG_ANSWERS, *LONG_ANSWERS])
+        stream = self.stream_says()
         if chance.random() < 0.4:
             return GREETED + b"+CONTINUE %s\r\n" % chance.choice([node.id, id]) + stream
         snapshot = b"".join(chance.choice(SPOILED if chance.random() < 0.03 else EFFECTS[:-1]) for _ in range(chance.randint(0, 6)))
         length = len(snapshot) + chance.choice([0, 0, 0, 0, 0, 0, 1, -1])
         offset = chance.choice([0, 27, 1000, MOST_OFFSET - chance.randint(0, 300), MOST_OFFSET])
         return GREETED + b"+FULLRESYNC %s %d\r\n$%d\r\n" % (id, offset, max(0, length)) + snapshot + stream
+
+    def nears_the_limit(self, number, id):
+        """A node that waits comes to an offset near the limit, is promoted, and has a replica and keys that expire."""
+        node, chance = self.node(number), self.chance
+        if node.is_stopped or not node.waits():
+            return
+        link, _ = node.dial()
+        full = b"+FULLRESYNC %s %d\r\n$%d\r\n" % (id[::-1], MOST_OFFSET - chance.randint(0, 100), len(PAST))
+        node.feed(link, GREETED + full + PAST)
+        for _ in range(5):
+            node.step(link, Given(0), id)
+        node.close(link)
+        for asked in (request("REPLICAOF", "NO", "ONE"), request("PSYNC", "?", "-1")):
+            link = node.open()
+            node.feed(link, asked)
+            node.step(link, Given(0), id)
+        self.book[id] = self.book[id[::-1]] = None
+        now = chance.choice([0, 0, 850, 2000])
+        for _ in range(chance.randint(2, 6)):
+            node.tick(Given(now))
+            now += chance.choice([0, 1, 9_999, 10_000, 10_001])
 
     def stops(self, number, id):
         """A node whose file failed refuses each call, and is started anew."""
@@ -251,27 +300,38 @@ class Pairs(World):
         self.restart(number, b"", id)
 
 
+# what no script says, each as often as this
+OTHERS = [(Pairs.plays_master, 0.02), (Pairs.nears_the_limit, 0.004), (Pairs.stops, 0.002)]
+
+
+def other(chance):
+    """One of these, or None."""
+    drawn = chance.random()
+    for play, often in OTHERS:
+        if drawn < often:
+            return play
+        drawn -= often
+    return None
+
+
 def compared(program, seed, counts, until):
     """Plays random events on a world; each call on a node is compared. Returns whether there was time for all."""
-    chance = random.Random(-1 - seed)
-    scripter = Scripter(seed)
+    chance, scripter = random.Random(-1 - seed), Scripter(seed)
     world = scripter.world = Pairs(program, chance, counts, scripter.backlog)
     scripter.most_nodes = chance.randint(2, 4)
     lines = scripter.lines()
     for at in range(EVENTS_OF_A_WORLD):
         if time.monotonic() > until:
             return False
-        line, drawn = None, chance.random()
+        play, line = other(chance) if world.places else None, None
         try:
-            if drawn < 0.01 and world.places:
-                world.plays_master(chance.randrange(len(world.places)), b"%040x" % (2**100 + at))
-            elif drawn < 0.012 and world.places:
-                world.stops(chance.randrange(len(world.places)), b"%040x" % (2**100 + at))
+            if play:
+                play(world, chance.randrange(len(world.places)), b"%040x" % (2**100 + at))
             else:
                 line = next(lines)
-                counts[(answer(world, line) or b"nothing").split(b" ")[0].decode()] += 1
+                answer(world, line)
         except Difference as found:
-            raise AssertionError("seed %d, event %d, %r: %s" % (seed, at, line, found)) from None
+            raise AssertionError("seed %d, event %d, %r: %s" % (seed, at, line or play, found)) from None
         except NotImplementedError:
             # bytes by chance spell what the model leaves out
             return True
@@ -279,15 +339,20 @@ def compared(program, seed, counts, until):
     return True
 
 
+def looks(program, seconds, seed):
+    """Looks at worlds for so long, and counts what there was."""
+    counts, until = Counter(), time.monotonic() + seconds
+    while compared(program, seed + counts["worlds"], counts, until):
+        counts["worlds"] += 1
+    return counts
+
+
 class Worlds(Playing):
     def test_each_call_comes_to_what_the_model_says(self):
-        counts, seed, until = Counter(), SEED, time.monotonic() + SECONDS
-        while compared(self.program, seed, counts, until):
-            seed += 1
-        for what in ("Grow", "Append", "Replace", "Send", "Close", "Used", "Follow", "Halt", "beats", "deletes", "dial", "step: no such link", "step: stopped", "feed: stopped"):
+        counts = looks(self.program, SECONDS, 0)
+        for what in ("Grow", "Append", "Replace", "Send", "Close", "Used", "Follow", "Halt", "beats", "deletes", "offset limit", "step: no such link", "step: stopped", "feed: stopped"):
             self.assertGreater(counts[what], 0, what)
-        print("%d worlds: %s" % (seed - SEED + 1, dict(counts.most_common())))
 
 
 if __name__ == "__main__":
-    unittest.main()
+    print(dict(looks(Program(), int(sys.argv[1]), int(sys.argv[2])).most_common()))
