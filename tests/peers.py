@@ -26,22 +26,33 @@ class PeerFault(Exception):
     """A node refuses a call: `stopped`, `no such link`, or `input full`."""
 
 
+class Ended(AssertionError):
+    """The program ended in place of an answer."""
+
+
 class Program:
     """The running program, which answers one line after another."""
 
-    def __init__(self):
-        self.running = subprocess.Popen([built("rehearse_peers")], stdin=subprocess.PIPE, stdout=subprocess.PIPE)
+    def __init__(self, **how):
+        self.running = subprocess.Popen([built("rehearse_peers")], stdin=subprocess.PIPE, stdout=subprocess.PIPE, bufsize=0, **how)
         self.unread, self.nodes = b"", 0
 
     def call(self, *words):
         """What came of a call, without its outs, and these."""
         line = " ".join(hexadecimal(it) if isinstance(it, bytes) else str(it) for it in words)
-        self.running.stdin.write(line.encode() + b"\n")
-        self.running.stdin.flush()
+        self.say(line.encode() + b"\n")
         answer, *outs = self.answer(line).split(";")
         if answer.startswith("refused: "):
             raise PeerFault(answer[len("refused: ") :])
         return answer, [out_of(it) for it in outs]
+
+    def say(self, data):
+        try:
+            while data:
+                data = data[self.running.stdin.write(data) :]
+        except BrokenPipeError:
+            # what it answered before is still to be read
+            pass
 
     def answer(self, line):
         output, parts = self.running.stdout.fileno(), [self.unread]
@@ -50,7 +61,7 @@ class Program:
                 raise AssertionError("no answer to: " + line[:200])
             parts.append(os.read(output, 1 << 16))
             if not parts[-1]:
-                raise AssertionError("the program ended at: " + line[:200])
+                raise Ended("the program ended at: " + line[:200])
         told, _, self.unread = b"".join(parts).partition(b"\n")
         return told.decode()
 

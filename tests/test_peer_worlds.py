@@ -4,7 +4,8 @@
     python3 tests/test_peer_worlds.py SECONDS SEED
 
 look at worlds for so long; the second one from this seed on, and it tells what there was. Meant otherwise than in the model: a link to its master that a node gave up
-is gone at that node, and a node's replicas stand in the order in which they became replicas."""
+is gone at that node; a node's replicas stand in the order in which they became replicas; and an effect that passes the offset's limit is refused at its first byte past
+the limit, as the follower's row has it, where the model waits for its last one."""
 
 import os
 import random
@@ -14,9 +15,10 @@ import unittest
 from collections import Counter
 
 from dataset_model import Given, texts
-from node_model import LIMIT, MASTER, MOST_OFFSET, REPLICA, Append, Close, Follow, Grow, Halt, Node, NodeFault, Replace, Send, Used
+from node_model import LIMIT, MASTER, MOST_OFFSET, REPLICA, UNDECODABLE, Append, Close, Follow, Grow, Halt, Node, NodeFault, Refused, Replace, Send, Used
 from peers import FRESH, GREETED, PING, Peer, PeerFault, Playing, Program
 from program import request
+from request_model import Wanted
 from world_model import Place, World, answer
 from world_scripts import Scripter
 
@@ -157,6 +159,14 @@ class Pair(Node):
     def open_ends(self, kind):
         links = super().open_ends(kind)
         return sorted(links, key=lambda it: self.ranks.get(it, 0)) if kind == REPLICA else links
+
+    def in_stream(self, link, end):
+        try:
+            return super().in_stream(link, end)
+        except Wanted:
+            if len(end.unread) > self.limit - self.offset:
+                raise Refused(UNDECODABLE) from None
+            raise
 
     # ---- what both show
 
