@@ -1,5 +1,6 @@
 pub mod Serves
 pub mod Files
+pub mod Steps
 pub mod Goings
 pub mod Deliveries
 pub mod Relaying

@@ -1,4 +1,5 @@
 pub mod Outside
+pub mod State
 pub mod Sessions
 pub mod Serving
 pub mod Piped

@@ -5,6 +5,7 @@ mod config;
 mod fault;
 mod keep;
 mod laws;
+mod pipe;
 mod relay;
 mod serve;
 
