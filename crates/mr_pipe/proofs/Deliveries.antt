@@ -11,7 +11,7 @@ use Rattle.mr_pipe.specs.State.{PipeState}
 use Rattle.mr_pipe.specs.Sessions.{AreServed, Gives, all_changes}
 use Rattle.mr_pipe.specs.Serving.{Settles, Going, Breaks, IsLeft, IsCutOff, IsDrained}
 use Rattle.mr_pipe.specs.Faults.{fault_of}
-use Rattle.mr_pipe.specs.declared.pipe.Pipe.{Pipe}
+use Rattle.mr_pipe.specs.declared.linked_node.LinkedNode.{LinkedNode}
 use Rattle.mr_pipe.specs.declared.fault.PipeFault.{PipeFault}
 use Rattle.mr_pipe.specs.declared.fault.PipeFault.TheVariants as fault
 use Rattle.mr_pipe.proofs.Serves.{serves_more, serves_join, more_moments, changes_join, changes_more}
@@ -19,7 +19,7 @@ use Rattle.mr_pipe.proofs.Files.{settled_join, settled_kept, all_begun}
 use Rattle.mr_pipe.proofs.Goings.{refuses}
 
 -- a fault in the step behind those that were served
-pub breaks : (g : Given) (s : PipeState) (u : List ℕ) (x : Outside) (p : Pipe) (y : Outside) (why : PipeFault) (z : Outside)
+pub breaks : (g : Given) (s : PipeState) (u : List ℕ) (x : Outside) (p : LinkedNode) (y : Outside) (why : PipeFault) (z : Outside)
     → (w : Going g s u x p y) → IsLeft why g w.at w.done.rest y z → Breaks g s u x why z
 breaks g s u x p y why z w h = record { at = w.at; before = y; done = w.done; left = h }
 
@@ -45,7 +45,7 @@ settles_join g s u x t y e z d n = record {
 }
 
 -- what was served before, and what is served of the bytes that came
-pub drained_join : (g : Given) (s : PipeState) (u : List ℕ) (x : Outside) (bytes : List ℕ) (t : PipeState) (y : Outside) (q : Pipe) (z : Outside)
+pub drained_join : (g : Given) (s : PipeState) (u : List ℕ) (x : Outside) (bytes : List ℕ) (t : PipeState) (y : Outside) (q : LinkedNode) (z : Outside)
     → (d : Settles g s u x t y) → (r : Result Bool PipeFault) → IsDrained g t (d.rest ++ bytes) y q z r → IsDrained g s (u ++ bytes) x q z r
 drained_join g s u x bytes t y q z d (Ok true) n = record {
   going = record {
@@ -72,7 +72,7 @@ drained_join g s u x bytes t y q z d (Err why) n = record {
 }
 
 -- the bytes were refused
-pub not_fed : (g : Given) (s : PipeState) (u : List ℕ) (x : Outside) (bytes : List ℕ) (p : Pipe) (y : Outside) (e : NodeFault)
+pub not_fed : (g : Given) (s : PipeState) (u : List ℕ) (x : Outside) (bytes : List ℕ) (p : LinkedNode) (y : Outside) (e : NodeFault)
     → Going g s u x p y → Breaks g s (u ++ bytes) x (fault_of e) y
 not_fed g s u x bytes p y e w = record {
   at = w.at;
@@ -85,7 +85,7 @@ not_fed g s u x bytes p y e w = record {
 kept_settles : (g : Given) (s : PipeState) (u : List ℕ) (x : Outside) (t : PipeState) (y z : Outside) → (d : Settles g s u x t y) → Keeps y.output z.output → z.kept ≡ y.kept → IsSettled x z (all_changes d.moments) d.said
 kept_settles g s u x t y z d k same = settled_kept x y z (all_changes d.moments) d.said d.settled k same
 
-pub flushed : (g : Given) (s : PipeState) (u : List ℕ) (x : Outside) (p : Pipe) (y z : Outside) (goes : Bool) → IsDrained g s u x p y (Ok goes) → Keeps y.output z.output → z.kept ≡ y.kept
+pub flushed : (g : Given) (s : PipeState) (u : List ℕ) (x : Outside) (p : LinkedNode) (y z : Outside) (goes : Bool) → IsDrained g s u x p y (Ok goes) → Keeps y.output z.output → z.kept ≡ y.kept
     → IsDrained g s u x p z (Ok goes)
 flushed g s u x p y z true n k same =
     let d = n.going.done in
@@ -107,7 +107,7 @@ flushed g s u x p y z false n k same = record {
   kept = same ∙ n.kept;
 }
 
-pub not_flushed : (g : Given) (s : PipeState) (u : List ℕ) (x : Outside) (p : Pipe) (y z : Outside) (goes : Bool) → IsDrained g s u x p y (Ok goes) → Keeps y.output z.output → z.kept ≡ y.kept
+pub not_flushed : (g : Given) (s : PipeState) (u : List ℕ) (x : Outside) (p : LinkedNode) (y z : Outside) (goes : Bool) → IsDrained g s u x p y (Ok goes) → Keeps y.output z.output → z.kept ≡ y.kept
     → Breaks g s u x fault.Write z
 not_flushed g s u x p y z true n k same = record { at = n.going.at; before = y; done = n.going.done; left = IsCutOff.in_flush k same }
 not_flushed g s u x p y z false n k same = record {

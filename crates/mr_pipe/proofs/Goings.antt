@@ -12,7 +12,7 @@ use Rattle.mr_pipe.specs.State.{PipeState, Stands}
 use Rattle.mr_pipe.specs.Sessions.{Moment, AreServed, Gives, IsLast, all_changes, changes_of}
 use Rattle.mr_pipe.specs.Serving.{Settles, Going, Drained, Ended, StepsOn, StepsLast, StepWaits, IsLeft, IsCutOff, IsCarriedOut}
 use Rattle.mr_pipe.specs.Faults.{fault_of}
-use Rattle.mr_pipe.specs.declared.pipe.Pipe.{Pipe}
+use Rattle.mr_pipe.specs.declared.linked_node.LinkedNode.{LinkedNode}
 use Rattle.mr_pipe.specs.declared.fault.PipeFault.{PipeFault}
 use Rattle.mr_pipe.specs.declared.fault.PipeFault.TheVariants as fault
 use Rattle.mr_pipe.proofs.Serves.{append_nil, serves_then, changes_then}
@@ -34,11 +34,11 @@ refuses refused.InputFull g s u x = refl
 refuses refused.NoLink g s u x = refl
 
 -- nothing was served yet
-abbrev pub starts : (g : Given) (s : PipeState) (u : List ℕ) (x : Outside) (p : Pipe) → Stands p s u → Going g s u x p x
+abbrev pub starts : (g : Given) (s : PipeState) (u : List ℕ) (x : Outside) (p : LinkedNode) → Stands p s u → Going g s u x p x
 starts g s u x p h = record { at = s; done = record { moments = []; rest = u; said = []; serves = (refl, refl, refl); settled = nothing_settled x }; stands = h }
 
 -- .. and one more
-pub goes_on : (g : Given) (s : PipeState) (u : List ℕ) (x : Outside) (p : Pipe) (y : Outside) (q : Pipe) (z : Outside)
+pub goes_on : (g : Given) (s : PipeState) (u : List ℕ) (x : Outside) (p : LinkedNode) (y : Outside) (q : LinkedNode) (z : Outside)
     → (w : Going g s u x p y) → StepsOn g w.at w.done.rest y q z → Going g s u x q z
 goes_on g s u x p y q z w t =
     let d = w.done in
@@ -56,7 +56,7 @@ goes_on g s u x p y q z w t =
       stands = t.stands;
     }
 
-pub drained : (g : Given) (s : PipeState) (u : List ℕ) (x : Outside) (p : Pipe) (y : Outside) (q : Pipe) (z : Outside)
+pub drained : (g : Given) (s : PipeState) (u : List ℕ) (x : Outside) (p : LinkedNode) (y : Outside) (q : LinkedNode) (z : Outside)
     → (w : Going g s u x p y) → StepWaits w.at w.done.rest y q z → Drained g s u x q z
 drained g s u x p y q z w t =
     let d = w.done in
@@ -76,7 +76,7 @@ drained g s u x p y q z w t =
     }
 
 -- the last is said, and the file is left alone
-pub ended : (g : Given) (s : PipeState) (u : List ℕ) (x : Outside) (p : Pipe) (y z : Outside) → (w : Going g s u x p y) → StepsLast w.at w.done.rest y z → Ended g s u x z
+pub ended : (g : Given) (s : PipeState) (u : List ℕ) (x : Outside) (p : LinkedNode) (y z : Outside) → (w : Going g s u x p y) → StepsLast w.at w.done.rest y z → Ended g s u x z
 ended g s u x p y z w t = record {
   at = w.at;
   before = record y { kept = z.kept };

@@ -5,3 +5,4 @@ pub mod Goings
 pub mod Deliveries
 pub mod Relaying
 pub mod Folds
+pub mod Roles

@@ -2,6 +2,7 @@
 use Rattle.std.proofs.Common.{◌≡◌, ◌≢◌, ◌+◌, ◌-◌, ◌^◌, ◌≤◌, ◌⊎◌, ℕ, List, [], ◌∷◌, ◌++◌, Bool, true, false, cond, Option, Some, None, length, min, refl, sym, ap, subst, ◌∙◌, arith, inl, inr}
 use Rattle.std.specs.Prelude.{Result, Ok, Err}
 use Rattle.std.specs.Ordering.{eq_by_cmp}
+use Rattle.std.specs.FinMap.{get-empty}
 use Rattle.std.proofs.lemmas.Cmp.{eq_by_cmp_equiv}
 use Rattle.std.proofs.lemmas.Map.Views.{tells_apart}
 use Rattle.mr_repl.specs.ReplId.{id_of_number}
@@ -10,40 +11,45 @@ use Rattle.mr_links.specs.LinkId.{id_cmp}
 use Rattle.mr_links.specs.declared.link_id.LinkId.{LinkId}
 use Rattle.mr_links.proofs.LinkRows.{ids_total, exact_ids}
 use Rattle.mr_data.specs.declared.given.Given.{Given}
+use Rattle.mr_entries.specs.Dataset.{Dataset}
 use Rattle.mr_course.specs.State.{name_of}
 use Rattle.mr_ends.specs.State.{EndState, streams}
 use Rattle.mr_ends.specs.State.EndState.{client, replica}
 use Rattle.mr_ends.specs.Replicas.{Lists, is_named}
 use Rattle.mr_info.specs.declared.roles.Replica.{Replica}
 use Rattle.mr_outs.specs.Outs.{OutsState, Output, no_output}
-use Rattle.mr_rows.specs.State.{Core, NodeState, Agrees, OthersStay, ReplicaAgrees, end_of}
+use Rattle.mr_rows.specs.State.{Core, NodeState, Agrees, OthersStay, ReplicaAgrees, end_of, started}
 use Rattle.mr_rows.specs.Telling.{Around, IsAround, link_of}
 use Rattle.mr_rows.specs.Ends.{Leaves, Settles}
 use Rattle.mr_rows.specs.Served.{Served}
 use Rattle.mr_rows.specs.ClientRows.{ClientRow, Idles, IsAnswerToPsync}
 use Rattle.mr_rows.specs.ReplicaRows.{ReplicaRow}
 use Rattle.mr_rows.specs.LinkRows.{Feeds, Opens}
+use Rattle.mr_peer.proofs.Ends.{get_other}
 use Rattle.mr_peer.specs.Steps.{ClientStep, ReplicaStep, Steps}
 use Rattle.mr_peer.specs.declared.fault.NodeFault.{NodeFault}
 use Rattle.mr_peer.specs.declared.fault.NodeFault.TheVariants as refused
 use Rattle.mr_peer.specs.declared.step.Step.{Step}
 use Rattle.mr_peer.specs.declared.step.Step.TheVariants as step
+use Rattle.mr_pipe.specs.Outside.{Outside, IsSettled}
 use Rattle.mr_pipe.specs.State.{PipeState, Stands, counted, end_as, fresh_id, most_numbered}
-use Rattle.mr_pipe.specs.Sessions.{Gives, IsLast, IsServed, TakesRole, alone, is_last, output_of}
-use Rattle.mr_pipe.specs.declared.pipe.Pipe.{Pipe}
+use Rattle.mr_pipe.specs.Sessions.{Gives, IsLast, IsServed, TakesRole, alone, changes_of, is_last, output_of}
+use Rattle.mr_pipe.specs.Serving.{StepsLast, StepsOn, StepWaits}
+use Rattle.mr_pipe.specs.Piped.{begun_with}
+use Rattle.mr_pipe.specs.declared.linked_node.LinkedNode.{LinkedNode}
 
 -- ---- counts
 same_number : (n : ℕ) → min (min n most_numbered + 1) most_numbered ≡ min (n + 1) most_numbered
 same_number n = omega arith
 
-same_fresh : (p : Pipe) (s : PipeState) (u : List ℕ) → Stands p s u → fresh_id p.used ≡ fresh_id s.used
+same_fresh : (p : LinkedNode) (s : PipeState) (u : List ℕ) → Stands p s u → fresh_id p.used ≡ fresh_id s.used
 same_fresh p s u h = ap fresh_id h.used ∙ ap id_of_number (same_number s.used)
 
 -- ---- whose the link is
-at_client : (p : Pipe) (s : PipeState) (u : List ℕ) → Stands p s u → s.replica ≡ false → Agrees p.node p.link u
+at_client : (p : LinkedNode) (s : PipeState) (u : List ℕ) → Stands p s u → s.replica ≡ false → Agrees p.node p.link u
 at_client p s u h k = record { is = h.end ∙ ap (λ b. Some (end_as b u)) k }
 
-at_replica : (p : Pipe) (s : PipeState) (u : List ℕ) → Stands p s u → s.replica ≡ true → ReplicaAgrees p.node p.link u
+at_replica : (p : LinkedNode) (s : PipeState) (u : List ℕ) → Stands p s u → s.replica ≡ true → ReplicaAgrees p.node p.link u
 at_replica p s u h k = record { is = h.end ∙ ap (λ b. Some (end_as b u)) k }
 
 -- ---- nobody is sent the stream where the link is a client's
@@ -53,13 +59,13 @@ no_true e = absurd (cc)
 no_false : {A : Type 0} → true ≡ false → A
 no_false e = absurd (cc)
 
-not_sent : (p : Pipe) (s : PipeState) (u : List ℕ) → Stands p s u → s.replica ≡ false → (x : LinkId) → streams (end_of p.node x) ≡ false
+not_sent : (p : LinkedNode) (s : PipeState) (u : List ℕ) → Stands p s u → s.replica ≡ false → (x : LinkId) → streams (end_of p.node x) ≡ false
 not_sent p s u h k x = elim (eq_by_cmp id_cmp x p.link) as (λ v. eq_by_cmp id_cmp x p.link ≡ v → streams (end_of p.node x) ≡ false) [
   | true ↦ λ e. ap (λ l. streams (end_of p.node l)) (tells_apart exact_ids x p.link e) ∙ ap streams (at_client p s u h k).is
   | false ↦ λ e. ap streams (h.alone x (λ is. no_false (sym (ap (λ l. eq_by_cmp id_cmp l p.link) is ∙ (eq_by_cmp_equiv ids_total).refl p.link) ∙ e)))
 ] refl
 
-none_listed : (p : Pipe) (s : PipeState) (u : List ℕ) (names : List LinkId) → Stands p s u → s.replica ≡ false → Lists names p.node.ends.open_links → names ≡ []
+none_listed : (p : LinkedNode) (s : PipeState) (u : List ℕ) (names : List LinkId) → Stands p s u → s.replica ≡ false → Lists names p.node.ends.open_links → names ≡ []
 none_listed p s u [] h k listed = refl
 none_listed p s u (x ∷ names) h k listed =
     no_true (sym (not_sent p s u h k x) ∙ (sym (listed.each x) ∙ ap (λ b. cond b true (is_named names x)) ((eq_by_cmp_equiv ids_total).refl x)))
@@ -68,7 +74,7 @@ no_items : {A : Type 0} (xs : List A) → length xs ≡ 0 → xs ≡ []
 no_items [] e = refl
 no_items (x ∷ xs) e = absurd (cc)
 
-is_alone : (p : Pipe) (s : PipeState) (u : List ℕ) (around : Around) → Stands p s u → s.replica ≡ false → IsAround p.node around → around ≡ alone
+is_alone : (p : LinkedNode) (s : PipeState) (u : List ℕ) (around : Around) → Stands p s u → s.replica ≡ false → IsAround p.node around → around ≡ alone
 is_alone p s u around h k is =
     let few : around.replicas ≡ [] = no_items around.replicas (is.counted ∙ ap length (none_listed p s u is.names h k is.listed)) in
     let apart : around.link ≡ alone.link = is.link ∙ ap link_of h.follow in
@@ -76,16 +82,16 @@ is_alone p s u around h k is =
 
 -- ---- what a row comes to
 -- A step goes on, or was the last.
-pub data Goes (g : Given) (s : PipeState) (u : List ℕ) (q : Pipe) (outs : OutsState) : Type 0 where
+pub data Goes (g : Given) (s : PipeState) (u : List ℕ) (q : LinkedNode) (outs : OutsState) : Type 0 where
   on : is_last outs ≡ false → (t : PipeState) (rest : List ℕ) → IsServed g s u t rest (output_of outs) → Stands q t rest → Goes g s u q outs
-  last : is_last outs ≡ true → (last : List ℕ) → IsLast s u last → output_of outs ≡ record no_output { said = last } → Goes g s u q outs
+  last : is_last outs ≡ true → (told : List ℕ) → IsLast s u told → output_of outs ≡ record no_output { said = told } → Goes g s u q outs
 
 -- the pipe behind a step of its node
-abbrev pub behind : Pipe → NodeState → OutsState → Pipe
+abbrev pub behind : LinkedNode → NodeState → OutsState → LinkedNode
 behind p b outs = record { node = b; link = p.link; used = counted outs.used p.used }
 
 -- .. stands where the row leaves it
-left : (p : Pipe) (s t : PipeState) (u rest : List ℕ) (b : NodeState) (outs : OutsState) → Stands p s u → b.core ≡ t.core → end_of b p.link ≡ Some (end_as t.replica rest)
+left : (p : LinkedNode) (s t : PipeState) (u rest : List ℕ) (b : NodeState) (outs : OutsState) → Stands p s u → b.core ≡ t.core → end_of b p.link ≡ Some (end_as t.replica rest)
     → ((x : LinkId) → x ≢ p.link → end_of b x ≡ end_of p.node x) → b.follow ≡ None → counted outs.used p.used ≡ min t.used most_numbered → Stands (behind p b outs) t rest
 left p s t u rest b outs h core end others follow used = record {
   core = core;
@@ -95,16 +101,16 @@ left p s t u rest b outs h core end others follow used = record {
   used = used;
 }
 
-uncounted : (p : Pipe) (s : PipeState) (u : List ℕ) (outs : OutsState) → Stands p s u → outs.used ≡ None → counted outs.used p.used ≡ min s.used most_numbered
+uncounted : (p : LinkedNode) (s : PipeState) (u : List ℕ) (outs : OutsState) → Stands p s u → outs.used ≡ None → counted outs.used p.used ≡ min s.used most_numbered
 uncounted p s u outs h none = ap (λ o. counted o p.used) none ∙ h.used
 
-not_followed : (p : Pipe) (s : PipeState) (u : List ℕ) (x : LinkId) → Stands p s u → name_of p.node.follow ≢ Some x
+not_followed : (p : LinkedNode) (s : PipeState) (u : List ℕ) (x : LinkId) → Stands p s u → name_of p.node.follow ≢ Some x
 not_followed p s u x h e = let wrong : None ≡ Some x = sym (ap name_of h.follow) ∙ e in absurd (none_some x wrong)
   where
     none_some : (x : LinkId) → ◌≡◌ {A = Option LinkId} None (Some x) → ⊥
     none_some x e = cc
 
-client_goes : (g : Given) (s : PipeState) (u : List ℕ) (p : Pipe) (b : NodeState) (outs : OutsState) → Stands p s u → s.replica ≡ false
+client_goes : (g : Given) (s : PipeState) (u : List ℕ) (p : LinkedNode) (b : NodeState) (outs : OutsState) → Stands p s u → s.replica ≡ false
     → ClientRow p.node p.link u g (fresh_id p.used) b outs → Goes g s u (behind p b outs) outs
 client_goes g s u p b outs h k (ClientRow.serves r) =
     let t : PipeState = record s { core = b.core } in
@@ -149,7 +155,7 @@ client_goes g s u p b outs h k (ClientRow.demotes r) =
     none_is : (x : LinkId) → ◌≢◌ {A = Option LinkId} None (Some x)
     none_is x e = cc
 
-replica_goes : (g : Given) (s : PipeState) (u : List ℕ) (p : Pipe) (b : NodeState) (outs : OutsState) → Stands p s u → s.replica ≡ true → ReplicaRow p.node p.link u b outs → Goes g s u (behind p b outs) outs
+replica_goes : (g : Given) (s : PipeState) (u : List ℕ) (p : LinkedNode) (b : NodeState) (outs : OutsState) → Stands p s u → s.replica ≡ true → ReplicaRow p.node p.link u b outs → Goes g s u (behind p b outs) outs
 replica_goes g s u p b outs h k (ReplicaRow.notes r) =
     Goes.on (ap is_last r.outs_are) s r.rest (IsServed.notes k r.expected refl (ap output_of r.outs_are))
     (left p s s u r.rest b outs h (r.core ∙ h.core) (r.leaves.is ∙ ap (λ z. Some (end_as z r.rest)) (sym k)) r.leaves.others.stay (r.leaves.follow ∙ h.follow) (uncounted p s u outs h (ap (λ (o : OutsState). o.used) r.outs_are)))
@@ -167,11 +173,11 @@ runs a l g fresh b r h = elim a.core.up as (λ v. a.core.up ≡ v → a.core.up 
     told r e = cc
 
 -- whose step it is
-pub data Stepping (g : Given) (s : PipeState) (u : List ℕ) (p : Pipe) (b : NodeState) (r : Step) : Type 0 where
+pub data Stepping (g : Given) (s : PipeState) (u : List ℕ) (p : LinkedNode) (b : NodeState) (r : Step) : Type 0 where
   of_client : s.replica ≡ false → ClientStep p.node p.link u g (fresh_id p.used) b (Ok r) → Stepping g s u p b r
   of_replica : s.replica ≡ true → ReplicaStep p.node p.link u b (Ok r) → Stepping g s u p b r
 
-stepping : (g : Given) (s : PipeState) (u : List ℕ) (p : Pipe) (b : NodeState) (r : Step) → Stands p s u → Steps p.node p.link g (fresh_id p.used) b (Ok r) → Stepping g s u p b r
+stepping : (g : Given) (s : PipeState) (u : List ℕ) (p : LinkedNode) (b : NodeState) (r : Step) → Stands p s u → Steps p.node p.link g (fresh_id p.used) b (Ok r) → Stepping g s u p b r
 stepping g s u p b r h steps =
     let up = runs p.node p.link g (fresh_id p.used) b r steps in
     elim s.replica as (λ v. s.replica ≡ v → Stepping g s u p b r) [
@@ -179,21 +185,21 @@ stepping g s u p b r h steps =
       | false ↦ λ k. Stepping.of_client k (steps.at_client u (record { up = up; agrees = at_client p s u h k }))
     ] refl
 
-pub goes : (g : Given) (s : PipeState) (u : List ℕ) (p : Pipe) (b : NodeState) (outs : OutsState) → Stands p s u → Steps p.node p.link g (fresh_id p.used) b (Ok (step.Done outs)) → Goes g s u (behind p b outs) outs
+pub goes : (g : Given) (s : PipeState) (u : List ℕ) (p : LinkedNode) (b : NodeState) (outs : OutsState) → Stands p s u → Steps p.node p.link g (fresh_id p.used) b (Ok (step.Done outs)) → Goes g s u (behind p b outs) outs
 goes g s u p b outs h steps = by_end (stepping g s u p b (step.Done outs) h steps)
   where
     by_end : Stepping g s u p b (step.Done outs) → Goes g s u (behind p b outs) outs
     by_end (Stepping.of_client k row) = client_goes g s u p b outs h k row
     by_end (Stepping.of_replica k row) = replica_goes g s u p b outs h k row
 
-pub idles : (g : Given) (s : PipeState) (u : List ℕ) (p : Pipe) (b : NodeState) → Stands p s u → Steps p.node p.link g (fresh_id p.used) b (Ok step.Idle) → Idles p.node u b
+pub idles : (g : Given) (s : PipeState) (u : List ℕ) (p : LinkedNode) (b : NodeState) → Stands p s u → Steps p.node p.link g (fresh_id p.used) b (Ok step.Idle) → Idles p.node u b
 idles g s u p b h steps = by_end (stepping g s u p b step.Idle h steps)
   where
     by_end : Stepping g s u p b step.Idle → Idles p.node u b
     by_end (Stepping.of_client k row) = row
     by_end (Stepping.of_replica k row) = row
 
-pub never_closed : (g : Given) (s : PipeState) (u : List ℕ) (p : Pipe) (b : NodeState) → Stands p s u → Steps p.node p.link g (fresh_id p.used) b (Ok step.Closed) → ⊥
+pub never_closed : (g : Given) (s : PipeState) (u : List ℕ) (p : LinkedNode) (b : NodeState) → Stands p s u → Steps p.node p.link g (fresh_id p.used) b (Ok step.Closed) → ⊥
 never_closed g s u p b h steps = by_end (stepping g s u p b step.Closed h steps)
   where
     by_end : Stepping g s u p b step.Closed → ⊥
@@ -201,13 +207,13 @@ never_closed g s u p b h steps = by_end (stepping g s u p b step.Closed h steps)
     by_end (Stepping.of_replica k row) = row
 
 -- what it gives out
-pub gives : (g : Given) (s : PipeState) (u : List ℕ) (q : Pipe) (outs : OutsState) → Goes g s u q outs → Gives g s u (output_of outs)
+pub gives : (g : Given) (s : PipeState) (u : List ℕ) (q : LinkedNode) (outs : OutsState) → Goes g s u q outs → Gives g s u (output_of outs)
 gives g s u q outs (Goes.on more t rest served stands) = Gives.serves t rest served
-gives g s u q outs (Goes.last none last ends is) = Gives.ends last ends is
+gives g s u q outs (Goes.last none told ends is) = Gives.ends told ends is
 
 -- ---- links
 -- bytes came
-pub hears : (p : Pipe) (s : PipeState) (u bytes : List ℕ) (b : NodeState) → Stands p s u → Feeds p.node p.link bytes b → Stands (record p { node = b }) s (u ++ bytes)
+pub hears : (p : LinkedNode) (s : PipeState) (u bytes : List ℕ) (b : NodeState) → Stands p s u → Feeds p.node p.link bytes b → Stands (record p { node = b }) s (u ++ bytes)
 hears p s u bytes b h f = record {
   core = f.core ∙ h.core;
   end = elim s.replica as (λ v. s.replica ≡ v → end_of b p.link ≡ Some (end_as s.replica (u ++ bytes))) [
@@ -218,3 +224,32 @@ hears p s u bytes b h f = record {
   follow = f.follow (not_followed p s u p.link h) ∙ h.follow;
   used = h.used;
 }
+
+-- a link was opened
+pub opened : (a b : NodeState) (l : LinkId) (id : List ℕ) (held : Dataset) → a ≡ started false 0 1048576 id held → Opens a l b → Stands (record { node = b; link = l; used = 0 }) (begun_with id held) []
+opened a b l id held is o = record {
+  core = ap (λ (z : NodeState). z.core) o.node ∙ ap (λ (z : NodeState). z.core) is;
+  end = o.agrees.is;
+  alone = λ x ne. ap (λ (z : NodeState). end_of z x) o.node ∙ (get_other a.ends.open_links l (client []) x ne ∙ (ap (λ (z : NodeState). end_of z x) is ∙ get-empty id_cmp x));
+  follow = ap (λ (z : NodeState). z.follow) o.node ∙ ap (λ (z : NodeState). z.follow) is;
+  used = refl;
+}
+
+-- ---- .. and what is settled of it
+pub steps_last : (g : Given) (s : PipeState) (u : List ℕ) (q : LinkedNode) (outs : OutsState) (x y : Outside) → Goes g s u q outs → is_last outs ≡ true → IsSettled x y (changes_of (output_of outs)) outs.reply → StepsLast s u x y
+steps_last g s u q outs x y (Goes.on more t rest served stands) e settled = no_false (sym e ∙ more)
+steps_last g s u q outs x y (Goes.last none told ends is) e settled = record { last = told; ends = ends; out = output_of outs; out_is = is; settled = settled }
+
+pub steps_on : (g : Given) (s : PipeState) (u : List ℕ) (q r : LinkedNode) (outs : OutsState) (x y : Outside) → Goes g s u q outs → is_last outs ≡ false → r ≡ q → IsSettled x y (changes_of (output_of outs)) outs.reply → StepsOn g s u x r y
+steps_on g s u q r outs x y (Goes.on more t rest served stands) e same settled = record {
+  at = t;
+  rest = rest;
+  out = output_of outs;
+  served = served;
+  stands = subst (λ n. Stands n t rest) (sym same) stands;
+  settled = settled;
+}
+steps_on g s u q r outs x y (Goes.last none told ends is) e same settled = no_false (sym none ∙ e)
+
+pub step_waits : (s : PipeState) (u : List ℕ) (p : LinkedNode) (b : NodeState) (x : Outside) → Stands p s u → Idles p.node u b → StepWaits s u x (record p { node = b }) x
+step_waits s u p b x h i = record { waits = i.waits; stands = subst (λ (n : NodeState). Stands (record p { node = n }) s u) (sym i.same) h; same = refl }

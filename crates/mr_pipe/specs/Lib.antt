@@ -6,3 +6,4 @@ pub mod Piped
 pub mod Reading
 pub mod Faults
 pub mod Folding
+pub mod Roles

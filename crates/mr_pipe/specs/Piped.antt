@@ -11,7 +11,7 @@ use Rattle.mr_pipe.specs.Outside.{Outside, Kept, IsSettled}
 use Rattle.mr_pipe.specs.State.{PipeState}
 use Rattle.mr_pipe.specs.Sessions.{Moment, AreServed, IsLast, all_changes}
 use Rattle.mr_pipe.specs.Serving.{Drained, Ended, Breaks}
-use Rattle.mr_pipe.specs.declared.pipe.Pipe.{Pipe}
+use Rattle.mr_pipe.specs.declared.linked_node.LinkedNode.{LinkedNode}
 use Rattle.mr_pipe.specs.declared.fault.PipeFault.{PipeFault}
 use Rattle.mr_pipe.specs.declared.relay.Round.{Round}
 use Rattle.mr_pipe.specs.declared.relay.Round.TheVariants as round
@@ -62,7 +62,7 @@ abbrev pub IsPipedAlone : Given → PipeState → Option (List ℕ) → Option (
 IsPipedAlone g s before after old new result = (kept : Kept) × IsPiped g s before after (record { output = old; kept = no_file }) (record { output = new; kept = kept }) result
 
 -- Bytes were read, and no whole request of them is left.
-pub record Relays (g : Given) (s : PipeState) (u : List ℕ) (x : Outside) (before after : Option (List ℕ)) (p : Pipe) (y : Outside) : Type 0 where
+pub record Relays (g : Given) (s : PipeState) (u : List ℕ) (x : Outside) (before after : Option (List ℕ)) (p : LinkedNode) (y : Outside) : Type 0 where
   pub read : List ℕ
   pub consumed : Consumes before after read
   pub drained : Drained g s (u ++ read) x p y
@@ -74,7 +74,7 @@ pub record RelaysClose (g : Given) (s : PipeState) (u : List ℕ) (x : Outside) 
   pub ended : Ended g s (u ++ read) x y
 
 -- Nothing is left to read.
-pub record RelaysEnd (g : Given) (s : PipeState) (u : List ℕ) (x : Outside) (before after : Option (List ℕ)) (p : Pipe) (y : Outside) : Type 0 where
+pub record RelaysEnd (g : Given) (s : PipeState) (u : List ℕ) (x : Outside) (before after : Option (List ℕ)) (p : LinkedNode) (y : Outside) : Type 0 where
   pub all : Relays g s u x before after p y
   pub at_end : IsAtEnd after
 
@@ -84,7 +84,7 @@ pub record RelaysBreak (g : Given) (s : PipeState) (u : List ℕ) (x : Outside) 
   pub consumed : Consumes before after read
   pub breaks : Breaks g s (u ++ read) x why y
 
-abbrev pub IsRound : Given → PipeState → List ℕ → Outside → Option (List ℕ) → Option (List ℕ) → Pipe → Outside → Result Round PipeFault → Type 0
+abbrev pub IsRound : Given → PipeState → List ℕ → Outside → Option (List ℕ) → Option (List ℕ) → LinkedNode → Outside → Result Round PipeFault → Type 0
 IsRound g s u x before after p y (Ok round.On) = Relays g s u x before after p y
 IsRound g s u x before after p y (Ok round.End) = RelaysEnd g s u x before after p y
 IsRound g s u x before after p y (Ok round.Shut) = RelaysClose g s u x before after y

@@ -7,7 +7,7 @@ use Rattle.mr_rows.specs.Requests.{Waits}
 use Rattle.mr_pipe.specs.Outside.{Outside, Filed, IsTorn, IsBegun, IsSettled}
 use Rattle.mr_pipe.specs.State.{PipeState, Stands}
 use Rattle.mr_pipe.specs.Sessions.{Moment, AreServed, Gives, IsLast, IsServed, all_changes, changes_of}
-use Rattle.mr_pipe.specs.declared.pipe.Pipe.{Pipe}
+use Rattle.mr_pipe.specs.declared.linked_node.LinkedNode.{LinkedNode}
 use Rattle.mr_pipe.specs.declared.fault.PipeFault.{PipeFault}
 use Rattle.mr_pipe.specs.declared.fault.PipeFault.TheVariants as fault
 use Rattle.mr_pipe.specs.declared.serve.Stepped.{Stepped}
@@ -23,13 +23,13 @@ pub record Settles (g : Given) (s : PipeState) (u : List ℕ) (x : Outside) (t :
   pub settled : IsSettled x y (all_changes moments) said
 
 -- .. and what is left is unread on the link.
-pub record Going (g : Given) (s : PipeState) (u : List ℕ) (x : Outside) (p : Pipe) (y : Outside) : Type 0 where
+pub record Going (g : Given) (s : PipeState) (u : List ℕ) (x : Outside) (p : LinkedNode) (y : Outside) : Type 0 where
   pub at : PipeState
   pub done : Settles g s u x at y
   pub stands : Stands p at done.rest
 
 -- .. which is less than a request.
-pub record Drained (g : Given) (s : PipeState) (u : List ℕ) (x : Outside) (p : Pipe) (y : Outside) : Type 0 where
+pub record Drained (g : Given) (s : PipeState) (u : List ℕ) (x : Outside) (p : LinkedNode) (y : Outside) : Type 0 where
   pub going : Going g s u x p y
   pub waits : Waits going.done.rest
 
@@ -71,13 +71,13 @@ pub record Breaks (g : Given) (s : PipeState) (u : List ℕ) (x : Outside) (why 
   pub done : Settles g s u x at before
   pub left : IsLeft why g at done.rest before y
 
-abbrev pub IsDrained : Given → PipeState → List ℕ → Outside → Pipe → Outside → Result Bool PipeFault → Type 0
+abbrev pub IsDrained : Given → PipeState → List ℕ → Outside → LinkedNode → Outside → Result Bool PipeFault → Type 0
 IsDrained g s u x p y (Ok true) = Drained g s u x p y
 IsDrained g s u x p y (Ok false) = Ended g s u x y
 IsDrained g s u x p y (Err why) = Breaks g s u x why y
 
 -- A step used something, and more may be served.
-pub record StepsOn (g : Given) (s : PipeState) (u : List ℕ) (x : Outside) (p : Pipe) (y : Outside) : Type 0 where
+pub record StepsOn (g : Given) (s : PipeState) (u : List ℕ) (x : Outside) (p : LinkedNode) (y : Outside) : Type 0 where
   pub at : PipeState
   pub rest : List ℕ
   pub out : Output
@@ -94,12 +94,12 @@ pub record StepsLast (s : PipeState) (u : List ℕ) (x y : Outside) : Type 0 whe
   pub settled : IsSettled x y (changes_of out) out.said
 
 -- A step found no whole request.
-pub record StepWaits (s : PipeState) (u : List ℕ) (x : Outside) (p : Pipe) (y : Outside) : Type 0 where
+pub record StepWaits (s : PipeState) (u : List ℕ) (x : Outside) (p : LinkedNode) (y : Outside) : Type 0 where
   pub waits : Waits u
   pub stands : Stands p s u
   pub same : y ≡ x
 
-abbrev pub IsStepped : Given → PipeState → List ℕ → Outside → Pipe → Outside → Result Stepped PipeFault → Type 0
+abbrev pub IsStepped : Given → PipeState → List ℕ → Outside → LinkedNode → Outside → Result Stepped PipeFault → Type 0
 IsStepped g s u x p y (Ok stepped.Waits) = StepWaits s u x p y
 IsStepped g s u x p y (Ok stepped.On) = StepsOn g s u x p y
 IsStepped g s u x p y (Ok stepped.Shut) = StepsLast s u x y

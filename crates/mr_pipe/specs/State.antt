@@ -5,7 +5,7 @@ use Rattle.mr_links.specs.declared.link_id.LinkId.{LinkId}
 use Rattle.mr_ends.specs.State.{EndState}
 use Rattle.mr_ends.specs.State.EndState.{client, replica}
 use Rattle.mr_rows.specs.State.{Core, end_of}
-use Rattle.mr_pipe.specs.declared.pipe.Pipe.{Pipe}
+use Rattle.mr_pipe.specs.declared.linked_node.LinkedNode.{LinkedNode}
 
 pub record PipeState : Type 0 where
   pub core : Core  -- the node, its links apart
@@ -31,7 +31,7 @@ end_as true unread = replica unread
 end_as false unread = client unread
 
 -- The node has one link, with these unread bytes, and the link to a master isn't there.
-pub record Stands (p : Pipe) (s : PipeState) (unread : List ℕ) : Type 0 where
+pub record Stands (p : LinkedNode) (s : PipeState) (unread : List ℕ) : Type 0 where
   pub core : p.node.core ≡ s.core
   pub end : end_of p.node p.link ≡ Some (end_as s.replica unread)
   pub alone : (x : LinkId) → x ≢ p.link → end_of p.node x ≡ None

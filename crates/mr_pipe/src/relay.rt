@@ -9,7 +9,7 @@ ghost use Rattle.mr_pipe.specs.Reading.{IsRead};
 
 use crate::config::PipeConfig;
 use crate::fault::PipeFault;
-use crate::pipe::Pipe;
+use crate::linked_node::LinkedNode;
 use crate::serve::deliver;
 use mr_aof::Log;
 use mr_data::{Dataset, Given};
@@ -52,7 +52,7 @@ fn read_piece<R: Read>(input: &mut R, buffer: &mut [u8]) -> Result<Option<usize>
 
 /// Reads once, and serves what came. What was written goes out before the next read.
 fn serve_piece<F: LogFile, R: Read, W: Write>(
-    pipe: &mut Pipe,
+    linked: &mut LinkedNode,
     given: Given,
     log: &mut Log<F>,
     input: &mut R,
@@ -60,10 +60,10 @@ fn serve_piece<F: LogFile, R: Read, W: Write>(
     output: &mut W,
 ) -> Result<Round, PipeFault>
     requires { 0 < length buffer.old }
-    ensures { (s : PipeState) (u : List ℕ) (x : Outside) → Drained given s u x pipe.old (outside W.contents F.told F.synced F.failures output.old log.old)
-        → IsRound given s u x (R.remaining input.old) (R.remaining input.new) pipe.new (outside W.contents F.told F.synced F.failures output.new log.new) result }
+    ensures { (s : PipeState) (u : List ℕ) (x : Outside) → Drained given s u x linked.old (outside W.contents F.told F.synced F.failures output.old log.old)
+        → IsRound given s u x (R.remaining input.old) (R.remaining input.new) linked.new (outside W.contents F.told F.synced F.failures output.new log.new) result }
 {
-    let room = pipe.node.room(pipe.link).unwrap_or(0);
+    let room = linked.node.room(linked.link).unwrap_or(0);
     let most = room.min(buffer.len());
     if most == 0 {
         return Err(PipeFault::Memory);
@@ -75,7 +75,7 @@ fn serve_piece<F: LogFile, R: Read, W: Write>(
     if count == 0 {
         return Ok(Round::End);
     }
-    let goes_on = deliver(pipe, given, &piece[..count], log, output)?;
+    let goes_on = deliver(linked, given, &piece[..count], log, output)?;
     if goes_on {
         return Ok(Round::On);
     }
@@ -84,7 +84,7 @@ fn serve_piece<F: LogFile, R: Read, W: Write>(
 
 /// Reads to the end, or to the request that is the last, and serves all.
 fn relay<F: LogFile, R: Read, W: Write>(
-    pipe: &mut Pipe,
+    linked: &mut LinkedNode,
     given: Given,
     log: &mut Log<F>,
     input: &mut R,
@@ -92,11 +92,11 @@ fn relay<F: LogFile, R: Read, W: Write>(
     output: &mut W,
 ) -> Result<(), PipeFault>
     requires { 0 < length buffer.old }
-    ensures { (s : PipeState) → Stands pipe.old s [] → IsPiped given s (R.remaining input.old) (R.remaining input.new)
+    ensures { (s : PipeState) → Stands linked.old s [] → IsPiped given s (R.remaining input.old) (R.remaining input.new)
         (outside W.contents F.told F.synced F.failures output.old log.old) (outside W.contents F.told F.synced F.failures output.new log.new) result }
 {
     for _round in 0..u64::MAX {
-        match serve_piece(pipe, given, log, input, buffer, output)? {
+        match serve_piece(linked, given, log, input, buffer, output)? {
             Round::On => {}
             Round::End => return Ok(()),
             Round::Shut => return Ok(()),
@@ -125,9 +125,9 @@ pub fn pipe_with<F: LogFile, R: Read, W: Write>(
     let Ok(mut buffer) = vec![in alloc; 0u8; PIECE] else {
         return Err(PipeFault::Memory);
     };
-    let mut pipe = Pipe::begin(alloc, config.id, dataset)?;
+    let mut linked = LinkedNode::begin(alloc, config.id, dataset)?;
     relay(
-        &mut pipe,
+        &mut linked,
         config.given,
         log,
         input,

@@ -7,7 +7,7 @@ ghost use Rattle.mr_pipe.specs.Serving.{Going, IsCarriedOut, IsDrained, IsSteppe
 
 use crate::fault::PipeFault;
 use crate::keep::{change_file, write_out};
-use crate::pipe::Pipe;
+use crate::linked_node::LinkedNode;
 use mr_aof::Log;
 use mr_data::Given;
 use mr_file::LogFile;
@@ -47,22 +47,22 @@ fn is_last(outs: &Outs) -> bool
 
 /// One step, whose changes of the file are made before its reply is written.
 fn step_once<F: LogFile, W: Write>(
-    pipe: &mut Pipe,
+    linked: &mut LinkedNode,
     given: Given,
     log: &mut Log<F>,
     output: &mut W,
 ) -> Result<Stepped, PipeFault>
-    ensures { (s : PipeState) (u : List ℕ) → Stands pipe.old s u → IsStepped given s u (outside W.contents F.told F.synced F.failures output.old log.old) pipe.new (outside W.contents F.told F.synced F.failures output.new log.new) result }
+    ensures { (s : PipeState) (u : List ℕ) → Stands linked.old s u → IsStepped given s u (outside W.contents F.told F.synced F.failures output.old log.old) linked.new (outside W.contents F.told F.synced F.failures output.new log.new) result }
 {
-    let fresh = pipe.fresh();
-    match pipe.node.step(pipe.link, given, fresh)? {
+    let fresh = linked.fresh();
+    match linked.node.step(linked.link, given, fresh)? {
         Step::Idle => Ok(Stepped::Waits),
         Step::Closed => Ok(Stepped::Shut),
         Step::Done(outs) => {
             carry_out(&outs, log, output)?;
-            pipe.count(&outs);
+            linked.count(&outs);
             let last = is_last(&outs);
-            pipe.node.reuse(outs);
+            linked.node.reuse(outs);
             if last {
                 return Ok(Stepped::Shut);
             }
@@ -73,15 +73,15 @@ fn step_once<F: LogFile, W: Write>(
 
 /// Serves requests until none is whole, or one is the last (false).
 fn drain<F: LogFile, W: Write>(
-    pipe: &mut Pipe,
+    linked: &mut LinkedNode,
     given: Given,
     log: &mut Log<F>,
     output: &mut W,
 ) -> Result<bool, PipeFault>
-    ensures { (s : PipeState) (u : List ℕ) → Stands pipe.old s u → IsDrained given s u (outside W.contents F.told F.synced F.failures output.old log.old) pipe.new (outside W.contents F.told F.synced F.failures output.new log.new) result }
+    ensures { (s : PipeState) (u : List ℕ) → Stands linked.old s u → IsDrained given s u (outside W.contents F.told F.synced F.failures output.old log.old) linked.new (outside W.contents F.told F.synced F.failures output.new log.new) result }
 {
     for _step in 0..u64::MAX {
-        match step_once(pipe, given, log, output)? {
+        match step_once(linked, given, log, output)? {
             Stepped::Waits => return Ok(true),
             Stepped::Shut => return Ok(false),
             Stepped::On => {}
@@ -93,31 +93,31 @@ fn drain<F: LogFile, W: Write>(
 /// Bytes come, and are served; false once a request was the last. However they were cut before, the answer is that of all of them
 /// together.
 fn serve_bytes<F: LogFile, W: Write>(
-    pipe: &mut Pipe,
+    linked: &mut LinkedNode,
     given: Given,
     bytes: &[u8],
     log: &mut Log<F>,
     output: &mut W,
 ) -> Result<bool, PipeFault>
-    ensures { (s : PipeState) (u : List ℕ) (x : Outside) → Going given s u x pipe.old (outside W.contents F.told F.synced F.failures output.old log.old)
-        → IsDrained given s (u ++ bytes.now) x pipe.new (outside W.contents F.told F.synced F.failures output.new log.new) result }
+    ensures { (s : PipeState) (u : List ℕ) (x : Outside) → Going given s u x linked.old (outside W.contents F.told F.synced F.failures output.old log.old)
+        → IsDrained given s (u ++ bytes.now) x linked.new (outside W.contents F.told F.synced F.failures output.new log.new) result }
 {
-    pipe.node.feed(pipe.link, bytes)?;
-    drain(pipe, given, log, output)
+    linked.node.feed(linked.link, bytes)?;
+    drain(linked, given, log, output)
 }
 
 /// Bytes come, and are served; false once a request was the last. What was written goes out.
 pub(crate) fn deliver<F: LogFile, W: Write>(
-    pipe: &mut Pipe,
+    linked: &mut LinkedNode,
     given: Given,
     bytes: &[u8],
     log: &mut Log<F>,
     output: &mut W,
 ) -> Result<bool, PipeFault>
-    ensures { (s : PipeState) (u : List ℕ) (x : Outside) → Going given s u x pipe.old (outside W.contents F.told F.synced F.failures output.old log.old)
-        → IsDrained given s (u ++ bytes.now) x pipe.new (outside W.contents F.told F.synced F.failures output.new log.new) result }
+    ensures { (s : PipeState) (u : List ℕ) (x : Outside) → Going given s u x linked.old (outside W.contents F.told F.synced F.failures output.old log.old)
+        → IsDrained given s (u ++ bytes.now) x linked.new (outside W.contents F.told F.synced F.failures output.new log.new) result }
 {
-    let goes_on = serve_bytes(pipe, given, bytes, log, output)?;
+    let goes_on = serve_bytes(linked, given, bytes, log, output)?;
     if output.flush().is_err() {
         return Err(PipeFault::Write);
     }

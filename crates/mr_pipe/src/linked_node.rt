@@ -16,16 +16,16 @@ const BACKLOG: usize = 1_048_576;
 
 /// A node, the link of its one client, and how many fresh ids were taken. The count stays at its greatest.
 #[derive(Drop)]
-pub(crate) struct Pipe {
+pub(crate) struct LinkedNode {
     pub(crate) node: Node,
     pub(crate) link: LinkId,
     pub(crate) used: u64,
 }
 
-impl Pipe {
+impl LinkedNode {
     /// A node with this dataset, and a client's link of it.
-    pub(crate) fn begin(alloc: Global, id: ReplId, dataset: Dataset) -> Result<Pipe, PipeFault>
-        ensures stands { IfOk result (λ pipe. Stands pipe (begun_with id dataset) []) }
+    pub(crate) fn begin(alloc: Global, id: ReplId, dataset: Dataset) -> Result<LinkedNode, PipeFault>
+        ensures stands { IfOk result (λ linked. Stands linked (begun_with id dataset) []) }
         ensures fault { IfErr result (λ e. (e ≡ PipeFault.Memory) ⊎ (e ≡ PipeFault.Stopped)) }
     {
         let Some(config) = Config::new(false, 0, BACKLOG) else {
@@ -35,7 +35,7 @@ impl Pipe {
             return Err(PipeFault::Memory);
         };
         let link = node.open()?;
-        Ok(Pipe {
+        Ok(LinkedNode {
             node,
             link,
             used: 0,
