@@ -105,12 +105,15 @@ fn relay<F: LogFile, R: Read, W: Write>(
     Err(PipeFault::Read)
 }
 
-/// Answers the requests that the input has, one after another, as one client's of a node that begins with this dataset. The texts of
-/// a request's effects are in the log's file before its reply is written, synced in the mode `Always`; a request that has the file
-/// written anew is answered once the new file stands in the place of the old, synced in either mode. Each reply is written
-/// before the next step, and out before the next read. Where it answers `Ok`, the input was read to its end, or to the request that
-/// broke the protocol, to QUIT or to SHUTDOWN, and what was written is exactly the replies to it. After a fault it is a beginning of them: nothing of
-/// the reply to a request whose changes of the file weren't made.
+/// Answers the requests that the input has, one after another, as one client's of a node that begins as a master with this
+/// dataset. The texts of a request's effects are in the log's file before its reply is written, synced in the mode `Always`; a
+/// request that has the file written anew is answered once the new file stands in the place of the old, synced in either mode.
+/// Each reply is written before the next step, and out before the next read. A request may make the link a replica's, which is
+/// sent nothing more, or the node a replica, which dials nobody, or a master again under a fresh id.
+///
+/// Where it answers `Ok`, the input was read to its end, or to the request that broke the protocol, to QUIT or to SHUTDOWN, or
+/// on a replica's link to what a replica doesn't send, and what was written is exactly the replies to it. After a fault it is a
+/// beginning of them: nothing of the reply to a request whose changes of the file weren't made.
 pub fn pipe_with<F: LogFile, R: Read, W: Write>(
     alloc: Global,
     config: &PipeConfig,

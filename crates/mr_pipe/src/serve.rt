@@ -26,7 +26,8 @@ pub(crate) enum Stepped {
     Shut,
 }
 
-/// The file is changed as a step gives out, and then its reply is written. What the stream grew by, and whom the node follows, go nowhere.
+/// The file is changed as a step gives out, and then its reply is written. There is nobody to send the stream to, and whom the
+/// node is to follow isn't dialled.
 fn carry_out<F: LogFile, W: Write>(
     outs: &Outs,
     log: &mut Log<F>,

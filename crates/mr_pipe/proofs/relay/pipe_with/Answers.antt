@@ -18,3 +18,6 @@ returns-in_err-linked g c =
     let told : c.from_residual.result ≡ Err why = search rules in
     subst (λ r. IsPiped c.args.config.now.given (begun_with c.args.config.now.id c.args.dataset) p p x x r) (sym told)
     (not_begun c.args.config.now.given (begun_with c.args.config.now.id c.args.dataset) x p why c.in_err-linked.ensures.fault)
+
+pub returns : goal.returns
+returns g c = c.relay.ensures (begun_with c.args.config.now.id c.args.dataset) c.in_ok-linked.ensures.stands
