@@ -8,7 +8,7 @@ use Rattle.mr_outs.specs.Outs.{no_output}
 use Rattle.mr_peer.specs.declared.fault.NodeFault.{NodeFault}
 use Rattle.mr_pipe.specs.Outside.{Outside, Change, IsSettled}
 use Rattle.mr_pipe.specs.State.{PipeState}
-use Rattle.mr_pipe.specs.Sessions.{AreServed, Gives, all_changes}
+use Rattle.mr_pipe.specs.Sessions.{Gives, all_changes}
 use Rattle.mr_pipe.specs.Serving.{Settles, Going, Breaks, IsLeft, IsCutOff, IsDrained}
 use Rattle.mr_pipe.specs.Faults.{fault_of}
 use Rattle.mr_pipe.specs.declared.linked_node.LinkedNode.{LinkedNode}

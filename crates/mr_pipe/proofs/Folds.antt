@@ -15,7 +15,7 @@ use Rattle.mr_data.specs.Meaning.{apply_all}
 use Rattle.mr_data.specs.Rebuilding.{rebuilding}
 use Rattle.mr_data.proofs.Folding.{apply_all-append}
 use Rattle.mr_data.specs.declared.given.Given.{Given}
-use Rattle.mr_outs.specs.Outs.{Output, no_output}
+use Rattle.mr_outs.specs.Outs.{Output}
 use Rattle.mr_cmd_node.specs.declared.node_ask.NodeAsk.{NodeAsk}
 use Rattle.mr_rows.specs.State.{Core}
 use Rattle.mr_rows.specs.Telling.{Around}

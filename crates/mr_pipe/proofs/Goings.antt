@@ -1,15 +1,15 @@
 -- A link that is served, step by step.
-use Rattle.std.proofs.Common.{◌≡◌, ℕ, List, [], ◌∷◌, ◌++◌, refl, sym, ap, subst, ◌∙◌}
+use Rattle.std.proofs.Common.{◌≡◌, ℕ, List, [], ◌∷◌, ◌++◌, refl, sym, ap, subst}
 use Rattle.std.specs.Prelude.{Err}
 use Rattle.std.specs.Io.KnownBytes.{Appends}
 use Rattle.std.proofs.KnownBytes.{Appends-nil}
 use Rattle.mr_data.specs.declared.given.Given.{Given}
-use Rattle.mr_outs.specs.Outs.{Output, no_output}
+use Rattle.mr_outs.specs.Outs.{Output}
 use Rattle.mr_peer.specs.declared.fault.NodeFault.{NodeFault}
 use Rattle.mr_peer.specs.declared.fault.NodeFault.TheVariants as refused
 use Rattle.mr_pipe.specs.Outside.{Outside, Change, Filed, IsSettled}
 use Rattle.mr_pipe.specs.State.{PipeState, Stands}
-use Rattle.mr_pipe.specs.Sessions.{Moment, AreServed, Gives, IsLast, all_changes, changes_of}
+use Rattle.mr_pipe.specs.Sessions.{Moment, Gives, all_changes, changes_of}
 use Rattle.mr_pipe.specs.Serving.{Settles, Going, Drained, Ended, StepsOn, StepsLast, StepWaits, IsLeft, IsCutOff, IsCarriedOut}
 use Rattle.mr_pipe.specs.Faults.{fault_of}
 use Rattle.mr_pipe.specs.declared.linked_node.LinkedNode.{LinkedNode}

@@ -1,5 +1,5 @@
 -- What the roles of a pipe's node and of its link leave alone.
-use Rattle.std.proofs.Common.{◌≡◌, ◌≢◌, ◌++◌, ◌∙◌, ℕ, List, [], ◌∷◌, Bool, true, false, not, Option, None, Some, refl, sym, ap, subst}
+use Rattle.std.proofs.Common.{◌≡◌, ◌++◌, ◌∙◌, ℕ, List, [], ◌∷◌, Bool, true, false, not, None, Some, refl, sym, ap, subst}
 use Rattle.mr_data.specs.Meaning.{apply_all}
 use Rattle.mr_data.specs.declared.given.Given.{Given}
 use Rattle.mr_effect.specs.Spelling.{texts}
@@ -10,12 +10,11 @@ use Rattle.mr_plan.proofs.Replicas.{none_on_replica}
 use Rattle.mr_outs.specs.Outs.{Output, no_output}
 use Rattle.mr_rows.specs.State.{Core}
 use Rattle.mr_rows.specs.Requests.{Asks}
-use Rattle.mr_rows.specs.Telling.{Around}
 use Rattle.mr_rows.specs.Served.{Answered, Served, IsQuiet}
 use Rattle.mr_pipe.specs.Outside.{Change}
 use Rattle.mr_pipe.specs.State.{PipeState}
-use Rattle.mr_pipe.specs.Sessions.{Moment, AreServed, IsLast, IsServed, TakesRole, alone, all_changes, changes_of}
-use Rattle.mr_pipe.specs.Roles.{IsSilent, OnlyRewrites, Rewrites, ReplicaLinksAreSilent, ReplicaLinksEndSilently, ReplicasOnlyRewrite}
+use Rattle.mr_pipe.specs.Sessions.{IsLast, IsServed, TakesRole, alone, changes_of}
+use Rattle.mr_pipe.specs.Roles.{OnlyRewrites, ReplicaLinksAreSilent, ReplicaLinksEndSilently, ReplicasOnlyRewrite}
 
 -- ---- a node that is a replica
 -- an output that leaves the stream and the file alone

@@ -1,5 +1,5 @@
 -- What a step of the node, by its row, comes to in a pipe.
-use Rattle.std.proofs.Common.{◌≡◌, ◌≢◌, ◌+◌, ◌-◌, ◌^◌, ◌≤◌, ◌⊎◌, ℕ, List, [], ◌∷◌, ◌++◌, Bool, true, false, cond, Option, Some, None, length, min, refl, sym, ap, subst, ◌∙◌, arith, inl, inr}
+use Rattle.std.proofs.Common.{◌≡◌, ◌≢◌, ◌+◌, ℕ, List, [], ◌∷◌, ◌++◌, true, false, cond, Option, Some, None, length, min, refl, sym, ap, subst, ◌∙◌, arith}
 use Rattle.std.specs.Prelude.{Result, Ok, Err}
 use Rattle.std.specs.Ordering.{eq_by_cmp}
 use Rattle.std.specs.FinMap.{get-empty}
@@ -13,14 +13,12 @@ use Rattle.mr_links.proofs.LinkRows.{ids_total, exact_ids}
 use Rattle.mr_data.specs.declared.given.Given.{Given}
 use Rattle.mr_entries.specs.Dataset.{Dataset}
 use Rattle.mr_course.specs.State.{name_of}
-use Rattle.mr_ends.specs.State.{EndState, streams}
-use Rattle.mr_ends.specs.State.EndState.{client, replica}
+use Rattle.mr_ends.specs.State.{streams}
+use Rattle.mr_ends.specs.State.EndState.{client}
 use Rattle.mr_ends.specs.Replicas.{Lists, is_named}
-use Rattle.mr_info.specs.declared.roles.Replica.{Replica}
-use Rattle.mr_outs.specs.Outs.{OutsState, Output, no_output}
-use Rattle.mr_rows.specs.State.{Core, NodeState, Agrees, OthersStay, ReplicaAgrees, end_of, started}
+use Rattle.mr_outs.specs.Outs.{OutsState, no_output}
+use Rattle.mr_rows.specs.State.{Core, NodeState, Agrees, ReplicaAgrees, end_of, started}
 use Rattle.mr_rows.specs.Telling.{Around, IsAround, link_of}
-use Rattle.mr_rows.specs.Ends.{Leaves, Settles}
 use Rattle.mr_rows.specs.Served.{Served}
 use Rattle.mr_rows.specs.ClientRows.{ClientRow, Idles, IsAnswerToPsync}
 use Rattle.mr_rows.specs.ReplicaRows.{ReplicaRow}
@@ -126,7 +124,7 @@ client_goes g s u p b outs h k (ClientRow.synchronizes r) =
     let t : PipeState = record s { replica = true } in
     Goes.on (ap is_last r.outs_are) t r.rest
     (IsServed.takes_role k r.words r.asks (TakesRole.synchronizes r.id r.wanted r.text (sym (ap (λ (c : Core). c.master) h.core) ∙ r.master) r.wish
-        (subst (λ (c : Core). IsAnswerToPsync c.lineage c.held r.id r.wanted r.text) h.core r.answer) refl (ap output_of r.outs_are)))
+    (subst (λ (c : Core). IsAnswerToPsync c.lineage c.held r.id r.wanted r.text) h.core r.answer) refl (ap output_of r.outs_are)))
     (left p s t u r.rest b outs h (r.core ∙ h.core) r.leaves.is r.leaves.others.stay (r.leaves.follow ∙ h.follow) (uncounted p s u outs h (ap (λ (o : OutsState). o.used) r.outs_are)))
 client_goes g s u p b outs h k (ClientRow.promotes r) =
     let c = s.core in
@@ -137,20 +135,20 @@ client_goes g s u p b outs h k (ClientRow.promotes r) =
     Goes.on (ap is_last r.outs_are) t r.rest
     (IsServed.takes_role k r.words r.asks (TakesRole.promotes (sym (ap (λ (z : Core). z.master) h.core) ∙ r.replica) r.wish refl (ap output_of r.outs_are)))
     (left p s t u r.rest b outs h core (r.ends.is ∙ ap (λ z. Some (end_as z r.rest)) (sym k)) (λ x ne. r.ends.others x ne refl (not_followed p s u x h)) r.follow
-        (ap (λ (o : OutsState). counted o.used p.used) r.outs_are ∙ (ap (λ n. min (n + 1) most_numbered) h.used ∙ same_number s.used)))
+    (ap (λ (o : OutsState). counted o.used p.used) r.outs_are ∙ (ap (λ n. min (n + 1) most_numbered) h.used ∙ same_number s.used)))
 client_goes g s u p b outs h k (ClientRow.turns r) =
     let t : PipeState = record s { core = record s.core { upstream = Some r.address } } in
     Goes.on (ap is_last r.outs_are) t r.rest
     (IsServed.takes_role k r.words r.asks (TakesRole.turns r.address (sym (ap (λ (z : Core). z.master) h.core) ∙ r.replica) r.wish (λ e. r.another (ap (λ (z : Core). z.upstream) h.core ∙ e)) refl (ap output_of r.outs_are)))
     (left p s t u r.rest b outs h (r.core ∙ ap (λ (z : Core). record z { upstream = Some r.address }) h.core) (r.ends.is ∙ ap (λ z. Some (end_as z r.rest)) (sym k))
-        (λ x ne. r.ends.others x ne refl (not_followed p s u x h)) r.follow (uncounted p s u outs h (ap (λ (o : OutsState). o.used) r.outs_are)))
+    (λ x ne. r.ends.others x ne refl (not_followed p s u x h)) r.follow (uncounted p s u outs h (ap (λ (o : OutsState). o.used) r.outs_are)))
 client_goes g s u p b outs h k (ClientRow.demotes r) =
     let t : PipeState = record s { core = record s.core { master = false; offers = true; upstream = Some r.address; mark = None } } in
     let none : outs.closed ≡ [] = none_listed p s u outs.closed h k r.closed in
     Goes.on (ap is_last r.outs_are) t r.rest
     (IsServed.takes_role k r.words r.asks (TakesRole.demotes r.address (sym (ap (λ (z : Core). z.master) h.core) ∙ r.master) r.wish refl (ap output_of r.outs_are)))
     (left p s t u r.rest b outs h (r.core ∙ ap (λ (z : Core). record z { master = false; offers = true; upstream = Some r.address; mark = None }) h.core) (r.ends.is ∙ ap (λ z. Some (end_as z r.rest)) (sym k))
-        (λ x ne. r.ends.others x ne (ap (λ names. is_named names x) none) (none_is x)) r.follow (uncounted p s u outs h (ap (λ (o : OutsState). o.used) r.outs_are)))
+    (λ x ne. r.ends.others x ne (ap (λ names. is_named names x) none) (none_is x)) r.follow (uncounted p s u outs h (ap (λ (o : OutsState). o.used) r.outs_are)))
   where
     none_is : (x : LinkId) → ◌≢◌ {A = Option LinkId} None (Some x)
     none_is x e = cc

@@ -11,7 +11,5 @@ mod serve;
 
 pub use config::PipeConfig;
 pub use fault::PipeFault;
-pub use laws::{
-    files_fold, files_stay_synced, replica_links_are_silent, replicas_only_rewrite,
-};
+pub use laws::{files_fold, files_stay_synced, replica_links_are_silent, replicas_only_rewrite};
 pub use relay::{pipe, pipe_with};

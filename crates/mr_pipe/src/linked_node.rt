@@ -24,7 +24,11 @@ pub(crate) struct LinkedNode {
 
 impl LinkedNode {
     /// A node with this dataset, and a client's link of it.
-    pub(crate) fn begin(alloc: Global, id: ReplId, dataset: Dataset) -> Result<LinkedNode, PipeFault>
+    pub(crate) fn begin(
+        alloc: Global,
+        id: ReplId,
+        dataset: Dataset,
+    ) -> Result<LinkedNode, PipeFault>
         ensures stands { IfOk result (λ linked. Stands linked (begun_with id dataset) []) }
         ensures fault { IfErr result (λ e. (e ≡ PipeFault.Memory) ⊎ (e ≡ PipeFault.Stopped)) }
     {
