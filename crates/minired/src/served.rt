@@ -99,11 +99,11 @@ fn source_of(rt: &HostRuntime) -> Result<SystemSource, Failure> {
 
 /// A wire of this machine's own address.
 fn listening(rt: &HostRuntime, port: u16) -> Result<ToldWire, Failure> {
-    let Ok(of_wire) = rt.clone() else {
+    let (Ok(of_sockets), Ok(of_wire)) = (rt.clone(), rt.clone()) else {
         return Err(Failure::Memory);
     };
     let address = SocketAddr::from((Ipv4Addr::LOCALHOST, port));
-    match SocketWire::listen(rt, rt.alloc(), address) {
+    match SocketWire::listen(of_sockets, rt.alloc(), address) {
         Ok(wire) => Ok(ToldWire::new(of_wire, wire)),
         Err(error) => Err(Failure::Listen(port, error)),
     }
