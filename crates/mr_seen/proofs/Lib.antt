@@ -15,3 +15,5 @@ pub mod Leaving
 pub mod Masters
 pub mod Linking
 pub mod Times
+pub mod Beginning
+pub mod Kept

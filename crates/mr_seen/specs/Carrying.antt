@@ -1,5 +1,5 @@
 -- What a World makes of what a call on one of its nodes gives out.
-use Rattle.std.specs.Prelude.{ℕ, List, [], ◌∷◌, ◌++◌, ◌+◌, Option, None, Some, Bool, true, false, map, length, slice_get, slice_set, ◌==◌, ◌&&◌}
+use Rattle.std.specs.Prelude.{ℕ, List, [], ◌∷◌, ◌++◌, ◌+◌, Option, None, Some, Bool, true, false, not, map, length, slice_get, slice_set, ◌==◌, ◌&&◌}
 use Rattle.mr_links.specs.declared.link_id.LinkId.{LinkId}
 use Rattle.mr_follow.specs.State.{FollowState}
 use Rattle.mr_follow.specs.declared.taking.Taking.{Taking}
@@ -7,10 +7,11 @@ use Rattle.mr_ends.specs.State.{EndState}
 use Rattle.mr_ends.specs.State.EndState.{client, replica, upstream, shut}
 use Rattle.mr_ends.specs.Replicas.{is_named}
 use Rattle.mr_outs.specs.Outs.{OutsState}
-use Rattle.mr_rows.specs.State.{NodeState, end_of}
+use Rattle.mr_entries.specs.Dataset.{Dataset}
+use Rattle.mr_rows.specs.State.{NodeState, started, end_of}
 use Rattle.mr_seen.specs.Way.{WayState, no_way, sent_on, taken_on, left_on}
 use Rattle.mr_seen.specs.State.{Caller, a_client, a_node, Link, Slot, Entry, WorldState}
-use Rattle.mr_seen.specs.Books.{extended, branched}
+use Rattle.mr_seen.specs.Books.{extended, branched, begun}
 
 -- ---- the links that a node serves
 abbrev pub is_at : ℕ → Link → Bool
@@ -133,3 +134,15 @@ fed_caller w n s b l k count = record w { slots = slice_set w.slots n (record s 
 -- the server's end closes
 abbrev pub broken : WorldState → ℕ → Slot → NodeState → ℕ → Link → WorldState
 broken w n s b l k = record w { slots = slice_set w.slots n (record s { node = b }); links = slice_set w.links l (record k { serving = false }) }
+
+-- ---- nodes that begin
+-- a node that begins in this role, with this dataset and this file
+abbrev pub begun_slot : (as_replica : Bool) (port backlog : ℕ) → List ℕ → Dataset → List ℕ → Slot
+begun_slot as_replica port backlog id m file = record { node = started as_replica port backlog id m; file = file; as_master = not as_replica; dialled = 0 }
+
+abbrev pub started_with : WorldState → Slot → List ℕ → WorldState
+started_with w t id = record w { slots = w.slots ++ t ∷ []; book = begun w.book id [] }
+
+-- The node n stands anew in its place, and its ends are closed.
+abbrev pub restarted_with : WorldState → ℕ → Slot → List ℕ → List ℕ → WorldState
+restarted_with w n t id start = record { slots = slice_set w.slots n t; links = map (λ k. shut_if (k.to == n) k) w.links; book = begun w.book id start }

@@ -1,18 +1,22 @@
 -- What a call on a node of a World is, among the events of histories.
-use Rattle.std.specs.Prelude.{◌≡◌, ◌≤◌, ◌+◌, ℕ, List, Bool, true, false, Option, None, Some, length, slice_get, slice_set}
+use Rattle.std.specs.Prelude.{◌≡◌, ◌≤◌, ◌+◌, ℕ, List, Bool, true, false, Option, None, Some, not, length, slice_get, slice_set}
+use Rattle.std.specs.FinMap.{empty}
+use Rattle.mr_entries.specs.Dataset.{Dataset}
 use Rattle.mr_data.specs.declared.given.Given.{Given}
 use Rattle.mr_lines.specs.Lines.{most_counted}
 use Rattle.mr_links.specs.declared.link_id.LinkId.{LinkId}
 use Rattle.mr_follow.specs.State.{FollowState, heard}
 use Rattle.mr_course.specs.declared.upstream.UpstreamStep.{UpstreamStep}
 use Rattle.mr_outs.specs.Outs.{OutsState, no_outs}
-use Rattle.mr_history.specs.History.{Book}
+use Rattle.mr_replay.specs.Effects.{Makes}
+use Rattle.mr_history.specs.History.{Book, Grows}
 use Rattle.mr_history.specs.Event as events
 use Rattle.mr_history.specs.Event.Side.{Server, Dialler}
 use Rattle.mr_history.specs.Changing.{Still}
 use Rattle.mr_history.specs.Rows.{Row}
 use Rattle.mr_history.specs.Invariant.{Invariant}
 use Rattle.mr_language.specs.Minired.{minired}
+use Rattle.mr_language.specs.Snapshots.{IsReadAs}
 use Rattle.mr_rows.specs.State.{NodeState}
 use Rattle.mr_rows.specs.Growing.{rebuilt}
 use Rattle.mr_rows.specs.ClientRows.{ClientRow, Synchronizes}
@@ -25,8 +29,8 @@ use Rattle.mr_seen.specs.Way.{unread}
 use Rattle.mr_seen.specs.State.{Link, Slot, WorldState}
 use Rattle.mr_seen.specs.Seeing.{seen}
 use Rattle.mr_seen.specs.Books.{entry_of, IsBook}
-use Rattle.mr_seen.specs.Worlds.{IsSound, IsWorld}
-use Rattle.mr_seen.specs.Carrying.{stepped, followed, ticked, put_node, opened, connected, fed_server, fed_caller, broken}
+use Rattle.mr_seen.specs.Worlds.{IsSound, IsWorld, no_world}
+use Rattle.mr_seen.specs.Carrying.{stepped, followed, ticked, put_node, opened, connected, fed_server, fed_caller, broken, begun_slot, started_with, restarted_with}
 
 -- From the one World to the other there is one event of histories: of the Worlds that are seen, with what is known of each id.
 pub record IsEvent (w : WorldState) (book : Book minired) (e : events.Event minired) (v : WorldState) : Type 0 where
@@ -169,3 +173,26 @@ MasterBreaksAreRows = (w : WorldState) (book : Book minired) (n : ℕ) (s : Slot
     → Holds w book → IsFollowed w n s k → s.node.follow ≡ Some (name, f)
     → b ≡ closed_at name s.node
     → IsEvent w book (events.Event.Break s.dialled Dialler) (put_node w n s b)
+
+-- ---- nodes that begin
+abbrev pub StartsAreRows : Type 0
+StartsAreRows = (w : WorldState) (book : Book minired) (as_replica : Bool) (port backlog : ℕ) (id file : List ℕ)
+    → Holds w book → entry_of w.book id ≡ None
+    → IsEvent w book (events.Event.Start id (not as_replica)) (started_with w (begun_slot as_replica port backlog id empty file) id)
+
+-- A node restarts in the role in which it started, from what its file is read as: these commands make that.
+abbrev pub RestartsAreRows : Type 0
+RestartsAreRows = (w : WorldState) (book : Book minired) (n : ℕ) (s : Slot) (as_replica : Bool) (port backlog : ℕ) (id found kept start : List ℕ) (m : Dataset)
+    → Holds w book → slice_get w.slots n ≡ Some s → s.as_master ≡ not as_replica → entry_of w.book id ≡ None
+    → IsReadAs found m → Makes start m
+    → IsEvent w book (events.Event.Restart n found id) (restarted_with w n (begun_slot as_replica port backlog id m kept) id start)
+
+-- ---- one event after another
+-- What histories' laws rest on holds behind an event too, and the book of before is the beginning of that of after.
+abbrev pub EventsKeepHistories : Type 0
+EventsKeepHistories = (w : WorldState) (book : Book minired) (e : events.Event minired) (v : WorldState) → Holds w book → (x : IsEvent w book e v)
+    → Invariant (seen v x.new_book) × Grows minired book x.new_book
+
+-- All this is known of the World in which nothing has begun.
+abbrev pub WorldsBegin : Type 0
+WorldsBegin = Holds no_world (λ i. None)

@@ -1,5 +1,5 @@
 -- What is true of each World.
-use Rattle.std.specs.Prelude.{◌≡◌, ◌≤◌, ◌<◌, ◌^◌, ℕ, List, Bool, true, false, Option, None, Some, IfSome, slice_get}
+use Rattle.std.specs.Prelude.{◌≡◌, ◌<◌, ◌^◌, ℕ, List, [], Bool, true, false, Some, IfSome, slice_get}
 use Rattle.mr_links.specs.declared.link_id.LinkId.{LinkId}
 use Rattle.mr_repl.specs.Backlog.{IsWindow}
 use Rattle.mr_repl.specs.ReplId.{IsId}
@@ -52,5 +52,12 @@ pub record IsWorld (w : WorldState) : Type 0 where
   pub asks : (l : ℕ) (k : Link) → slice_get w.links l ≡ Some k → IsWay k.ask
   pub tells : (l : ℕ) (k : Link) → slice_get w.links l ≡ Some k → IsWay k.tell
   pub servers : (l : ℕ) (k : Link) → slice_get w.links l ≡ Some k → HasServer w.slots k
+  -- no two open ends have one name at one node
+  pub names : (i j : ℕ) (k m : Link) → slice_get w.links i ≡ Some k → slice_get w.links j ≡ Some m → k.serving ≡ true → m.serving ≡ true
+      → k.to ≡ m.to → k.name ≡ m.name → i ≡ j
   pub nodes : (n : ℕ) (s : Slot) → slice_get w.slots n ≡ Some s → s.node.core.up ≡ true → IsSound s.node
   pub followers : (n : ℕ) (s : Slot) (name : LinkId) (f : FollowState) → slice_get w.slots n ≡ Some s → s.node.core.up ≡ true → s.node.follow ≡ Some (name, f) → HasMaster w.links n s name f
+
+-- no nodes, no links, and no id
+abbrev pub no_world : WorldState
+no_world = record { slots = []; links = []; book = [] }

@@ -1,5 +1,5 @@
 //! That what each call on a node of a World does is a row of histories. No function here does anything: each is the law that it ensures.
-ghost use Rattle.mr_seen.specs.Events.{ClientStepsAreRows, DialsAreRows, IdleStepsAreRows, LacksAreUnseen, MasterBreaksAreRows, MasterFeedsAreRows, MasterStepsAreRows, OpenStopsAreRows, OpensAreRows, ReplicaStepsAreRows, ServerBreaksAreRows, ServerFeedsAreRows, SpendsAreRows, StopsAreRows, TicksAreRows, WaitsAreRows};
+ghost use Rattle.mr_seen.specs.Events.{ClientStepsAreRows, DialsAreRows, EventsKeepHistories, IdleStepsAreRows, LacksAreUnseen, MasterBreaksAreRows, MasterFeedsAreRows, MasterStepsAreRows, OpenStopsAreRows, OpensAreRows, ReplicaStepsAreRows, RestartsAreRows, ServerBreaksAreRows, ServerFeedsAreRows, SpendsAreRows, StartsAreRows, StopsAreRows, TicksAreRows, WaitsAreRows, WorldsBegin};
 
 /// A step at a client's end by its exact row, with what it gives out carried, is a step by a row of histories, of the World that is seen.
 pub fn client_steps_are_rows()
@@ -67,4 +67,20 @@ pub fn feeds_are_rows()
 pub fn breaks_are_rows()
     ensures served { ServerBreaksAreRows }
     ensures master { MasterBreaksAreRows }
+{}
+
+/// A node that starts, and one that starts anew, does so in histories.
+pub fn starts_are_rows()
+    ensures starts { StartsAreRows }
+    ensures restarts { RestartsAreRows }
+{}
+
+/// What the laws of histories rest on holds behind each event, and the book only grows.
+pub fn events_keep_histories()
+    ensures { EventsKeepHistories }
+{}
+
+/// All that is asked of a World holds of the one in which nothing has begun.
+pub fn worlds_begin()
+    ensures { WorldsBegin }
 {}
