@@ -29,7 +29,11 @@ impl Node {
         match self.state.listen(&mut told) {
             Err(UpstreamFault::Memory) => Err(NodeFault::Memory),
             Err(UpstreamFault::Stopped) => Err(NodeFault::Stopped),
-            Ok(UpstreamStep::Idle) => Ok(Step::Idle),
+            Ok(UpstreamStep::Idle) => {
+                outs.apply(told, false);
+                self.reuse(outs);
+                Ok(Step::Idle)
+            }
             Ok(step) => {
                 carry(step, told, &mut outs);
                 Ok(Step::Done(outs))

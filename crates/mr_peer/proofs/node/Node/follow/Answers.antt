@@ -1,9 +1,10 @@
-use Rattle.std.proofs.Common.{◌≡◌, ◌≢◌, [], Some, ap, subst, ◌∙◌, rules}
+use Rattle.std.proofs.Common.{◌≡◌, ◌≢◌, [], Some, ap, subst, sym, ◌∙◌, rules}
 use Rattle.std.specs.Prelude.{Ok, Err}
 use Rattle.mr_course.specs.declared.upstream.UpstreamFault.TheVariants as fault
 use Rattle.mr_course.specs.declared.upstream.UpstreamStep.TheVariants as outcome
 use Rattle.mr_outs.specs.Outs.{OutsState, no_outs}
 use Rattle.mr_rows.specs.State.{NodeState}
+use Rattle.mr_rows.specs.UpstreamRows.{Waits}
 use Rattle.mr_state.specs.Listening.{Heard}
 use Rattle.mr_peer.proofs.Following.{hears_of, lacks_of, spends_of, waits_of}
 use Rattle.mr_peer.proofs.node.Node.follow.Goals as goal
@@ -23,8 +24,9 @@ returns-in-Err-Stopped c =
 pub returns-in-Ok-Idle : goal.returns-in-Ok-Idle
 returns-in-Ok-Idle c =
     let same : c.self.inside.state ≡ c.args.self.now = c.self.view_is ∙ c.fresh_outs-outs.ensures.same in
-    waits_of c.args.self.now c.listen.new.self c.args.link c.listen.new.out.items c.requires.followed c.requires.up
-    (subst (λ (z : NodeState). Heard z (Ok outcome.Idle) c.listen.new.self c.listen.new.out.items) same (rw c.in-Ok-Idle.field-0-is at c.in-Ok-Idle.ensures))
+    subst (λ (b : NodeState). Waits c.args.self.now c.args.link b) (sym c.reuse.ensures)
+    (waits_of c.args.self.now c.listen.new.self c.args.link c.listen.new.out.items c.requires.followed c.requires.up
+    (subst (λ (z : NodeState). Heard z (Ok outcome.Idle) c.listen.new.self c.listen.new.out.items) same (rw c.in-Ok-Idle.field-0-is at c.in-Ok-Idle.ensures)))
 
 pub returns : goal.returns
 returns c =
