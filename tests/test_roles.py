@@ -10,6 +10,7 @@ from test_info import information, master
 READONLY = b"-READONLY You can't write against a read only replica.\r\n"
 NOT_CHAINED = b"-ERR replicas are not chained\r\n"
 SET = request("SET", "k", "v")
+SET_W = request("SET", "k", "w")
 FOLLOW = request("REPLICAOF", "localhost", "6380")
 LEAD = request("REPLICAOF", "NO", "ONE")
 INFO = request("INFO")
@@ -32,7 +33,7 @@ class Roles(unittest.TestCase):
 
     def test_a_promoted_replica_goes_on_under_a_fresh_id(self):
         told = bulk(information(27, name=fresh(1), second=(ID, 28)))
-        self.answers([SET, FOLLOW, LEAD, INFO, SET, ROLE], [OK, OK, OK, told, OK, master(54)])
+        self.answers([SET, FOLLOW, LEAD, INFO, SET_W, ROLE], [OK, OK, OK, told, OK, master(54)])
 
     def test_each_promotion_takes_an_id_of_its_own(self):
         told = bulk(information(0, name=fresh(2), second=(fresh(1), 1)))
@@ -46,7 +47,7 @@ class Roles(unittest.TestCase):
         self.answers([SET, request("PSYNC", "?", "-1")], [OK, b"+FULLRESYNC %s 27\r\n$27\r\n" % ID.encode() + SET])
 
     def test_who_has_a_part_of_the_stream_gets_the_rest(self):
-        self.answers([SET, SET.replace(b"v", b"w"), request("PSYNC", ID, "28")], [OK, OK, b"+CONTINUE %s\r\n" % ID.encode() + SET.replace(b"v", b"w")])
+        self.answers([SET, SET_W, request("PSYNC", ID, "28")], [OK, OK, b"+CONTINUE %s\r\n" % ID.encode() + SET_W])
         self.answers([SET, request("PSYNC", ID, "28")], [OK, b"+CONTINUE %s\r\n" % ID.encode()])
         self.answers([SET, request("PSYNC", ID, "29")], [OK, b"+FULLRESYNC %s 27\r\n$27\r\n" % ID.encode() + SET])
 
