@@ -31,6 +31,9 @@ EFFECTS += [request("LPUSH", "q", "z"), request("LPOP", "q", "1"), request("SREM
 SPOILED = [request("FOO"), request("GET", "k"), b"\r\n", b"+OK\r\n", b"*0\r\n", request("set", "k", "v"), request("LPOP", "none", "1"), request("PING", "x"), b"*1\r\n$4\r\nPINGxx"]
 BAD_ANSWERS = [b"+OK\r\n", b"-ERR no\r\n", b"$5\r\n", b"+CONTINUE \r\n", b"+FULLRESYNC %s -1\r\n" % (b"b" * 40), b"+FULLRESYNC %s 5 \r\n" % (b"b" * 40), b"x", b"+a\rb"]
 BAD_ANSWERS += [b"+FULLRESYNC %s %d\r\n$0\r\n" % (b"b" * 40, MOST_OFFSET + 1), b"+FULLRESYNC %s 5\r\n+OK\r\n" % (b"b" * 40)]
+# what stands at a replica's end, and what closes it
+ACKNOWLEDGEMENTS = [request("REPLCONF", "ACK", "5"), request("REPLCONF", "ACK", "-1"), b"replconf ack 9223372036854775807\r\n", b"\r\n", b"*0\r\n", b"*-1\r\n", b" \t\n"]
+NO_ACKNOWLEDGEMENTS = [PING, request("REPLCONF", "capa", "eof"), request("REPLCONF", "ACK", "x"), request("PSYNC", "?", "-1"), b"QUIT\r\n", b"*x", b"'a'b", b"*1\r\n:"]
 # lines about as long as one may be
 LONG_ANSWERS = [b"+" + count * b"x" + b"\r\n" for count in (1022, 1023, 1024, 1025)]
 # what is there at an offset near the limit
@@ -231,20 +234,45 @@ class Pairs(World):
         if node.is_stopped:
             return
         if node.waits():
-            self.masters[number] = node.dial()[0], self.master_says(node, id)
+            said = self.master_says(node, id)
+            self.masters[number] = node.dial()[0], self.changed(said) if chance.random() < 0.2 else said
         link, data = self.masters.pop(number, (None, b""))
         if link not in node.open_ends(MASTER):
             return
-        data = data or self.stream_says()
+        data = self.heard(node, link, data or self.stream_says(), id)
+        if chance.random() < 0.6:
+            node.close(link)
+        else:
+            self.masters[number] = link, data
+
+    def plays_replica(self, number, id):
+        """Somebody says to a node what replicas say, or nearly so, and in any pieces."""
+        node, chance = self.node(number), self.chance
+        if node.is_stopped:
+            return
+        wanted = chance.choice([node.first(), node.offset + 1, node.offset + 2, node.second_offset, 28, -1])
+        data = chance.choice([b"", request("REPLCONF", "listening-port", "7"), b"replconf ip-address ::1 capa eof\r\n"])
+        data += request("PSYNC", chance.choice([node.id, node.id, node.second, b"?"]), str(wanted))
+        data += b"".join(chance.choice(ACKNOWLEDGEMENTS) for _ in range(chance.randint(0, 5))) + chance.choice([b"", b"", *NO_ACKNOWLEDGEMENTS])
+        link = node.open()
+        self.heard(node, link, self.changed(data) if chance.random() < 0.1 else data, id)
+        if chance.random() < 0.6:
+            node.close(link)
+
+    def heard(self, node, link, data, id):
+        """Hands a node these bytes in pieces, and returns those that are left."""
+        chance = self.chance
         while data and chance.random() < 0.97:
             count = chance.choice([1, 7, 12, 17, 30, len(data), len(data), chance.randint(1, len(data))])
             if not self.hears(node, link, data[:count], id):
                 break
             data = data[count:]
-        if chance.random() < 0.6:
-            node.close(link)
-        else:
-            self.masters[number] = link, data
+        return data
+
+    def changed(self, data):
+        """The bytes, but for one of them."""
+        at = self.chance.randrange(len(data))
+        return data[:at] + bytes([self.chance.choice([self.chance.randrange(256), *b"01$*\r\n"])]) + data[at + self.chance.choice([0, 1, 1]) :]
 
     def hears(self, node, link, data, id):
         """Whether the node still listens after that."""
@@ -311,7 +339,7 @@ class Pairs(World):
 
 
 # what no script says, each as often as this
-OTHERS = [(Pairs.plays_master, 0.02), (Pairs.nears_the_limit, 0.004), (Pairs.stops, 0.002)]
+OTHERS = [(Pairs.plays_master, 0.02), (Pairs.plays_replica, 0.01), (Pairs.nears_the_limit, 0.004), (Pairs.stops, 0.002)]
 
 
 def other(chance):
