@@ -1,4 +1,5 @@
-"""Random worlds of nodes beside the plain model: each call on a node is made on the model's too, and what comes of both is compared, out by out.
+"""Worlds of nodes beside the plain model: each call on a node is made on the model's too, and what comes of both is compared, out by out. Scripts of worlds with their
+answers, and random ones.
 
     PEER_SECONDS=600 python3 -m unittest test_peer_worlds
     python3 tests/test_peer_worlds.py SECONDS SEED
@@ -14,12 +15,13 @@ import time
 import unittest
 from collections import Counter
 
-from dataset_model import Given, texts
+from dataset_model import Given, load, texts
 from node_model import LIMIT, MASTER, MOST_OFFSET, REPLICA, UNDECODABLE, Append, Close, Follow, Grow, Halt, Node, NodeFault, Refused, Replace, Send, Used
 from peers import FRESH, GREETED, PING, Peer, PeerFault, Playing, Program
 from program import request
 from request_model import Wanted
 from world_model import Place, World, answer
+from world_rows import Rows
 from world_scripts import Scripter
 
 SECONDS = int(os.environ.get("PEER_SECONDS", "20"))
@@ -186,18 +188,19 @@ class Pair(Node):
 
 
 class Pairs(World):
-    """A world of such pairs, without histories. A node is started without keys, and under a port of its own."""
+    """A world of such pairs, without histories, in which a node is started with one of these ports."""
 
-    def __init__(self, program, chance, counts, backlog):
+    def __init__(self, program, chance, counts, backlog, ports):
         super().__init__(backlog)
-        self.program, self.chance, self.counts = program, chance, counts
+        self.program, self.chance, self.counts, self.ports = program, chance, counts, ports
         # by node, the link to a master that is none of the nodes, and what comes on it yet
         self.masters = {}
 
-    def pair(self, number, id, is_replica):
-        self.book[id], port = None, self.chance.choice([0, 6379, 65_535])
-        peer = Peer(self.program, id.decode(), is_replica, self.backlog, port, number)
-        return Pair(peer, self.chance, self.counts, id, {}, is_replica, port, self.backlog)
+    def pair(self, number, id, is_replica, kept=b""):
+        """A node with what this file makes."""
+        self.book[id], port = None, self.chance.choice(self.ports)
+        peer = Peer(self.program, id.decode(), is_replica, self.backlog, port, number, kept)
+        return Pair(peer, self.chance, self.counts, id, load(kept)[0], is_replica, port, self.backlog)
 
     def start(self, id, is_replica):
         self.new_id(id)
@@ -205,21 +208,24 @@ class Pairs(World):
         return len(self.places) - 1
 
     def restart(self, node, kept, id):
-        place = self.place(node)
         self.new_id(id)
+        place = self.place(node)
         for ends in self.links:
             for end in ends:
                 if end.node == node and end.is_open:
                     self.close(end)
         self.masters.pop(node, None)
-        place.is_replica = self.chance.random() < 0.5
-        place.node, place.file = self.pair(node, id, place.is_replica), b""
+        place.node, place.file = self.pair(node, id, place.is_replica, kept), kept[: load(kept)[1]]
 
     def carry_out(self, number, outs):
         """Some links of the node are none of the world's."""
         ends = {end.name: end for pair in self.links for end in pair if end.node == number and end.is_open}
         for out in outs:
-            if isinstance(out, Send) and out.link in ends:
+            if isinstance(out, Append):
+                self.places[number].file += out.data
+            elif isinstance(out, Replace):
+                self.places[number].file = out.data
+            elif isinstance(out, Send) and out.link in ends:
                 ends[out.link].sent += out.data
             elif isinstance(out, Close) and out.link in ends:
                 self.close(ends[out.link])
@@ -335,7 +341,8 @@ class Pairs(World):
                 pass
         for link in links:
             node.tries(link)
-        self.restart(number, b"", id)
+        self.places[number].is_replica = self.chance.random() < 0.5
+        self.restart(number, self.file(number), id)
 
 
 # what no script says, each as often as this
@@ -355,7 +362,7 @@ def other(chance):
 def compared(program, seed, counts, until):
     """Plays random events on a world; each call on a node is compared. Returns whether there was time for all."""
     chance, scripter = random.Random(-1 - seed), Scripter(seed)
-    world = scripter.world = Pairs(program, chance, counts, scripter.backlog)
+    world = scripter.world = Pairs(program, chance, counts, scripter.backlog, [0, 6379, 65_535])
     scripter.most_nodes = chance.randint(2, 4)
     lines = scripter.lines()
     for at in range(EVENTS_OF_A_WORLD):
@@ -383,6 +390,15 @@ def looks(program, seconds, seed):
     while compared(program, seed + counts["worlds"], counts, until):
         counts["worlds"] += 1
     return counts
+
+
+class WorldRows(Rows, Playing):
+    """The scripts of worlds with their answers."""
+
+    def answers_to(self, script, backlog):
+        world = Pairs(self.program, random.Random(0), Counter(), backlog, [0])
+        told = [answer(world, line.encode()) for line in script.splitlines()]
+        return [it.decode() for it in told if it is not None]
 
 
 class Worlds(Playing):
