@@ -93,10 +93,10 @@ def out_of(text):
 class Peer:
     """A node of the running program, and its append-only file."""
 
-    def __init__(self, program, id, is_replica=False, backlog=USUAL_BACKLOG, port=0, number=None):
-        self.program, self.number, self.file = program, program.nodes if number is None else number, b""
+    def __init__(self, program, id, is_replica=False, backlog=USUAL_BACKLOG, port=0, number=None, file=b""):
+        self.program, self.number, self.file = program, program.nodes if number is None else number, file
         program.nodes = max(program.nodes, self.number + 1)
-        answer, _ = program.call("start", self.number, id, "replica" if is_replica else "master", port, backlog)
+        answer, _ = program.call("start", self.number, id, "replica" if is_replica else "master", port, backlog, file)
         if answer != "started":
             raise AssertionError("a node of such a backlog doesn't start")
 

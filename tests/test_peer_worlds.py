@@ -1,4 +1,5 @@
-"""Random worlds of nodes beside the plain model: each call on a node is made on the model's too, and what comes of both is compared, out by out.
+"""Worlds of nodes beside the plain model: each call on a node is made on the model's too, and what comes of both is compared, out by out. Scripts of worlds with their
+answers, and random ones.
 
     PEER_SECONDS=600 python3 -m unittest test_peer_worlds
     python3 tests/test_peer_worlds.py SECONDS SEED
@@ -14,12 +15,13 @@ import time
 import unittest
 from collections import Counter
 
-from dataset_model import Given, texts
+from dataset_model import Given, load, texts
 from node_model import LIMIT, MASTER, MOST_OFFSET, REPLICA, UNDECODABLE, Append, Close, Follow, Grow, Halt, Node, NodeFault, Refused, Replace, Send, Used
 from peers import FRESH, GREETED, PING, Peer, PeerFault, Playing, Program
 from program import request
 from request_model import Wanted
 from world_model import Place, World, answer
+from world_rows import Rows
 from world_scripts import Scripter
 
 SECONDS = int(os.environ.get("PEER_SECONDS", "20"))
@@ -31,6 +33,9 @@ EFFECTS += [request("LPUSH", "q", "z"), request("LPOP", "q", "1"), request("SREM
 SPOILED = [request("FOO"), request("GET", "k"), b"\r\n", b"+OK\r\n", b"*0\r\n", request("set", "k", "v"), request("LPOP", "none", "1"), request("PING", "x"), b"*1\r\n$4\r\nPINGxx"]
 BAD_ANSWERS = [b"+OK\r\n", b"-ERR no\r\n", b"$5\r\n", b"+CONTINUE \r\n", b"+FULLRESYNC %s -1\r\n" % (b"b" * 40), b"+FULLRESYNC %s 5 \r\n" % (b"b" * 40), b"x", b"+a\rb"]
 BAD_ANSWERS += [b"+FULLRESYNC %s %d\r\n$0\r\n" % (b"b" * 40, MOST_OFFSET + 1), b"+FULLRESYNC %s 5\r\n+OK\r\n" % (b"b" * 40)]
+# what stands at a replica's end, and what closes it
+ACKNOWLEDGEMENTS = [request("REPLCONF", "ACK", "5"), request("REPLCONF", "ACK", "-1"), b"replconf ack 9223372036854775807\r\n", b"\r\n", b"*0\r\n", b"*-1\r\n", b" \t\n"]
+NO_ACKNOWLEDGEMENTS = [PING, request("REPLCONF", "capa", "eof"), request("REPLCONF", "ACK", "x"), request("PSYNC", "?", "-1"), b"QUIT\r\n", b"*x", b"'a'b", b"*1\r\n:"]
 # lines about as long as one may be
 LONG_ANSWERS = [b"+" + count * b"x" + b"\r\n" for count in (1022, 1023, 1024, 1025)]
 # what is there at an offset near the limit
@@ -183,18 +188,19 @@ class Pair(Node):
 
 
 class Pairs(World):
-    """A world of such pairs, without histories. A node is started without keys, and under a port of its own."""
+    """A world of such pairs, without histories, in which a node is started with one of these ports."""
 
-    def __init__(self, program, chance, counts, backlog):
+    def __init__(self, program, chance, counts, backlog, ports):
         super().__init__(backlog)
-        self.program, self.chance, self.counts = program, chance, counts
+        self.program, self.chance, self.counts, self.ports = program, chance, counts, ports
         # by node, the link to a master that is none of the nodes, and what comes on it yet
         self.masters = {}
 
-    def pair(self, number, id, is_replica):
-        self.book[id], port = None, self.chance.choice([0, 6379, 65_535])
-        peer = Peer(self.program, id.decode(), is_replica, self.backlog, port, number)
-        return Pair(peer, self.chance, self.counts, id, {}, is_replica, port, self.backlog)
+    def pair(self, number, id, is_replica, kept=b""):
+        """A node with what this file makes."""
+        self.book[id], port = None, self.chance.choice(self.ports)
+        peer = Peer(self.program, id.decode(), is_replica, self.backlog, port, number, kept)
+        return Pair(peer, self.chance, self.counts, id, load(kept)[0], is_replica, port, self.backlog)
 
     def start(self, id, is_replica):
         self.new_id(id)
@@ -202,21 +208,24 @@ class Pairs(World):
         return len(self.places) - 1
 
     def restart(self, node, kept, id):
-        place = self.place(node)
         self.new_id(id)
+        place = self.place(node)
         for ends in self.links:
             for end in ends:
                 if end.node == node and end.is_open:
                     self.close(end)
         self.masters.pop(node, None)
-        place.is_replica = self.chance.random() < 0.5
-        place.node, place.file = self.pair(node, id, place.is_replica), b""
+        place.node, place.file = self.pair(node, id, place.is_replica, kept), kept[: load(kept)[1]]
 
     def carry_out(self, number, outs):
         """Some links of the node are none of the world's."""
         ends = {end.name: end for pair in self.links for end in pair if end.node == number and end.is_open}
         for out in outs:
-            if isinstance(out, Send) and out.link in ends:
+            if isinstance(out, Append):
+                self.places[number].file += out.data
+            elif isinstance(out, Replace):
+                self.places[number].file = out.data
+            elif isinstance(out, Send) and out.link in ends:
                 ends[out.link].sent += out.data
             elif isinstance(out, Close) and out.link in ends:
                 self.close(ends[out.link])
@@ -231,20 +240,45 @@ class Pairs(World):
         if node.is_stopped:
             return
         if node.waits():
-            self.masters[number] = node.dial()[0], self.master_says(node, id)
+            said = self.master_says(node, id)
+            self.masters[number] = node.dial()[0], self.changed(said) if chance.random() < 0.2 else said
         link, data = self.masters.pop(number, (None, b""))
         if link not in node.open_ends(MASTER):
             return
-        data = data or self.stream_says()
+        data = self.heard(node, link, data or self.stream_says(), id)
+        if chance.random() < 0.6:
+            node.close(link)
+        else:
+            self.masters[number] = link, data
+
+    def plays_replica(self, number, id):
+        """Somebody says to a node what replicas say, or nearly so, and in any pieces."""
+        node, chance = self.node(number), self.chance
+        if node.is_stopped:
+            return
+        wanted = chance.choice([node.first(), node.offset + 1, node.offset + 2, node.second_offset, 28, -1])
+        data = chance.choice([b"", request("REPLCONF", "listening-port", "7"), b"replconf ip-address ::1 capa eof\r\n"])
+        data += request("PSYNC", chance.choice([node.id, node.id, node.second, b"?"]), str(wanted))
+        data += b"".join(chance.choice(ACKNOWLEDGEMENTS) for _ in range(chance.randint(0, 5))) + chance.choice([b"", b"", *NO_ACKNOWLEDGEMENTS])
+        link = node.open()
+        self.heard(node, link, self.changed(data) if chance.random() < 0.1 else data, id)
+        if chance.random() < 0.6:
+            node.close(link)
+
+    def heard(self, node, link, data, id):
+        """Hands a node these bytes in pieces, and returns those that are left."""
+        chance = self.chance
         while data and chance.random() < 0.97:
             count = chance.choice([1, 7, 12, 17, 30, len(data), len(data), chance.randint(1, len(data))])
             if not self.hears(node, link, data[:count], id):
                 break
             data = data[count:]
-        if chance.random() < 0.6:
-            node.close(link)
-        else:
-            self.masters[number] = link, data
+        return data
+
+    def changed(self, data):
+        """The bytes, but for one of them."""
+        at = self.chance.randrange(len(data))
+        return data[:at] + bytes([self.chance.choice([self.chance.randrange(256), *b"01$*\r\n"])]) + data[at + self.chance.choice([0, 1, 1]) :]
 
     def hears(self, node, link, data, id):
         """Whether the node still listens after that."""
@@ -307,11 +341,12 @@ class Pairs(World):
                 pass
         for link in links:
             node.tries(link)
-        self.restart(number, b"", id)
+        self.places[number].is_replica = self.chance.random() < 0.5
+        self.restart(number, self.file(number), id)
 
 
 # what no script says, each as often as this
-OTHERS = [(Pairs.plays_master, 0.02), (Pairs.nears_the_limit, 0.004), (Pairs.stops, 0.002)]
+OTHERS = [(Pairs.plays_master, 0.02), (Pairs.plays_replica, 0.01), (Pairs.nears_the_limit, 0.004), (Pairs.stops, 0.002)]
 
 
 def other(chance):
@@ -327,7 +362,7 @@ def other(chance):
 def compared(program, seed, counts, until):
     """Plays random events on a world; each call on a node is compared. Returns whether there was time for all."""
     chance, scripter = random.Random(-1 - seed), Scripter(seed)
-    world = scripter.world = Pairs(program, chance, counts, scripter.backlog)
+    world = scripter.world = Pairs(program, chance, counts, scripter.backlog, [0, 6379, 65_535])
     scripter.most_nodes = chance.randint(2, 4)
     lines = scripter.lines()
     for at in range(EVENTS_OF_A_WORLD):
@@ -355,6 +390,15 @@ def looks(program, seconds, seed):
     while compared(program, seed + counts["worlds"], counts, until):
         counts["worlds"] += 1
     return counts
+
+
+class WorldRows(Rows, Playing):
+    """The scripts of worlds with their answers."""
+
+    def answers_to(self, script, backlog):
+        world = Pairs(self.program, random.Random(0), Counter(), backlog, [0])
+        told = [answer(world, line.encode()) for line in script.splitlines()]
+        return [it.decode() for it in told if it is not None]
 
 
 class Worlds(Playing):

@@ -20,14 +20,15 @@ pub struct Host {
 }
 
 impl Host {
-    /// A node without keys, under this id.
+    /// A node with this dataset, under this id.
     pub fn start(
         alloc: Global,
         seed: RandomState,
         id: ReplId,
+        held: Dataset,
         config: Config,
     ) -> Result<Host, RehearsalFault> {
-        let node = Node::start(alloc, id, Dataset::new(alloc, seed), config)?;
+        let node = Node::start(alloc, id, held, config)?;
         Ok(Host {
             alloc,
             seed,

@@ -14,6 +14,7 @@ pub struct Line<'a> {
     pub second: &'a str,
     pub third: &'a str,
     pub fourth: &'a str,
+    pub fifth: &'a str,
 }
 
 impl<'a> Line<'a> {
@@ -26,6 +27,7 @@ impl<'a> Line<'a> {
         let second = words.next().unwrap_or("");
         let third = words.next().unwrap_or("");
         let fourth = words.next().unwrap_or("");
+        let fifth = words.next().unwrap_or("");
         Line {
             name,
             node,
@@ -33,6 +35,7 @@ impl<'a> Line<'a> {
             second,
             third,
             fourth,
+            fifth,
         }
     }
 }

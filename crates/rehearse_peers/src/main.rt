@@ -7,7 +7,7 @@
 //!
 //! | Line | Answer |
 //! |---|---|
-//! | `start NODE ID ROLE PORT BACKLOG`, with `master` or `replica` | `started`: a node anew, without keys, under that number, which stands for another node or is the next one; or `refused` outside the backlog's limits |
+//! | `start NODE ID ROLE PORT BACKLOG FILE`, with `master` or `replica` | `started`: a node anew under that number, which stands for another node or is the next one, with what the file's bytes make, or without keys where none stand there; or `refused` outside the backlog's limits |
 //! | `open NODE` | `opened LINK` |
 //! | `dial NODE` | `dialled LINKOUTS`; or `no dial` where the node doesn't wait |
 //! | `feed NODE LINK BYTES` | `fed` |

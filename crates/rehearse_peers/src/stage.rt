@@ -1,10 +1,12 @@
 //! Nodes side by side.
 use crate::fault::RehearsalFault;
 use crate::host::Host;
-use crate::line::{Line, id_of, place_of, port_of};
+use crate::line::{Line, bytes_of, id_of, place_of, port_of};
 use crate::telling::tell;
+use mr_data::Dataset;
 use mr_peer::Config;
 use mr_repl::ReplId;
+use mr_replay::{Loaded, load};
 use std::alloc::Global;
 use std::hash::RandomState;
 
@@ -48,20 +50,28 @@ impl Stage {
         let id = id_of(line.first)?;
         let is_replica = is_replica(line.second)?;
         let port = port_of(line.third)?;
+        let file = bytes_of(self.alloc, line.fifth)?;
         match Config::new(is_replica, port, place_of(line.fourth)?) {
             Some(config) => {
-                self.put(number, id, config)?;
+                let Loaded { dataset, used: _ } = load(self.alloc, self.seed, file.as_slice())?;
+                self.put(number, id, dataset, config)?;
                 tell(out, "started")
             }
             None => tell(out, "refused"),
         }
     }
 
-    fn put(&mut self, number: usize, id: ReplId, config: Config) -> Result<(), RehearsalFault> {
+    fn put(
+        &mut self,
+        number: usize,
+        id: ReplId,
+        held: Dataset,
+        config: Config,
+    ) -> Result<(), RehearsalFault> {
         if number > self.hosts.len() {
             return Err(RehearsalFault::Line);
         }
-        let host = Host::start(self.alloc, self.seed, id, config)?;
+        let host = Host::start(self.alloc, self.seed, id, held, config)?;
         match self.hosts.as_mut_slice().get_mut(number) {
             Some(before) => *before = host,
             None => self.hosts.push(host)?,
