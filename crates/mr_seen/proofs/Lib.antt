@@ -17,3 +17,4 @@ pub mod Linking
 pub mod Times
 pub mod Beginning
 pub mod Kept
+pub mod Turning

@@ -196,3 +196,22 @@ EventsKeepHistories = (w : WorldState) (book : Book minired) (e : events.Event m
 -- All this is known of the World in which nothing has begun.
 abbrev pub WorldsBegin : Type 0
 WorldsBegin = Holds no_world (λ i. None)
+
+-- ---- what is true of each World stays
+-- .. behind a step at a client's end
+abbrev pub ClientStepsKeepWorlds : Type 0
+ClientStepsKeepWorlds = (w : WorldState) (l : ℕ) (k : Link) (s : Slot) (given : Given) (fresh : List ℕ) (b : NodeState) (outs : OutsState)
+    → IsWorld w → IsServed w l k s → IsSound b
+    → ClientRow s.node k.name (unread k.ask) given fresh b outs
+    → IsWorld (stepped w k.to s l k b outs)
+
+-- .. at a replica's end
+abbrev pub ReplicaStepsKeepWorlds : Type 0
+ReplicaStepsKeepWorlds = (w : WorldState) (l : ℕ) (k : Link) (s : Slot) (b : NodeState) (outs : OutsState)
+    → IsWorld w → IsServed w l k s → IsSound b
+    → ReplicaRow s.node k.name (unread k.ask) b outs
+    → IsWorld (stepped w k.to s l k b outs)
+
+-- .. and where a node stops
+abbrev pub StopsKeepWorlds : Type 0
+StopsKeepWorlds = (w : WorldState) (n : ℕ) (s : Slot) (b : NodeState) → IsWorld w → slice_get w.slots n ≡ Some s → b.core.up ≡ false → IsWorld (put_node w n s b)
