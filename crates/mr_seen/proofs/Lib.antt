@@ -18,3 +18,4 @@ pub mod Times
 pub mod Beginning
 pub mod Kept
 pub mod Turning
+pub mod Following

@@ -215,3 +215,10 @@ ReplicaStepsKeepWorlds = (w : WorldState) (l : ℕ) (k : Link) (s : Slot) (b : N
 -- .. and where a node stops
 abbrev pub StopsKeepWorlds : Type 0
 StopsKeepWorlds = (w : WorldState) (n : ℕ) (s : Slot) (b : NodeState) → IsWorld w → slice_get w.slots n ≡ Some s → b.core.up ≡ false → IsWorld (put_node w n s b)
+
+-- .. behind a step at the link to the master
+abbrev pub MasterStepsKeepWorlds : Type 0
+MasterStepsKeepWorlds = (w : WorldState) (n : ℕ) (s : Slot) (k : Link) (name : LinkId) (step : UpstreamStep) (b : NodeState) (outs : OutsState)
+    → IsWorld w → IsFollowed w n s k → IsSound b
+    → master.Hears s.node name step b outs
+    → IsWorld (followed w n s k b outs)
