@@ -1,8 +1,7 @@
 -- What is true of a World is kept by a step at the link to a node's master.
-use Rattle.std.proofs.Common.{◌≡◌, ◌≢◌, ◌+◌, ◌-◌, ◌≤◌, ◌⊎◌, inl, inr, ℕ, List, [], ◌∷◌, ◌++◌, Bool, true, false, cond, Option, None, Some, Ok, length, append_assoc, refl, sym, ap, subst, ◌∙◌, arith}
-use Rattle.std.specs.Prelude.{slice_get, slice_set}
+use Rattle.std.proofs.Common.{◌≡◌, ◌≢◌, ◌⊎◌, inl, inr, ℕ, List, [], ◌++◌, Bool, true, false, cond, Option, None, Some, Ok, refl, sym, ap, subst, ◌∙◌, arith}
+use Rattle.std.specs.Prelude.{slice_get}
 use Rattle.std.specs.FinMap.{get, get-remove}
-use Rattle.mr_links.specs.Links.{Links}
 use Rattle.mr_links.specs.declared.link_id.LinkId.{LinkId}
 use Rattle.mr_links.proofs.LinkRows.{ids_total}
 use Rattle.mr_entries.specs.Dataset.{Dataset}
@@ -11,14 +10,14 @@ use Rattle.mr_course.specs.State.{CourseState}
 use Rattle.mr_course.specs.Rows as course
 use Rattle.mr_course.specs.declared.upstream.UpstreamStep.{UpstreamStep}
 use Rattle.mr_course.specs.declared.upstream.UpstreamStep.TheVariants as outcome
-use Rattle.mr_ends.specs.State.{EndState, end_at, without}
+use Rattle.mr_ends.specs.State.{end_at, without}
 use Rattle.mr_ends.specs.State.EndState.{upstream}
 use Rattle.mr_ends.proofs.Naming.{at_or_other}
 use Rattle.mr_outs.specs.Outs.{OutsState}
 use Rattle.mr_rows.specs.State.{NodeState, FollowedAt, course_of, end_of}
-use Rattle.mr_rows.specs.UpstreamRows.{ends_behind, node_behind}
-use Rattle.mr_seen.specs.Way.{WayState, IsWay, unread, sent_on, left_on, used_on}
-use Rattle.mr_seen.specs.State.{Link, Slot, WorldState, Caller, a_node}
+use Rattle.mr_rows.specs.UpstreamRows.{ends_behind}
+use Rattle.mr_seen.specs.Way.{IsWay, unread, left_on}
+use Rattle.mr_seen.specs.State.{Link, Slot, WorldState, a_node}
 use Rattle.mr_seen.specs.Worlds.{IsSound, IsWorld, HasServer, HasMaster, end_for}
 use Rattle.mr_seen.specs.Carrying.{behind, followed, heard_as, unread_count}
 use Rattle.mr_seen.specs.Events.{IsFollowed, MasterStepsKeepWorlds}
@@ -134,9 +133,9 @@ module _ (w : WorldState) (is : IsWorld w) (n : ℕ) (s : Slot) (k : Link) (name
     tells = λ j y e. let x = origin j y e in x.2.tell (is.tells j x.0 x.1);
     servers = λ j y e. let x = origin j y e in server_of j x.0 y x.1 x.2 (number_or x.0.to n);
     names = λ i j y z e g p q t l.
-      let x = origin i y e in
-      let v = origin j z g in
-      is.names i j x.0 v.0 x.1 v.1 (sym x.2.serving ∙ p) (sym v.2.serving ∙ q) (sym x.2.to ∙ (t ∙ v.2.to)) (sym x.2.name ∙ (l ∙ v.2.name));
+        let x = origin i y e in
+        let v = origin j z g in
+        is.names i j x.0 v.0 x.1 v.1 (sym x.2.serving ∙ p) (sym v.2.serving ∙ q) (sym x.2.to ∙ (t ∙ v.2.to)) (sym x.2.name ∙ (l ∙ v.2.name));
     nodes = λ i t e u. node_of i t (set_cases w.slots n i (behind s b outs) t e) u;
     followers = λ i t x g e u q. follower_of i t x g (set_cases w.slots n i (behind s b outs) t e) u q;
   }

@@ -1,6 +1,6 @@
 -- What is true of a World is kept by a step at an end that a node serves.
-use Rattle.std.proofs.Common.{◌≡◌, ◌≢◌, ◌+◌, ◌-◌, ◌≤◌, ◌⊎◌, inl, inr, ℕ, List, [], ◌∷◌, ◌++◌, Bool, true, false, cond, ◌==◌, ◌&&◌, Option, None, Some, length, map, refl, sym, ap, subst, ◌∙◌, arith}
-use Rattle.std.specs.Prelude.{slice_get, slice_set}
+use Rattle.std.proofs.Common.{◌≡◌, ◌≢◌, ◌⊎◌, inl, inr, ℕ, List, ◌++◌, Bool, true, false, ◌==◌, ◌&&◌, Option, None, Some, length, map, refl, sym, ap, subst, ◌∙◌, arith}
+use Rattle.std.specs.Prelude.{slice_get}
 use Rattle.std.specs.Option.{option_map}
 use Rattle.std.proofs.lemmas.Option.{slice_get-map}
 use Rattle.mr_links.specs.declared.link_id.LinkId.{LinkId}
@@ -10,7 +10,7 @@ use Rattle.mr_ends.specs.State.EndState.{client, replica, upstream, shut}
 use Rattle.mr_ends.specs.Replicas.{is_named}
 use Rattle.mr_outs.specs.Outs.{OutsState}
 use Rattle.mr_rows.specs.State.{NodeState, end_of}
-use Rattle.mr_seen.specs.Way.{WayState, IsWay, unread, sent_on, left_on, used_on}
+use Rattle.mr_seen.specs.Way.{WayState, IsWay, unread, left_on}
 use Rattle.mr_seen.specs.State.{Link, Slot, WorldState}
 use Rattle.mr_seen.specs.Worlds.{IsSound, IsWorld, HasServer, HasMaster, end_for}
 use Rattle.mr_seen.specs.Carrying.{is_at, fed_if, shut_if, reached, told, settled, behind, stepped}
@@ -117,9 +117,10 @@ module _ (w : WorldState) (is : IsWorld w) (l : ℕ) (k : Link) (s : Slot) (b : 
   -- .. and a link before it is one behind it
   onward : (j : ℕ) (x : Link) → slice_get w.links j ≡ Some x → (y : Link) × (slice_get V.links j ≡ Some y) × Same x y
   onward j x e = elim (number_or j l) [
-      inl same ↦ (let one : k ≡ x = some_is k x (sym served.found ∙ (ap (slice_get w.links) (sym same) ∙ e)) in
+    | inl same ↦ (let one : k ≡ x = some_is k x (sym served.found ∙ (ap (slice_get w.links) (sym same) ∙ e)) in
         (m, ap (slice_get V.links) same ∙ set_here (map (reached k.to outs) w.links) l m (reached k.to outs k) (slice_get-map (reached k.to outs) w.links l ∙ ap (option_map (reached k.to outs)) served.found), subst (λ z. Same z m) one here.same))
-    | inr apart ↦ (reached k.to outs x, set_there (map (reached k.to outs) w.links) l j m apart ∙ (slice_get-map (reached k.to outs) w.links j ∙ ap (option_map (reached k.to outs)) e), (there x).same) ]
+    | inr apart ↦ (reached k.to outs x, set_there (map (reached k.to outs) w.links) l j m apart ∙ (slice_get-map (reached k.to outs) w.links j ∙ ap (option_map (reached k.to outs)) e), (there x).same)
+  ]
 
   found_here : slice_get V.slots k.to ≡ Some (behind s b outs)
   found_here = set_here w.slots k.to (behind s b outs) s served.at
@@ -137,12 +138,12 @@ module _ (w : WorldState) (is : IsWorld w) (l : ℕ) (k : Link) (s : Slot) (b : 
         slot = behind s b outs;
         found = ap (slice_get V.slots) (t.same.to ∙ at) ∙ found_here;
         agrees = λ up q.
-          let open_now = t.same.serving q in
-          let apart : p.1.0.name ≢ k.name = λ n. p.0 (is.names j l p.1.0 k p.1.1 served.found open_now served.serving at n) in
-          let unnamed = and_third (p.1.0.to == k.to) p.1.0.serving (is_named outs.closed p.1.0.name) (t.open_now q) (same_eqb p.1.0.to k.to at) open_now in
-          ap (end_of b) t.same.name
-          ∙ (turned.others p.1.0.name p.1.0.streams (unread p.1.0.ask) apart unnamed (served_end w is k.to s served.at served.up j p.1.0 p.1.1 at open_now)
-          ∙ (ap (λ z. Some (end_for z (unread p.1.0.ask))) (sym t.streams) ∙ ap (λ z. Some (end_for (reached k.to outs p.1.0).streams (unread z))) (sym t.ask)));
+            let open_now = t.same.serving q in
+            let apart : p.1.0.name ≢ k.name = λ n. p.0 (is.names j l p.1.0 k p.1.1 served.found open_now served.serving at n) in
+            let unnamed = and_third (p.1.0.to == k.to) p.1.0.serving (is_named outs.closed p.1.0.name) (t.open_now q) (same_eqb p.1.0.to k.to at) open_now in
+            ap (end_of b) t.same.name
+            ∙ (turned.others p.1.0.name p.1.0.streams (unread p.1.0.ask) apart unnamed (served_end w is k.to s served.at served.up j p.1.0 p.1.1 at open_now)
+            ∙ (ap (λ z. Some (end_for z (unread p.1.0.ask))) (sym t.streams) ∙ ap (λ z. Some (end_for (reached k.to outs p.1.0).streams (unread z))) (sym t.ask)));
       }
       go (inr ne) = let t = there p.1.0 in let h = is.servers j p.1.0 p.1.1 in record {
         slot = h.slot;
@@ -169,9 +170,9 @@ module _ (w : WorldState) (is : IsWorld w) (l : ℕ) (k : Link) (s : Slot) (b : 
     tells = λ j y e. let x = same_of j y (origin j y e) in x.2.way (is.tells j x.0 x.1);
     servers = λ j y e. server_of j y (origin j y e);
     names = λ i j y z e f p q t n.
-      let x = same_of i y (origin i y e) in
-      let v = same_of j z (origin j z f) in
-      is.names i j x.0 v.0 x.1 v.1 (x.2.serving p) (v.2.serving q) (sym x.2.to ∙ (t ∙ v.2.to)) (sym x.2.name ∙ (n ∙ v.2.name));
+        let x = same_of i y (origin i y e) in
+        let v = same_of j z (origin j z f) in
+        is.names i j x.0 v.0 x.1 v.1 (x.2.serving p) (v.2.serving q) (sym x.2.to ∙ (t ∙ v.2.to)) (sym x.2.name ∙ (n ∙ v.2.name));
     nodes = λ n t e u. node_of n t (set_cases w.slots k.to n (behind s b outs) t e) u;
     followers = λ n t name f e u q. follower_of n t name f (set_cases w.slots k.to n (behind s b outs) t e) u q;
   }

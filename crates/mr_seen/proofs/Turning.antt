@@ -1,27 +1,25 @@
 -- What is true of a World is kept by each row of a step at an end that a node serves.
-use Rattle.std.proofs.Common.{◌≡◌, ◌≢◌, ◌⊎◌, inl, inr, ℕ, List, [], ◌∷◌, ◌++◌, Bool, true, false, Option, None, Some, refl, sym, ap, subst, ◌∙◌}
-use Rattle.std.specs.Prelude.{slice_get, slice_set}
+use Rattle.std.proofs.Common.{◌≡◌, ◌≢◌, ◌⊎◌, inl, inr, ℕ, List, [], ◌++◌, Bool, true, false, Option, None, Some, refl, sym, ap, subst, ◌∙◌}
+use Rattle.std.specs.Prelude.{slice_get}
 use Rattle.mr_links.specs.declared.link_id.LinkId.{LinkId}
 use Rattle.mr_data.specs.declared.given.Given.{Given}
 use Rattle.mr_follow.specs.State.{FollowState}
 use Rattle.mr_course.specs.State.{name_of}
 use Rattle.mr_ends.specs.State.{EndState}
 use Rattle.mr_ends.specs.State.EndState.{client, replica, upstream, shut}
-use Rattle.mr_ends.specs.Replicas.{is_named}
 use Rattle.mr_outs.specs.Outs.{OutsState, Output}
 use Rattle.mr_rows.specs.State.{Core, NodeState, FollowedAt, OthersStay, end_of}
 use Rattle.mr_rows.specs.Ends.{Settles}
 use Rattle.mr_rows.specs.Telling.{Around}
 use Rattle.mr_rows.specs.Served.{Served}
 use Rattle.mr_rows.specs.ClientRows.{ClientRow}
-use Rattle.mr_rows.specs.ClientRows as row
 use Rattle.mr_rows.specs.ReplicaRows.{ReplicaRow, IsExpected}
 use Rattle.mr_seen.specs.Way.{unread}
-use Rattle.mr_seen.specs.State.{Link, Slot, WorldState}
-use Rattle.mr_seen.specs.Worlds.{IsSound, IsWorld, HasServer, HasMaster, end_for}
+use Rattle.mr_seen.specs.State.{Link, Slot}
+use Rattle.mr_seen.specs.Worlds.{IsSound, HasServer, HasMaster, end_for}
 use Rattle.mr_seen.specs.Carrying.{put_node}
-use Rattle.mr_seen.specs.Events.{IsServed, ClientStepsKeepWorlds, ReplicaStepsKeepWorlds, StopsKeepWorlds}
-use Rattle.mr_seen.proofs.Places.{set_here, set_there, set_cases, some_is}
+use Rattle.mr_seen.specs.Events.{ClientStepsKeepWorlds, ReplicaStepsKeepWorlds, StopsKeepWorlds}
+use Rattle.mr_seen.proofs.Places.{set_here, set_there, set_cases}
 use Rattle.mr_seen.proofs.Reading.{number_or}
 use Rattle.mr_seen.proofs.Kept.{Turned, kept_stepped}
 
