@@ -1,5 +1,5 @@
 -- What a call on a node of a World is, among the events of histories.
-use Rattle.std.specs.Prelude.{◌≡◌, ◌≤◌, ◌+◌, ℕ, List, Bool, true, false, None, Some, not, length, slice_get, slice_set}
+use Rattle.std.specs.Prelude.{◌≡◌, ◌≤◌, ◌+◌, ℕ, ℤ, List, Bool, true, false, None, Some, not, length, slice_get, slice_set}
 use Rattle.std.specs.FinMap.{empty}
 use Rattle.mr_entries.specs.Dataset.{Dataset}
 use Rattle.mr_data.specs.declared.given.Given.{Given}
@@ -222,3 +222,10 @@ MasterStepsKeepWorlds = (w : WorldState) (n : ℕ) (s : Slot) (k : Link) (name :
     → IsWorld w → IsFollowed w n s k → IsSound b
     → master.Hears s.node name step b outs
     → IsWorld (followed w n s k b outs)
+
+-- .. and behind a tick
+abbrev pub TicksKeepWorlds : Type 0
+TicksKeepWorlds = (w : WorldState) (n : ℕ) (s : Slot) (now : ℤ) (b : NodeState) (outs : OutsState)
+    → IsWorld w → IsRunning w n s → IsSound b
+    → TickRow s.node now b outs
+    → IsWorld (ticked w n s b outs)

@@ -1,5 +1,5 @@
 //! That what each call on a node of a World does is a row of histories. No function here does anything: each is the law that it ensures.
-ghost use Rattle.mr_seen.specs.Events.{ClientStepsAreRows, ClientStepsKeepWorlds, DialsAreRows, EventsKeepHistories, IdleStepsAreRows, LacksAreUnseen, MasterBreaksAreRows, MasterFeedsAreRows, MasterStepsAreRows, MasterStepsKeepWorlds, OpenStopsAreRows, OpensAreRows, ReplicaStepsAreRows, ReplicaStepsKeepWorlds, RestartsAreRows, ServerBreaksAreRows, ServerFeedsAreRows, SpendsAreRows, StartsAreRows, StopsAreRows, StopsKeepWorlds, TicksAreRows, WaitsAreRows, WorldsBegin};
+ghost use Rattle.mr_seen.specs.Events.{ClientStepsAreRows, ClientStepsKeepWorlds, DialsAreRows, EventsKeepHistories, IdleStepsAreRows, LacksAreUnseen, MasterBreaksAreRows, MasterFeedsAreRows, MasterStepsAreRows, MasterStepsKeepWorlds, OpenStopsAreRows, OpensAreRows, ReplicaStepsAreRows, ReplicaStepsKeepWorlds, RestartsAreRows, ServerBreaksAreRows, ServerFeedsAreRows, SpendsAreRows, StartsAreRows, StopsAreRows, StopsKeepWorlds, TicksAreRows, TicksKeepWorlds, WaitsAreRows, WorldsBegin};
 
 /// A step at a client's end by its exact row, with what it gives out carried, is a step by a row of histories, of the World that is seen.
 pub fn client_steps_are_rows()
@@ -90,6 +90,11 @@ pub fn steps_keep_worlds()
 /// It stays behind a step at the link to the master.
 pub fn master_steps_keep_worlds()
     ensures { MasterStepsKeepWorlds }
+{}
+
+/// It stays behind a tick.
+pub fn ticks_keep_worlds()
+    ensures { TicksKeepWorlds }
 {}
 
 /// All that is asked of a World holds of the one in which nothing has begun.
