@@ -282,9 +282,9 @@ module _ (w : WorldState) (is : IsWorld w) (n : ℕ) (s : Slot) (b : NodeState) 
     tells = λ j y e. let x = both_ways.0 j y e in x.2.same.way (is.tells j x.0 x.1);
     servers = λ j y e. let x = both_ways.0 j y e in server_at j x.0 y x.1 x.2 (number_or x.0.to n);
     names = λ i j y z e f p q t l.
-      let x = both_ways.0 i y e in
-      let v = both_ways.0 j z f in
-      is.names i j x.0 v.0 x.1 v.1 (x.2.same.serving p) (v.2.same.serving q) (sym x.2.same.to ∙ (t ∙ v.2.same.to)) (sym x.2.same.name ∙ (l ∙ v.2.same.name));
+        let x = both_ways.0 i y e in
+        let v = both_ways.0 j z f in
+        is.names i j x.0 v.0 x.1 v.1 (x.2.same.serving p) (v.2.same.serving q) (sym x.2.same.to ∙ (t ∙ v.2.same.to)) (sym x.2.same.name ∙ (l ∙ v.2.same.name));
     nodes = λ i t e u. node_at i t (set_cases w.slots n i (behind s b outs) t e) u;
     followers = λ i t name f e u q. follower_at i t name f (set_cases w.slots n i (behind s b outs) t e) u q;
   }
