@@ -1,9 +1,8 @@
 -- What words ask of a node, in the words of histories.
-use Rattle.std.proofs.Common.{zero, suc, ◌≡◌, ◌≢◌, ◌+◌, ◌<◌, ◌≤◌, ◌^◌, ◌⊎◌, ◌||◌, inl, inr, ℕ, ℤ, pos, negsuc, List, [], ◌∷◌, ◌++◌, Bool, true, false, not, Option, None, Some, Result, Ok, Err, length, codes, refl, sym, ap, subst, ◌∙◌, arith, All}
+use Rattle.std.proofs.Common.{◌≡◌, ◌≢◌, ◌<◌, ◌≤◌, ◌⊎◌, ◌||◌, inl, inr, ℕ, ℤ, pos, negsuc, List, [], ◌∷◌, ◌++◌, Bool, true, false, not, Option, None, Some, Result, Ok, Err, length, codes, refl, sym, ap, subst, ◌∙◌, arith, All}
 use Rattle.std.specs.Prelude.{is_some}
 use Rattle.std.specs.List.{AllPass}
 use Rattle.std.specs.Fmt.{decimal}
-use Rattle.std.specs.Option.{option_and_then}
 use Rattle.std.proofs.lemmas.Fmt.{decimal_injective}
 use Rattle.std.proofs.lemmas.List.Elements.{All-nil, All-cons, All-head, All-tail}
 use Rattle.std.proofs.lemmas.List.Sums.{AllPass-from_list_all}
@@ -25,15 +24,13 @@ use Rattle.mr_cmd_server.specs.Commands.{server_reply}
 use Rattle.mr_cmd_server.specs.declared.server_ask.ServerAsk.{ServerAsk}
 use Rattle.mr_cmd_server.specs.declared.server_ask.ServerAsk.TheVariants as server
 use Rattle.mr_cmd_node.specs.declared.node_ask.NodeAsk.{NodeAsk}
-use Rattle.mr_cmd_node.specs.declared.node_ask.NodeAsk.TheVariants as node
 use Rattle.mr_ask.specs.Asks.{asked}
 use Rattle.mr_ask.specs.declared.ask.Ask.{Ask}
 use Rattle.mr_ask.specs.declared.ask.Ask.TheVariants as ask
-use Rattle.mr_plan.specs.Requests.{HasPlan, IsPlannedAs, is_quit, closes, quits, rewriting_by, halting_by, question_by, left_by}
+use Rattle.mr_plan.specs.Requests.{HasPlan, IsPlannedAs, is_quit, closes, rewriting_by, halting_by, question_by, left_by}
 use Rattle.mr_lines.specs.Bytes.{ends_line}
 use Rattle.mr_lines.specs.Lines.{status, refusal}
-use Rattle.mr_lines.specs.Lines as peers
-use Rattle.mr_lines.specs.Replies.{IsReplyText, place_text}
+use Rattle.mr_lines.specs.Replies.{IsReplyText}
 use Rattle.mr_lines.specs.declared.psync.PsyncReply.{PsyncReply}
 use Rattle.mr_lines.specs.declared.psync.PsyncReply.TheVariants as reply
 use Rattle.mr_outs.specs.Address.{AddressState}
@@ -42,7 +39,7 @@ use Rattle.mr_history.specs.Language.{Request}
 use Rattle.mr_history.specs.Language.Request.{Handshake, Psync, Ack, Command, ReplicaOfNoOne, ReplicaOf, Quit}
 use Rattle.mr_history.specs.Language.Line.{Plain, Refusal}
 use Rattle.mr_language.specs.Lines.{Says}
-use Rattle.mr_language.specs.Requests.{Kind, kind_of, kind_by, kind_to_server, Asks, IsWanted, Wants, address}
+use Rattle.mr_language.specs.Requests.{Kind, kind_by, kind_to_server, Asks, IsWanted, address}
 use Rattle.mr_language.specs.Requests.Kind.{handshake, psync, ack, no_one, follow, quit, command}
 use Rattle.mr_follow.proofs.Loadings.{possible, then_some}
 use Rattle.mr_seen.specs.Worlds.{ports}

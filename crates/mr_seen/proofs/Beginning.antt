@@ -1,5 +1,5 @@
 -- Nodes that begin, as histories see them; and what an event keeps.
-use Rattle.std.proofs.Common.{◌≡◌, ◌≢◌, inl, inr, ℕ, List, [], ◌∷◌, ◌++◌, Bool, true, false, not, cond, Option, None, Some, ◌==◌, length, map, refl, sym, ap, subst, ◌∙◌, arith}
+use Rattle.std.proofs.Common.{◌≡◌, ℕ, List, [], Bool, true, false, Option, None, Some, ◌==◌, length, refl, sym, ap, subst, ◌∙◌}
 use Rattle.std.specs.Prelude.{slice_get, slice_set, bytes_eq}
 use Rattle.std.specs.Option.{option_map}
 use Rattle.std.specs.FinMap.{empty}
@@ -15,7 +15,7 @@ use Rattle.mr_history.proofs.Headline.{row_keeps}
 use Rattle.mr_history.proofs.Theorem.{nowhere_ok}
 use Rattle.mr_language.specs.Minired.{minired}
 use Rattle.mr_language.proofs.MiniredLaws.{minired_laws}
-use Rattle.mr_seen.specs.State.{Link, Slot, Entry, WorldState}
+use Rattle.mr_seen.specs.State.{Link, Entry}
 use Rattle.mr_seen.specs.Seeing.{seen, seen_node, seen_link}
 use Rattle.mr_seen.specs.Books.{entry_of, IsKeptAs, IsBook, begun}
 use Rattle.mr_seen.specs.Carrying.{shut_if, begun_slot}
@@ -32,8 +32,10 @@ abbrev entry_from : List ℕ → List ℕ → Entry
 entry_from id start = record { id = id; start = start; texts = [] }
 
 begun_kept : (es : List Entry) (book : Book minired) (id start : List ℕ) (m : Dataset) → IsBook es book → Makes start m → entry_of es id ≡ None → IsBook (begun es id start) (with_history book id (history_from m))
-begun_kept es book id start m is makes none = record { each = λ i. subst (λ z. IsKeptAs z (with_history book id (history_from m) i)) (sym (entry_push es (entry_from id start) i))
-    (kept_on (bytes_eq id i) (entry_of es i) (book i) (entry_from id start) (history_from m) (is.each i) (record { start = makes; texts_are = refl }) (λ t. ap (entry_of es) (sym ((bytes_eq-Decides id i).0 t)) ∙ none)) }
+begun_kept es book id start m is makes none = record {
+  each = λ i. subst (λ z. IsKeptAs z (with_history book id (history_from m) i)) (sym (entry_push es (entry_from id start) i))
+      (kept_on (bytes_eq id i) (entry_of es i) (book i) (entry_from id start) (history_from m) (is.each i) (record { start = makes; texts_are = refl }) (λ t. ap (entry_of es) (sym ((bytes_eq-Decides id i).0 t)) ∙ none));
+}
 
 begun_draws : (es : List Entry) (book : Book minired) (id : List ℕ) (m : Dataset) → IsBook es book → entry_of es id ≡ None → Draws minired book (with_history book id (history_from m)) id m
 begun_draws es book id m is none = record { new_id = is_none (entry_of es id) (book id) (is.each id) none; book = set_history book id (history_from m) }
@@ -50,9 +52,9 @@ starts w book as_replica port backlog id file holds none = record {
     node = length w.slots;
     new_node = none_at_end seen_node w.slots;
     unnamed = λ l k e q.
-      let x = is_seen seen_link (slice_get w.links l) k e in
-      let h = holds.world.servers l x.0 x.1 in
-      let z : None ≡ Some h.slot = sym (push_none w.slots) ∙ (ap (slice_get w.slots) (sym q ∙ ap (λ z. z.to) (sym x.2)) ∙ h.found) in absurd (cc);
+        let x = is_seen seen_link (slice_get w.links l) k e in
+        let h = holds.world.servers l x.0 x.1 in
+        let z : None ≡ Some h.slot = sym (push_none w.slots) ∙ (ap (slice_get w.slots) (sym q ∙ ap (λ z. z.to) (sym x.2)) ∙ h.found) in absurd (cc);
     nodes = push_at seen_node w.slots (begun_slot as_replica port backlog id empty file);
     links = λ j. refl;
     book = begun_draws w.book book id empty holds.kept none;

@@ -1,38 +1,28 @@
 -- Each row of a step at a client's end is a row of histories.
-use Rattle.std.proofs.Common.{zero, ◌≡◌, ◌≢◌, ◌+◌, ◌-◌, ◌<◌, ◌≤◌, ◌⊎◌, inl, inr, ℕ, ℤ, pos, List, [], ◌∷◌, ◌++◌, Bool, true, false, not, cond, Option, None, Some, Result, Ok, Err, length, take, drop, codes, append_assoc, refl, sym, ap, subst, ◌∙◌, arith, All, ◌||◌}
-use Rattle.std.specs.Prelude.{slice_get, slice_set, is_some, IfSome, map}
-use Rattle.std.specs.Option.{option_map}
+use Rattle.std.proofs.Common.{◌≡◌, ◌+◌, ◌-◌, ◌<◌, ◌≤◌, inl, inr, ℕ, List, [], ◌∷◌, ◌++◌, Bool, true, false, not, Option, None, Some, Ok, length, drop, append_assoc, refl, sym, ap, subst, ◌∙◌, arith, ◌||◌}
+use Rattle.std.specs.Prelude.{is_some}
 use Rattle.std.proofs.lemmas.List.{append-nil}
 use Rattle.std.proofs.lemmas.List.Elements.{All-nil}
-use Rattle.mr_links.specs.declared.link_id.LinkId.{LinkId}
 use Rattle.mr_effect.specs.Spelling.{texts}
 use Rattle.mr_effect.specs.declared.effect.Effect.{Effect}
 use Rattle.mr_entries.specs.Dataset.{Dataset}
 use Rattle.mr_data.specs.Meaning.{apply_all}
 use Rattle.mr_data.specs.declared.given.Given.{Given}
 use Rattle.mr_resp.specs.Replies.{Tree, reply_text}
-use Rattle.mr_planning.specs.Answered.{done}
 use Rattle.mr_cmd_server.specs.Commands.{server_reply}
-use Rattle.mr_cmd_server.specs.declared.server_ask.ServerAsk.TheVariants as server
-use Rattle.mr_cmd_server.specs.declared.question.Question.{Question}
 use Rattle.mr_cmd_node.specs.declared.node_ask.NodeAsk.{NodeAsk}
-use Rattle.mr_cmd_node.specs.declared.node_ask.NodeAsk.TheVariants as node
 use Rattle.mr_ask.specs.Asks.{asked}
-use Rattle.mr_ask.specs.declared.ask.Ask.{Ask}
 use Rattle.mr_ask.specs.declared.ask.Ask.TheVariants as ask
-use Rattle.mr_words.specs.declared.fault.AskFault.{AskFault}
 use Rattle.mr_replay.specs.Effects.{IsGoodEffect}
-use Rattle.mr_plan.specs.Requests.{HasPlan, halting_by, rewriting_by, question_by, halts as is_halting, quits}
+use Rattle.mr_plan.specs.Requests.{HasPlan, halting_by, rewriting_by, question_by}
 use Rattle.mr_plan.proofs.Replicas.{none_on_replica}
-use Rattle.mr_repl.specs.Backlog.{Window, IsWindow, last_of}
+use Rattle.mr_repl.specs.Backlog.{IsWindow, last_of}
 use Rattle.mr_repl.specs.Lineage.{grown}
-use Rattle.mr_inline.specs.Language.{IsDoomed, Fails}
+use Rattle.mr_inline.specs.Language.{IsDoomed}
 use Rattle.mr_resp.specs.Request.{IsText}
 use Rattle.mr_resp.specs.Usual.{usual}
 use Rattle.mr_resp.specs.declared.fault.Fault.{Fault}
-use Rattle.mr_ends.specs.State.{EndState}
-use Rattle.mr_ends.specs.State.EndState.{client, replica, shut}
-use Rattle.mr_outs.specs.Address.{AddressState}
+use Rattle.mr_ends.specs.State.EndState.{client}
 use Rattle.mr_outs.specs.Outs.{OutsState, Output, no_output}
 use Rattle.mr_rows.specs.State.{Core, NodeState, end_of}
 use Rattle.mr_rows.specs.Requests as requests
@@ -40,7 +30,7 @@ use Rattle.mr_rows.specs.Growing.{FedTo, grown_by, offset_behind, offset_limit}
 use Rattle.mr_rows.specs.Served.{Answered, Served, IsQuiet, AsksNode, IsPlain, left_of}
 use Rattle.mr_rows.specs.ClientRows as row
 use Rattle.mr_history.specs.Language.{Request}
-use Rattle.mr_history.specs.Language.Request.{Handshake, Psync, Ack, Command, ReplicaOfNoOne, ReplicaOf, Empty, Quit}
+use Rattle.mr_history.specs.Language.Request.{Handshake, Psync, Ack, Command, ReplicaOfNoOne, ReplicaOf, Quit}
 use Rattle.mr_history.specs.Language.Line.{Plain, Refusal}
 use Rattle.mr_history.specs.History.{Book}
 use Rattle.mr_history.specs.World as history
@@ -83,9 +73,11 @@ pub left_none : (effects : List Effect) (m n : Dataset) → effects ≡ [] → a
 left_none effects m n none leads = some_is m n (ap (λ (es : List Effect). apply_all es m) (sym none) ∙ leads)
 
 pub doomed_by : (u : List ℕ) (fault : Fault) → requests.IsDoomedBy u fault → IsDoomed (IsText usual) u
-doomed_by u fault h = let f = h.fails in record { never = λ more text rest p e.
-    f.doomed.never (f.rest ++ more) text rest p
-      (append_assoc f.front (f.byte ∷ []) (f.rest ++ more) ∙ (sym (append_assoc f.front (f.byte ∷ f.rest) more) ∙ (ap (λ z. z ++ more) (sym f.is) ∙ e))) }
+doomed_by u fault h = let f = h.fails in record {
+  never = λ more text rest p e.
+      f.doomed.never (f.rest ++ more) text rest p
+      (append_assoc f.front (f.byte ∷ []) (f.rest ++ more) ∙ (sym (append_assoc f.front (f.byte ∷ f.rest) more) ∙ (ap (λ z. z ++ more) (sym f.is) ∙ e)));
+}
 
 both : (b : Bool) → b ≡ true → b ≡ false → ⊥
 both b p q = cc
@@ -194,7 +186,7 @@ module _ (w : WorldState) (book : Book minired) (l : ℕ) (k : Link) (s : Slot) 
       let x = special (asked words) e in
       let kind : kind_of words ≡ command = ap kind_by x.1.0 ∙ x.1.1.0 in
       unchanged (server_reply x.0) (record { words = words; rest = rest; asks = asks; kind = kind_asks words command Command kind refl; core = core; follow = follow; is = is; quiet = quiet })
-        (λ master. special_plan words given s.node.core.held x.0 x.1.0 x.1.1.1) closed kind
+      (λ master. special_plan words given s.node.core.held x.0 x.1.0 x.1.1.1) closed kind
 
   -- ---- a request that is answered
   module _ (r : row.Serves s.node k.name (unread k.ask) given b outs) where
@@ -266,28 +258,28 @@ module _ (w : WorldState) (book : Book minired) (l : ℕ) (k : Link) (s : Slot) 
     quietly : (words : List (List ℕ)) → requests.Asks (unread k.ask) words r.rest → (wish : NodeAsk) → AsksNode words wish → b.core ≡ s.node.core → IsQuiet s.node.core wish r.out → Event
     quietly words asks wish e core (IsQuiet.introduces told is gives) =
         greets (subst (λ z. Says z Plain) (sym (said ∙ ap (λ (o : Output). o.said) gives)) says_ok)
-          (used Handshake words asks (kind_asks words handshake Handshake (ap kind_by (e ∙ ap (λ z. Ok (ask.Node z)) is)) refl) core (ap (λ (o : Output). o.grown) gives))
+        (used Handshake words asks (kind_asks words handshake Handshake (ap kind_by (e ∙ ap (λ z. Ok (ask.Node z)) is)) refl) core (ap (λ (o : Output). o.grown) gives))
     quietly words asks wish e core (IsQuiet.acknowledges offset is gives) =
         replies Ack tt (used Ack words asks (kind_asks words Kind.ack Ack (ap kind_by (e ∙ ap (λ z. Ok (ask.Node z)) is)) refl) core (ap (λ (o : Output). o.grown) gives))
     quietly words asks wish e core (IsQuiet.refuses id wanted is alone gives) =
         let q = wanted_or id wanted in
         refuses q.0 alone (subst (λ z. Says z Refusal) (sym (said ∙ ap (λ (o : Output). o.said) gives)) says_not_chained)
-          (used (Psync q.0) words asks (kind_asks words (Kind.psync id wanted) (Psync q.0) (ap kind_by (e ∙ ap (λ z. Ok (ask.Node z)) is)) (q.0, q.1, refl)) core (ap (λ (o : Output). o.grown) gives))
+        (used (Psync q.0) words asks (kind_asks words (Kind.psync id wanted) (Psync q.0) (ap kind_by (e ∙ ap (λ z. Ok (ask.Node z)) is)) (q.0, q.1, refl)) core (ap (λ (o : Output). o.grown) gives))
     quietly words asks wish e core (IsQuiet.stays_master is master gives) =
         replies ReplicaOfNoOne master (used ReplicaOfNoOne words asks (kind_asks words Kind.no_one ReplicaOfNoOne (ap kind_by (e ∙ ap (λ z. Ok (ask.Node z)) is)) refl) core (ap (λ (o : Output). o.grown) gives))
     quietly words asks wish e core (IsQuiet.stays_replica host port is alone followed gives) =
         replies (ReplicaOf (language.address host port)) (alone, ap seen_host followed)
-          (used (ReplicaOf (language.address host port)) words asks (kind_asks words (Kind.follow host port) (ReplicaOf (language.address host port)) (ap kind_by (e ∙ ap (λ z. Ok (ask.Node z)) is)) refl) core (ap (λ (o : Output). o.grown) gives))
+        (used (ReplicaOf (language.address host port)) words asks (kind_asks words (Kind.follow host port) (ReplicaOf (language.address host port)) (ap kind_by (e ∙ ap (λ z. Ok (ask.Node z)) is)) refl) core (ap (λ (o : Output). o.grown) gives))
 
     answered_by : (words : List (List ℕ)) → requests.Asks (unread k.ask) words r.rest → Answered s.node.core r.around words given b.core r.out → Event
     answered_by words asks (Answered.within p reply effects plan fits is gives) = within words asks p reply effects plan fits is (ap (λ (o : Output). o.grown) gives) (ap (λ (o : Output). o.said) gives)
     answered_by words asks (Answered.beyond p reply effects plan past is gives) = beyond words asks p reply effects plan past is (ap (λ (o : Output). o.grown) gives)
     answered_by words asks (Answered.rewritten e remakes is gives) =
         special_step words r.rest asks (ap (λ z. z || (halting_by (asked words) || is_some (question_by (asked words)))) e)
-          is r.leaves.follow r.leaves.is (quiet_of (ap (λ (o : Output). o.grown) gives)) closed
+        is r.leaves.follow r.leaves.is (quiet_of (ap (λ (o : Output). o.grown) gives)) closed
     answered_by words asks (Answered.tells question e is gives) =
         special_step words r.rest asks (or_second (rewriting_by (asked words)) _ (or_second (halting_by (asked words)) _ (ap is_some e)))
-          is r.leaves.follow r.leaves.is (quiet_of (ap (λ (o : Output). o.grown) gives)) closed
+        is r.leaves.follow r.leaves.is (quiet_of (ap (λ (o : Output). o.grown) gives)) closed
     answered_by words asks (Answered.keeps_role wish e quiet is) = quietly words asks wish e is quiet
 
     skipped : requests.AsksNothing (unread k.ask) r.rest → b.core ≡ s.node.core → r.out ≡ no_output → Event
@@ -298,7 +290,7 @@ module _ (w : WorldState) (book : Book minired) (l : ℕ) (k : Link) (s : Slot) 
           uses = steps.uses_none w book l k s given fresh b outs holds served r.rest asks;
           becomes = steps.quiet_becomes w book l k s given fresh b outs holds served (record (seen_link k) { ask = seen_way (used_on (length asks.text) k.ask) }) q (same_node core r.leaves.follow)
               (steps.here_client w book l k s given fresh b outs holds served asks.text r.rest plain r.leaves.is asks.begins
-                ∙ (ap (answered (seen_link k) (seen_way (used_on (length asks.text) k.ask))) none ∙ steps.answered_nothing w book l k s given fresh b outs holds served (seen_way (used_on (length asks.text) k.ask))));
+              ∙ (ap (answered (seen_link k) (seen_way (used_on (length asks.text) k.ask))) none ∙ steps.answered_nothing w book l k s given fresh b outs holds served (seen_way (used_on (length asks.text) k.ask))));
         })) q
 
     pub serves : Event

@@ -1,26 +1,24 @@
 -- What a follower hears, in the words of histories.
-use Rattle.std.proofs.Common.{◌≡◌, ◌≢◌, ◌+◌, ◌<◌, ◌≤◌, ◌⊎◌, inl, inr, ℕ, List, [], ◌∷◌, ◌++◌, Bool, true, false, Option, None, Some, length, length-append, append_assoc, refl, sym, ap, subst, ◌∙◌, arith}
+use Rattle.std.proofs.Common.{◌≡◌, ◌≢◌, ◌<◌, ◌⊎◌, inl, inr, ℕ, List, [], ◌++◌, Some, length, length-append, append_assoc, refl, sym, ap, subst, ◌∙◌, arith}
 use Rattle.std.proofs.lemmas.List.{append_cancel_left, append-nil}
 use Rattle.mr_inline.specs.Language as texts
 use Rattle.mr_inline.specs.Language.{IsDoomed}
-use Rattle.mr_resp.specs.Command.{IsCommand, IsCommandText}
+use Rattle.mr_resp.specs.Command.{IsCommandText}
 use Rattle.mr_resp.specs.Usual.{commands}
 use Rattle.mr_resp.proofs.Commands as command_laws
-use Rattle.mr_effect.specs.Spelling.{text, words}
+use Rattle.mr_effect.specs.Spelling.{text}
 use Rattle.mr_effect.specs.declared.effect.Effect.{Effect}
 use Rattle.mr_effect.proofs.Texts.{command_text}
 use Rattle.mr_entries.specs.Dataset.{Dataset}
 use Rattle.mr_data.specs.Meaning.{apply}
 use Rattle.mr_replay.specs.Effects.{IsGoodEffect}
-use Rattle.mr_lines.specs.Lines.{status, refusal, size, IsLineText, IsPeerLine, most_counted}
-use Rattle.mr_lines.specs.Lines as peers
+use Rattle.mr_lines.specs.Lines.{status, size, IsLineText}
 use Rattle.mr_lines.specs.Replies.{IsReplyText}
 use Rattle.mr_lines.specs.declared.psync.PsyncReply.{PsyncReply}
 use Rattle.mr_lines.specs.declared.psync.PsyncReply.TheVariants as reply
-use Rattle.mr_lines.proofs.Apart.{apart, one_line}
+use Rattle.mr_lines.proofs.Apart.{apart}
 use Rattle.mr_history.specs.Language.{Line}
 use Rattle.mr_history.specs.Language.Line.{FullResync, Continue, Plain, Refusal}
-use Rattle.mr_history.specs.Node.Phase.{Greet, Asked, Loading, Stream}
 use Rattle.mr_history.specs.FollowerRows.{Usable}
 use Rattle.mr_history.specs.FollowerRows.Usable.{a_reply, an_answer, a_snapshot, an_effect}
 use Rattle.mr_language.specs.Minired.{minired}

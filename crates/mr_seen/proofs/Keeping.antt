@@ -1,11 +1,10 @@
 -- The book is kept: a history grows by texts, or branches at a place among them.
-use Rattle.std.proofs.Common.{zero, suc, ◌≡◌, ◌≢◌, ◌+◌, ◌≤◌, ◌⊎◌, inl, inr, ℕ, List, [], ◌∷◌, ◌++◌, Bool, true, false, cond, Option, None, Some, length, map, take, refl, sym, ap, subst, ◌∙◌, arith}
+use Rattle.std.proofs.Common.{◌≡◌, ◌≢◌, ℕ, List, [], ◌∷◌, ◌++◌, Bool, true, false, cond, Option, None, Some, length, take, refl, sym, ap, subst, ◌∙◌}
 use Rattle.std.specs.Prelude.{bytes_eq, if◌then◌else◌}
 use Rattle.std.specs.Option.{option_map, option_and_then}
 use Rattle.std.proofs.lemmas.Slice.Eq.{bytes_eq-Decides}
 use Rattle.std.proofs.lemmas.Grind.{flat_map-append}
 use Rattle.mr_effect.specs.Spelling.{text}
-use Rattle.mr_effect.specs.Spelling as spelling
 use Rattle.mr_effect.specs.declared.effect.Effect.{Effect}
 use Rattle.mr_entries.specs.Dataset.{Dataset}
 use Rattle.mr_data.specs.Meaning.{apply, apply_all}
@@ -139,10 +138,12 @@ branched_kept es book id fresh o start earlier later is front none = go (entry_o
     go (Some e) q =
         let kept : IsKept e (record { start = start; effects = earlier ++ later }) = subst (λ z. IsKeptAs (Some e) z) front.found (subst (λ z. IsKeptAs z (book id)) q (is.each id)) in
         let cut : take o e.texts ≡ texts minired earlier =
-            ap (take o) (kept.texts_are ∙ flat_map-append text earlier later) ∙ (ap (λ n. take n (texts minired earlier ++ texts minired later)) (sym front.place) ∙ take_here (texts minired earlier) (texts minired later)) in
-        record { each = λ i. subst (λ z. IsKeptAs z (with_history book fresh (record { start = start; effects = earlier }) i)) (sym (entry_push es (record { id = fresh; start = e.start; texts = take o e.texts }) i))
-            (kept_on (bytes_eq fresh i) (entry_of es i) (book i) (record { id = fresh; start = e.start; texts = take o e.texts }) (record { start = start; effects = earlier }) (is.each i)
-              (record { start = kept.start; texts_are = cut }) (λ t. ap (entry_of es) (sym ((bytes_eq-Decides fresh i).0 t)) ∙ none)) }
+        ap (take o) (kept.texts_are ∙ flat_map-append text earlier later) ∙ (ap (λ n. take n (texts minired earlier ++ texts minired later)) (sym front.place) ∙ take_here (texts minired earlier) (texts minired later)) in
+        record {
+          each = λ i. subst (λ z. IsKeptAs z (with_history book fresh (record { start = start; effects = earlier }) i)) (sym (entry_push es (record { id = fresh; start = e.start; texts = take o e.texts }) i))
+              (kept_on (bytes_eq fresh i) (entry_of es i) (book i) (record { id = fresh; start = e.start; texts = take o e.texts }) (record { start = start; effects = earlier }) (is.each i)
+              (record { start = kept.start; texts_are = cut }) (λ t. ap (entry_of es) (sym ((bytes_eq-Decides fresh i).0 t)) ∙ none));
+        }
 
 pub is_none : (o : Option Entry) (p : Option (History minired)) → IsKeptAs o p → o ≡ None → p ≡ None
 is_none None None k e = refl

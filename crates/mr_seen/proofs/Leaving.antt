@@ -1,31 +1,17 @@
 -- What a follower refuses, in the words of histories.
-use Rattle.std.proofs.Common.{◌≡◌, ◌≢◌, ◌+◌, ◌<◌, ◌≤◌, ◌⊎◌, inl, inr, ℕ, List, [], ◌∷◌, ◌++◌, true, false, Option, None, Some, length, take, drop, length-append, append_assoc, refl, sym, ap, subst, ◌∙◌, arith}
+use Rattle.std.proofs.Common.{◌≡◌, ◌≢◌, ◌⊎◌, inl, inr, ℕ, List, [], ◌∷◌, ◌++◌, false, None, length, length-append, append_assoc, refl, sym, ap, subst, ◌∙◌, arith}
 use Rattle.std.proofs.lemmas.List.{append_cancel_left}
-use Rattle.std.proofs.Math.Seq.{take-append_seam}
-use Rattle.mr_inline.specs.Language.{IsDoomed}
-use Rattle.mr_resp.specs.Command.{IsCommand, IsCommandText}
-use Rattle.mr_resp.specs.Usual.{commands}
-use Rattle.mr_resp.proofs.Commands.{commands_apart}
-use Rattle.mr_effect.specs.Spelling.{text}
-use Rattle.mr_effect.specs.declared.effect.Effect.{Effect}
-use Rattle.mr_effect.proofs.Texts.{command_text}
-use Rattle.mr_entries.specs.Dataset.{Dataset}
-use Rattle.mr_data.specs.Meaning.{apply}
-use Rattle.mr_replay.specs.Effects.{IsGoodEffect, Makes}
-use Rattle.mr_replay.proofs.Commands.{refuses_first}
 use Rattle.mr_lines.specs.Lines.{status, refusal, size, IsLineText, IsPeerLine, most_counted, SaysNothing}
 use Rattle.mr_lines.specs.Lines as peers
 use Rattle.mr_lines.specs.Replies.{IsReplyText}
 use Rattle.mr_lines.specs.declared.psync.PsyncReply.{PsyncReply}
 use Rattle.mr_lines.specs.declared.psync.PsyncReply.TheVariants as reply
 use Rattle.mr_lines.proofs.Apart.{apart}
-use Rattle.mr_history.specs.Language.{Line}
-use Rattle.mr_history.specs.Language.Line.{FullResync, Continue, Plain, Refusal}
+use Rattle.mr_history.specs.Language.Line.{Continue, Plain, Refusal}
 use Rattle.mr_history.specs.Node.{Node}
-use Rattle.mr_history.specs.FollowerRows.{NoLine, NoSnapshot, IsNoAnswer, IsStuckAt, BadAnswer}
+use Rattle.mr_history.specs.FollowerRows.{NoLine, NoSnapshot, IsStuckAt, BadAnswer}
 use Rattle.mr_language.specs.Minired.{minired}
-use Rattle.mr_language.specs.Lines.{Says, Means}
-use Rattle.mr_language.specs.Snapshots.{IsSnapshot}
+use Rattle.mr_language.specs.Lines.{Says}
 use Rattle.mr_language.proofs.Said.{same_said, line_text}
 use Rattle.mr_language.proofs.Lists.{same_length}
 use Rattle.mr_follow.specs.State.{FollowState}
@@ -118,7 +104,7 @@ module _ (a : Node minired) (f : FollowState) (u : List ℕ) (tie : f.phase ≡ 
 pub bad_snapshot : (f : FollowState) (u : List ℕ) → follow.IsBadSnapshot f u → NoSnapshot minired u
 bad_snapshot f u h more t rest m s e =
     let q : h.begins.text ++ (h.rest ++ more) ≡ s.line ++ (s.commands ++ rest) =
-        sym (append_assoc h.begins.text h.rest more) ∙ (ap (λ z. z ++ more) (sym h.begins.is) ∙ (e ∙ (ap (λ z. z ++ rest) s.is ∙ append_assoc s.line s.commands rest))) in
+    sym (append_assoc h.begins.text h.rest more) ∙ (ap (λ z. z ++ more) (sym h.begins.is) ∙ (e ∙ (ap (λ z. z ++ rest) s.is ∙ append_assoc s.line s.commands rest))) in
     let both = same_said h.begins.text s.line (size h.length_of) (size (length s.commands)) (h.rest ++ more) (s.commands ++ rest) h.begins.says s.says q in
     let after : h.rest ++ more ≡ s.commands ++ rest = append_cancel_left s.line (h.rest ++ more) (s.commands ++ rest) (ap (λ z. z ++ (h.rest ++ more)) (sym both.0) ∙ q) in
     h.bad s.commands more rest m (sym (size_is h.length_of (length s.commands) both.1)) after s.made

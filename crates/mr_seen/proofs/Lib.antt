@@ -17,3 +17,5 @@ pub mod Linking
 pub mod Times
 pub mod Beginning
 pub mod Kept
+pub mod Turning
+pub mod Following

@@ -1,5 +1,5 @@
 -- What a replica sends its master asks what it should.
-use Rattle.std.proofs.Common.{◌≡◌, ◌+◌, ◌*◌, ◌<◌, ◌≤◌, ◌^◌, inl, inr, ℕ, ℤ, pos, negsuc, List, [], ◌∷◌, ◌++◌, true, IsTrue, Option, None, Some, Ok, length, length-append, codes, refl, sym, ap, subst, ◌∙◌, arith, lit<, All}
+use Rattle.std.proofs.Common.{◌≡◌, ◌+◌, ◌*◌, ◌<◌, ◌≤◌, inl, ℕ, ℤ, pos, negsuc, List, [], ◌∷◌, ◌++◌, IsTrue, Option, None, Some, Ok, length, length-append, codes, refl, sym, ap, subst, arith, lit<, All}
 use Rattle.std.proofs.lemmas.Bool.Decides.{nat_tests}
 use Rattle.std.specs.Fmt.{decimal}
 use Rattle.std.specs.List.{flat_map}
@@ -19,7 +19,7 @@ use Rattle.mr_ask.specs.Asks.{of_kind}
 use Rattle.mr_ask.specs.declared.ask.Ask.TheVariants as ask
 use Rattle.mr_history.specs.Language.{Request}
 use Rattle.mr_history.specs.Language.Request.{Handshake, Psync}
-use Rattle.mr_language.specs.Requests.{Kind, kind_of, kind_by, Asks, IsAsked}
+use Rattle.mr_language.specs.Requests.{kind_of, kind_by, Asks, IsAsked}
 use Rattle.mr_language.specs.Requests.Kind.{psync}
 use Rattle.mr_language.specs.Requests.IsAsked.{by_words}
 use Rattle.mr_language.proofs.Ids.{forty}
@@ -65,10 +65,10 @@ asks_short ws r some few each asks = by_words ws (inl (record {
   count = omega (arith, few, usual-words);
   each = each_fits ws each;
   size =
-    let n = short_number (length ws) (omega (arith, few)) in
-    let b = short_bulks ws each in
-    let c = length-append (number_line (length ws)) (flat_map bulk ws) in
-    omega (arith, few, n, b, c, usual-text);
+      let n = short_number (length ws) (omega (arith, few)) in
+      let b = short_bulks ws each in
+      let c = length-append (number_line (length ws)) (flat_map bulk ws) in
+      omega (arith, few, n, b, c, usual-text);
 })) asks
 
 pub ping_asks : IsAsked ping_line Handshake
@@ -94,7 +94,7 @@ pub psync_asks : (id : List ℕ) (o : ℕ) → IsId id → o ≤ most_counted �
 psync_asks id o is few = asks_short (codes "PSYNC" ∷ digits_of id ∷ decimal (o + 1) ∷ []) (Psync (Some (id, o + 1))) (omega arith) (omega arith)
     (lit< tt, (let l = forty id is in omega (arith, l), (let d = length-decimal-le 20 (o + 1) (lit< tt) (omega (arith, few)) (omega (arith, few)) in omega (arith, d), tt)))
     (subst (λ k. Asks k (Psync (Some (id, o + 1)))) (sym (wants_kind (digits_of id) (decimal (o + 1)) (pos (o + 1)) (number_is (decimal (o + 1)) (pos (o + 1)) (fits o few) refl)))
-      (Some (id, o + 1), record { is_id = is; id_is = refl; offset_is = refl }, refl))
+    (Some (id, o + 1), record { is_id = is; id_is = refl; offset_is = refl }, refl))
   where
     fits : (n : ℕ) → n ≤ most_counted → IsTrue (is_i64 (pos (n + 1)))
     fits n few = grind (arith, nat_tests, few)
@@ -103,7 +103,7 @@ psync_asks id o is few = asks_short (codes "PSYNC" ∷ digits_of id ∷ decimal 
 pub psync_all_asks : IsAsked (psync_line None) (Psync None)
 psync_all_asks = asks_short (codes "PSYNC" ∷ codes "?" ∷ codes "-1" ∷ []) (Psync None) (omega arith) (omega arith) (lit< tt, (lit< tt, (lit< tt, tt)))
     (subst (λ k. Asks k (Psync None)) (sym (wants_kind (codes "?") (codes "-1") (negsuc 0) (number_is (codes "-1") (negsuc 0) refl (ap (λ z. 45 ∷ z) (sym (decimal_digit 1 (lit< tt)))))))
-      (None, λ id o w. long id w.is_id w.id_is, refl))
+    (None, λ id o w. long id w.is_id w.id_is, refl))
   where
     long : (id : List ℕ) → IsId id → codes "?" ≡ digits_of id → ⊥
     long id is e = let a : 1 ≡ length (digits_of id) = ap length e in let b = forty id is in omega (arith, a, b)

@@ -1,37 +1,25 @@
 -- Links that come, are fed and go, as histories see them.
-use Rattle.std.proofs.Common.{◌≡◌, ◌≢◌, ◌+◌, ◌-◌, ◌<◌, ◌≤◌, ◌⊎◌, inl, inr, ℕ, List, [], ◌∷◌, ◌++◌, Bool, true, false, cond, Option, None, Some, length, drop, refl, sym, ap, subst, ◌∙◌, arith}
+use Rattle.std.proofs.Common.{◌≡◌, ◌+◌, ◌≤◌, inl, ℕ, List, Bool, true, false, cond, Option, None, Some, length, refl, sym, ap, subst, ◌∙◌, arith}
 use Rattle.std.specs.Prelude.{slice_get, slice_set}
 use Rattle.std.specs.Option.{option_map}
-use Rattle.std.specs.Ordering.{eq_by_cmp}
 use Rattle.std.proofs.lemmas.List.{length-drop}
-use Rattle.mr_links.specs.LinkId.{id_cmp}
 use Rattle.mr_links.specs.declared.link_id.LinkId.{LinkId}
-use Rattle.mr_follow.specs.State.{FollowState, heard}
+use Rattle.mr_follow.specs.State.{FollowState}
 use Rattle.mr_follow.specs.Handshake.{ping_line}
-use Rattle.mr_ends.specs.State.{EndState, serves}
 use Rattle.mr_ends.specs.State.EndState.{upstream}
 use Rattle.mr_ends.proofs.Naming.{at_or_other}
 use Rattle.mr_outs.specs.Outs.{OutsState}
 use Rattle.mr_rows.specs.State.{Core, NodeState, FollowedAt, end_of}
 use Rattle.mr_rows.specs.LinkRows.{follow_without}
 use Rattle.mr_history.specs.Language.Request.{Handshake}
-use Rattle.mr_history.specs.History.{Book}
-use Rattle.mr_history.specs.Node as history_node
-use Rattle.mr_history.specs.Node.{at_phase}
-use Rattle.mr_history.specs.Node.Phase.{Greet}
-use Rattle.mr_history.specs.World as history
-use Rattle.mr_history.specs.Event as events
-use Rattle.mr_history.specs.Changing.{LinkBecomes}
 use Rattle.mr_history.specs.Changing.Unless.{acts}
 use Rattle.mr_history.specs.Rows as rows
-use Rattle.mr_language.specs.Minired.{minired}
 use Rattle.mr_language.specs.Requests.{IsAsked}
 use Rattle.mr_seen.specs.Way.{IsWay, WayState, unread, taken_on}
-use Rattle.mr_seen.specs.State.{Link, Slot, WorldState}
-use Rattle.mr_seen.specs.Seeing.{seen, seen_way, seen_node, seen_link, seen_follow, seen_phase}
+use Rattle.mr_seen.specs.Seeing.{seen_way, seen_node, seen_link, seen_follow, seen_phase}
 use Rattle.mr_seen.specs.Worlds.{end_for}
-use Rattle.mr_seen.specs.Carrying.{opened_link, dialled_link, put_node, opened, connected, fed_server, fed_caller, broken}
-use Rattle.mr_seen.specs.Events.{IsEvent, Holds, IsServed, IsFollowed, IsRunning, OpensAreRows, OpenStopsAreRows, DialsAreRows, ServerFeedsAreRows, MasterFeedsAreRows, ServerBreaksAreRows, MasterBreaksAreRows}
+use Rattle.mr_seen.specs.Carrying.{opened_link, dialled_link}
+use Rattle.mr_seen.specs.Events.{OpensAreRows, OpenStopsAreRows, DialsAreRows, ServerFeedsAreRows, MasterFeedsAreRows, ServerBreaksAreRows, MasterBreaksAreRows}
 use Rattle.mr_seen.proofs.Seen.{put_at, push_at, none_at_end, taken_seen}
 use Rattle.mr_seen.proofs.Reading.{set_as, still_at}
 use Rattle.mr_seen.proofs.Others.{served_end}

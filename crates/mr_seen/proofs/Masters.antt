@@ -1,5 +1,5 @@
 -- Each outcome of a step at the link to a node's master is a row of histories.
-use Rattle.std.proofs.Common.{◌≡◌, ◌≢◌, ◌+◌, ◌-◌, ◌<◌, ◌≤◌, ◌⊎◌, inl, inr, ℕ, List, [], ◌∷◌, ◌++◌, Bool, true, false, cond, Option, None, Some, Result, Ok, Err, length, length-append, take, drop, refl, sym, ap, subst, ◌∙◌, arith}
+use Rattle.std.proofs.Common.{◌≡◌, ◌≢◌, ◌+◌, ◌⊎◌, inl, inr, ℕ, List, [], ◌++◌, Bool, true, false, cond, Option, None, Some, Ok, length, length-append, refl, sym, ap, subst, ◌∙◌, arith}
 use Rattle.std.specs.Prelude.{slice_get, slice_set, bytes_eq, IfSome, IsSome}
 use Rattle.std.specs.Option.{option_map}
 use Rattle.std.proofs.lemmas.List.{append-nil}
@@ -8,32 +8,28 @@ use Rattle.mr_links.specs.Links.{Links}
 use Rattle.mr_entries.specs.Dataset.{Dataset}
 use Rattle.mr_data.specs.declared.given.Given.{Given}
 use Rattle.mr_repl.specs.Backlog.{last_of}
-use Rattle.mr_repl.specs.Lineage.{LineageState, begun, grown, renamed, continued}
-use Rattle.mr_repl.specs.ReplId.{IsId}
+use Rattle.mr_repl.specs.Lineage.{renamed}
 use Rattle.mr_effect.specs.Spelling.{text}
-use Rattle.mr_lines.specs.Lines.{most_counted, status}
+use Rattle.mr_lines.specs.Lines.{status}
 use Rattle.mr_lines.proofs.Answers.{answer_or}
-use Rattle.mr_lines.specs.declared.psync.PsyncReply.TheVariants as reply
-use Rattle.mr_follow.specs.State.{FollowState, Agrees, AgreesBy, IsTaken, IsOffer, IsFollower}
+use Rattle.mr_follow.specs.State.{FollowState, Agrees, AgreesBy, IsOffer}
 use Rattle.mr_follow.specs.Handshake.{IsGreeting, next_of, line_after, psync_line}
 use Rattle.mr_follow.specs.Rows as follow
 use Rattle.mr_follow.specs.declared.taking.Taking.{Taking}
 use Rattle.mr_follow.specs.declared.phase.Phase.{Phase}
 use Rattle.mr_follow.specs.declared.phase.Phase.TheVariants as phase
-use Rattle.mr_course.specs.State.{CourseState, FitsIn, IsReader, offer_of, left, spoiled, grows, reads_on, continues_as, adopts}
+use Rattle.mr_course.specs.State.{CourseState, FitsIn, offer_of, left, spoiled, grows, reads_on, continues_as, adopts}
 use Rattle.mr_course.specs.Rows as course
 use Rattle.mr_course.specs.declared.upstream.UpstreamStep.{UpstreamStep}
 use Rattle.mr_course.specs.declared.upstream.UpstreamStep.TheVariants as outcome
-use Rattle.mr_course.specs.declared.upstream.UpstreamFault.TheVariants as fault
 use Rattle.mr_ends.specs.State.{EndState}
 use Rattle.mr_outs.specs.Outs.{OutsState, no_outs}
 use Rattle.mr_rows.specs.State.{NodeState, course_of}
 use Rattle.mr_rows.specs.UpstreamRows as row
 use Rattle.mr_rows.specs.UpstreamRows.{node_behind, outs_behind}
 use Rattle.mr_history.specs.Language.{Line}
-use Rattle.mr_history.specs.Language.Line.{FullResync, Continue, Refusal}
+use Rattle.mr_history.specs.Language.Line.{Refusal}
 use Rattle.mr_history.specs.Language.Request.{Handshake, Psync}
-use Rattle.mr_history.specs.Changes.{Same}
 use Rattle.mr_history.specs.History.{Book}
 use Rattle.mr_history.specs.Node as history_node
 use Rattle.mr_history.specs.Node.{at_phase, wanted}
@@ -47,12 +43,12 @@ use Rattle.mr_history.specs.FollowerRows as rows
 use Rattle.mr_history.specs.FollowerRows.{FollowerRow, FollowerBecomes, asked, BadAnswer, BadStream}
 use Rattle.mr_language.specs.Minired.{minired}
 use Rattle.mr_language.specs.Requests.{IsAsked}
-use Rattle.mr_language.specs.Lines.{Says, Means}
-use Rattle.mr_seen.specs.Way.{IsWay, unread, used_on, left_on, sent_on}
+use Rattle.mr_language.specs.Lines.{Means}
+use Rattle.mr_seen.specs.Way.{unread, used_on, left_on}
 use Rattle.mr_seen.specs.State.{Link, Slot, WorldState}
 use Rattle.mr_seen.specs.Seeing.{seen, seen_way, seen_node, seen_link, seen_follow, seen_phase}
 use Rattle.mr_seen.specs.Books.{IsBook}
-use Rattle.mr_seen.specs.Worlds.{IsSound, IsReading, HasMaster}
+use Rattle.mr_seen.specs.Worlds.{IsReading}
 use Rattle.mr_seen.specs.Carrying.{behind, followed, heard_as, unread_count, count_by, put_node}
 use Rattle.mr_seen.specs.Events.{IsEvent, Holds, IsFollowed, MasterStepsAreRows, WaitsAreRows, LacksAreUnseen, SpendsAreRows}
 use Rattle.mr_seen.proofs.Places.{some_is}
@@ -154,9 +150,9 @@ module _ (w : WorldState) (book : Book minired) (n : ℕ) (s : Slot) (k : Link) 
     nodes = still_at seen_node w.slots n (behind s b outs) s is.at (node_is c (reads_on name g (course_of s.node)) s.node.core.held ends e q h ∙ ap (λ z. record (seen_node s) { follow = z }) (same_follow g p));
     links = still_at seen_link w.links s.dialled (heard_as b.follow outs.reply k) k is.found
         (link_is g [] (unread k.tell) (follow_is c (reads_on name g (course_of s.node)) ends e q) a refl
-          ∙ (ap (asked (seen_link k) (seen_way (used_on 0 k.tell))) none
-          ∙ (ap (λ z. record (seen_link k) { ask = record (seen_way k.ask) { left = z }; tell = seen_way (used_on 0 k.tell) }) (append-nil (seen_way k.ask).left)
-          ∙ ap (λ z. record (seen_link k) { tell = seen_way z }) untaken)));
+        ∙ (ap (asked (seen_link k) (seen_way (used_on 0 k.tell))) none
+        ∙ (ap (λ z. record (seen_link k) { ask = record (seen_way k.ask) { left = z }; tell = seen_way (used_on 0 k.tell) }) (append-nil (seen_way k.ask).left)
+        ∙ ap (λ z. record (seen_link k) { tell = seen_way z }) untaken)));
     book = λ i. refl;
   }
 
@@ -303,7 +299,7 @@ module _ (w : WorldState) (book : Book minired) (n : ℕ) (s : Slot) (k : Link) 
       };
       becomes = becomes (at_phase (history_node.continued (seen_node s) r.id) s.dialled Stream) (seen_way (used_on (length r.answers.answer.text) k.tell)) [] none
           (node_is c (reads_on name g (continues_as r.id (course_of s.node))) s.node.core.held ends e r.is r.keeps.held
-            ∙ (continued_seen s r.id (Some (name, g)) ∙ ap (λ z. at_phase (history_node.continued (seen_node s) r.id) s.dialled (seen_phase z)) r.answers.state.waits))
+          ∙ (continued_seen s r.id (Some (name, g)) ∙ ap (λ z. at_phase (history_node.continued (seen_node s) r.id) s.dialled (seen_phase z)) r.answers.state.waits))
           (link_is g r.answers.answer.text r.answers.rest (follow_is c (reads_on name g (continues_as r.id (course_of s.node))) ends e r.is) r.answers.state.agrees r.answers.answer.is);
     }))
 
@@ -323,7 +319,7 @@ module _ (w : WorldState) (book : Book minired) (n : ℕ) (s : Slot) (k : Link) 
           reads = reads_way k.tell whole.text i.rest whole.begins;
           becomes = becomes (at_phase (record (seen_node s) { id = i.id; offset = i.offset; second = None; backlog = []; held = b.core.held; offers = true }) s.dialled Stream) (seen_way (used_on (length whole.text) k.tell)) [] none
               (node_is c (reads_on name g (adopts i.id i.offset (course_of s.node))) b.core.held ends e r.is refl
-                ∙ ap (λ z. at_phase (record (seen_node s) { id = i.id; offset = i.offset; second = None; backlog = []; held = b.core.held; offers = true }) s.dialled (seen_phase z)) i.state.waits)
+              ∙ ap (λ z. at_phase (record (seen_node s) { id = i.id; offset = i.offset; second = None; backlog = []; held = b.core.held; offers = true }) s.dialled (seen_phase z)) i.state.waits)
               (link_is g whole.text i.rest (follow_is c (reads_on name g (adopts i.id i.offset (course_of s.node))) ends e r.is) i.state.agrees whole.begins);
         }))
 
@@ -345,18 +341,18 @@ module _ (w : WorldState) (book : Book minired) (n : ℕ) (s : Slot) (k : Link) 
           backlog = last_of s.node.core.lineage.stream.capacity (s.node.core.lineage.stream.held ++ text effect.effect);
           last_bytes = ends_as s.node.core.lineage.stream.capacity s.node.core.lineage.stream.held (text effect.effect);
           becomes = becomes (record (seen_node s) {
-              held = b.core.held;
-              offset = s.node.core.lineage.stream.offset + length (text effect.effect);
-              backlog = last_of s.node.core.lineage.stream.capacity (s.node.core.lineage.stream.held ++ text effect.effect);
-            }) (seen_way (used_on (length (text effect.effect)) k.tell)) [] none
+            held = b.core.held;
+            offset = s.node.core.lineage.stream.offset + length (text effect.effect);
+            backlog = last_of s.node.core.lineage.stream.capacity (s.node.core.lineage.stream.held ++ text effect.effect);
+          }) (seen_way (used_on (length (text effect.effect)) k.tell)) [] none
               (node_is c (reads_on name g (grows told (course_of s.node))) b.core.held ends e r.is refl
-                ∙ (ap (λ t. on_course s (reads_on name g (grows t (course_of s.node))) b.core.held) effect.is_text
-                ∙ ap (λ z. record (seen_node s) {
-                    held = b.core.held;
-                    offset = s.node.core.lineage.stream.offset + length (text effect.effect);
-                    backlog = last_of s.node.core.lineage.stream.capacity (s.node.core.lineage.stream.held ++ text effect.effect);
-                    follow = z;
-                  }) (same_follow g (x.state.waits ∙ sym streams))))
+              ∙ (ap (λ t. on_course s (reads_on name g (grows t (course_of s.node))) b.core.held) effect.is_text
+              ∙ ap (λ z. record (seen_node s) {
+                held = b.core.held;
+                offset = s.node.core.lineage.stream.offset + length (text effect.effect);
+                backlog = last_of s.node.core.lineage.stream.capacity (s.node.core.lineage.stream.held ++ text effect.effect);
+                follow = z;
+              }) (same_follow g (x.state.waits ∙ sym streams))))
               (link_is g (text effect.effect) x.rest (follow_is c (reads_on name g (grows told (course_of s.node))) ends e r.is) x.state.agrees effect.begins);
         }))
 
@@ -418,7 +414,7 @@ module _ (w : WorldState) (book : Book minired) (n : ℕ) (s : Slot) (k : Link) 
 pub master_steps : MasterStepsAreRows
 master_steps w book n s k name step given fresh b outs holds is r = let h = r.listens in
     outcome_row w book n s k h.name h.follow b outs holds is h.found given fresh step name r.course h.next r.told (row.ends_behind step name s.node.ends) r.node r.outs_are
-      (h.row (unread k.tell) (agreed w book n s k h.name h.follow b outs holds is h.found))
+    (h.row (unread k.tell) (agreed w book n s k h.name h.follow b outs holds is h.found))
 
 pub master_waits : WaitsAreRows
 master_waits w book n s k name given fresh b holds is r = let h = r.listens in
@@ -427,7 +423,7 @@ master_waits w book n s k name given fresh b holds is r = let h = r.listens in
 pub master_lacks : LacksAreUnseen
 master_lacks w book n s k name b holds is r = let h = r.listens in
     lacks w book n s k h.name h.follow b no_outs holds is h.found r.course h.next r.told s.node.ends r.node refl
-      (h.row (unread k.tell) (agreed w book n s k h.name h.follow b no_outs holds is h.found))
+    (h.row (unread k.tell) (agreed w book n s k h.name h.follow b no_outs holds is h.found))
 
 pub master_spends : SpendsAreRows
 master_spends w book n s k name given fresh b holds is r = let h = r.listens in stops w book n s k h.name h.follow b no_outs holds is h.found given fresh r.down

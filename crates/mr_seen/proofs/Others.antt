@@ -1,25 +1,24 @@
 -- What a call on a node does to the other links that it serves.
-use Rattle.std.proofs.Common.{zero, suc, ◌≡◌, ◌≢◌, ◌+◌, ◌-◌, ◌≤◌, ℕ, List, [], ◌∷◌, ◌++◌, Bool, true, false, cond, ◌==◌, ◌&&◌, Option, None, Some, length, map, drop, refl, sym, ap, subst, ◌∙◌, arith}
+use Rattle.std.proofs.Common.{◌≡◌, ◌≢◌, ℕ, List, [], ◌∷◌, Bool, true, false, ◌==◌, ◌&&◌, Option, None, Some, map, refl, sym, ap, subst, ◌∙◌, arith}
 use Rattle.std.specs.Prelude.{slice_get, slice_set}
 use Rattle.std.specs.Option.{option_map}
 use Rattle.std.proofs.lemmas.Option.{slice_get-map}
 use Rattle.std.proofs.lemmas.List.{append-nil}
 use Rattle.mr_links.specs.declared.link_id.LinkId.{LinkId}
 use Rattle.mr_ends.specs.State.{EndState, streams, serves}
-use Rattle.mr_ends.specs.State.EndState.{client, replica}
 use Rattle.mr_ends.specs.Replicas.{is_named, Lists}
 use Rattle.mr_outs.specs.Outs.{OutsState}
 use Rattle.mr_rows.specs.State.{NodeState, end_of}
 use Rattle.mr_rows.specs.Growing.{FedTo}
 use Rattle.mr_history.specs.World as history
 use Rattle.mr_history.specs.World.{hears, told_if}
-use Rattle.mr_seen.specs.Way.{WayState, IsWay, sent_on, unread}
+use Rattle.mr_seen.specs.Way.{IsWay, unread}
 use Rattle.mr_seen.specs.State.{Link, Slot, WorldState}
-use Rattle.mr_seen.specs.Seeing.{seen_way, seen_link}
-use Rattle.mr_seen.specs.Worlds.{IsWorld, HasServer, end_for}
+use Rattle.mr_seen.specs.Seeing.{seen_link}
+use Rattle.mr_seen.specs.Worlds.{IsWorld, end_for}
 use Rattle.mr_seen.specs.Carrying.{is_at, fed_if, shut_if, reached}
 use Rattle.mr_seen.proofs.Places.{set_here, set_there, some_is}
-use Rattle.mr_seen.proofs.Seen.{sent_seen, is_seen}
+use Rattle.mr_seen.proofs.Seen.{sent_seen}
 
 pub streams_for : (b : Bool) (u : List ℕ) → streams (Some (end_for b u)) ≡ b
 streams_for true u = refl

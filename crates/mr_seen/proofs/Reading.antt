@@ -1,25 +1,21 @@
 -- What is used at an end, and what is sent there, as histories see it.
-use Rattle.std.proofs.Common.{◌≡◌, ◌≢◌, ◌+◌, ◌-◌, ◌≤◌, ◌⊎◌, inl, inr, ℕ, List, [], ◌∷◌, ◌++◌, Bool, true, false, Option, None, Some, length, take, drop, refl, sym, ap, subst, ◌∙◌, arith}
+use Rattle.std.proofs.Common.{◌≡◌, ◌≢◌, ◌+◌, ◌-◌, ◌⊎◌, inl, inr, ℕ, List, [], ◌++◌, true, false, Option, Some, length, drop, refl, sym, ap, subst, ◌∙◌, arith}
 use Rattle.std.specs.Prelude.{slice_get, slice_set}
 use Rattle.std.specs.Option.{option_map}
 use Rattle.std.proofs.lemmas.List.{drop-drop, append-nil}
 use Rattle.mr_links.specs.declared.link_id.LinkId.{LinkId}
 use Rattle.mr_history.specs.Changes.{SetAt}
-use Rattle.mr_history.specs.Node as history_node
 use Rattle.mr_history.specs.World as history
 use Rattle.mr_history.specs.Changing.{Reads}
 use Rattle.mr_history.specs.ServerRows.{answered, joined}
-use Rattle.mr_language.specs.Minired.{minired}
 use Rattle.mr_ends.specs.State.{EndState}
 use Rattle.mr_ends.specs.State.EndState.{client, replica, shut}
 use Rattle.mr_follow.specs.State.{FollowState}
-use Rattle.mr_outs.specs.Outs.{OutsState}
 use Rattle.mr_rows.specs.State.{Core, NodeState}
 use Rattle.mr_seen.specs.Way.{WayState, IsWay, unread, used_on, left_on, sent_on}
-use Rattle.mr_seen.specs.State.{Link, Slot, WorldState}
+use Rattle.mr_seen.specs.State.{Link, Slot}
 use Rattle.mr_seen.specs.Seeing.{seen_way, seen_node, seen_link}
 use Rattle.mr_seen.specs.Carrying.{told, settled}
-use Rattle.mr_seen.proofs.Places.{set_here, set_there}
 use Rattle.mr_seen.proofs.Seen.{put_at, sent_seen}
 use Rattle.mr_seen.proofs.Unread.{left_used}
 
@@ -28,9 +24,9 @@ reads_on w text rest e = record {
   rest = rest;
   begins = e;
   new_is =
-    let t : w.taken - (w.used + length text) ≡ (w.taken - w.used) - length text = omega arith in
-    ap (λ z. record { left = z; taken = w.taken - (w.used + length text) }) (sym (drop-drop (length text) w.used w.sent))
-    ∙ ap (λ z. record { left = drop (length text) (drop w.used w.sent); taken = z }) t;
+      let t : w.taken - (w.used + length text) ≡ (w.taken - w.used) - length text = omega arith in
+      ap (λ z. record { left = z; taken = w.taken - (w.used + length text) }) (sym (drop-drop (length text) w.used w.sent))
+      ∙ ap (λ z. record { left = drop (length text) (drop w.used w.sent); taken = z }) t;
 }
 
 -- a node by its core and by whom it follows
@@ -47,8 +43,9 @@ number_or a c = grind arith
 
 pub still_at : {A B : Type 0} (f : A → B) (xs : List A) (i : ℕ) (x y : A) → slice_get xs i ≡ Some y → f x ≡ f y → (m : ℕ) → option_map f (slice_get (slice_set xs i x) m) ≡ option_map f (slice_get xs m)
 still_at f xs i x y e q m = elim (number_or m i) [
-    inl same ↦ subst (λ j. option_map f (slice_get (slice_set xs i x) j) ≡ option_map f (slice_get xs j)) (sym same) ((put_at f xs i x y e).0 ∙ (ap Some q ∙ sym (ap (option_map f) e)))
-  | inr apart ↦ (put_at f xs i x y e).1 m apart ]
+  | inl same ↦ subst (λ j. option_map f (slice_get (slice_set xs i x) j) ≡ option_map f (slice_get xs j)) (sym same) ((put_at f xs i x y e).0 ∙ (ap Some q ∙ sym (ap (option_map f) e)))
+  | inr apart ↦ (put_at f xs i x y e).1 m apart
+]
 
 -- ---- the link on which a step was made
 module _ (k : Link) (reply : List ℕ) (asks : IsWay k.ask) (tells : IsWay k.tell) where

@@ -1,7 +1,5 @@
 -- Each row of a step at a replica's end is a row of histories; and so are steps that find nothing whole, and stops.
-use Rattle.std.proofs.Common.{◌≡◌, ◌≢◌, ◌+◌, ◌<◌, inl, inr, ℕ, ℤ, List, [], ◌∷◌, ◌++◌, Bool, true, false, Option, None, Some, Result, Ok, Err, length, length-append, append_assoc, refl, sym, ap, subst, ◌∙◌, arith}
-use Rattle.std.specs.Prelude.{slice_get, slice_set}
-use Rattle.std.specs.Option.{option_map}
+use Rattle.std.proofs.Common.{◌≡◌, ◌≢◌, inl, inr, ℕ, ℤ, List, [], ◌++◌, true, false, None, Some, Result, Ok, Err, length, length-append, append_assoc, refl, sym, ap, subst, ◌∙◌, arith}
 use Rattle.std.proofs.lemmas.List.{append-nil}
 use Rattle.mr_data.specs.declared.given.Given.{Given}
 use Rattle.mr_inline.specs.Language.{IsDoomed}
@@ -10,16 +8,14 @@ use Rattle.mr_resp.specs.Usual.{usual}
 use Rattle.mr_resp.proofs.OneAnswer.{same_texts}
 use Rattle.mr_cmd_server.specs.declared.server_ask.ServerAsk.{ServerAsk}
 use Rattle.mr_cmd_server.specs.declared.server_ask.ServerAsk.TheVariants as server
-use Rattle.mr_cmd_node.specs.declared.node_ask.NodeAsk.{NodeAsk}
 use Rattle.mr_cmd_node.specs.declared.node_ask.NodeAsk.TheVariants as node
 use Rattle.mr_ask.specs.Asks.{asked}
 use Rattle.mr_ask.specs.declared.ask.Ask.{Ask}
 use Rattle.mr_ask.specs.declared.ask.Ask.TheVariants as ask
 use Rattle.mr_words.specs.declared.fault.AskFault.{AskFault}
 use Rattle.mr_outs.specs.Outs.{OutsState, no_outs}
-use Rattle.mr_rows.specs.State.{NodeState, end_of}
+use Rattle.mr_rows.specs.State.{NodeState}
 use Rattle.mr_rows.specs.Requests.{Waits}
-use Rattle.mr_rows.specs.Requests as requests
 use Rattle.mr_rows.specs.ReplicaRows as row
 use Rattle.mr_rows.specs.ReplicaRows.{ReplicaRow}
 use Rattle.mr_rows.specs.ClientRows.{Idles}
@@ -38,7 +34,7 @@ use Rattle.mr_language.specs.Requests as language
 use Rattle.mr_seen.specs.Way.{unread, used_on}
 use Rattle.mr_seen.specs.State.{Link, Slot, WorldState}
 use Rattle.mr_seen.specs.Seeing.{seen, seen_way, seen_node, seen_link}
-use Rattle.mr_seen.specs.Carrying.{behind, filed, put_node}
+use Rattle.mr_seen.specs.Carrying.{filed, put_node}
 use Rattle.mr_seen.specs.Events.{IsEvent, Holds, IsServed, ReplicaStepsAreRows, IdleStepsAreRows, StopsAreRows}
 use Rattle.mr_seen.proofs.Seen.{put_at}
 use Rattle.mr_seen.proofs.Reading.{node_is, still_at}
@@ -154,9 +150,9 @@ module _ (w : WorldState) (book : Book minired) (l : ℕ) (k : Link) (s : Slot) 
       becomes text e = steps.quiet_becomes w book l k s given fresh b outs holds served (record (seen_link k) { ask = seen_way (used_on (length text) k.ask) }) quiet
           (node_is s b (filed outs s.file) s.node.core s.node.follow r.core r.leaves.follow)
           (steps.here_joined w book l k s given fresh b outs holds served text r.rest r.leaves.is e
-            ∙ (ap (rows.joined (seen_link k) (seen_way (used_on (length text) k.ask))) (ap (λ (o : OutsState). o.reply) r.outs_are)
-            ∙ (ap (λ z. record (rows.answered (seen_link k) (seen_way (used_on (length text) k.ask)) []) { streams = z }) (sym streams)
-            ∙ steps.answered_nothing w book l k s given fresh b outs holds served (seen_way (used_on (length text) k.ask)))))
+          ∙ (ap (rows.joined (seen_link k) (seen_way (used_on (length text) k.ask))) (ap (λ (o : OutsState). o.reply) r.outs_are)
+          ∙ (ap (λ z. record (rows.answered (seen_link k) (seen_way (used_on (length text) k.ask)) []) { streams = z }) (sym streams)
+          ∙ steps.answered_nothing w book l k s given fresh b outs holds served (seen_way (used_on (length text) k.ask)))))
 
       pub notes : row.IsExpected (unread k.ask) r.rest → IsEvent w book (events.Event.Step l Server given fresh) (steps.V w book l k s given fresh b outs holds served)
       notes (row.IsExpected.acknowledgement words offset asks wish) = done quiet (ServerRow.notes (record {
@@ -172,7 +168,7 @@ module _ (w : WorldState) (book : Book minired) (l : ℕ) (k : Link) (s : Slot) 
       unwanted = unwanted r.unwanted;
       becomes = steps.quiet_becomes w book l k s given fresh b outs holds served (history.shut true (seen_link k)) unheard (node_is s b (filed outs s.file) s.node.core s.node.follow r.core r.follow)
           (steps.here_shut w book l k s given fresh b outs holds served r.shut.is ∙ (ap (λ z. history.shut true (history.told (seen_link k) z)) (ap (λ (o : OutsState). o.reply) r.outs_are)
-            ∙ ap (λ z. history.shut true (record (seen_link k) { tell = record (seen_way k.tell) { left = z } })) (append-nil (seen_way k.tell).left)));
+          ∙ ap (λ z. history.shut true (record (seen_link k) { tell = record (seen_way k.tell) { left = z } })) (append-nil (seen_way k.tell).left)));
     }))
       where
         unheard : Quiet w book l k s given fresh b outs holds served
@@ -182,7 +178,7 @@ module _ (w : WorldState) (book : Book minired) (l : ℕ) (k : Link) (s : Slot) 
         unwanted (row.IsUnwanted.doomed fault d) = rows.Unwanted.doomed (doomed_by (unread k.ask) fault d)
         unwanted (row.IsUnwanted.other words rest asks no_ack) = let a = asks_some (kind_of words) in
             rows.Unwanted.other a.0 (steps.uses_of w book l k s given fresh b outs holds served words rest asks a.0 a.1)
-              (λ e. let o = ack_asked (asked words) (asks_ack (kind_of words) e) in no_ack o.0 o.1) (asks_empty (kind_of words))
+            (λ e. let o = ack_asked (asked words) (asks_ack (kind_of words) e) in no_ack o.0 o.1) (asks_empty (kind_of words))
 
     pub replica_row : ReplicaRow s.node k.name (unread k.ask) b outs → IsEvent w book (events.Event.Step l Server given fresh) (steps.V w book l k s given fresh b outs holds served)
     replica_row (ReplicaRow.notes r) = notes r r.expected

@@ -1,5 +1,5 @@
 -- PSYNC, and each change of roles, is a row of histories.
-use Rattle.std.proofs.Common.{◌≡◌, ◌≢◌, ◌+◌, ◌-◌, ◌<◌, ◌≤◌, ◌⊎◌, inl, inr, ℕ, ℤ, pos, List, [], ◌∷◌, ◌++◌, Bool, true, false, cond, Option, None, Some, Result, Ok, Err, length, drop, append_assoc, refl, sym, ap, subst, ◌∙◌, arith}
+use Rattle.std.proofs.Common.{◌≡◌, ◌≢◌, ◌+◌, ◌-◌, ◌<◌, ◌≤◌, ◌⊎◌, inl, inr, ℕ, List, [], ◌∷◌, ◌++◌, true, false, cond, Option, None, Some, length, drop, refl, sym, ap, subst, ◌∙◌, arith}
 use Rattle.std.specs.Prelude.{slice_get, slice_set, IfSome, map}
 use Rattle.std.specs.Option.{option_map}
 use Rattle.std.specs.FinMap.{empty}
@@ -7,30 +7,25 @@ use Rattle.mr_links.specs.declared.link_id.LinkId.{LinkId}
 use Rattle.mr_entries.specs.Dataset.{Dataset}
 use Rattle.mr_data.specs.Rebuilding.{rebuilding}
 use Rattle.mr_data.specs.declared.given.Given.{Given}
-use Rattle.mr_resp.specs.Command.{IsCommandText}
 use Rattle.mr_cmd_node.specs.declared.node_ask.NodeAsk.{NodeAsk}
 use Rattle.mr_cmd_node.specs.declared.node_ask.NodeAsk.TheVariants as node
-use Rattle.mr_ask.specs.Asks.{asked}
-use Rattle.mr_ask.specs.declared.ask.Ask.TheVariants as ask
 use Rattle.mr_replay.specs.Effects.{Makes}
-use Rattle.mr_repl.specs.Backlog.{Window, IsWindow, first_of, bytes_from}
-use Rattle.mr_repl.specs.Lineage.{LineageState, renamed, standing_of}
+use Rattle.mr_repl.specs.Backlog.{first_of, bytes_from}
+use Rattle.mr_repl.specs.Lineage.{renamed, standing_of}
 use Rattle.mr_repl.specs.ReplId.{IsId, digits_of}
-use Rattle.mr_repl.specs.Standing.{MayContinue, IsKnown, IsBefore}
-use Rattle.mr_lines.specs.Lines.{most_counted, status, size}
+use Rattle.mr_repl.specs.Standing.{IsKnown, IsBefore}
+use Rattle.mr_lines.specs.Lines.{status}
 use Rattle.mr_lines.specs.Written.{reply_line, length_line}
 use Rattle.mr_lines.specs.declared.psync.PsyncReply.TheVariants as reply
 use Rattle.mr_lines.proofs.Written.{says_reply, says_length}
 use Rattle.mr_follow.specs.State.{FollowState}
 use Rattle.mr_course.specs.State.{name_of}
-use Rattle.mr_ends.specs.State.{EndState, end_at, serves}
-use Rattle.mr_ends.specs.State.EndState.{client, replica, upstream, shut}
-use Rattle.mr_ends.specs.Replicas.{is_named}
+use Rattle.mr_ends.specs.State.{EndState, serves}
+use Rattle.mr_ends.specs.State.EndState.{upstream}
 use Rattle.mr_ends.proofs.Naming.{at_or_other}
 use Rattle.mr_outs.specs.Address.{AddressState}
-use Rattle.mr_outs.specs.Outs.{OutsState, no_outs}
+use Rattle.mr_outs.specs.Outs.{OutsState}
 use Rattle.mr_rows.specs.State.{Core, NodeState, FollowedAt, end_of}
-use Rattle.mr_rows.specs.Requests as requests
 use Rattle.mr_rows.specs.Growing.{Remakes, rebuilt}
 use Rattle.mr_rows.specs.Ends.{names_of}
 use Rattle.mr_rows.specs.Served.{AsksNode}
@@ -38,7 +33,6 @@ use Rattle.mr_rows.specs.ClientRows as row
 use Rattle.mr_rows.specs.ClientRows.{ClientRow, IsAnswerToPsync}
 use Rattle.mr_history.specs.Language.{Request}
 use Rattle.mr_history.specs.Language.Request.{Psync, ReplicaOfNoOne, ReplicaOf}
-use Rattle.mr_history.specs.Language.Line.{FullResync, Continue}
 use Rattle.mr_history.specs.History.{Book}
 use Rattle.mr_history.specs.Node as history_node
 use Rattle.mr_history.specs.Node.{Continues}
@@ -50,17 +44,14 @@ use Rattle.mr_history.specs.Changing.{LinkBecomes}
 use Rattle.mr_history.specs.ServerRows as rows
 use Rattle.mr_history.specs.ServerRows.{ServerRow, answered}
 use Rattle.mr_language.specs.Minired.{minired}
-use Rattle.mr_language.specs.Lines.{Says}
-use Rattle.mr_language.specs.Snapshots.{IsSnapshot}
 use Rattle.mr_language.specs.Requests.{Kind, kind_of, kind_by, Wants, IsWanted, address}
 use Rattle.mr_language.specs.Requests as language
-use Rattle.mr_language.proofs.Ids.{one_id}
 use Rattle.mr_seen.specs.Way.{unread, used_on}
 use Rattle.mr_seen.specs.State.{Link, Slot, WorldState}
 use Rattle.mr_seen.specs.Seeing.{seen, seen_way, seen_node, seen_link, seen_host}
-use Rattle.mr_seen.specs.Books.{IsBook, entry_of, branched}
+use Rattle.mr_seen.specs.Books.{IsBook, entry_of}
 use Rattle.mr_seen.specs.Worlds.{IsSound, ports}
-use Rattle.mr_seen.specs.Carrying.{behind, filed, reached, booked_as}
+use Rattle.mr_seen.specs.Carrying.{filed, reached, booked_as}
 use Rattle.mr_seen.specs.Events.{IsEvent, Holds, IsServed, IsCounted, ClientStepsAreRows}
 use Rattle.mr_seen.proofs.Reading.{node_is}
 use Rattle.mr_seen.proofs.Others.{NoneServed, no_names, shut_reached, others_there, here}
@@ -184,41 +175,41 @@ module _ (w : WorldState) (book : Book minired) (l : ℕ) (k : Link) (s : Slot) 
       let fed : outs.fed ≡ [] = ap (λ (o : OutsState). o.fed) r.outs_are in
       let closed : outs.closed ≡ names_of (name_of s.node.follow) = ap (λ (o : OutsState). o.closed) r.outs_are in
       steps.event w book l k s given fresh b outs holds served (steps.V w book l k s given fresh b outs holds served) (with_history book fresh (record { start = inner.start; effects = inner.earlier }))
-        (subst (λ u. IsBook (booked_as u w.book s.node.core.lineage.id s.node.core.lineage.stream.offset outs.grown) (with_history book fresh (record { start = inner.start; effects = inner.earlier }))) (sym used)
-          (branched_kept w.book book s.node.core.lineage.id fresh s.node.core.lineage.stream.offset inner.start inner.earlier inner.later holds.kept inner.front undrawn))
-        (ServerRow.promotes (record {
-          client = plain;
-          replica = r.replica;
-          uses = steps.uses_of w book l k s given fresh b outs holds served r.words r.rest r.asks ReplicaOfNoOne (kind_of_wish r.words node.NoOne Kind.no_one ReplicaOfNoOne r.wish refl refl);
-          nodes = steps.node_becomes w book l k s given fresh b outs holds served _
-              (node_is s b (filed outs s.file) (record s.node.core { master = true; offers = true; upstream = None; mark = None; lineage = renamed fresh s.node.core.lineage }) None r.core r.follow);
-          reply = outs.reply;
-          links = steps.links_become w book l k s given fresh b outs holds served (answered (seen_link k) (seen_way (used_on (length r.asks.text) k.ask)) outs.reply) fed
-              (subst (NoneServed s.node) (sym closed) (named_followed s.node s.node.follow sound.node.followed))
-              (steps.here_client w book l k s given fresh b outs holds served r.asks.text r.rest plain r.ends.is r.asks.begins);
-          book = branches w.book book s.node.core.lineage.id fresh s.node.core.lineage.stream.offset inner.start inner.earlier inner.later holds.kept inner.front undrawn;
-        }))
+      (subst (λ u. IsBook (booked_as u w.book s.node.core.lineage.id s.node.core.lineage.stream.offset outs.grown) (with_history book fresh (record { start = inner.start; effects = inner.earlier }))) (sym used)
+      (branched_kept w.book book s.node.core.lineage.id fresh s.node.core.lineage.stream.offset inner.start inner.earlier inner.later holds.kept inner.front undrawn))
+      (ServerRow.promotes (record {
+        client = plain;
+        replica = r.replica;
+        uses = steps.uses_of w book l k s given fresh b outs holds served r.words r.rest r.asks ReplicaOfNoOne (kind_of_wish r.words node.NoOne Kind.no_one ReplicaOfNoOne r.wish refl refl);
+        nodes = steps.node_becomes w book l k s given fresh b outs holds served _
+            (node_is s b (filed outs s.file) (record s.node.core { master = true; offers = true; upstream = None; mark = None; lineage = renamed fresh s.node.core.lineage }) None r.core r.follow);
+        reply = outs.reply;
+        links = steps.links_become w book l k s given fresh b outs holds served (answered (seen_link k) (seen_way (used_on (length r.asks.text) k.ask)) outs.reply) fed
+            (subst (NoneServed s.node) (sym closed) (named_followed s.node s.node.follow sound.node.followed))
+            (steps.here_client w book l k s given fresh b outs holds served r.asks.text r.rest plain r.ends.is r.asks.begins);
+        book = branches w.book book s.node.core.lineage.id fresh s.node.core.lineage.stream.offset inner.start inner.earlier inner.later holds.kept inner.front undrawn;
+      }))
 
   pub turns : IsSound b → row.Turns s.node k.name (unread k.ask) b outs → Event
   turns after r =
       let fed : outs.fed ≡ [] = ap (λ (o : OutsState). o.fed) r.outs_are in
       let closed : outs.closed ≡ names_of (name_of s.node.follow) = ap (λ (o : OutsState). o.closed) r.outs_are in
       steps.event w book l k s given fresh b outs holds served (steps.V w book l k s given fresh b outs holds served) book
-        (steps.quiet_book w book l k s given fresh b outs holds served (record { fed = fed; closed = subst (NoneServed s.node) (sym closed) (named_followed s.node s.node.follow sound.node.followed); unused = ap (λ (o : OutsState). o.used) r.outs_are; none = ap (λ (o : OutsState). o.grown) r.outs_are }))
-        (ServerRow.turns (record {
-          client = plain;
-          replica = r.replica;
-          host = address r.address.host r.address.port;
-          another = other s.node.core.upstream refl sound.upstream;
-          uses = steps.uses_of w book l k s given fresh b outs holds served r.words r.rest r.asks (ReplicaOf (address r.address.host r.address.port))
-              (kind_of_wish r.words (node.ReplicaOf r.address.host r.address.port) (Kind.follow r.address.host r.address.port) (ReplicaOf (address r.address.host r.address.port)) r.wish refl refl);
-          nodes = steps.node_becomes w book l k s given fresh b outs holds served _ (node_is s b (filed outs s.file) (record s.node.core { upstream = Some r.address }) None r.core r.follow);
-          reply = outs.reply;
-          links = steps.links_become w book l k s given fresh b outs holds served (answered (seen_link k) (seen_way (used_on (length r.asks.text) k.ask)) outs.reply) fed
-              (subst (NoneServed s.node) (sym closed) (named_followed s.node s.node.follow sound.node.followed))
-              (steps.here_client w book l k s given fresh b outs holds served r.asks.text r.rest plain r.ends.is r.asks.begins);
-          book = λ i. refl;
-        }))
+      (steps.quiet_book w book l k s given fresh b outs holds served (record { fed = fed; closed = subst (NoneServed s.node) (sym closed) (named_followed s.node s.node.follow sound.node.followed); unused = ap (λ (o : OutsState). o.used) r.outs_are; none = ap (λ (o : OutsState). o.grown) r.outs_are }))
+      (ServerRow.turns (record {
+        client = plain;
+        replica = r.replica;
+        host = address r.address.host r.address.port;
+        another = other s.node.core.upstream refl sound.upstream;
+        uses = steps.uses_of w book l k s given fresh b outs holds served r.words r.rest r.asks (ReplicaOf (address r.address.host r.address.port))
+            (kind_of_wish r.words (node.ReplicaOf r.address.host r.address.port) (Kind.follow r.address.host r.address.port) (ReplicaOf (address r.address.host r.address.port)) r.wish refl refl);
+        nodes = steps.node_becomes w book l k s given fresh b outs holds served _ (node_is s b (filed outs s.file) (record s.node.core { upstream = Some r.address }) None r.core r.follow);
+        reply = outs.reply;
+        links = steps.links_become w book l k s given fresh b outs holds served (answered (seen_link k) (seen_way (used_on (length r.asks.text) k.ask)) outs.reply) fed
+            (subst (NoneServed s.node) (sym closed) (named_followed s.node s.node.follow sound.node.followed))
+            (steps.here_client w book l k s given fresh b outs holds served r.asks.text r.rest plain r.ends.is r.asks.begins);
+        book = λ i. refl;
+      }))
     where
       empty_or : (h : List ℕ) (p : ℕ) → [] ≡ address h p → ⊥
       empty_or [] p e = absurd (cc)
@@ -235,21 +226,21 @@ module _ (w : WorldState) (book : Book minired) (l : ℕ) (k : Link) (s : Slot) 
   demotes r =
       let fed : outs.fed ≡ [] = ap (λ (o : OutsState). o.fed) r.outs_are in
       steps.event w book l k s given fresh b outs holds served (steps.V w book l k s given fresh b outs holds served) book
-        (steps.book_stays w.book book s.node outs holds.kept (ap (λ (o : OutsState). o.used) r.outs_are) (ap (λ (o : OutsState). o.grown) r.outs_are))
-        (ServerRow.demotes (record {
-          client = plain;
-          master = r.master;
-          host = address r.address.host r.address.port;
-          uses = steps.uses_of w book l k s given fresh b outs holds served r.words r.rest r.asks (ReplicaOf (address r.address.host r.address.port))
-              (kind_of_wish r.words (node.ReplicaOf r.address.host r.address.port) (Kind.follow r.address.host r.address.port) (ReplicaOf (address r.address.host r.address.port)) r.wish refl refl);
-          nodes = steps.node_becomes w book l k s given fresh b outs holds served _
-              (node_is s b (filed outs s.file) (record s.node.core { master = false; offers = true; upstream = Some r.address; mark = None }) s.node.follow r.core (r.follow ∙ sym (sound.node.nobody r.master)));
-          reply = outs.reply;
-          link = here (reached k.to outs) w.links l (steps.m w book l k s given fresh b outs holds served) k served.found ∙ ap (λ z. Some z) (steps.here_client w book l k s given fresh b outs holds served r.asks.text r.rest plain r.ends.is r.asks.begins);
-          no_links = λ j ne e. gone fed j ne ∙ ap (option_map (λ y. history.shut (hears k.to y) y)) e;
-          links = λ j x ne e. gone fed j ne ∙ ap (option_map (λ y. history.shut (hears k.to y) y)) e;
-          book = λ i. refl;
-        }))
+      (steps.book_stays w.book book s.node outs holds.kept (ap (λ (o : OutsState). o.used) r.outs_are) (ap (λ (o : OutsState). o.grown) r.outs_are))
+      (ServerRow.demotes (record {
+        client = plain;
+        master = r.master;
+        host = address r.address.host r.address.port;
+        uses = steps.uses_of w book l k s given fresh b outs holds served r.words r.rest r.asks (ReplicaOf (address r.address.host r.address.port))
+            (kind_of_wish r.words (node.ReplicaOf r.address.host r.address.port) (Kind.follow r.address.host r.address.port) (ReplicaOf (address r.address.host r.address.port)) r.wish refl refl);
+        nodes = steps.node_becomes w book l k s given fresh b outs holds served _
+            (node_is s b (filed outs s.file) (record s.node.core { master = false; offers = true; upstream = Some r.address; mark = None }) s.node.follow r.core (r.follow ∙ sym (sound.node.nobody r.master)));
+        reply = outs.reply;
+        link = here (reached k.to outs) w.links l (steps.m w book l k s given fresh b outs holds served) k served.found ∙ ap (λ z. Some z) (steps.here_client w book l k s given fresh b outs holds served r.asks.text r.rest plain r.ends.is r.asks.begins);
+        no_links = λ j ne e. gone fed j ne ∙ ap (option_map (λ y. history.shut (hears k.to y) y)) e;
+        links = λ j x ne e. gone fed j ne ∙ ap (option_map (λ y. history.shut (hears k.to y) y)) e;
+        book = λ i. refl;
+      }))
     where
       gone : outs.fed ≡ [] → (j : ℕ) → j ≢ l → option_map seen_link (slice_get (slice_set (map (reached k.to outs) w.links) l (steps.m w book l k s given fresh b outs holds served)) j)
           ≡ option_map (λ y. history.shut (hears k.to y) y) (option_map seen_link (slice_get w.links j))

@@ -1,9 +1,8 @@
 -- A step at an end that a node serves, as histories see it.
-use Rattle.std.proofs.Common.{◌≡◌, ◌≢◌, ◌+◌, ◌-◌, ◌<◌, ◌≤◌, ◌⊎◌, inl, inr, ℕ, ℤ, pos, List, [], ◌∷◌, ◌++◌, Bool, true, false, cond, Option, None, Some, length, take, take-append-drop, refl, sym, ap, subst, ◌∙◌, arith, All}
+use Rattle.std.proofs.Common.{◌≡◌, ◌≢◌, ◌+◌, ◌-◌, ◌≤◌, ℕ, List, [], ◌∷◌, ◌++◌, Bool, true, false, cond, Option, None, Some, length, take, take-append-drop, refl, sym, ap, subst, ◌∙◌, All}
 use Rattle.std.specs.Prelude.{slice_get, slice_set, bytes_eq, map}
 use Rattle.std.specs.Option.{option_map}
 use Rattle.std.proofs.lemmas.List.{append-nil}
-use Rattle.mr_links.specs.declared.link_id.LinkId.{LinkId}
 use Rattle.mr_effect.specs.Spelling.{texts}
 use Rattle.mr_effect.specs.declared.effect.Effect.{Effect}
 use Rattle.mr_entries.specs.Dataset.{Dataset}
@@ -14,11 +13,9 @@ use Rattle.mr_repl.specs.Backlog.{last_of}
 use Rattle.mr_replay.specs.Effects.{IsGoodEffect}
 use Rattle.mr_plan.specs.Requests.{HasPlan}
 use Rattle.mr_lines.specs.Lines.{most_counted}
-use Rattle.mr_ends.specs.State.{EndState}
 use Rattle.mr_ends.specs.State.EndState.{client, replica, shut}
-use Rattle.mr_ends.specs.Replicas.{Lists}
 use Rattle.mr_outs.specs.Outs.{OutsState}
-use Rattle.mr_rows.specs.State.{Core, NodeState, end_of}
+use Rattle.mr_rows.specs.State.{NodeState, end_of}
 use Rattle.mr_rows.specs.Requests.{AsksNothing}
 use Rattle.mr_rows.specs.Requests as requests
 use Rattle.mr_rows.specs.Growing.{FedTo}
@@ -26,33 +23,30 @@ use Rattle.mr_history.specs.Language.{Request}
 use Rattle.mr_history.specs.Language.Request.{Empty, Command}
 use Rattle.mr_history.specs.Changes.{SetAt}
 use Rattle.mr_history.specs.History.{Book}
-use Rattle.mr_history.specs.History as histories
 use Rattle.mr_history.specs.Node as history_node
 use Rattle.mr_history.specs.Node.{EndsAs}
 use Rattle.mr_history.specs.World as history
 use Rattle.mr_history.specs.World.{told_if, hears}
 use Rattle.mr_history.specs.Event as events
 use Rattle.mr_history.specs.Event.Side.{Server}
-use Rattle.mr_history.specs.Rows.{Row}
-use Rattle.mr_history.specs.Changing.{LinkBecomes, NodeBecomes, Unless, Grown}
+use Rattle.mr_history.specs.Changing.{LinkBecomes}
 use Rattle.mr_history.specs.Changing.Unless.{acts}
 use Rattle.mr_history.specs.ServerRows as rows
 use Rattle.mr_history.specs.ServerRows.{ServerRow, answered}
 use Rattle.mr_language.specs.Minired.{minired}
 use Rattle.mr_language.specs.Requests.{kind_of, IsAsked}
 use Rattle.mr_language.specs.Requests as language
-use Rattle.mr_seen.specs.Way.{IsWay, unread, used_on}
+use Rattle.mr_seen.specs.Way.{unread, used_on}
 use Rattle.mr_seen.specs.State.{Link, Slot, Entry, WorldState}
 use Rattle.mr_seen.specs.Seeing.{seen, seen_way, seen_node, seen_link}
 use Rattle.mr_seen.specs.Books.{IsBook, extended}
 use Rattle.mr_seen.specs.Worlds.{IsSound}
-use Rattle.mr_seen.specs.Carrying.{stepped, settled, told, reached, behind, booked, booked_as, put_node}
+use Rattle.mr_seen.specs.Carrying.{stepped, settled, told, reached, behind, booked, booked_as}
 use Rattle.mr_seen.specs.Events.{IsEvent, Holds, IsServed}
 use Rattle.mr_seen.proofs.Seen.{put_at}
 use Rattle.mr_seen.proofs.Reading.{reads_on, set_as, still_at, client_seen, joined_seen, shut_seen}
-use Rattle.mr_seen.proofs.Others.{NoneServed, no_names, unreached, fed_reached, shut_reached, others_there, here}
+use Rattle.mr_seen.proofs.Others.{NoneServed, unreached, fed_reached, others_there, here}
 use Rattle.mr_seen.proofs.Keeping.{fold_is, with_history, extended_kept, extends}
-use Rattle.mr_seen.proofs.Asking.{good_all}
 
 -- texts that are none change no entry
 pub extended_none : (es : List Entry) (id : List ℕ) → extended es id [] ≡ es
@@ -114,8 +108,10 @@ module _ (w : WorldState) (book : Book minired) (l : ℕ) (k : Link) (s : Slot) 
     pub none : outs.grown ≡ []
 
   pub links_become : (x : history.Link) → outs.fed ≡ [] → NoneServed s.node outs.closed → seen_link m ≡ x → SetAt (seen w book).link (seen V book).link l x
-  links_become x fed closed e = (here (reached k.to outs) w.links l m k served.found ∙ ap (λ z. Some z) e,
-    λ j ne. others_there (reached k.to outs) w.links l m (λ y. y) (λ i y f. ap seen_link (unreached w holds.world k.to s served.at served.up outs fed closed i y f)) j ne ∙ map_same (option_map seen_link (slice_get w.links j)))
+  links_become x fed closed e = (
+    here (reached k.to outs) w.links l m k served.found ∙ ap (λ z. Some z) e,
+    λ j ne. others_there (reached k.to outs) w.links l m (λ y. y) (λ i y f. ap seen_link (unreached w holds.world k.to s served.at served.up outs fed closed i y f)) j ne ∙ map_same (option_map seen_link (slice_get w.links j)),
+  )
 
   pub quiet_becomes : (x : history.Link) → Quiet → seen_node (behind s b outs) ≡ seen_node s → seen_link m ≡ x → LinkBecomes (seen w book) (seen V book) l x
   quiet_becomes x q same e = record {
@@ -161,29 +157,29 @@ module _ (w : WorldState) (book : Book minired) (l : ℕ) (k : Link) (s : Slot) 
       let node = holds.invariant.nodes k.to (seen_node s) (ap (option_map seen_node) served.at) served.up in
       let there = node.front.found in
       event V (with_history book s.node.core.lineage.id (record { start = node.start; effects = (node.earlier ++ node.later) ++ effects }))
-        (subst (λ u. IsBook (booked_as u w.book s.node.core.lineage.id s.node.core.lineage.stream.offset outs.grown) (with_history book s.node.core.lineage.id (record { start = node.start; effects = (node.earlier ++ node.later) ++ effects })))
-          (sym g.unused) (extended_kept w.book book s.node.core.lineage.id outs.grown effects (record { start = node.start; effects = node.earlier ++ node.later }) holds.kept there g.grown_is))
-        (ServerRow.runs (record {
-          client = c;
-          master = master;
-          uses = uses_of words rest a Command (subst (λ z. language.Asks z Command) (sym kind) refl);
-          effects = effects;
-          of_request = record { words = words; request = a.request; reply = reply; plan = plan };
-          grown = record {
-            good = g.good;
-            within = g.within;
-            held = held;
-            folds = fold_is effects s.node.core.held ∙ g.leads;
-            backlog = backlog;
-            last_bytes = g.last_bytes;
-            nodes = node_becomes (record (seen_node s) { held = held; offset = s.node.core.lineage.stream.offset + length (texts effects); backlog = backlog }) g.node;
-            book = extends w.book book s.node.core.lineage.id effects (record { start = node.start; effects = node.earlier ++ node.later }) there;
-          };
-          reply = outs.reply;
-          link = here (reached k.to outs) w.links l m k served.found ∙ ap (λ z. Some z) (here_client a.text rest c is a.begins);
-          no_links = λ j ne e. fed_there j ne ∙ ap (option_map (λ y. told_if (hears k.to y) y outs.grown)) e;
-          links = λ j x ne e. fed_there j ne ∙ (ap (option_map (λ y. told_if (hears k.to y) y outs.grown)) e ∙ ap (λ z. Some (told_if (hears k.to x) x z)) g.grown_is);
-        }))
+      (subst (λ u. IsBook (booked_as u w.book s.node.core.lineage.id s.node.core.lineage.stream.offset outs.grown) (with_history book s.node.core.lineage.id (record { start = node.start; effects = (node.earlier ++ node.later) ++ effects })))
+      (sym g.unused) (extended_kept w.book book s.node.core.lineage.id outs.grown effects (record { start = node.start; effects = node.earlier ++ node.later }) holds.kept there g.grown_is))
+      (ServerRow.runs (record {
+        client = c;
+        master = master;
+        uses = uses_of words rest a Command (subst (λ z. language.Asks z Command) (sym kind) refl);
+        effects = effects;
+        of_request = record { words = words; request = a.request; reply = reply; plan = plan };
+        grown = record {
+          good = g.good;
+          within = g.within;
+          held = held;
+          folds = fold_is effects s.node.core.held ∙ g.leads;
+          backlog = backlog;
+          last_bytes = g.last_bytes;
+          nodes = node_becomes (record (seen_node s) { held = held; offset = s.node.core.lineage.stream.offset + length (texts effects); backlog = backlog }) g.node;
+          book = extends w.book book s.node.core.lineage.id effects (record { start = node.start; effects = node.earlier ++ node.later }) there;
+        };
+        reply = outs.reply;
+        link = here (reached k.to outs) w.links l m k served.found ∙ ap (λ z. Some z) (here_client a.text rest c is a.begins);
+        no_links = λ j ne e. fed_there j ne ∙ ap (option_map (λ y. told_if (hears k.to y) y outs.grown)) e;
+        links = λ j x ne e. fed_there j ne ∙ (ap (option_map (λ y. told_if (hears k.to y) y outs.grown)) e ∙ ap (λ z. Some (told_if (hears k.to x) x z)) g.grown_is);
+      }))
     where
       fed_there : (j : ℕ) → j ≢ l → option_map seen_link (slice_get (slice_set (map (reached k.to outs) w.links) l m) j) ≡ option_map (λ y. told_if (hears k.to y) y outs.grown) (option_map seen_link (slice_get w.links j))
       fed_there j ne = others_there (reached k.to outs) w.links l m (λ y. told_if (hears k.to y) y outs.grown) (λ i y f. fed_reached w holds.world k.to s served.at served.up outs g.fed g.closed i y f) j ne

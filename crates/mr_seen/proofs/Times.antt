@@ -1,5 +1,5 @@
 -- A tick, as histories see it.
-use Rattle.std.proofs.Common.{◌≡◌, ◌≢◌, ◌+◌, ◌-◌, ◌<◌, ◌≤◌, inl, inr, ℕ, ℤ, List, [], ◌∷◌, ◌++◌, Bool, true, false, cond, Option, None, Some, length, length-append, take, map, refl, sym, ap, subst, ◌∙◌, arith, All}
+use Rattle.std.proofs.Common.{◌≡◌, ◌-◌, ◌≤◌, ℕ, ℤ, List, [], ◌∷◌, ◌++◌, Bool, true, false, cond, Option, None, Some, length, length-append, take, map, refl, sym, ap, subst, ◌∙◌, arith, All}
 use Rattle.std.specs.Prelude.{slice_get, slice_set, nat_le}
 use Rattle.std.specs.Option.{option_map}
 use Rattle.std.proofs.lemmas.Bool.{leb-true}
@@ -11,36 +11,27 @@ use Rattle.mr_resp.specs.Usual.{commands-words}
 use Rattle.mr_effect.specs.Spelling.{text, texts, size, words, IsShort}
 use Rattle.mr_effect.specs.declared.effect.Effect.{Effect}
 use Rattle.mr_effect.specs.declared.effect.Effect.TheVariants as effect
-use Rattle.mr_entries.specs.Dataset.{Dataset}
-use Rattle.mr_data.specs.Due.{due, deletions, most_deleted, within}
+use Rattle.mr_data.specs.Due.{due, most_deleted, within}
 use Rattle.mr_data.specs.declared.given.Given.{Given}
 use Rattle.mr_repl.specs.Backlog.{IsWindow, last_of}
-use Rattle.mr_follow.specs.State.{FollowState}
-use Rattle.mr_follow.specs.declared.phase.Phase.TheVariants as phase
 use Rattle.mr_outs.specs.Outs.{OutsState, no_outs}
 use Rattle.mr_rows.specs.State.{Core, NodeState}
-use Rattle.mr_rows.specs.Growing.{FedTo, grown_by, offset_limit}
+use Rattle.mr_rows.specs.Growing.{FedTo, grown_by}
 use Rattle.mr_rows.specs.TimeRows.{TickRow, room_in, doomed}
 use Rattle.mr_rows.specs.TimeRows as row
-use Rattle.mr_history.specs.Changes.{SetAt}
 use Rattle.mr_history.specs.History.{Book}
-use Rattle.mr_history.specs.Node.Phase.{Stream}
-use Rattle.mr_history.specs.World as history
 use Rattle.mr_history.specs.World.{hears, told_if}
 use Rattle.mr_history.specs.Event as events
-use Rattle.mr_history.specs.Changing.{LinkBecomes}
 use Rattle.mr_history.specs.Changing.Unless.{acts}
-use Rattle.mr_history.specs.Rows as rows
 use Rattle.mr_history.specs.Rows.{Ticks}
 use Rattle.mr_language.specs.Minired.{minired}
 use Rattle.mr_language.specs.Changes.{IsDue}
 use Rattle.mr_seen.specs.Way.{sent_on}
 use Rattle.mr_seen.specs.State.{Link, Slot, WorldState}
-use Rattle.mr_seen.specs.Seeing.{seen, seen_way, seen_node, seen_link, seen_follow, seen_phase}
+use Rattle.mr_seen.specs.Seeing.{seen, seen_node, seen_link, seen_follow, seen_phase}
 use Rattle.mr_seen.specs.Books.{IsBook}
 use Rattle.mr_seen.specs.Carrying.{behind, filed, reached, booked_as, said_on, said_by, ticked}
 use Rattle.mr_seen.specs.Events.{IsEvent, Holds, IsRunning, TicksAreRows}
-use Rattle.mr_seen.proofs.Places.{set_here, set_there}
 use Rattle.mr_seen.proofs.Seen.{put_at, sent_seen}
 use Rattle.mr_seen.proofs.Keeping.{fold_is, with_history, extended_kept, extends}
 use Rattle.mr_seen.proofs.Reading.{node_is, set_as, still_at}
@@ -120,26 +111,26 @@ module _ (w : WorldState) (book : Book minired) (n : ℕ) (s : Slot) (given : Gi
       let grown_is : outs.grown ≡ texts r.effects = ap (λ (o : OutsState). o.grown) r.outs_are in
       let unused : outs.used ≡ None = ap (λ (o : OutsState). o.used) r.outs_are in
       event (with_history book s.node.core.lineage.id (record { start = node.start; effects = (node.earlier ++ node.later) ++ r.effects }))
-        (subst (λ u. IsBook (booked_as u w.book s.node.core.lineage.id s.node.core.lineage.stream.offset outs.grown) (with_history book s.node.core.lineage.id (record { start = node.start; effects = (node.earlier ++ node.later) ++ r.effects })))
-          (sym unused) (extended_kept w.book book s.node.core.lineage.id outs.grown r.effects (record { start = node.start; effects = node.earlier ++ node.later }) holds.kept there grown_is))
-        (Ticks.beats (record {
-          master = r.master;
-          effects = r.effects;
-          due = fits.is_due;
-          grown = record {
-            good = good_all r.effects s.node.core.held r.held r.applied fits.short;
-            within = (let few = fits.few in let countable = window.countable in omega (arith, few, countable));
-            held = r.held;
-            folds = fold_is r.effects s.node.core.held ∙ r.applied;
-            backlog = last_of s.node.core.lineage.stream.capacity (s.node.core.lineage.stream.held ++ texts r.effects);
-            last_bytes = ends_as s.node.core.lineage.stream.capacity s.node.core.lineage.stream.held (texts r.effects);
-            nodes = set_as (λ m. option_map seen_node (slice_get w.slots m)) (λ m. option_map seen_node (slice_get (slice_set w.slots n (behind s b outs)) m)) n (seen_node (behind s b outs)) _
-                (put_at seen_node w.slots n (behind s b outs) s runs.at) (node_is s b (filed outs s.file) (record (grown_by r.effects r.held s.node.core) { mark = r.mark }) s.node.follow r.core r.follow);
-            book = extends w.book book s.node.core.lineage.id r.effects (record { start = node.start; effects = node.earlier ++ node.later }) there;
-          };
-          no_links = λ j e. fed_there j ∙ ap (option_map (λ y. told_if (hears n y) y outs.grown)) e;
-          links = λ j x e. fed_there j ∙ (ap (option_map (λ y. told_if (hears n y) y outs.grown)) e ∙ ap (λ z. Some (told_if (hears n x) x z)) grown_is);
-        }))
+      (subst (λ u. IsBook (booked_as u w.book s.node.core.lineage.id s.node.core.lineage.stream.offset outs.grown) (with_history book s.node.core.lineage.id (record { start = node.start; effects = (node.earlier ++ node.later) ++ r.effects })))
+      (sym unused) (extended_kept w.book book s.node.core.lineage.id outs.grown r.effects (record { start = node.start; effects = node.earlier ++ node.later }) holds.kept there grown_is))
+      (Ticks.beats (record {
+        master = r.master;
+        effects = r.effects;
+        due = fits.is_due;
+        grown = record {
+          good = good_all r.effects s.node.core.held r.held r.applied fits.short;
+          within = (let few = fits.few in let countable = window.countable in omega (arith, few, countable));
+          held = r.held;
+          folds = fold_is r.effects s.node.core.held ∙ r.applied;
+          backlog = last_of s.node.core.lineage.stream.capacity (s.node.core.lineage.stream.held ++ texts r.effects);
+          last_bytes = ends_as s.node.core.lineage.stream.capacity s.node.core.lineage.stream.held (texts r.effects);
+          nodes = set_as (λ m. option_map seen_node (slice_get w.slots m)) (λ m. option_map seen_node (slice_get (slice_set w.slots n (behind s b outs)) m)) n (seen_node (behind s b outs)) _
+              (put_at seen_node w.slots n (behind s b outs) s runs.at) (node_is s b (filed outs s.file) (record (grown_by r.effects r.held s.node.core) { mark = r.mark }) s.node.follow r.core r.follow);
+          book = extends w.book book s.node.core.lineage.id r.effects (record { start = node.start; effects = node.earlier ++ node.later }) there;
+        };
+        no_links = λ j e. fed_there j ∙ ap (option_map (λ y. told_if (hears n y) y outs.grown)) e;
+        links = λ j x e. fed_there j ∙ (ap (option_map (λ y. told_if (hears n y) y outs.grown)) e ∙ ap (λ z. Some (told_if (hears n x) x z)) grown_is);
+      }))
     where
       fed : FedTo outs.grown s.node outs.fed
       fed = subst (λ z. FedTo z s.node outs.fed) (sym (ap (λ (o : OutsState). o.grown) r.outs_are)) r.fed
@@ -147,7 +138,7 @@ module _ (w : WorldState) (book : Book minired) (n : ℕ) (s : Slot) (given : Gi
       fed_there : (j : ℕ) → option_map seen_link (slice_get (said_on outs.link s.dialled outs.reply (map (reached n outs) w.links)) j) ≡ option_map (λ y. told_if (hears n y) y outs.grown) (option_map seen_link (slice_get w.links j))
       fed_there j = ap (λ z. option_map seen_link (slice_get (said_on z s.dialled outs.reply (map (reached n outs) w.links)) j)) (ap (λ (o : OutsState). o.link) r.outs_are)
           ∙ map_there (reached n outs) w.links (λ y. told_if (hears n y) y outs.grown)
-              (λ i y f. fed_reached w holds.world n s runs.at runs.up outs fed (ap (λ (o : OutsState). o.closed) r.outs_are) i y f) j
+          (λ i y f. fed_reached w holds.world n s runs.at runs.up outs fed (ap (λ (o : OutsState). o.closed) r.outs_are) i y f) j
 
   -- ---- a replica
   module _ (alone : s.node.core.master ≡ false) (mark : Option ℤ) (is : b ≡ record s.node { core = record s.node.core { mark = mark } }) where
@@ -170,7 +161,7 @@ module _ (w : WorldState) (book : Book minired) (n : ℕ) (s : Slot) (given : Gi
         let quiet : (i : ℕ) (y : Link) → slice_get w.links i ≡ Some y → reached n outs y ≡ y = λ i y f. unreached w holds.world n s runs.at runs.up outs (ap (λ (o : OutsState). o.fed) e) (no_names s.node outs.closed (ap (λ (o : OutsState). o.closed) e)) i y f in
         let there : slice_get (map (reached n outs) w.links) s.dialled ≡ Some h.link = slice_get-map (reached n outs) w.links s.dialled ∙ (ap (option_map (reached n outs)) h.found ∙ ap (λ z. Some z) (quiet s.dialled h.link h.found)) in
         let links : said_on outs.link s.dialled outs.reply (map (reached n outs) w.links) ≡ slice_set (map (reached n outs) w.links) s.dialled (record h.link { ask = sent_on outs.reply h.link.ask }) =
-            ap (λ z. said_on z s.dialled outs.reply (map (reached n outs) w.links)) (ap (λ (o : OutsState). o.link) e) ∙ ap (λ z. said_by z s.dialled outs.reply (map (reached n outs) w.links)) there in
+        ap (λ z. said_on z s.dialled outs.reply (map (reached n outs) w.links)) (ap (λ (o : OutsState). o.link) e) ∙ ap (λ z. said_by z s.dialled outs.reply (map (reached n outs) w.links)) there in
         event book (book_stays w.book book s.node outs holds.kept (ap (λ (o : OutsState). o.used) e) (ap (λ (o : OutsState). o.grown) e)) (Ticks.acknowledges (record {
           replica = alone;
           l = s.dialled;
@@ -180,10 +171,12 @@ module _ (w : WorldState) (book : Book minired) (n : ℕ) (s : Slot) (given : Gi
           bytes = outs.reply;
           becomes = record {
             nodes = same_nodes same;
-            links = (ap (λ z. option_map seen_link (slice_get z s.dialled)) links ∙ (here (reached n outs) w.links s.dialled (record h.link { ask = sent_on outs.reply h.link.ask }) h.link h.found
+            links = (
+              ap (λ z. option_map seen_link (slice_get z s.dialled)) links ∙ (here (reached n outs) w.links s.dialled (record h.link { ask = sent_on outs.reply h.link.ask }) h.link h.found
                   ∙ ap (λ z. Some (record (seen_link h.link) { ask = z })) (sent_seen h.link.ask outs.reply (holds.world.asks s.dialled h.link h.found))),
-                λ j ne. ap (λ z. option_map seen_link (slice_get z j)) links ∙ (others_there (reached n outs) w.links s.dialled (record h.link { ask = sent_on outs.reply h.link.ask }) (λ y. y) (λ i y f. ap seen_link (quiet i y f)) j ne
-                  ∙ map_same (option_map seen_link (slice_get w.links j))));
+              λ j ne. ap (λ z. option_map seen_link (slice_get z j)) links ∙ (others_there (reached n outs) w.links s.dialled (record h.link { ask = sent_on outs.reply h.link.ask }) (λ y. y) (λ i y f. ap seen_link (quiet i y f)) j ne
+                  ∙ map_same (option_map seen_link (slice_get w.links j))),
+            );
             book = λ i. refl;
           };
         }))

@@ -26,7 +26,7 @@ unread_taken w n way =
     let e : w.taken + n - w.used ≡ (w.taken - w.used) + n = omega (arith, way.used_within) in
     let g : w.used + (w.taken - w.used) ≡ w.taken = omega (arith, way.used_within) in
     ap (λ z. take z (drop w.used w.sent)) e ∙ (take-add (w.taken - w.used) n (drop w.used w.sent)
-      ∙ ap (λ z. take (w.taken - w.used) (drop w.used w.sent) ++ z) (ap (take n) (drop-drop (w.taken - w.used) w.used w.sent ∙ ap (λ z. drop z w.sent) g)))
+    ∙ ap (λ z. take (w.taken - w.used) (drop w.used w.sent) ++ z) (ap (take n) (drop-drop (w.taken - w.used) w.used w.sent ∙ ap (λ z. drop z w.sent) g)))
 
 pub sent_way : (w : WayState) (bytes : List ℕ) → IsWay w → IsWay (sent_on bytes w)
 sent_way w bytes way = record { used_within = way.used_within; taken_within = grow w.taken w.sent bytes way.taken_within }

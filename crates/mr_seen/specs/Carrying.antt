@@ -9,8 +9,8 @@ use Rattle.mr_ends.specs.Replicas.{is_named}
 use Rattle.mr_outs.specs.Outs.{OutsState}
 use Rattle.mr_entries.specs.Dataset.{Dataset}
 use Rattle.mr_rows.specs.State.{NodeState, started, end_of}
-use Rattle.mr_seen.specs.Way.{WayState, no_way, sent_on, taken_on, left_on}
-use Rattle.mr_seen.specs.State.{Caller, a_client, a_node, Link, Slot, Entry, WorldState}
+use Rattle.mr_seen.specs.Way.{no_way, sent_on, taken_on, left_on}
+use Rattle.mr_seen.specs.State.{a_client, a_node, Link, Slot, Entry, WorldState}
 use Rattle.mr_seen.specs.Books.{extended, branched, begun}
 
 -- ---- the links that a node serves

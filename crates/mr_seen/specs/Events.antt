@@ -1,5 +1,5 @@
 -- What a call on a node of a World is, among the events of histories.
-use Rattle.std.specs.Prelude.{◌≡◌, ◌≤◌, ◌+◌, ℕ, List, Bool, true, false, Option, None, Some, not, length, slice_get, slice_set}
+use Rattle.std.specs.Prelude.{◌≡◌, ◌≤◌, ◌+◌, ℕ, ℤ, List, Bool, true, false, None, Some, not, length, slice_get, slice_set}
 use Rattle.std.specs.FinMap.{empty}
 use Rattle.mr_entries.specs.Dataset.{Dataset}
 use Rattle.mr_data.specs.declared.given.Given.{Given}
@@ -196,3 +196,36 @@ EventsKeepHistories = (w : WorldState) (book : Book minired) (e : events.Event m
 -- All this is known of the World in which nothing has begun.
 abbrev pub WorldsBegin : Type 0
 WorldsBegin = Holds no_world (λ i. None)
+
+-- ---- what is true of each World stays
+-- .. behind a step at a client's end
+abbrev pub ClientStepsKeepWorlds : Type 0
+ClientStepsKeepWorlds = (w : WorldState) (l : ℕ) (k : Link) (s : Slot) (given : Given) (fresh : List ℕ) (b : NodeState) (outs : OutsState)
+    → IsWorld w → IsServed w l k s → IsSound b
+    → ClientRow s.node k.name (unread k.ask) given fresh b outs
+    → IsWorld (stepped w k.to s l k b outs)
+
+-- .. at a replica's end
+abbrev pub ReplicaStepsKeepWorlds : Type 0
+ReplicaStepsKeepWorlds = (w : WorldState) (l : ℕ) (k : Link) (s : Slot) (b : NodeState) (outs : OutsState)
+    → IsWorld w → IsServed w l k s → IsSound b
+    → ReplicaRow s.node k.name (unread k.ask) b outs
+    → IsWorld (stepped w k.to s l k b outs)
+
+-- .. and where a node stops
+abbrev pub StopsKeepWorlds : Type 0
+StopsKeepWorlds = (w : WorldState) (n : ℕ) (s : Slot) (b : NodeState) → IsWorld w → slice_get w.slots n ≡ Some s → b.core.up ≡ false → IsWorld (put_node w n s b)
+
+-- .. behind a step at the link to the master
+abbrev pub MasterStepsKeepWorlds : Type 0
+MasterStepsKeepWorlds = (w : WorldState) (n : ℕ) (s : Slot) (k : Link) (name : LinkId) (step : UpstreamStep) (b : NodeState) (outs : OutsState)
+    → IsWorld w → IsFollowed w n s k → IsSound b
+    → master.Hears s.node name step b outs
+    → IsWorld (followed w n s k b outs)
+
+-- .. and behind a tick
+abbrev pub TicksKeepWorlds : Type 0
+TicksKeepWorlds = (w : WorldState) (n : ℕ) (s : Slot) (now : ℤ) (b : NodeState) (outs : OutsState)
+    → IsWorld w → IsRunning w n s → IsSound b
+    → TickRow s.node now b outs
+    → IsWorld (ticked w n s b outs)

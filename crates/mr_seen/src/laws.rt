@@ -1,5 +1,5 @@
 //! That what each call on a node of a World does is a row of histories. No function here does anything: each is the law that it ensures.
-ghost use Rattle.mr_seen.specs.Events.{ClientStepsAreRows, DialsAreRows, EventsKeepHistories, IdleStepsAreRows, LacksAreUnseen, MasterBreaksAreRows, MasterFeedsAreRows, MasterStepsAreRows, OpenStopsAreRows, OpensAreRows, ReplicaStepsAreRows, RestartsAreRows, ServerBreaksAreRows, ServerFeedsAreRows, SpendsAreRows, StartsAreRows, StopsAreRows, TicksAreRows, WaitsAreRows, WorldsBegin};
+ghost use Rattle.mr_seen.specs.Events.{ClientStepsAreRows, ClientStepsKeepWorlds, DialsAreRows, EventsKeepHistories, IdleStepsAreRows, LacksAreUnseen, MasterBreaksAreRows, MasterFeedsAreRows, MasterStepsAreRows, MasterStepsKeepWorlds, OpenStopsAreRows, OpensAreRows, ReplicaStepsAreRows, ReplicaStepsKeepWorlds, RestartsAreRows, ServerBreaksAreRows, ServerFeedsAreRows, SpendsAreRows, StartsAreRows, StopsAreRows, StopsKeepWorlds, TicksAreRows, TicksKeepWorlds, WaitsAreRows, WorldsBegin};
 
 /// A step at a client's end by its exact row, with what it gives out carried, is a step by a row of histories, of the World that is seen.
 pub fn client_steps_are_rows()
@@ -78,6 +78,23 @@ pub fn starts_are_rows()
 /// What the laws of histories rest on holds behind each event, and the book only grows.
 pub fn events_keep_histories()
     ensures { EventsKeepHistories }
+{}
+
+/// What is true of each World stays behind a step at an end that a node serves, and where a node stops.
+pub fn steps_keep_worlds()
+    ensures clients { ClientStepsKeepWorlds }
+    ensures replicas { ReplicaStepsKeepWorlds }
+    ensures stops { StopsKeepWorlds }
+{}
+
+/// It stays behind a step at the link to the master.
+pub fn master_steps_keep_worlds()
+    ensures { MasterStepsKeepWorlds }
+{}
+
+/// It stays behind a tick.
+pub fn ticks_keep_worlds()
+    ensures { TicksKeepWorlds }
 {}
 
 /// All that is asked of a World holds of the one in which nothing has begun.
