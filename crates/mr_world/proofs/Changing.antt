@@ -32,16 +32,17 @@ pub record Changed (w : WorldState) (n : ℕ) (t : Slot) (links : List Link) : T
 module _ (w : WorldState) (n : ℕ) (s t : Slot) (links : List Link) (is : IsWorld w) (at : slice_get w.slots n ≡ Some s) (c : Changed w n t links) where
   server : (j : ℕ) (y : Link) → slice_get links j ≡ Some y → HasServer (slice_set w.slots n t) y
   server j y e = let x = c.origin j y e in elim (number_or y.to n) [
-      inl same ↦ record {
-        slot = t;
-        found = ap (slice_get (slice_set w.slots n t)) same ∙ set_here w.slots n t s at;
-        agrees = λ up q. c.here j y e same up q;
-      }
+    | inl same ↦ record {
+      slot = t;
+      found = ap (slice_get (slice_set w.slots n t)) same ∙ set_here w.slots n t s at;
+      agrees = λ up q. c.here j y e same up q;
+    }
     | inr apart ↦ (let h = is.servers j x.link x.found in record {
-        slot = h.slot;
-        found = set_there w.slots n y.to t apart ∙ (ap (slice_get w.slots) x.to ∙ h.found);
-        agrees = λ up q. ap (end_of h.slot.node) x.name ∙ (h.agrees up (x.serving q) ∙ ap (λ z. Some z) (c.there j x.link y x.found e apart q));
-      }) ]
+      slot = h.slot;
+      found = set_there w.slots n y.to t apart ∙ (ap (slice_get w.slots) x.to ∙ h.found);
+      agrees = λ up q. ap (end_of h.slot.node) x.name ∙ (h.agrees up (x.serving q) ∙ ap (λ z. Some z) (c.there j x.link y x.found e apart q));
+    })
+  ]
 
   node_of : (m : ℕ) (u : Slot) → ((m ≡ n) × (u ≡ t)) ⊎ ((m ≢ n) × (slice_get w.slots m ≡ Some u)) → u.node.core.up ≡ true → IsSound u.node
   node_of m u (inl p) up = subst (λ (z : Slot). IsSound z.node) (sym p.1) (c.sound (subst (λ (z : Slot). z.node.core.up ≡ true) p.1 up))
@@ -50,7 +51,7 @@ module _ (w : WorldState) (n : ℕ) (s t : Slot) (links : List Link) (is : IsWor
   follower_of : (m : ℕ) (u : Slot) (name : LinkId) (f : FollowState) → ((m ≡ n) × (u ≡ t)) ⊎ ((m ≢ n) × (slice_get w.slots m ≡ Some u)) → u.node.core.up ≡ true → u.node.follow ≡ Some (name, f) → HasMaster links m u name f
   follower_of m u name f (inl p) up q =
       subst (λ (z : Slot). HasMaster links m z name f) (sym p.1) (subst (λ (i : ℕ). HasMaster links i t name f) (sym p.0)
-        (c.own name f (subst (λ (z : Slot). z.node.core.up ≡ true) p.1 up) (ap (λ (z : Slot). z.node.follow) (sym p.1) ∙ q)))
+      (c.own name f (subst (λ (z : Slot). z.node.core.up ≡ true) p.1 up) (ap (λ (z : Slot). z.node.follow) (sym p.1) ∙ q)))
   follower_of m u name f (inr p) up q = c.onward m u name f p.0 (is.followers m u name f p.1 up q)
 
   pub changed_world : IsWorld (record w { slots = slice_set w.slots n t; links = links })
@@ -100,29 +101,33 @@ pub record LinkChanges (w : WorldState) (n : ℕ) (t : Slot) (l : ℕ) (k m : Li
 pub master_set : (w : WorldState) (l : ℕ) (k m : Link) (i : ℕ) (u : Slot) (name : LinkId) (f : FollowState) → slice_get w.links l ≡ Some k
     → (k.caller ≡ a_node i name → Agrees f (unread k.tell) → (m.caller ≡ a_node i name) × Agrees f (unread m.tell)) → HasMaster w.links i u name f → HasMaster (slice_set w.links l m) i u name f
 master_set w l k m i u name f found goes h = elim (number_or u.dialled l) [
-    inl same ↦
+  | inl same ↦
       (let one : h.link ≡ k = some_is h.link k (sym h.found ∙ (ap (slice_get w.links) same ∙ found)) in
       let g = goes (ap (λ (z : Link). z.caller) (sym one) ∙ h.caller) (subst (λ (z : Link). Agrees f (unread z.tell)) one h.agrees) in
       record { link = m; found = ap (slice_get (slice_set w.links l m)) same ∙ set_here w.links l m k found; caller = g.0; agrees = g.1 })
-  | inr apart ↦ record { link = h.link; found = set_there w.links l u.dialled m apart ∙ h.found; caller = h.caller; agrees = h.agrees } ]
+  | inr apart ↦ record { link = h.link; found = set_there w.links l u.dialled m apart ∙ h.found; caller = h.caller; agrees = h.agrees }
+]
 
 pub link_world : (w : WorldState) (n : ℕ) (s t : Slot) (l : ℕ) (k m : Link) → IsWorld w → slice_get w.slots n ≡ Some s → slice_get w.links l ≡ Some k → LinkChanges w n t l k m
     → IsWorld (record w { slots = slice_set w.slots n t; links = slice_set w.links l m })
 link_world w n s t l k m is at found c = changed_world w n s t (slice_set w.links l m) is at (record {
   origin = λ j y e. elim (set_cases w.links l j m y e) [
-      inl p ↦ record { link = k; found = ap (slice_get w.links) p.0 ∙ found; to = ap (λ (z : Link). z.to) p.1 ∙ c.to; name = ap (λ (z : Link). z.name) p.1 ∙ c.name; serving = λ q. c.serving (subst (λ (z : Link). z.serving ≡ true) p.1 q) }
-    | inr p ↦ record { link = y; found = p.1; to = refl; name = refl; serving = λ q. q } ];
+    | inl p ↦ record { link = k; found = ap (slice_get w.links) p.0 ∙ found; to = ap (λ (z : Link). z.to) p.1 ∙ c.to; name = ap (λ (z : Link). z.name) p.1 ∙ c.name; serving = λ q. c.serving (subst (λ (z : Link). z.serving ≡ true) p.1 q) }
+    | inr p ↦ record { link = y; found = p.1; to = refl; name = refl; serving = λ q. q }
+  ];
   asks = λ j y e. elim (set_cases w.links l j m y e) [ inl p ↦ subst (λ (z : Link). IsWay z.ask) (sym p.1) c.ask | inr p ↦ is.asks j y p.1 ];
   tells = λ j y e. elim (set_cases w.links l j m y e) [ inl p ↦ subst (λ (z : Link). IsWay z.tell) (sym p.1) c.tell | inr p ↦ is.tells j y p.1 ];
   here = λ j y e. elim (set_cases w.links l j m y e) [
-      inl p ↦ subst (λ (z : Link). z.to ≡ n → t.node.core.up ≡ true → z.serving ≡ true → end_of t.node z.name ≡ Some (end_for z.streams (unread z.ask))) (sym p.1) c.here
-    | inr p ↦ c.others j y p.0 p.1 ];
+    | inl p ↦ subst (λ (z : Link). z.to ≡ n → t.node.core.up ≡ true → z.serving ≡ true → end_of t.node z.name ≡ Some (end_for z.streams (unread z.ask))) (sym p.1) c.here
+    | inr p ↦ c.others j y p.0 p.1
+  ];
   there = λ j x y d e. elim (set_cases w.links l j m y e) [
-      inl p ↦
+    | inl p ↦
         (let one : k ≡ x = some_is k x (sym found ∙ (ap (slice_get w.links) (sym p.0) ∙ d)) in
         subst (λ (z : Link). y.to ≢ n → y.serving ≡ true → end_for z.streams (unread z.ask) ≡ end_for y.streams (unread y.ask)) one
-          (subst (λ (z : Link). z.to ≢ n → z.serving ≡ true → end_for k.streams (unread k.ask) ≡ end_for z.streams (unread z.ask)) (sym p.1) c.there))
-    | inr p ↦ (let one : x ≡ y = some_is x y (sym d ∙ p.1) in λ apart q. ap (λ (z : Link). end_for z.streams (unread z.ask)) one) ];
+        (subst (λ (z : Link). z.to ≢ n → z.serving ≡ true → end_for k.streams (unread k.ask) ≡ end_for z.streams (unread z.ask)) (sym p.1) c.there))
+    | inr p ↦ (let one : x ≡ y = some_is x y (sym d ∙ p.1) in λ apart q. ap (λ (z : Link). end_for z.streams (unread z.ask)) one)
+  ];
   sound = c.sound;
   own = c.own;
   onward = λ i u name f apart h. master_set w l k m i u name f found (c.onward i name f apart) h;
@@ -136,12 +141,15 @@ link_comes w k is ask tell served new = record {
   tells = λ j y e. elim (push_cases w.links k j y e) [ inl p ↦ subst (λ (z : Link). IsWay z.tell) (sym p.1) tell | inr p ↦ is.tells j y p ];
   servers = λ j y e. elim (push_cases w.links k j y e) [ inl p ↦ subst (λ (z : Link). HasServer w.slots z) (sym p.1) served | inr p ↦ is.servers j y p ];
   names = λ i j y z e f p q d a. elim (push_cases w.links k i y e) [
-      inl x ↦ elim (push_cases w.links k j z f) [
-          inl v ↦ x.0 ∙ sym v.0
-        | inr v ↦ absurd (new j z v q (sym d ∙ ap (λ (z : Link). z.to) x.1) (sym a ∙ ap (λ (z : Link). z.name) x.1)) ]
+    | inl x ↦ elim (push_cases w.links k j z f) [
+      | inl v ↦ x.0 ∙ sym v.0
+      | inr v ↦ absurd (new j z v q (sym d ∙ ap (λ (z : Link). z.to) x.1) (sym a ∙ ap (λ (z : Link). z.name) x.1))
+    ]
     | inr x ↦ elim (push_cases w.links k j z f) [
-          inl v ↦ absurd (new i y x p (d ∙ ap (λ (z : Link). z.to) v.1) (a ∙ ap (λ (z : Link). z.name) v.1))
-        | inr v ↦ is.names i j y z x v p q d a ] ];
+      | inl v ↦ absurd (new i y x p (d ∙ ap (λ (z : Link). z.to) v.1) (a ∙ ap (λ (z : Link). z.name) v.1))
+      | inr v ↦ is.names i j y z x v p q d a
+    ]
+  ];
   nodes = is.nodes;
   followers = λ m u name f e up q. let h = is.followers m u name f e up q in record { link = h.link; found = push_old w.links k u.dialled h.link h.found; caller = h.caller; agrees = h.agrees };
 }

@@ -1,7 +1,7 @@
 -- What is true of each World is kept by each event.
 use Rattle.std.proofs.Common.{◌≡◌, ◌≢◌, ◌<◌, ◌≤◌, ◌^◌, ℕ, List, [], Bool, true, false, not, cond, Option, None, Some, Result, Ok, Err, length, refl, sym, ap, subst, ◌∙◌, arith}
 use Rattle.std.specs.Prelude.{IfSome, slice_get, slice_set}
-use Rattle.std.specs.FinMap.{FinMap, empty, get, insert, get-insert, get-empty}
+use Rattle.std.specs.FinMap.{FinMap, empty, get, insert, get-insert, get-empty, get-remove}
 use Rattle.mr_links.specs.LinkId.{id_cmp}
 use Rattle.mr_links.specs.declared.link_id.LinkId.{LinkId}
 use Rattle.mr_links.specs.Links.{Links}
@@ -13,33 +13,24 @@ use Rattle.mr_ends.specs.State.EndState.{client, upstream}
 use Rattle.mr_ends.proofs.Naming.{at_or_other}
 use Rattle.mr_entries.specs.Dataset.{Dataset}
 use Rattle.mr_rows.specs.State.{NodeState, IsNode, end_of, started, stopped_as}
-use Rattle.mr_rows.specs.LinkRows.{Opens}
-use Rattle.mr_state.proofs.Nodes.{opened_node}
+use Rattle.mr_rows.specs.LinkRows.{Opens, closed_at, follow_without}
+use Rattle.mr_state.proofs.Nodes.{closed_node, opened_node}
 use Rattle.mr_seen.specs.Way.{IsWay, no_way, sent_on, taken_on, unread}
 use Rattle.mr_seen.specs.State.{a_client, a_node, Link, Slot, WorldState}
-use Rattle.mr_seen.specs.Worlds.{IsReading, IsSound, IsWorld, HasServer, HasMaster, end_for, ports, no_world}
-use Rattle.mr_seen.specs.Carrying.{begun_slot, opened_link, opened, put_node, started_with}
+use Rattle.mr_seen.specs.Worlds.{IsReading, IsSound, IsWorld, HasServer, HasMaster, end_for}
+use Rattle.mr_seen.specs.Carrying.{begun_slot, broken, opened_link, opened, put_node, started_with}
+use Rattle.mr_seen.specs.Events.{IsServed}
 use Rattle.mr_seen.specs.Books.{begun}
 use Rattle.mr_seen.proofs.Places.{set_here, set_same, some_is}
 use Rattle.mr_seen.proofs.Unread.{sent_way, taken_way, unread_sent}
 use Rattle.mr_seen.proofs.Others.{served_end}
 use Rattle.mr_world.specs.declared.refusal.Refusal.{Refusal}
 use Rattle.mr_world.specs.declared.refusal.Refusal.TheVariants as refusal
-use Rattle.mr_world.specs.Calls.{StartCall, ClientCall, Clients, Comes, CommandCall, Sends, TakeCall, LeaveCall, AsksAt, put_link}
+use Rattle.mr_world.specs.Calls.{BreakCall, Breaks, StartCall, ClientCall, Clients, Comes, CommandCall, Sends, TakeCall, LeaveCall, AsksAt, put_link}
 use Rattle.mr_world.proofs.Changing.{NodeChanges, LinkChanges, node_world, link_world, link_comes, node_comes, master_set}
 
 no_some : {A : Type 0} (x : A) → ◌≡◌ {A = Option A} None (Some x) → ⊥
 no_some x e = cc
-
-pub nothing_holds : IsWorld no_world
-nothing_holds = record {
-  asks = λ l k e. absurd (no_some k e);
-  tells = λ l k e. absurd (no_some k e);
-  servers = λ l k e. absurd (no_some k e);
-  names = λ i j k m e f p q d a. absurd (no_some k e);
-  nodes = λ n s e up. absurd (no_some s e);
-  followers = λ n s name f e up q. absurd (no_some s e);
-}
 
 -- ---- a node starts
 started_node : (as_replica : Bool) (port backlog : ℕ) (id : List ℕ) (m : Dataset) → IsNode (started as_replica port backlog id m)
@@ -122,9 +113,10 @@ module _ (w : WorldState) (n : ℕ) (s : Slot) (name : LinkId) (b : NodeState) (
 
 pub client_keeps : (w v : WorldState) (n : ℕ) (r : Result (Unit {0}) Refusal) → IsWorld w → ClientCall w n v r → IsWorld v
 client_keeps w v n (Ok done) is c = elim c [
-    Clients.comes d ↦ subst (λ (z : WorldState). IsWorld z) (sym d.is) (opens_world w n d.slot d.name d.node is d.running.at d.running.up d.opens)
+  | Clients.comes d ↦ subst (λ (z : WorldState). IsWorld z) (sym d.is) (opens_world w n d.slot d.name d.node is d.running.at d.running.up d.opens)
   | Clients.stops d ↦ subst (λ (z : WorldState). IsWorld z) (sym d.is) (stops_world w n d.slot (stopped_as d.slot.node) is d.running.at refl)
-  | Clients.rests d e ↦ subst (λ (z : WorldState). IsWorld z) (sym e) is ]
+  | Clients.rests d e ↦ subst (λ (z : WorldState). IsWorld z) (sym e) is
+]
 client_keeps w v n (Err refusal.Nobody) is c = subst (λ (z : WorldState). IsWorld z) (sym c.1) is
 client_keeps w v n (Err refusal.Memory) is c = subst (λ (z : WorldState). IsWorld z) (sym c.1) is
 client_keeps w v n (Err refusal.Drawn) is c = absurd c
@@ -148,19 +140,19 @@ calls_world w l k m is found c =
     let h = is.servers l k found in
     let ends : end_for k.streams (unread k.ask) ≡ end_for m.streams (unread m.ask) = ap (λ z. end_for z (unread k.ask)) (sym c.streams) ∙ ap (end_for m.streams) (sym c.heard) in
     subst (λ (z : List Slot). IsWorld (record w { slots = z; links = slice_set w.links l m })) (set_same w.slots k.to h.slot h.found)
-      (link_world w k.to h.slot h.slot l k m is h.found found (record {
-        to = c.to;
-        name = c.name;
-        serving = λ q. sym c.serving ∙ q;
-        ask = c.ask;
-        tell = c.tell;
-        here = λ to up q. ap (end_of h.slot.node) c.name ∙ (h.agrees up (sym c.serving ∙ q) ∙ ap (λ z. Some z) ends);
-        others = λ j y ne e to up q. served_end w is k.to h.slot h.found up j y e to q;
-        there = λ ne q. ends;
-        sound = λ up. is.nodes k.to h.slot h.found up;
-        own = λ name f up e. master_set w l k m k.to h.slot name f found (c.master k.to name f) (is.followers k.to h.slot name f h.found up e);
-        onward = λ i name f ne. c.master i name f;
-      }))
+    (link_world w k.to h.slot h.slot l k m is h.found found (record {
+      to = c.to;
+      name = c.name;
+      serving = λ q. sym c.serving ∙ q;
+      ask = c.ask;
+      tell = c.tell;
+      here = λ to up q. ap (end_of h.slot.node) c.name ∙ (h.agrees up (sym c.serving ∙ q) ∙ ap (λ z. Some z) ends);
+      others = λ j y ne e to up q. served_end w is k.to h.slot h.found up j y e to q;
+      there = λ ne q. ends;
+      sound = λ up. is.nodes k.to h.slot h.found up;
+      own = λ name f up e. master_set w l k m k.to h.slot name f found (c.master k.to name f) (is.followers k.to h.slot name f h.found up e);
+      onward = λ i name f ne. c.master i name f;
+    }))
 
 pub command_keeps : (w v : WorldState) (l : ℕ) (bytes : List ℕ) (r : Result (Unit {0}) Refusal) → IsWorld w → CommandCall w l bytes v r → IsWorld v
 command_keeps w v l bytes (Ok done) is c =
@@ -217,3 +209,45 @@ leave_keeps w v l (Err refusal.TooMuch) is c = absurd c
 leave_keeps w v l (Err refusal.Memory) is c = absurd c
 leave_keeps w v l (Err refusal.Drawn) is c = absurd c
 leave_keeps w v l (Err refusal.InputFull) is c = absurd c
+
+-- ---- a server's end closes
+follow_was : (l : LinkId) (o : Option (LinkId × FollowState)) (x : LinkId × FollowState) → follow_without l o ≡ Some x → o ≡ Some x
+follow_was l None x e = absurd (no_some x e)
+follow_was l (Some f) x e = at_or_other f.0 l (λ b. cond b None (Some f) ≡ Some x → Some f ≡ Some x) (λ same q. absurd (no_some x q)) (λ ne q. q) e
+
+reads_without : (a : NodeState) (l : LinkId) (o : Option (LinkId × FollowState)) → IfSome o (λ f. IsReading a f.1) → IfSome (follow_without l o) (λ f. IsReading (closed_at l a) f.1)
+reads_without a l None h = tt
+reads_without a l (Some f) h = at_or_other f.0 l (λ b. IfSome (cond b None (Some f)) (λ g. IsReading (closed_at l a) g.1)) (λ same. tt) (λ ne. record { reader = h.reader; follower = h.follower; port = h.port })
+
+closed_end : (a : NodeState) (l x : LinkId) → x ≢ l → end_of (closed_at l a) x ≡ end_of a x
+closed_end a l x ne = get-remove ids_total a.ends.open_links l x ∙ at_or_other x l (λ b. cond b None (get a.ends.open_links x) ≡ get a.ends.open_links x) (λ same. absurd (ne same)) (λ other. refl)
+
+breaks_world : (w : WorldState) (l : ℕ) (k : Link) (s : Slot) → IsWorld w → IsServed w l k s → IsWorld (broken w k.to s (closed_at k.name s.node) l k)
+breaks_world w l k s is v = link_world w k.to s (record s { node = closed_at k.name s.node }) l k (record k { serving = false }) is v.at v.found (record {
+  to = refl;
+  name = refl;
+  serving = λ q. v.serving;
+  ask = is.asks l k v.found;
+  tell = is.tells l k v.found;
+  here = λ to up q. absurd (shut q);
+  others = λ j y ne e to up q. closed_end s.node k.name y.name (λ same. ne (is.names j l y k e v.found q v.serving to same)) ∙ served_end w is k.to s v.at v.up j y e to q;
+  there = λ ne q. absurd (shut q);
+  sound = λ up. let i = is.nodes k.to s v.at v.up in record { node = closed_node s.node k.name i.node; window = i.window; id = i.id; second = i.second; upstream = i.upstream; reading = reads_without s.node k.name s.node.follow i.reading };
+  own = λ name f up e. let h = is.followers k.to s name f v.at v.up (follow_was k.name s.node.follow (name, f) e) in
+      master_set w l k (record k { serving = false }) k.to (record s { node = closed_at k.name s.node }) name f v.found (λ c a. (c, a)) (record { link = h.link; found = h.found; caller = h.caller; agrees = h.agrees });
+  onward = λ i name f ne c a. (c, a);
+})
+  where
+    shut : false ≡ true → ⊥
+    shut e = cc
+
+pub break_keeps : (w v : WorldState) (l : ℕ) (r : Result (Unit {0}) Refusal) → IsWorld w → BreakCall w l v r → IsWorld v
+break_keeps w v l (Ok done) is c = elim c [
+  | Breaks.closes d ↦ subst (λ (z : WorldState). IsWorld z) (sym d.is) (breaks_world w l d.link d.slot is d.served)
+  | Breaks.idles k at d e ↦ subst (λ (z : WorldState). IsWorld z) (sym e) is
+]
+break_keeps w v l (Err refusal.Nobody) is c = subst (λ (z : WorldState). IsWorld z) (sym c.1) is
+break_keeps w v l (Err refusal.TooMuch) is c = absurd c
+break_keeps w v l (Err refusal.Memory) is c = absurd c
+break_keeps w v l (Err refusal.Drawn) is c = absurd c
+break_keeps w v l (Err refusal.InputFull) is c = absurd c

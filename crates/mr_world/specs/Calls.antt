@@ -4,12 +4,12 @@ use Rattle.std.specs.FinMap.{empty}
 use Rattle.mr_links.specs.declared.link_id.LinkId.{LinkId}
 use Rattle.mr_repl.specs.ReplId.{zero_id}
 use Rattle.mr_rows.specs.State.{NodeState, stopped_as}
-use Rattle.mr_rows.specs.LinkRows.{Opens}
+use Rattle.mr_rows.specs.LinkRows.{Opens, closed_at}
 use Rattle.mr_seen.specs.Way.{sent_on, taken_on}
 use Rattle.mr_seen.specs.State.{a_client, Link, Slot, Entry, WorldState}
 use Rattle.mr_seen.specs.Books.{entry_of}
-use Rattle.mr_seen.specs.Events.{IsRunning}
-use Rattle.mr_seen.specs.Carrying.{begun_slot, opened, put_node, started_with}
+use Rattle.mr_seen.specs.Events.{IsRunning, IsServed}
+use Rattle.mr_seen.specs.Carrying.{begun_slot, broken, opened, put_node, started_with}
 use Rattle.mr_world.specs.declared.refusal.Refusal.{Refusal}
 use Rattle.mr_world.specs.declared.refusal.Refusal.TheVariants as refusal
 
@@ -131,3 +131,31 @@ LeaveCall w l v (Err refusal.TooMuch) = ⊥
 LeaveCall w l v (Err refusal.Memory) = ⊥
 LeaveCall w l v (Err refusal.Drawn) = ⊥
 LeaveCall w l v (Err refusal.InputFull) = ⊥
+
+-- The link stands at this place, and its server's end is open.
+pub record ServesAt (w : WorldState) (l : ℕ) (k : Link) : Type 0 where
+  pub found : slice_get w.links l ≡ Some k
+  pub serving : k.serving ≡ true
+
+-- There is no such end.
+abbrev pub NoneServes : WorldState → ℕ → Type 0
+NoneServes w l = (k : Link) → ServesAt w l k → ⊥
+
+-- the node that serves a link closes its end
+pub record Closes (w : WorldState) (l : ℕ) (v : WorldState) : Type 0 where
+  pub link : Link
+  pub slot : Slot
+  pub served : IsServed w l link slot
+  pub is : v ≡ broken w link.to slot (closed_at link.name slot.node) l link
+
+pub data Breaks (w : WorldState) (l : ℕ) (v : WorldState) : Type 0 where
+  closes : Closes w l v → Breaks w l v
+  idles : (k : Link) → ServesAt w l k → IsDown w k.to → v ≡ w → Breaks w l v
+
+abbrev pub BreakCall : WorldState → ℕ → WorldState → Result (Unit {0}) Refusal → Type 0
+BreakCall w l v (Ok done) = Breaks w l v
+BreakCall w l v (Err refusal.Nobody) = NoneServes w l × (v ≡ w)
+BreakCall w l v (Err refusal.TooMuch) = ⊥
+BreakCall w l v (Err refusal.Memory) = ⊥
+BreakCall w l v (Err refusal.Drawn) = ⊥
+BreakCall w l v (Err refusal.InputFull) = ⊥

@@ -89,4 +89,32 @@ impl Link {
     {
         self.asking = false;
     }
+
+    /// Whether the server's end is open.
+    pub(crate) fn serving(&self) -> bool
+        ensures { result ≡ self.now.serving }
+    {
+        self.serving
+    }
+
+    /// The node that serves.
+    pub(crate) fn to(&self) -> usize
+        ensures { result ≡ self.now.to }
+    {
+        self.to
+    }
+
+    /// By which that node knows it.
+    pub(crate) fn name(&self) -> LinkId
+        ensures { result ≡ self.now.name }
+    {
+        self.name
+    }
+
+    /// The server's end closes.
+    pub(crate) fn shut(&mut self)
+        ensures { self.new ≡ record self.old { serving = false } }
+    {
+        self.serving = false;
+    }
 }

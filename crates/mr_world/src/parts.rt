@@ -1,7 +1,7 @@
 // Nodes, links and the book, with nothing that holds of them.
 ghost use Rattle.std.specs.Prelude.{◌≡◌};
-ghost use Rattle.mr_seen.specs.Worlds.{no_world};
-ghost use Rattle.mr_world.specs.Calls.{ClientCall, CommandCall, LeaveCall, StartCall, TakeCall};
+ghost use Rattle.mr_seen.specs.Worlds.{IsWorld, no_world};
+ghost use Rattle.mr_world.specs.Calls.{BreakCall, ClientCall, CommandCall, LeaveCall, StartCall, TakeCall};
 
 use crate::entry::{Entry, is_spent};
 use crate::link::Link;
@@ -145,6 +145,28 @@ impl Parts {
             return Err(Refusal::Nobody);
         }
         self.links[l].leave();
+        Ok(())
+    }
+
+    /// A server's end closes.
+    pub(crate) fn break_server(&mut self, l: usize) -> Result<(), Refusal>
+        requires { IsWorld self.old }
+        ensures { BreakCall self.old l self.new result }
+    {
+        if l >= self.links.len() {
+            return Err(Refusal::Nobody);
+        }
+        let link = &self.links[l];
+        if !link.serving() {
+            return Err(Refusal::Nobody);
+        }
+        let to = link.to();
+        let name = link.name();
+        if !self.slots[to].is_up() {
+            return Ok(());
+        }
+        self.slots[to].close(name);
+        self.links[l].shut();
         Ok(())
     }
 }

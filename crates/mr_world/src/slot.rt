@@ -1,7 +1,7 @@
 // A node among others.
-ghost use Rattle.std.specs.Prelude.{◌≡◌, [], IfOk, length};
+ghost use Rattle.std.specs.Prelude.{◌≡◌, [], IfOk};
 ghost use Rattle.std.specs.FinMap.{empty};
-ghost use Rattle.mr_peer.specs.Calls.{FeedRow, OpenRow};
+ghost use Rattle.mr_peer.specs.Calls.{OpenRow};
 ghost use Rattle.mr_rows.specs.LinkRows.{closed_at};
 ghost use Rattle.mr_seen.specs.Carrying.{begun_slot};
 
@@ -68,14 +68,6 @@ impl Slot {
         ensures rest { self.new ≡ record self.old { node = self.new.node } }
     {
         self.node.open()
-    }
-
-    /// Bytes come on a link.
-    pub(crate) fn feed(&mut self, name: LinkId, bytes: &[u8]) -> Result<(), NodeFault>
-        ensures row { FeedRow self.old.node name bytes.now (length bytes.now) self.new.node result }
-        ensures rest { self.new ≡ record self.old { node = self.new.node } }
-    {
-        self.node.feed(name, bytes)
     }
 
     /// Closes the node's end of a link.

@@ -1,7 +1,7 @@
 // A World.
 ghost use Rattle.std.specs.Prelude.{◌≡◌};
 ghost use Rattle.mr_seen.specs.Worlds.{no_world};
-ghost use Rattle.mr_world.specs.Calls.{ClientCall, CommandCall, LeaveCall, StartCall, TakeCall};
+ghost use Rattle.mr_world.specs.Calls.{BreakCall, ClientCall, CommandCall, LeaveCall, StartCall, TakeCall};
 
 use crate::parts::Parts;
 use crate::refusal::Refusal;
@@ -80,5 +80,12 @@ impl World {
         ensures { LeaveCall self.old l self.new result }
     {
         self.parts.break_client(l)
+    }
+
+    /// The server's end of a link closes, and loses what it hasn't taken. At a stopped node nothing happens.
+    pub fn break_server(&mut self, l: usize) -> Result<(), Refusal>
+        ensures { BreakCall self.old l self.new result }
+    {
+        self.parts.break_server(l)
     }
 }

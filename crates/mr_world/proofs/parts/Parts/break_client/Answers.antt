@@ -21,4 +21,4 @@ returns c =
     let same : c.index-link.result.now ≡ c.index_mut.result.now = read_twice c.self.inside.links.items c.args.l c.index-link.result.now c.index_mut.result.now within c.index-link.ensures c.index_mut.ensures.value in
     let asking : IsAsking c.index_mut.result.now = subst (λ (z : Link). IsAsking z) same before in
     subst (λ (z : WorldState). Leaves z c.args.l (put_link w c.args.l c.leave.new.self)) c.self.view_is
-      (leaves_here w c.args.l c.index_mut.result.now within c.index_mut.ensures.value c.leave.new.self asking c.leave.ensures)
+    (leaves_here w c.args.l c.index_mut.result.now within c.index_mut.ensures.value c.leave.new.self asking c.leave.ensures)
