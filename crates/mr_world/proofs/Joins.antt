@@ -1,8 +1,8 @@
 -- How the parts of an event make it.
-use Rattle.std.proofs.Common.{◌≡◌, ◌+◌, ◌<◌, ◌≤◌, ◌^◌, ℕ, List, [], ◌∷◌, ◌++◌, Bool, true, false, Option, None, Some, length, get_or, refl, sym, ap, subst, ◌∙◌, Result, Ok, Err, IsErr, OnErr}
+use Rattle.std.proofs.Common.{◌≡◌, ◌+◌, ◌<◌, ◌≤◌, ℕ, List, [], ◌∷◌, ◌++◌, Bool, true, false, Some, length, get_or, refl, sym, ap, subst, ◌∙◌}
 use Rattle.std.specs.Prelude.{slice_get, slice_set}
 use Rattle.std.proofs.lemmas.List.{set-get_or}
-use Rattle.std.proofs.lemmas.Option.{get_or_from_slice_get, slice_get-get_or}
+use Rattle.std.proofs.lemmas.Option.{slice_get-get_or}
 use Rattle.mr_links.specs.declared.link_id.LinkId.{LinkId}
 use Rattle.mr_rows.specs.State.{NodeState, stopped_as}
 use Rattle.mr_rows.specs.LinkRows.{Opens, closed_at}
@@ -13,7 +13,7 @@ use Rattle.mr_seen.specs.Carrying.{opened_link}
 use Rattle.mr_seen.specs.Worlds.{IsWorld}
 use Rattle.mr_seen.specs.Events.{IsRunning}
 use Rattle.mr_seen.proofs.Places.{is_within, some_is}
-use Rattle.mr_world.specs.Calls.{Breaks, Clients, IsDown, Runs, AsksAt, IsAsking, NoneAsks, Sends, Takes, WereNotSent, Leaves, put_link}
+use Rattle.mr_world.specs.Calls.{Breaks, Clients, Runs, AsksAt, IsAsking, NoneAsks, Sends, Takes, WereNotSent, Leaves, put_link}
 
 pub stands : {A : Type 0} (xs : List A) (i : ℕ) (x : A) → i < length xs → x ≡ get_or xs i x → slice_get xs i ≡ Some x
 stands xs i x h r = slice_get-get_or xs i x h ∙ ap (λ z. Some z) (sym r)

@@ -1,14 +1,14 @@
 -- What is true of each World is kept by each event.
-use Rattle.std.proofs.Common.{◌≡◌, ◌≢◌, ◌<◌, ◌≤◌, ◌^◌, ℕ, List, [], Bool, true, false, not, cond, Option, None, Some, Result, Ok, Err, length, refl, sym, ap, subst, ◌∙◌, arith}
+use Rattle.std.proofs.Common.{◌≡◌, ◌≢◌, ◌≤◌, ◌^◌, ℕ, List, [], Bool, true, false, cond, Option, None, Some, Result, Ok, Err, refl, sym, ap, subst, ◌∙◌, arith}
 use Rattle.std.specs.Prelude.{IfSome, slice_get, slice_set}
-use Rattle.std.specs.FinMap.{FinMap, empty, get, insert, get-insert, get-empty, get-remove}
+use Rattle.std.specs.FinMap.{empty, get, get-insert, get-empty, get-remove}
 use Rattle.mr_links.specs.LinkId.{id_cmp}
 use Rattle.mr_links.specs.declared.link_id.LinkId.{LinkId}
 use Rattle.mr_links.specs.Links.{Links}
 use Rattle.mr_links.proofs.LinkRows.{ids_total}
 use Rattle.mr_repl.specs.ReplId.{IsId}
 use Rattle.mr_follow.specs.State.{FollowState, Agrees}
-use Rattle.mr_ends.specs.State.{EndState, end_at, opened_as, streams}
+use Rattle.mr_ends.specs.State.{EndState, opened_as, streams}
 use Rattle.mr_ends.specs.State.EndState.{client, upstream}
 use Rattle.mr_ends.proofs.Naming.{at_or_other}
 use Rattle.mr_entries.specs.Dataset.{Dataset}
@@ -17,17 +17,17 @@ use Rattle.mr_rows.specs.LinkRows.{Opens, closed_at, follow_without}
 use Rattle.mr_state.proofs.Nodes.{closed_node, opened_node}
 use Rattle.mr_seen.specs.Way.{IsWay, no_way, sent_on, taken_on, unread}
 use Rattle.mr_seen.specs.State.{a_client, a_node, Link, Slot, WorldState}
-use Rattle.mr_seen.specs.Worlds.{IsReading, IsSound, IsWorld, HasServer, HasMaster, end_for}
-use Rattle.mr_seen.specs.Carrying.{begun_slot, broken, opened_link, opened, put_node, started_with}
+use Rattle.mr_seen.specs.Worlds.{IsReading, IsSound, IsWorld, end_for}
+use Rattle.mr_seen.specs.Carrying.{begun_slot, broken, opened_link, opened, put_node}
 use Rattle.mr_seen.specs.Events.{IsServed}
 use Rattle.mr_seen.specs.Books.{begun}
-use Rattle.mr_seen.proofs.Places.{set_here, set_same, some_is}
+use Rattle.mr_seen.proofs.Places.{set_here, set_same}
 use Rattle.mr_seen.proofs.Unread.{sent_way, taken_way, unread_sent}
 use Rattle.mr_seen.proofs.Others.{served_end}
 use Rattle.mr_world.specs.declared.refusal.Refusal.{Refusal}
 use Rattle.mr_world.specs.declared.refusal.Refusal.TheVariants as refusal
-use Rattle.mr_world.specs.Calls.{BreakCall, Breaks, StartCall, ClientCall, Clients, Comes, CommandCall, Sends, TakeCall, LeaveCall, AsksAt, put_link}
-use Rattle.mr_world.proofs.Changing.{NodeChanges, LinkChanges, node_world, link_world, link_comes, node_comes, master_set}
+use Rattle.mr_world.specs.Calls.{BreakCall, Breaks, StartCall, ClientCall, Clients, CommandCall, TakeCall, LeaveCall, put_link}
+use Rattle.mr_world.proofs.Changing.{node_world, link_world, link_comes, node_comes, master_set}
 
 no_some : {A : Type 0} (x : A) → ◌≡◌ {A = Option A} None (Some x) → ⊥
 no_some x e = cc

@@ -1,5 +1,5 @@
 -- What each event of a World comes to. A refusal leaves the World as it is; the order in which causes stand is that of the cases.
-use Rattle.std.specs.Prelude.{◌≡◌, ◌≤◌, ◌+◌, ◌^◌, ◌||◌, ℕ, List, [], Bool, true, false, Option, None, Some, Result, Ok, Err, bytes_eq, is_some, length, slice_get, slice_set}
+use Rattle.std.specs.Prelude.{◌≡◌, ◌≤◌, ◌+◌, ◌^◌, ◌||◌, ℕ, List, [], Bool, true, false, None, Some, Result, Ok, Err, bytes_eq, is_some, length, slice_get, slice_set}
 use Rattle.std.specs.FinMap.{empty}
 use Rattle.mr_links.specs.declared.link_id.LinkId.{LinkId}
 use Rattle.mr_repl.specs.ReplId.{zero_id}

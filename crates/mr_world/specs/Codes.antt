@@ -1,5 +1,5 @@
 -- Worlds as pairs, by which a proof tells them apart.
-use Rattle.std.specs.Prelude.{◌≡◌, ℕ, List, Bool, true, false, Option, None, Some, refl}
+use Rattle.std.specs.Prelude.{◌≡◌, ℕ, List, Bool, true, Option, None, Some, refl}
 use Rattle.std.specs.Coded.{Coded, code_by, coded×, coded_ℕ, coded_bool, coded_list, coded_option}
 use Rattle.mr_links.specs.LinkId.{coded_id}
 use Rattle.mr_links.specs.declared.link_id.LinkId.{LinkId}

@@ -1,4 +1,4 @@
-use Rattle.std.proofs.Common.{rules, ◌≡◌, ◌<◌, ◌++◌, ◌∷◌, [], ◌∙◌, List, length, true, sym, ap, subst, Err}
+use Rattle.std.proofs.Common.{rules, ◌<◌, ◌++◌, ◌∷◌, [], ◌∙◌, List, length, sym, ap, subst, Err}
 use Rattle.mr_peer.specs.Calls.{OpenRow}
 use Rattle.mr_seen.specs.State.{WorldState, Link}
 use Rattle.std.specs.Prelude.{slice_set}

@@ -1,4 +1,4 @@
-use Rattle.std.proofs.Common.{rules, ◌≡◌, ◌<◌, ◌∙◌, length, true, sym, ap, subst}
+use Rattle.std.proofs.Common.{rules, ◌≡◌, ◌<◌, ◌∙◌, length, sym, subst}
 use Rattle.mr_seen.specs.Way.{sent_on}
 use Rattle.mr_seen.specs.State.{WorldState, Link}
 use Rattle.mr_seen.proofs.Places.{some_is}

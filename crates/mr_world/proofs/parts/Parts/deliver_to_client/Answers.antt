@@ -1,7 +1,7 @@
-use Rattle.std.proofs.Common.{rules, ◌≡◌, ◌+◌, ◌<◌, ◌≤◌, ◌∙◌, length, true, false, refl, sym, ap, subst}
+use Rattle.std.proofs.Common.{rules, ◌≡◌, ◌+◌, ◌<◌, ◌≤◌, length, refl, subst}
 use Rattle.mr_seen.specs.State.{WorldState, Link}
-use Rattle.mr_world.specs.Calls.{IsAsking, Leaves, Takes, WereNotSent, put_link}
-use Rattle.mr_world.proofs.Joins.{leaves_here, not_sent, read_twice, takes_here}
+use Rattle.mr_world.specs.Calls.{IsAsking, Takes, WereNotSent, put_link}
+use Rattle.mr_world.proofs.Joins.{not_sent, read_twice, takes_here}
 use Rattle.mr_world.proofs.parts.Parts.deliver_to_client.Goals as goal
 
 pub returns-then-not-has_told : goal.returns-then-not-has_told
