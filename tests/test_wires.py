@@ -21,6 +21,15 @@ def listed(*lines):
     return [(line, "listed") for line in lines]
 
 
+# hosts that are neither an IPv4 address as text nor the one name
+NO_HOSTS = ["", "example.com", "Localhost", "localhost.", "localhos", "127.1", "2130706433", "256.0.0.1", "127.0.0.01", "1.2.3.4.5", " 127.0.0.1",
+            "127.0.0.1 ", "127.0.0.1:6379", "0x7f.0.0.1", "::1", b"127.0.0.1\0"]
+
+
+def connect(host, port):
+    return "connect %s %d" % (spelled(host), port)
+
+
 class Unsents(Playing):
     def test_bytes_wait_in_order(self):
         self.plays("unsent", [
@@ -113,6 +122,46 @@ class MemoryWires(Playing):
             ("written 0 0", "written " + spelled("hello")),
         ])
 
+    def test_a_connect_takes_the_next_of_its_list(self):
+        self.plays("memory", [
+            *listed("reads not-ready", "reads " + spelled("hi"), "writes not-ready", "writes 9", "connects link"),
+            *listed("connects failed", "connects link", "connects link", "accepts link"),
+            ("begin", "begun"),
+            (connect("10.0.0.5", 6379), "id 0 0"),
+            ("asked 0 0", "asked 10.0.0.5 6379"),
+            # the peer hasn't answered
+            ("read 0 0 9", "not ready"),
+            ("write 0 0 " + spelled("hello"), "not ready"),
+            ("read 0 0 9", "bytes " + spelled("hi")),
+            ("write 0 0 " + spelled("hello"), "moved 5"),
+            ("written 0 0", "written " + spelled("hello")),
+            (connect("10.0.0.5", 6379), "failed"),
+            # a peer that opened a link wasn't asked for it
+            ("accept", "id 1 1"),
+            ("asked 1 1", "none"),
+            (connect("localhost", 1), "id 2 2"),
+            ("asked 2 2", "asked 127.0.0.1 1"),
+            ("close 2 2", "closed"),
+            ("asked 2 2", "none"),
+            # a host that is none takes the next all the same
+            (connect("example.com", 6379), "failed"),
+            (connect("127.0.0.1", 6379), "failed"),
+            ("asked 0 0", "asked 10.0.0.5 6379"),
+            ("accept", "none"),
+        ])
+
+    def test_a_host_is_an_address_as_text_or_localhost(self):
+        hosts = ["0.0.0.0", "255.255.255.255", "127.0.0.1", "1.20.255.9"]
+        self.plays("memory", [
+            *listed(*["connects link"] * (len(NO_HOSTS) + len(hosts))),
+            ("begin", "begun"),
+            *[(connect(host, 6379), "failed") for host in NO_HOSTS],
+            *[step for k, host in enumerate(hosts) for step in [
+                (connect(host, 65_535), "id %d %d" % (k, k)),
+                ("asked %d %d" % (k, k), "asked %s 65535" % host),
+            ]],
+        ])
+
     def test_a_call_moves_bytes_of_its_link_alone(self):
         self.plays("memory", [
             *listed("reads " + spelled("one"), "writes 9", "accepts link"),
@@ -184,6 +233,20 @@ def free_port():
     with socket.socket() as found:
         found.bind(("127.0.0.1", 0))
         return found.getsockname()[1]
+
+
+def held(listens=None):
+    """A socket on a port of its own, on which it listens, with so many that wait, or refuses."""
+    it = socket.socket()
+    it.settimeout(LATE)
+    it.bind(("127.0.0.1", 0))
+    if listens is not None:
+        it.listen(listens)
+    return it
+
+
+def port_of(it):
+    return it.getsockname()[1]
 
 
 def connected(port, **options):
@@ -376,6 +439,69 @@ class SocketWires(unittest.TestCase):
             ("name-ready", "id 0 1"),
             ("write-all 0 1 " + spelled("2"), "moved all"),
         ], talk)
+
+    def test_a_peer_is_connected_to(self):
+        def talk(_port):
+            for name in (b"ping", b"name"):
+                with listener.accept()[0] as peer:
+                    peer.settimeout(LATE)
+                    self.assertEqual(received(peer, 4), name)
+                    peer.sendall(b"pong")
+                    self.assertEqual(received(peer, 1), b"")
+
+        with held(listens=8) as listener:
+            self.plays_beside([
+                (connect("127.0.0.1", port_of(listener)), "id 0 0"),
+                # nothing is moved before the system says that the peer answered
+                ("ready", "none"),
+                ("write 0 0 " + spelled("ping"), "not ready"),
+                ("read 0 0 4", "not ready"),
+                ("name-ready", "id 0 0"),
+                ("write-all 0 0 " + spelled("ping"), "moved all"),
+                ("read-ready 0 0 8", "bytes " + spelled("pong")),
+                ("close 0 0", "closed"),
+                (connect("localhost", port_of(listener)), "id 0 1"),
+                ("write-all 0 1 " + spelled("name"), "moved all"),
+                ("read-ready 0 1 8", "bytes " + spelled("pong")),
+                ("close 0 1", "closed"),
+            ], talk)
+
+    def test_a_link_is_not_ready_while_its_peer_does_not_answer(self):
+        def talk(port):
+            with connected(port) as client:
+                self.assertEqual(received(client, 2), b"go")
+                with listener.accept()[0], listener.accept()[0] as peer:
+                    peer.settimeout(LATE)
+                    self.assertEqual(received(peer, 4), b"ping")
+
+        # one peer waits to be accepted, and no other is let in beside it
+        with held(listens=0) as listener, connected(port_of(listener)):
+            self.plays_beside([
+                (connect("127.0.0.1", port_of(listener)), "id 0 0"),
+                ("wait 50", "waited"),
+                ("accept-ready", "id 1 1"),
+                ("write 0 0 " + spelled("ping"), "not ready"),
+                ("read 0 0 4", "not ready"),
+                ("write-all 1 1 " + spelled("go"), "moved all"),
+                ("write-all 0 0 " + spelled("ping"), "moved all"),
+                ("close 0 0", "closed"),
+            ], talk)
+
+    def test_a_refusal_is_found_by_the_next_call(self):
+        with held() as refusing:
+            self.plays_beside([
+                (connect("127.0.0.1", port_of(refusing)), "id 0 0"),
+                ("write 0 0 " + spelled("x"), "not ready"),
+                ("name-ready", "id 0 0"),
+                ("read 0 0 4", "failed"),
+                ("close 0 0", "closed"),
+                (connect("localhost", port_of(refusing)), "id 0 1"),
+                ("write-all 0 1 " + spelled("x"), "failed"),
+                ("close 0 1", "closed"),
+            ], lambda _port: None)
+
+    def test_no_name_is_looked_up(self):
+        self.plays_beside([(connect(host, 6379), "failed") for host in NO_HOSTS], lambda _port: None)
 
     def test_a_port_in_use_is_told(self):
         with socket.socket() as taken:

@@ -86,12 +86,17 @@ fn tell_end(rt: &HostRuntime, halted: bool, ended: Result<(), LoopFault>) {
     }
 }
 
-/// The system's clock and chance.
-fn source_of(rt: &HostRuntime) -> Result<SystemSource, Failure> {
-    let Ok(of_source) = rt.clone() else {
+/// Another handle of the system.
+fn another(rt: &HostRuntime) -> Result<HostRuntime, Failure> {
+    let Ok(other) = rt.clone() else {
         return Err(Failure::Memory);
     };
-    match SystemSource::new(of_source) {
+    Ok(other)
+}
+
+/// The system's clock and chance.
+fn source_of(rt: &HostRuntime) -> Result<SystemSource, Failure> {
+    match SystemSource::new(another(rt)?) {
         Ok(source) => Ok(source),
         Err(error) => Err(Failure::Random(error)),
     }
@@ -99,11 +104,9 @@ fn source_of(rt: &HostRuntime) -> Result<SystemSource, Failure> {
 
 /// A wire of this machine's own address.
 fn listening(rt: &HostRuntime, port: u16) -> Result<ToldWire, Failure> {
-    let Ok(of_wire) = rt.clone() else {
-        return Err(Failure::Memory);
-    };
+    let (of_sockets, of_wire) = (another(rt)?, another(rt)?);
     let address = SocketAddr::from((Ipv4Addr::LOCALHOST, port));
-    match SocketWire::listen(rt, rt.alloc(), address) {
+    match SocketWire::listen(of_sockets, rt.alloc(), address) {
         Ok(wire) => Ok(ToldWire::new(of_wire, wire)),
         Err(error) => Err(Failure::Listen(port, error)),
     }

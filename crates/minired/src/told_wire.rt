@@ -46,6 +46,10 @@ impl Wire for ToldWire {
         accepted
     }
 
+    fn connect(&mut self, host: &[u8], port: u16) -> Result<LinkId, Failed> {
+        self.wire.connect(host, port)
+    }
+
     fn ready(&mut self) -> Option<LinkId> {
         self.wire.ready()
     }

@@ -66,6 +66,7 @@ feeds_client a b l unread bytes node found is =
       at_shut = λ at. absurd (other_shut (sym found ∙ at.is));
       others = leaves.others;
       core = ap (λ (z : NodeState). z.core) is;
+      follow = λ other. ap (λ (z : NodeState). z.follow) is;
     }
   where
     other_replica : (u : List ℕ) → ◌≡◌ {A = Option EndState} (Some (client unread)) (Some (replica u)) → ⊥
@@ -88,6 +89,7 @@ feeds_replica a b l unread bytes node found is =
       at_shut = λ at. absurd (other_shut (sym found ∙ at.is));
       others = leaves.others;
       core = ap (λ (z : NodeState). z.core) is;
+      follow = λ other. ap (λ (z : NodeState). z.follow) is;
     }
   where
     other_client : (u : List ℕ) → ◌≡◌ {A = Option EndState} (Some (replica unread)) (Some (client u)) → ⊥
@@ -113,14 +115,15 @@ feeds_served a b l shut bytes node found served is = absurd (no_true served)
     no_true e = cc
 
 -- .. of the one to the master
-pub feeds_master : (a b : NodeState) (l : LinkId) (bytes : List ℕ) → FedIsUnread → end_of a l ≡ Some upstream → b ≡ fed_as bytes a → Feeds a l bytes b
-feeds_master a b l bytes fed found is = record {
+pub feeds_master : (a b : NodeState) (l : LinkId) (bytes : List ℕ) → IsNode a → FedIsUnread → end_of a l ≡ Some upstream → b ≡ fed_as bytes a → Feeds a l bytes b
+feeds_master a b l bytes node fed found is = record {
   at_client = λ u at. absurd (other_client u (sym found ∙ at.is));
   at_replica = λ u at. absurd (other_replica u (sym found ∙ at.is));
   at_master = λ u at. record { reader = heard at.reader bytes; found = ap (λ (z : NodeState). z.follow) is ∙ ap (hears_more bytes) at.found; agrees = fed at.reader u bytes at.agrees };
   at_shut = λ at. absurd (other_shut (sym found ∙ at.is));
   others = record { stay = λ x ne. ap (λ (z : NodeState). end_of z x) is; opened = ap (λ (z : NodeState). z.ends.opened) is };
   core = ap (λ (z : NodeState). z.core) is;
+  follow = λ other. absurd (other (node.only l found));
 }
   where
     other_client : (u : List ℕ) → ◌≡◌ {A = Option EndState} (Some upstream) (Some (client u)) → ⊥
@@ -141,6 +144,7 @@ feeds_shut a b l bytes node found is = record {
   at_shut = λ at. is;
   others = record { stay = λ x ne. ap (λ (z : NodeState). end_of z x) is; opened = ap (λ (z : NodeState). z.ends.opened) is };
   core = ap (λ (z : NodeState). z.core) is;
+  follow = λ other. ap (λ (z : NodeState). z.follow) is;
 }
   where
     other_client : (u : List ℕ) → ◌≡◌ {A = Option EndState} (Some shut) (Some (client u)) → ⊥

@@ -3,15 +3,15 @@ use Rattle.std.proofs.Common.{◌≡◌, ℕ, List, ◌++◌, Bool, true, false,
 use Rattle.std.specs.Prelude.{Result, Ok, Err}
 use Rattle.std.specs.Io.KnownBytes.{Keeps}
 use Rattle.std.proofs.KnownBytes.{Appends-kept}
-use Rattle.mr_links.specs.declared.link_id.LinkId.{LinkId}
 use Rattle.mr_data.specs.declared.given.Given.{Given}
-use Rattle.mr_node.specs.State.{NodeState, Core}
-use Rattle.mr_node.specs.Outs.{no_output}
-use Rattle.mr_node.specs.declared.fault.NodeFault.{NodeFault}
+use Rattle.mr_outs.specs.Outs.{no_output}
+use Rattle.mr_peer.specs.declared.fault.NodeFault.{NodeFault}
 use Rattle.mr_pipe.specs.Outside.{Outside, Change, IsSettled}
-use Rattle.mr_pipe.specs.Sessions.{AreServed, Gives, all_changes}
+use Rattle.mr_pipe.specs.State.{PipeState}
+use Rattle.mr_pipe.specs.Sessions.{Gives, all_changes}
 use Rattle.mr_pipe.specs.Serving.{Settles, Going, Breaks, IsLeft, IsCutOff, IsDrained}
 use Rattle.mr_pipe.specs.Faults.{fault_of}
+use Rattle.mr_pipe.specs.declared.linked_node.LinkedNode.{LinkedNode}
 use Rattle.mr_pipe.specs.declared.fault.PipeFault.{PipeFault}
 use Rattle.mr_pipe.specs.declared.fault.PipeFault.TheVariants as fault
 use Rattle.mr_pipe.proofs.Serves.{serves_more, serves_join, more_moments, changes_join, changes_more}
@@ -19,97 +19,101 @@ use Rattle.mr_pipe.proofs.Files.{settled_join, settled_kept, all_begun}
 use Rattle.mr_pipe.proofs.Goings.{refuses}
 
 -- a fault in the step behind those that were served
-pub breaks : (g : Given) (a : NodeState) (l : LinkId) (u : List ℕ) (x : Outside) (b : NodeState) (y : Outside) (why : PipeFault) (z : Outside)
-    → (w : Going g a l u x b y) → IsLeft why g b.core w.done.rest y z → Breaks g a.core u x why z
-breaks g a l u x b y why z w h = record { core = b.core; before = y; done = w.done; left = h }
+pub breaks : (g : Given) (s : PipeState) (u : List ℕ) (x : Outside) (p : LinkedNode) (y : Outside) (why : PipeFault) (z : Outside)
+    → (w : Going g s u x p y) → IsLeft why g w.at w.done.rest y z → Breaks g s u x why z
+breaks g s u x p y why z w h = record { at = w.at; before = y; done = w.done; left = h }
 
 -- more bytes behind
-abbrev pub settles_more : (g : Given) (c : Core) (u : List ℕ) (x : Outside) (d : Core) (y : Outside) (bytes : List ℕ) → Settles g c u x d y → Settles g c (u ++ bytes) x d y
-settles_more g c u x d y bytes s = record {
-  moments = more_moments bytes s.moments;
-  rest = s.rest ++ bytes;
-  said = s.said;
-  serves = serves_more g bytes c u s.moments d s.rest s.said s.serves;
-  settled = subst (λ (p : List Change). IsSettled x y p s.said) (sym (changes_more bytes s.moments)) s.settled;
+abbrev pub settles_more : (g : Given) (s : PipeState) (u : List ℕ) (x : Outside) (t : PipeState) (y : Outside) (bytes : List ℕ) → Settles g s u x t y → Settles g s (u ++ bytes) x t y
+settles_more g s u x t y bytes d = record {
+  moments = more_moments bytes d.moments;
+  rest = d.rest ++ bytes;
+  said = d.said;
+  serves = serves_more g bytes s u d.moments t d.rest d.said d.serves;
+  settled = subst (λ (c : List Change). IsSettled x y c d.said) (sym (changes_more bytes d.moments)) d.settled;
 }
 
-abbrev pub settles_join : (g : Given) (c : Core) (u : List ℕ) (x : Outside) (d : Core) (y : Outside) (d1 e : Core) (z : Outside)
-    → (s : Settles g c u x d y) → d1 ≡ d → Settles g d1 s.rest y e z → Settles g c u x e z
-settles_join g c u x d y d1 e z s same t = record {
-  moments = s.moments ++ t.moments;
-  rest = t.rest;
-  said = s.said ++ t.said;
-  serves = serves_join g c u s.moments d s.rest s.said t.moments e t.rest t.said s.serves (subst (λ k. AreServed g k s.rest t.moments e t.rest t.said) same t.serves);
-  settled = subst (λ (p : List Change). IsSettled x z p (s.said ++ t.said)) (sym (changes_join s.moments t.moments))
-      (settled_join x y z (all_changes s.moments) (all_changes t.moments) s.said t.said s.settled t.settled);
+abbrev pub settles_join : (g : Given) (s : PipeState) (u : List ℕ) (x : Outside) (t : PipeState) (y : Outside) (e : PipeState) (z : Outside)
+    → (d : Settles g s u x t y) → Settles g t d.rest y e z → Settles g s u x e z
+settles_join g s u x t y e z d n = record {
+  moments = d.moments ++ n.moments;
+  rest = n.rest;
+  said = d.said ++ n.said;
+  serves = serves_join g s u d.moments t d.rest d.said n.moments e n.rest n.said d.serves n.serves;
+  settled = subst (λ (c : List Change). IsSettled x z c (d.said ++ n.said)) (sym (changes_join d.moments n.moments))
+      (settled_join x y z (all_changes d.moments) (all_changes n.moments) d.said n.said d.settled n.settled);
 }
 
 -- what was served before, and what is served of the bytes that came
-pub drained_join : (g : Given) (a : NodeState) (l : LinkId) (u : List ℕ) (x : Outside) (bytes : List ℕ) (n : NodeState) (y : Outside) (n1 b : NodeState) (z : Outside)
-    → (s : Settles g a.core u x n.core y) → n1.core ≡ n.core → (r : Result Bool PipeFault) → IsDrained g n1 l (s.rest ++ bytes) y b z r → IsDrained g a l (u ++ bytes) x b z r
-drained_join g a l u x bytes n y n1 b z s same (Ok true) d = record {
+pub drained_join : (g : Given) (s : PipeState) (u : List ℕ) (x : Outside) (bytes : List ℕ) (t : PipeState) (y : Outside) (q : LinkedNode) (z : Outside)
+    → (d : Settles g s u x t y) → (r : Result Bool PipeFault) → IsDrained g t (d.rest ++ bytes) y q z r → IsDrained g s (u ++ bytes) x q z r
+drained_join g s u x bytes t y q z d (Ok true) n = record {
   going = record {
-    done = settles_join g a.core (u ++ bytes) x n.core y n1.core b.core z (settles_more g a.core u x n.core y bytes s) same d.going.done;
-    agrees = d.going.agrees;
+    at = n.going.at;
+    done = settles_join g s (u ++ bytes) x t y n.going.at z (settles_more g s u x t y bytes d) n.going.done;
+    stands = n.going.stands;
   };
-  waits = d.waits;
+  waits = n.waits;
 }
-drained_join g a l u x bytes n y n1 b z s same (Ok false) d = record {
-  before = d.before;
-  done = settles_join g a.core (u ++ bytes) x n.core y n1.core b.core d.before (settles_more g a.core u x n.core y bytes s) same d.done;
-  last = d.last;
-  ends = d.ends;
-  told = d.told;
-  kept = d.kept;
+drained_join g s u x bytes t y q z d (Ok false) n = record {
+  at = n.at;
+  before = n.before;
+  done = settles_join g s (u ++ bytes) x t y n.at n.before (settles_more g s u x t y bytes d) n.done;
+  last = n.last;
+  ends = n.ends;
+  told = n.told;
+  kept = n.kept;
 }
-drained_join g a l u x bytes n y n1 b z s same (Err why) d = record {
-  core = d.core;
-  before = d.before;
-  done = settles_join g a.core (u ++ bytes) x n.core y n1.core d.core d.before (settles_more g a.core u x n.core y bytes s) same d.done;
-  left = d.left;
+drained_join g s u x bytes t y q z d (Err why) n = record {
+  at = n.at;
+  before = n.before;
+  done = settles_join g s (u ++ bytes) x t y n.at n.before (settles_more g s u x t y bytes d) n.done;
+  left = n.left;
 }
 
 -- the bytes were refused
-pub not_fed : (g : Given) (a : NodeState) (l : LinkId) (u : List ℕ) (x : Outside) (bytes : List ℕ) (n : NodeState) (y : Outside) (e : NodeFault)
-    → Going g a l u x n y → Breaks g a.core (u ++ bytes) x (fault_of e) y
-not_fed g a l u x bytes n y e w = record {
-  core = n.core;
+pub not_fed : (g : Given) (s : PipeState) (u : List ℕ) (x : Outside) (bytes : List ℕ) (p : LinkedNode) (y : Outside) (e : NodeFault)
+    → Going g s u x p y → Breaks g s (u ++ bytes) x (fault_of e) y
+not_fed g s u x bytes p y e w = record {
+  at = w.at;
   before = y;
-  done = settles_more g a.core u x n.core y bytes w.done;
-  left = refuses e g n.core (w.done.rest ++ bytes) y;
+  done = settles_more g s u x w.at y bytes w.done;
+  left = refuses e g w.at (w.done.rest ++ bytes) y;
 }
 
 -- ---- a flush behind all
-kept_settles : (g : Given) (c : Core) (u : List ℕ) (x : Outside) (d : Core) (y z : Outside) → (s : Settles g c u x d y) → Keeps y.output z.output → z.kept ≡ y.kept → IsSettled x z (all_changes s.moments) s.said
-kept_settles g c u x d y z s k same = settled_kept x y z (all_changes s.moments) s.said s.settled k same
+kept_settles : (g : Given) (s : PipeState) (u : List ℕ) (x : Outside) (t : PipeState) (y z : Outside) → (d : Settles g s u x t y) → Keeps y.output z.output → z.kept ≡ y.kept → IsSettled x z (all_changes d.moments) d.said
+kept_settles g s u x t y z d k same = settled_kept x y z (all_changes d.moments) d.said d.settled k same
 
-pub flushed : (g : Given) (a : NodeState) (l : LinkId) (u : List ℕ) (x : Outside) (b : NodeState) (y z : Outside) (goes : Bool) → IsDrained g a l u x b y (Ok goes) → Keeps y.output z.output → z.kept ≡ y.kept
-    → IsDrained g a l u x b z (Ok goes)
-flushed g a l u x b y z true d k same =
-    let s = d.going.done in
+pub flushed : (g : Given) (s : PipeState) (u : List ℕ) (x : Outside) (p : LinkedNode) (y z : Outside) (goes : Bool) → IsDrained g s u x p y (Ok goes) → Keeps y.output z.output → z.kept ≡ y.kept
+    → IsDrained g s u x p z (Ok goes)
+flushed g s u x p y z true n k same =
+    let d = n.going.done in
     record {
       going = record {
-        done = record { moments = s.moments; rest = s.rest; said = s.said; serves = s.serves; settled = kept_settles g a.core u x b.core y z s k same };
-        agrees = d.going.agrees;
+        at = n.going.at;
+        done = record { moments = d.moments; rest = d.rest; said = d.said; serves = d.serves; settled = kept_settles g s u x n.going.at y z d k same };
+        stands = n.going.stands;
       };
-      waits = d.waits;
+      waits = n.waits;
     }
-flushed g a l u x b y z false d k same = record {
-  before = d.before;
-  done = d.done;
-  last = d.last;
-  ends = d.ends;
-  told = Appends-kept d.before.output y.output z.output d.last d.told k;
-  kept = same ∙ d.kept;
+flushed g s u x p y z false n k same = record {
+  at = n.at;
+  before = n.before;
+  done = n.done;
+  last = n.last;
+  ends = n.ends;
+  told = Appends-kept n.before.output y.output z.output n.last n.told k;
+  kept = same ∙ n.kept;
 }
 
-pub not_flushed : (g : Given) (a : NodeState) (l : LinkId) (u : List ℕ) (x : Outside) (b : NodeState) (y z : Outside) (goes : Bool) → IsDrained g a l u x b y (Ok goes) → Keeps y.output z.output → z.kept ≡ y.kept
-    → Breaks g a.core u x fault.Write z
-not_flushed g a l u x b y z true d k same = record { core = b.core; before = y; done = d.going.done; left = IsCutOff.in_flush k same }
-not_flushed g a l u x b y z false d k same = record {
-  core = b.core;
-  before = d.before;
-  done = d.done;
-  left = IsCutOff.in_reply (record no_output { said = d.last }) (Gives.ends d.last d.ends refl) (same ∙ d.kept)
-      (all_begun d.before.output z.output d.last (Appends-kept d.before.output y.output z.output d.last d.told k));
+pub not_flushed : (g : Given) (s : PipeState) (u : List ℕ) (x : Outside) (p : LinkedNode) (y z : Outside) (goes : Bool) → IsDrained g s u x p y (Ok goes) → Keeps y.output z.output → z.kept ≡ y.kept
+    → Breaks g s u x fault.Write z
+not_flushed g s u x p y z true n k same = record { at = n.going.at; before = y; done = n.going.done; left = IsCutOff.in_flush k same }
+not_flushed g s u x p y z false n k same = record {
+  at = n.at;
+  before = n.before;
+  done = n.done;
+  left = IsCutOff.in_reply (record no_output { said = n.last }) (Gives.ends n.last n.ends refl) (same ∙ n.kept)
+      (all_begun n.before.output z.output n.last (Appends-kept n.before.output y.output z.output n.last n.told k));
 }

@@ -15,11 +15,14 @@ use Rattle.mr_data.specs.Meaning.{apply_all}
 use Rattle.mr_data.specs.Rebuilding.{rebuilding}
 use Rattle.mr_data.proofs.Folding.{apply_all-append}
 use Rattle.mr_data.specs.declared.given.Given.{Given}
-use Rattle.mr_node.specs.State.{Core}
-use Rattle.mr_node.specs.Outs.{Output}
-use Rattle.mr_node.specs.Served.{Served, Answered}
+use Rattle.mr_outs.specs.Outs.{Output}
+use Rattle.mr_cmd_node.specs.declared.node_ask.NodeAsk.{NodeAsk}
+use Rattle.mr_rows.specs.State.{Core}
+use Rattle.mr_rows.specs.Telling.{Around}
+use Rattle.mr_rows.specs.Served.{Served, Answered, IsQuiet}
 use Rattle.mr_pipe.specs.Outside.{Kept, Outside, Change, changed, followed, appends, replaces, Filed, HasHalf, IsTorn, IsCovered}
-use Rattle.mr_pipe.specs.Sessions.{Moment, AreServed, Gives, changes_of, all_changes}
+use Rattle.mr_pipe.specs.State.{PipeState}
+use Rattle.mr_pipe.specs.Sessions.{Moment, AreServed, Gives, IsServed, TakesRole, alone, changes_of, all_changes}
 use Rattle.mr_pipe.specs.Serving.{IsLeft, IsCutOff}
 use Rattle.mr_pipe.specs.Piped.{Answers}
 use Rattle.mr_pipe.specs.Folding.{Folds, FoldsTorn, FilesFold, FilesFoldTorn, FilesStaySynced}
@@ -57,28 +60,53 @@ filed_told (c ∷ cs) a b xs f h = filed_told cs f.0 b (changed c xs) f.1.1 (sub
 folds_on : (cs : List Change) (c d : Core) (xs : List ℕ) → cs ≡ [] → d ≡ c → Folds xs empty c.held → Folds (followed cs xs) empty d.held
 folds_on cs c d xs none same f = subst (λ (z : List Change). Folds (followed z xs) empty d.held) (sym none) (subst (λ (k : Core). Folds xs empty k.held) (sym same) f)
 
-served_folds : (c : Core) (u : List ℕ) (g : Given) (d : Core) (rest : List ℕ) (out : Output) → Served c u g d rest out → (xs : List ℕ) → Folds xs empty c.held → Folds (followed (changes_of out) xs) empty d.held
-served_folds c u g d rest out (Served.request words asks (Answered.within plain reply effects plan le d_is out_is)) xs f =
+quiet_leaves : (c : Core) (wish : NodeAsk) (out : Output) → IsQuiet c wish out → changes_of out ≡ []
+quiet_leaves c wish out (IsQuiet.introduces told is gives) = ap changes_of gives
+quiet_leaves c wish out (IsQuiet.acknowledges offset is gives) = ap changes_of gives
+quiet_leaves c wish out (IsQuiet.refuses id wanted is replica gives) = ap changes_of gives
+quiet_leaves c wish out (IsQuiet.stays_master is master gives) = ap changes_of gives
+quiet_leaves c wish out (IsQuiet.stays_replica host port is replica followed gives) = ap changes_of gives
+
+served_folds : (c : Core) (around : Around) (u : List ℕ) (g : Given) (d : Core) (rest : List ℕ) (out : Output) → Served c around u g d rest out → (xs : List ℕ) → Folds xs empty c.held → Folds (followed (changes_of out) xs) empty d.held
+served_folds c around u g d rest out (Served.request words asks (Answered.within plain reply effects plan le d_is out_is)) xs f =
     let p = texts effects in
     subst (λ (o : Output). Folds (followed (changes_of o) xs) empty d.held) (sym out_is)
     (subst (λ z. Folds z empty d.held) (sym (followed_texts p xs))
     (folds_join xs p empty c.held d.held f (record { effects = effects; are_texts = refl; readable = plan.texts; applied = plan.leads ∙ ap (λ (k : Core). Some k.held) (sym d_is) })))
-served_folds c u g d rest out (Served.request words asks (Answered.beyond plain reply effects plan lt d_is out_is)) xs f = folds_on (changes_of out) c d xs (ap changes_of out_is) d_is f
-served_folds c u g d rest out (Served.request words asks (Answered.rewritten is remakes d_is out_is)) xs f =
+served_folds c around u g d rest out (Served.request words asks (Answered.beyond plain reply effects plan lt d_is out_is)) xs f = folds_on (changes_of out) c d xs (ap changes_of out_is) d_is f
+served_folds c around u g d rest out (Served.request words asks (Answered.rewritten is remakes d_is out_is)) xs f =
     subst (λ (o : Output). Folds (followed (changes_of o) xs) empty d.held) (sym out_is)
     (record { effects = rebuilding c.held; are_texts = refl; readable = remakes.texts; applied = remakes.again ∙ ap (λ (k : Core). Some k.held) (sym d_is) })
-served_folds c u g d rest out (Served.request words asks (Answered.tells question asked d_is out_is)) xs f = folds_on (changes_of out) c d xs (ap changes_of out_is) d_is f
-served_folds c u g d rest out (Served.nothing asks d_is out_is) xs f = folds_on (changes_of out) c d xs (ap changes_of out_is) d_is f
+served_folds c around u g d rest out (Served.request words asks (Answered.tells question asked d_is out_is)) xs f = folds_on (changes_of out) c d xs (ap changes_of out_is) d_is f
+served_folds c around u g d rest out (Served.request words asks (Answered.keeps_role wish asked quiet d_is)) xs f = folds_on (changes_of out) c d xs (quiet_leaves c wish out quiet) d_is f
+served_folds c around u g d rest out (Served.nothing asks d_is out_is) xs f = folds_on (changes_of out) c d xs (ap changes_of out_is) d_is f
 
-all_fold : (g : Given) (c : Core) (u : List ℕ) (ts : List Moment) (d : Core) (rest said : List ℕ) → AreServed g c u ts d rest said → (xs : List ℕ) → Folds xs empty c.held → Folds (followed (all_changes ts) xs) empty d.held
-all_fold g c u [] d rest said s xs f = folds_on [] c d xs refl s.0 f
-all_fold g c u (t ∷ ts) d rest said s xs f =
-    subst (λ z. Folds z empty d.held) (sym (followed_join (changes_of t.out) (all_changes ts) xs))
-    (all_fold g t.core t.left ts d rest s.1.0 s.1.1 (followed (changes_of t.out) xs) (served_folds c u g t.core t.left t.out s.0 xs f))
+-- a change of roles leaves the file and the dataset
+role_leaves : (s : PipeState) (words : List (List ℕ)) (t : PipeState) (out : Output) → TakesRole s words t out → (changes_of out ≡ []) × (t.core.held ≡ s.core.held)
+role_leaves s words t out (TakesRole.synchronizes id wanted text master wish answer is gives) = (ap changes_of gives, ap (λ (z : PipeState). z.core.held) is)
+role_leaves s words t out (TakesRole.promotes replica wish is gives) = (ap changes_of gives, ap (λ (z : PipeState). z.core.held) is)
+role_leaves s words t out (TakesRole.turns address replica wish another is gives) = (ap changes_of gives, ap (λ (z : PipeState). z.core.held) is)
+role_leaves s words t out (TakesRole.demotes address master wish is gives) = (ap changes_of gives, ap (λ (z : PipeState). z.core.held) is)
 
-gives_folds : (g : Given) (c : Core) (u : List ℕ) (out : Output) → Gives g c u out → (xs : List ℕ) → Folds xs empty c.held → (d : Dataset) × Folds (followed (changes_of out) xs) empty d
-gives_folds g c u out (Gives.serves d rest s) xs f = (d.held, served_folds c u g d rest out s xs f)
-gives_folds g c u out (Gives.ends last e out_is) xs f = (c.held, folds_on (changes_of out) c c xs (ap changes_of out_is) refl f)
+same_folds : (cs : List Change) (m n : Dataset) (xs : List ℕ) → cs ≡ [] → n ≡ m → Folds xs empty m → Folds (followed cs xs) empty n
+same_folds cs m n xs none same f = subst (λ (z : List Change). Folds (followed z xs) empty n) (sym none) (subst (Folds xs empty) (sym same) f)
+
+one_folds : (g : Given) (s : PipeState) (u : List ℕ) (t : PipeState) (rest : List ℕ) (out : Output) → IsServed g s u t rest out → (xs : List ℕ) → Folds xs empty s.core.held → Folds (followed (changes_of out) xs) empty t.core.held
+one_folds g s u t rest out (IsServed.serves k d h is) xs f = subst (λ (z : PipeState). Folds (followed (changes_of out) xs) empty z.core.held) (sym is) (served_folds s.core alone u g d rest out h xs f)
+one_folds g s u t rest out (IsServed.takes_role k words asks h) xs f =
+    let same = role_leaves s words t out h in
+    same_folds (changes_of out) s.core.held t.core.held xs same.0 same.1 f
+one_folds g s u t rest out (IsServed.notes k e is gives) xs f = same_folds (changes_of out) s.core.held t.core.held xs (ap changes_of gives) (ap (λ (z : PipeState). z.core.held) is) f
+
+all_fold : (g : Given) (s : PipeState) (u : List ℕ) (ms : List Moment) (t : PipeState) (rest said : List ℕ) → AreServed g s u ms t rest said → (xs : List ℕ) → Folds xs empty s.core.held → Folds (followed (all_changes ms) xs) empty t.core.held
+all_fold g s u [] t rest said h xs f = same_folds [] s.core.held t.core.held xs refl (ap (λ (z : PipeState). z.core.held) h.0) f
+all_fold g s u (m ∷ ms) t rest said h xs f =
+    subst (λ z. Folds z empty t.core.held) (sym (followed_join (changes_of m.out) (all_changes ms) xs))
+    (all_fold g m.pipe m.left ms t rest h.1.0 h.1.1 (followed (changes_of m.out) xs) (one_folds g s u m.pipe m.left m.out h.0 xs f))
+
+gives_folds : (g : Given) (s : PipeState) (u : List ℕ) (out : Output) → Gives g s u out → (xs : List ℕ) → Folds xs empty s.core.held → (d : Dataset) × Folds (followed (changes_of out) xs) empty d
+gives_folds g s u out (Gives.serves t rest h) xs f = (t.core.held, one_folds g s u t rest out h xs f)
+gives_folds g s u out (Gives.ends last e out_is) xs f = (s.core.held, same_folds (changes_of out) s.core.held s.core.held xs (ap changes_of out_is) refl f)
 
 -- ---- .. and where the file failed
 -- what stands there then
@@ -146,46 +174,49 @@ one_stands k m n xs w f g (inr new) = (w, (new, not_torn w n g))
 torn_whole : (w : List ℕ) (a b : Kept) (m n : Dataset) (xs : List ℕ) → a.told ≡ Some xs → Folds xs empty m → Folds w empty n → IsTorn a b (replaces (Some w)) → HasTorn b
 torn_whole w a b m n xs h f g t = one_stands b m n xs w f g (subst (λ o. IsOldOrNew o b.told w) h (half_of (Change.replace w) a b t))
 
-served_torn : (c : Core) (u : List ℕ) (g : Given) (d : Core) (rest : List ℕ) (out : Output) (a b : Kept) (xs : List ℕ) → Served c u g d rest out → a.told ≡ Some xs → Folds xs empty c.held → IsTorn a b (changes_of out) → HasTorn b
-served_torn c u g d rest out a b xs (Served.request words asks (Answered.within plain reply effects plan le d_is out_is)) h f t =
+served_torn : (c : Core) (around : Around) (u : List ℕ) (g : Given) (d : Core) (rest : List ℕ) (out : Output) (a b : Kept) (xs : List ℕ) → Served c around u g d rest out → a.told ≡ Some xs → Folds xs empty c.held → IsTorn a b (changes_of out) → HasTorn b
+served_torn c around u g d rest out a b xs (Served.request words asks (Answered.within plain reply effects plan le d_is out_is)) h f t =
     torn_texts (texts effects) a b c.held d.held xs h f (record { effects = effects; are_texts = refl; readable = plan.texts; applied = plan.leads ∙ ap (λ (k : Core). Some k.held) (sym d_is) })
     (subst (λ (o : Output). IsTorn a b (changes_of o)) out_is t)
-served_torn c u g d rest out a b xs (Served.request words asks (Answered.beyond plain reply effects plan lt d_is out_is)) h f t = torn_nothing (changes_of out) a b (ap changes_of out_is) t
-served_torn c u g d rest out a b xs (Served.request words asks (Answered.rewritten is remakes d_is out_is)) h f t =
+served_torn c around u g d rest out a b xs (Served.request words asks (Answered.beyond plain reply effects plan lt d_is out_is)) h f t = torn_nothing (changes_of out) a b (ap changes_of out_is) t
+served_torn c around u g d rest out a b xs (Served.request words asks (Answered.rewritten is remakes d_is out_is)) h f t =
     torn_whole (texts (rebuilding c.held)) a b c.held c.held xs h f (record { effects = rebuilding c.held; are_texts = refl; readable = remakes.texts; applied = remakes.again })
     (subst (λ (o : Output). IsTorn a b (changes_of o)) out_is t)
-served_torn c u g d rest out a b xs (Served.request words asks (Answered.tells question asked d_is out_is)) h f t = torn_nothing (changes_of out) a b (ap changes_of out_is) t
-served_torn c u g d rest out a b xs (Served.nothing asks d_is out_is) h f t = torn_nothing (changes_of out) a b (ap changes_of out_is) t
+served_torn c around u g d rest out a b xs (Served.request words asks (Answered.tells question asked d_is out_is)) h f t = torn_nothing (changes_of out) a b (ap changes_of out_is) t
+served_torn c around u g d rest out a b xs (Served.request words asks (Answered.keeps_role wish asked quiet d_is)) h f t = torn_nothing (changes_of out) a b (quiet_leaves c wish out quiet) t
+served_torn c around u g d rest out a b xs (Served.nothing asks d_is out_is) h f t = torn_nothing (changes_of out) a b (ap changes_of out_is) t
 
-gives_torn : (g : Given) (c : Core) (u : List ℕ) (out : Output) (a b : Kept) (xs : List ℕ) → Gives g c u out → a.told ≡ Some xs → Folds xs empty c.held → IsTorn a b (changes_of out) → HasTorn b
-gives_torn g c u out a b xs (Gives.serves d rest s) h f t = served_torn c u g d rest out a b xs s h f t
-gives_torn g c u out a b xs (Gives.ends last e out_is) h f t = torn_nothing (changes_of out) a b (ap changes_of out_is) t
+gives_torn : (g : Given) (s : PipeState) (u : List ℕ) (out : Output) (a b : Kept) (xs : List ℕ) → Gives g s u out → a.told ≡ Some xs → Folds xs empty s.core.held → IsTorn a b (changes_of out) → HasTorn b
+gives_torn g s u out a b xs (Gives.serves v rest (IsServed.serves k d r is)) h f t = served_torn s.core alone u g d rest out a b xs r h f t
+gives_torn g s u out a b xs (Gives.serves v rest (IsServed.takes_role k words asks r)) h f t = torn_nothing (changes_of out) a b (role_leaves s words v out r).0 t
+gives_torn g s u out a b xs (Gives.serves v rest (IsServed.notes k e is gives)) h f t = torn_nothing (changes_of out) a b (ap changes_of gives) t
+gives_torn g s u out a b xs (Gives.ends last e out_is) h f t = torn_nothing (changes_of out) a b (ap changes_of out_is) t
 
-left_folds : (why : PipeFault) (g : Given) (c : Core) (u : List ℕ) (x y : Outside) (xs : List ℕ) → x.kept.told ≡ Some xs → Folds xs empty c.held → IsLeft why g c u x y → HasTorn y.kept
-left_folds fault.Read g c u x y xs h f l = (xs, (ap (λ (o : Outside). o.kept.told) l ∙ h, not_torn xs c.held f))
-left_folds fault.Stopped g c u x y xs h f l = (xs, (ap (λ (o : Outside). o.kept.told) l ∙ h, not_torn xs c.held f))
-left_folds fault.Memory g c u x y xs h f l = (xs, (ap (λ (o : Outside). o.kept.told) l ∙ h, not_torn xs c.held f))
-left_folds fault.Write g c u x y xs h f (IsCutOff.in_reply out gives filed begun) =
-    let more = gives_folds g c u out gives xs f in
+left_folds : (why : PipeFault) (g : Given) (s : PipeState) (u : List ℕ) (x y : Outside) (xs : List ℕ) → x.kept.told ≡ Some xs → Folds xs empty s.core.held → IsLeft why g s u x y → HasTorn y.kept
+left_folds fault.Read g s u x y xs h f l = (xs, (ap (λ (o : Outside). o.kept.told) l ∙ h, not_torn xs s.core.held f))
+left_folds fault.Stopped g s u x y xs h f l = (xs, (ap (λ (o : Outside). o.kept.told) l ∙ h, not_torn xs s.core.held f))
+left_folds fault.Memory g s u x y xs h f l = (xs, (ap (λ (o : Outside). o.kept.told) l ∙ h, not_torn xs s.core.held f))
+left_folds fault.Write g s u x y xs h f (IsCutOff.in_reply out gives filed begun) =
+    let more = gives_folds g s u out gives xs f in
     (followed (changes_of out) xs, (filed_told (changes_of out) x.kept y.kept xs filed h, not_torn (followed (changes_of out) xs) more.0 more.1))
-left_folds fault.Write g c u x y xs h f (IsCutOff.in_flush k same) = (xs, (ap (λ (k : Kept). k.told) same ∙ h, not_torn xs c.held f))
-left_folds fault.File g c u x y xs h f l = gives_torn g c u l.out x.kept y.kept xs l.gives h f l.torn
+left_folds fault.Write g s u x y xs h f (IsCutOff.in_flush k same) = (xs, (ap (λ (k : Kept). k.told) same ∙ h, not_torn xs s.core.held f))
+left_folds fault.File g s u x y xs h f l = gives_torn g s u l.out x.kept y.kept xs l.gives h f l.torn
 
 pub files_fold : FilesFold
-files_fold g c before after x y s xs h f =
+files_fold g p before after x y s xs h f =
     let cs = all_changes s.moments in
     (followed cs xs, (filed_told cs x.kept y.kept xs s.settled.filed h, answered s.said s.answers))
   where
-    answered : (said : List ℕ) → Answers g c s.read s.moments s.core said after → Folds (followed (all_changes s.moments) xs) empty s.core.held
-    answered said (Answers.at_end rest served waits at) = all_fold g c s.read s.moments s.core rest said served xs f
-    answered said (Answers.at_close rest replies last served ends is) = all_fold g c s.read s.moments s.core rest replies served xs f
+    answered : (said : List ℕ) → Answers g p s.read s.moments s.pipe said after → Folds (followed (all_changes s.moments) xs) empty s.pipe.core.held
+    answered said (Answers.at_end rest served waits at) = all_fold g p s.read s.moments s.pipe rest said served xs f
+    answered said (Answers.at_close rest replies last served ends is) = all_fold g p s.read s.moments s.pipe rest replies served xs f
 
 pub files_fold_torn : FilesFoldTorn
-files_fold_torn g c before after x why y b xs h f =
+files_fold_torn g p before after x why y b xs h f =
     let k = b.breaks in
     let s = k.done in
     let cs = all_changes s.moments in
-    left_folds why g k.core s.rest k.before y (followed cs xs) (filed_told cs x.kept k.before.kept xs s.settled.filed h) (all_fold g c b.read s.moments k.core s.rest s.said s.serves xs f) k.left
+    left_folds why g k.at s.rest k.before y (followed cs xs) (filed_told cs x.kept k.before.kept xs s.settled.filed h) (all_fold g p b.read s.moments k.at s.rest s.said s.serves xs f) k.left
 
 -- ---- how far the file is synced
 covered_always : (c : Change) (a b : Kept) → IsCovered Always c a b → IsSynced b.told b.synced
@@ -197,4 +228,4 @@ stay_synced [] a b f m h = subst (λ (k : Kept). IsSynced k.told k.synced) (sym 
 stay_synced (c ∷ cs) a b f m h = stay_synced cs f.0 b f.1.1 (f.1.0.mode ∙ m) (covered_always c a f.0 (subst (λ (z : SyncMode). IsCovered z c a f.0) m f.1.0.covered))
 
 pub files_stay_synced : FilesStaySynced
-files_stay_synced g c before after x y s m h = stay_synced (all_changes s.moments) x.kept y.kept s.settled.filed m h
+files_stay_synced g p before after x y s m h = stay_synced (all_changes s.moments) x.kept y.kept s.settled.filed m h

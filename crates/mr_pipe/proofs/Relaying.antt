@@ -4,15 +4,15 @@ use Rattle.std.specs.Prelude.{◌⊎◌, take, Some, IsErrOf}
 use Rattle.mr_file.specs.LogFile.{Rose}
 use Rattle.std.specs.Io.KnownBytes.{Consumes, Keeps}
 use Rattle.std.proofs.KnownBytes.{Consumes-nil, Consumes-kept, Consumes-trans, Appends-trans}
-use Rattle.mr_links.specs.declared.link_id.LinkId.{LinkId}
 use Rattle.mr_data.specs.declared.given.Given.{Given}
-use Rattle.mr_node.specs.State.{NodeState, Core, Agrees}
-use Rattle.mr_node.specs.Requests.{Waits}
+use Rattle.mr_rows.specs.Requests.{Waits}
 use Rattle.mr_pipe.specs.Outside.{Kept, Outside, Change, Filed}
+use Rattle.mr_pipe.specs.State.{PipeState, Stands}
 use Rattle.mr_pipe.specs.Sessions.{all_changes}
 use Rattle.mr_pipe.specs.Serving.{Drained, Breaks, IsLeft, Tears, IsDrained}
 use Rattle.mr_pipe.specs.Reading.{IsRead}
 use Rattle.mr_pipe.specs.Piped.{Relays, RelaysEnd, RelaysClose, RelaysBreak, IsRound, IsPiped, IsPipedAlone, no_file, Session, Broken, Answers}
+use Rattle.mr_pipe.specs.declared.linked_node.LinkedNode.{LinkedNode}
 use Rattle.mr_pipe.specs.declared.fault.PipeFault.{PipeFault}
 use Rattle.mr_pipe.specs.declared.fault.PipeFault.TheVariants as fault
 use Rattle.mr_pipe.specs.declared.relay.Round.{Round}
@@ -26,120 +26,121 @@ pub waits_nothing : Waits []
 waits_nothing = record { more = record { more = 42 ∷ 45 ∷ 49 ∷ 13 ∷ 10 ∷ []; some = lit< tt; are_bytes = search rules; whole = inr (inl (inr refl)) } }
 
 -- nothing was read yet
-pub no_round : (g : Given) (a : NodeState) (l : LinkId) (x : Outside) (p : Option (List ℕ)) → Agrees a l [] → Relays g a l [] x p p a x
-no_round g a l x p ag = record { read = []; consumed = Consumes-nil p; drained = record { going = starts g a l [] x ag; waits = waits_nothing } }
+pub no_round : (g : Given) (s : PipeState) (x : Outside) (b : Option (List ℕ)) (p : LinkedNode) → Stands p s [] → Relays g s [] x b b p x
+no_round g s x b p h = record { read = []; consumed = Consumes-nil b; drained = record { going = starts g s [] x p h; waits = waits_nothing } }
 
 -- the state so far, then one more round
-pub after_round : (g : Given) (a : NodeState) (l : LinkId) (x : Outside) (p q r : Option (List ℕ)) (m : NodeState) (y : Outside) (b : NodeState) (z : Outside) (t : Result Round PipeFault)
-    → (w : Relays g a l [] x p q m y) → IsRound g a l w.read x q r b z t → IsRound g a l [] x p r b z t
-after_round g a l x p q r m y b z (Ok round.On) w n = record { read = w.read ++ n.read; consumed = Consumes-trans p q r w.read n.read w.consumed n.consumed; drained = n.drained }
-after_round g a l x p q r m y b z (Ok round.End) w n = record { all = record { read = w.read ++ n.all.read; consumed = Consumes-trans p q r w.read n.all.read w.consumed n.all.consumed; drained = n.all.drained }; at_end = n.at_end }
-after_round g a l x p q r m y b z (Ok round.Shut) w n = record { read = w.read ++ n.read; consumed = Consumes-trans p q r w.read n.read w.consumed n.consumed; ended = n.ended }
-after_round g a l x p q r m y b z (Err why) w n = record { read = w.read ++ n.read; consumed = Consumes-trans p q r w.read n.read w.consumed n.consumed; breaks = n.breaks }
+pub after_round : (g : Given) (s : PipeState) (x : Outside) (b m e : Option (List ℕ)) (p : LinkedNode) (y : Outside) (q : LinkedNode) (z : Outside) (t : Result Round PipeFault)
+    → (w : Relays g s [] x b m p y) → IsRound g s w.read x m e q z t → IsRound g s [] x b e q z t
+after_round g s x b m e p y q z (Ok round.On) w n = record { read = w.read ++ n.read; consumed = Consumes-trans b m e w.read n.read w.consumed n.consumed; drained = n.drained }
+after_round g s x b m e p y q z (Ok round.End) w n = record { all = record { read = w.read ++ n.all.read; consumed = Consumes-trans b m e w.read n.all.read w.consumed n.all.consumed; drained = n.all.drained }; at_end = n.at_end }
+after_round g s x b m e p y q z (Ok round.Shut) w n = record { read = w.read ++ n.read; consumed = Consumes-trans b m e w.read n.read w.consumed n.consumed; ended = n.ended }
+after_round g s x b m e p y q z (Err why) w n = record { read = w.read ++ n.read; consumed = Consumes-trans b m e w.read n.read w.consumed n.consumed; breaks = n.breaks }
 
 -- what was read and written in the end
-pub session_end : (g : Given) (a : NodeState) (l : LinkId) (x : Outside) (p r : Option (List ℕ)) (b : NodeState) (z : Outside) → RelaysEnd g a l [] x p r b z → Session g a.core p r x z
-session_end g a l x p r b z n =
-    let w = n.all.drained.going.done in
+pub session_end : (g : Given) (s : PipeState) (x : Outside) (b e : Option (List ℕ)) (q : LinkedNode) (z : Outside) → RelaysEnd g s [] x b e q z → Session g s b e x z
+session_end g s x b e q z n =
+    let going = n.all.drained.going in
+    let w = going.done in
     record {
       read = n.all.read;
       consumed = n.all.consumed;
       moments = w.moments;
-      core = b.core;
+      pipe = going.at;
       said = w.said;
       answers = Answers.at_end w.rest w.serves n.all.drained.waits n.at_end;
       settled = w.settled;
     }
 
-pub session_close : (g : Given) (a : NodeState) (l : LinkId) (x : Outside) (p r : Option (List ℕ)) (b : NodeState) (z : Outside) → RelaysClose g a l [] x p r b z → Session g a.core p r x z
-session_close g a l x p r b z n =
-    let e = n.ended in
-    let w = e.done in
+pub session_close : (g : Given) (s : PipeState) (x : Outside) (b e : Option (List ℕ)) (z : Outside) → RelaysClose g s [] x b e z → Session g s b e x z
+session_close g s x b e z n =
+    let d = n.ended in
+    let w = d.done in
     record {
       read = n.read;
       consumed = n.consumed;
       moments = w.moments;
-      core = b.core;
-      said = w.said ++ e.last;
-      answers = Answers.at_close w.rest w.said e.last w.serves e.ends refl;
+      pipe = d.at;
+      said = w.said ++ d.last;
+      answers = Answers.at_close w.rest w.said d.last w.serves d.ends refl;
       settled = record {
-        filed = subst (λ (k : Kept). Filed x.kept k (all_changes w.moments)) (sym e.kept) w.settled.filed;
-        told = Appends-trans x.output e.before.output z.output w.said e.last w.settled.told e.told;
+        filed = subst (λ (k : Kept). Filed x.kept k (all_changes w.moments)) (sym d.kept) w.settled.filed;
+        told = Appends-trans x.output d.before.output z.output w.said d.last w.settled.told d.told;
       };
     }
 
-pub session_break : (g : Given) (c : Core) (x : Outside) (p r : Option (List ℕ)) (why : PipeFault) (z : Outside) → RelaysBreak g c [] x p r why z → Broken g c p r x why z
-session_break g c x p r why z n = record { read = n.read; consumed = n.consumed; breaks = n.breaks }
+pub session_break : (g : Given) (s : PipeState) (x : Outside) (b e : Option (List ℕ)) (why : PipeFault) (z : Outside) → RelaysBreak g s [] x b e why z → Broken g s b e x why z
+session_break g s x b e why z n = record { read = n.read; consumed = n.consumed; breaks = n.breaks }
 
 -- after all turns
-pub session_stop : (g : Given) (a : NodeState) (l : LinkId) (x : Outside) (p r : Option (List ℕ)) (b : NodeState) (z : Outside) → Relays g a l [] x p r b z → Broken g a.core p r x fault.Read z
-session_stop g a l x p r b z n = record { read = n.read; consumed = n.consumed; breaks = record { core = b.core; before = z; done = n.drained.going.done; left = refl } }
+pub session_stop : (g : Given) (s : PipeState) (x : Outside) (b e : Option (List ℕ)) (q : LinkedNode) (z : Outside) → Relays g s [] x b e q z → Broken g s b e x fault.Read z
+session_stop g s x b e q z n = record { read = n.read; consumed = n.consumed; breaks = record { at = n.drained.going.at; before = z; done = n.drained.going.done; left = refl } }
 
 -- no session began
-pub no_session : (g : Given) (c : Core) (x : Outside) (p : Option (List ℕ)) (why : PipeFault) → ((u : List ℕ) → IsLeft why g c u x x) → Broken g c p p x why x
-no_session g c x p why h = record {
+pub no_session : (g : Given) (s : PipeState) (x : Outside) (b : Option (List ℕ)) (why : PipeFault) → ((u : List ℕ) → IsLeft why g s u x x) → Broken g s b b x why x
+no_session g s x b why h = record {
   read = [];
-  consumed = Consumes-nil p;
-  breaks = record { core = c; before = x; done = record { moments = []; rest = []; said = []; serves = (refl, refl, refl); settled = nothing_settled x }; left = h [] };
+  consumed = Consumes-nil b;
+  breaks = record { at = s; before = x; done = record { moments = []; rest = []; said = []; serves = (refl, refl, refl); settled = nothing_settled x }; left = h [] };
 }
 
 -- ---- one round
 -- nothing more was read
-pub no_more : (g : Given) (a : NodeState) (l : LinkId) (u : List ℕ) (x : Outside) (p q : Option (List ℕ)) (b : NodeState) (y : Outside) → Drained g a l u x b y → Keeps p q → Relays g a l u x p q b y
-no_more g a l u x p q b y d k = record {
+pub no_more : (g : Given) (s : PipeState) (u : List ℕ) (x : Outside) (b e : Option (List ℕ)) (p : LinkedNode) (y : Outside) → Drained g s u x p y → Keeps b e → Relays g s u x b e p y
+no_more g s u x b e p y d k = record {
   read = [];
-  consumed = Consumes-kept p p q [] (Consumes-nil p) k;
-  drained = subst (λ z. Drained g a l z x b y) (sym (append_nil u)) d;
+  consumed = Consumes-kept b b e [] (Consumes-nil b) k;
+  drained = subst (λ z. Drained g s z x p y) (sym (append_nil u)) d;
 }
 
 -- .. and a fault came, which leaves nothing
-pub broken_round : (g : Given) (a : NodeState) (l : LinkId) (u : List ℕ) (x : Outside) (p q : Option (List ℕ)) (b : NodeState) (y : Outside) (why : PipeFault) → Drained g a l u x b y → Keeps p q
-    → ((c : Core) (v : List ℕ) → IsLeft why g c v y y) → RelaysBreak g a.core u x p q why y
-broken_round g a l u x p q b y why d k h = record {
+pub broken_round : (g : Given) (s : PipeState) (u : List ℕ) (x : Outside) (b e : Option (List ℕ)) (p : LinkedNode) (y : Outside) (why : PipeFault) → Drained g s u x p y → Keeps b e
+    → ((t : PipeState) (v : List ℕ) → IsLeft why g t v y y) → RelaysBreak g s u x b e why y
+broken_round g s u x b e p y why d k h = record {
   read = [];
-  consumed = Consumes-kept p p q [] (Consumes-nil p) k;
-  breaks = subst (λ z. Breaks g a.core z x why y) (sym (append_nil u)) (record { core = b.core; before = y; done = d.going.done; left = h b.core d.going.done.rest });
+  consumed = Consumes-kept b b e [] (Consumes-nil b) k;
+  breaks = subst (λ z. Breaks g s z x why y) (sym (append_nil u)) (record { at = d.going.at; before = y; done = d.going.done; left = h d.going.at d.going.done.rest });
 }
 
-pub read_failed : (g : Given) (a : NodeState) (l : LinkId) (u : List ℕ) (x : Outside) (p q : Option (List ℕ)) (b : NodeState) (y : Outside) (why : PipeFault) → why ≡ fault.Read → Drained g a l u x b y → Keeps p q
-    → RelaysBreak g a.core u x p q why y
-read_failed g a l u x p q b y why is d k = subst (λ w. RelaysBreak g a.core u x p q w y) (sym is) (broken_round g a l u x p q b y fault.Read d k (λ c v. refl))
+pub read_failed : (g : Given) (s : PipeState) (u : List ℕ) (x : Outside) (b e : Option (List ℕ)) (p : LinkedNode) (y : Outside) (why : PipeFault) → why ≡ fault.Read → Drained g s u x p y → Keeps b e
+    → RelaysBreak g s u x b e why y
+read_failed g s u x b e p y why is d k = subst (λ w. RelaysBreak g s u x b e w y) (sym is) (broken_round g s u x b e p y fault.Read d k (λ t v. refl))
 
 -- bytes were read, and served
-pub delivered : (g : Given) (a : NodeState) (l : LinkId) (u : List ℕ) (x : Outside) (p q : Option (List ℕ)) (bytes : List ℕ) (b : NodeState) (z : Outside) → Consumes p q bytes → IsDrained g a l (u ++ bytes) x b z (Ok true)
-    → Relays g a l u x p q b z
-delivered g a l u x p q bytes b z c d = record { read = bytes; consumed = c; drained = d }
+pub delivered : (g : Given) (s : PipeState) (u : List ℕ) (x : Outside) (b e : Option (List ℕ)) (bytes : List ℕ) (q : LinkedNode) (z : Outside) → Consumes b e bytes → IsDrained g s (u ++ bytes) x q z (Ok true)
+    → Relays g s u x b e q z
+delivered g s u x b e bytes q z c d = record { read = bytes; consumed = c; drained = d }
 
-pub delivered_all : (g : Given) (a : NodeState) (l : LinkId) (u : List ℕ) (x : Outside) (p q : Option (List ℕ)) (bytes : List ℕ) (b : NodeState) (z : Outside) → Consumes p q bytes → IsDrained g a l (u ++ bytes) x b z (Ok false)
-    → RelaysClose g a l u x p q b z
-delivered_all g a l u x p q bytes b z c d = record { read = bytes; consumed = c; ended = d }
+pub delivered_all : (g : Given) (s : PipeState) (u : List ℕ) (x : Outside) (b e : Option (List ℕ)) (bytes : List ℕ) (q : LinkedNode) (z : Outside) → Consumes b e bytes → IsDrained g s (u ++ bytes) x q z (Ok false)
+    → RelaysClose g s u x b e z
+delivered_all g s u x b e bytes q z c d = record { read = bytes; consumed = c; ended = d }
 
-pub not_delivered : (g : Given) (a : NodeState) (l : LinkId) (u : List ℕ) (x : Outside) (p q : Option (List ℕ)) (bytes : List ℕ) (b : NodeState) (z : Outside) (why : PipeFault) → Consumes p q bytes → IsDrained g a l (u ++ bytes) x b z (Err why)
-    → RelaysBreak g a.core u x p q why z
-not_delivered g a l u x p q bytes b z why c d = record { read = bytes; consumed = c; breaks = d }
+pub not_delivered : (g : Given) (s : PipeState) (u : List ℕ) (x : Outside) (b e : Option (List ℕ)) (bytes : List ℕ) (q : LinkedNode) (z : Outside) (why : PipeFault) → Consumes b e bytes → IsDrained g s (u ++ bytes) x q z (Err why)
+    → RelaysBreak g s u x b e why z
+not_delivered g s u x b e bytes q z why c d = record { read = bytes; consumed = c; breaks = d }
 
 -- the input is at its end
-pub at_end_round : (g : Given) (a : NodeState) (l : LinkId) (u : List ℕ) (x : Outside) (p q : Option (List ℕ)) (b : NodeState) (y : Outside) (buffer : List ℕ) (n : ℕ) → n ≡ 0 → IsRead p q buffer (Some n) → Drained g a l u x b y
-    → RelaysEnd g a l u x p q b y
-at_end_round g a l u x p q b y buffer n none r d = record {
+pub at_end_round : (g : Given) (s : PipeState) (u : List ℕ) (x : Outside) (b e : Option (List ℕ)) (p : LinkedNode) (y : Outside) (buffer : List ℕ) (n : ℕ) → n ≡ 0 → IsRead b e buffer (Some n) → Drained g s u x p y
+    → RelaysEnd g s u x b e p y
+at_end_round g s u x b e p y buffer n none r d = record {
   all = record {
     read = [];
-    consumed = subst (λ k. Consumes p q (take k buffer)) none r.1;
-    drained = subst (λ z. Drained g a l z x b y) (sym (append_nil u)) d;
+    consumed = subst (λ k. Consumes b e (take k buffer)) none r.1;
+    drained = subst (λ z. Drained g s z x p y) (sym (append_nil u)) d;
   };
   at_end = r.2 none;
 }
 
 -- the node did not begin
-pub not_begun : (g : Given) (c : Core) (x : Outside) (p : Option (List ℕ)) (why : PipeFault) → (why ≡ fault.Memory) ⊎ (why ≡ fault.Stopped) → Broken g c p p x why x
-not_begun g c x p why (inl is) = subst (λ w. Broken g c p p x w x) (sym is) (no_session g c x p fault.Memory (λ u. refl))
-not_begun g c x p why (inr is) = subst (λ w. Broken g c p p x w x) (sym is) (no_session g c x p fault.Stopped (λ u. refl))
+pub not_begun : (g : Given) (s : PipeState) (x : Outside) (b : Option (List ℕ)) (why : PipeFault) → (why ≡ fault.Memory) ⊎ (why ≡ fault.Stopped) → Broken g s b b x why x
+not_begun g s x b why (inl is) = subst (λ w. Broken g s b b x w x) (sym is) (no_session g s x b fault.Memory (λ u. refl))
+not_begun g s x b why (inr is) = subst (λ w. Broken g s b b x w x) (sym is) (no_session g s x b fault.Stopped (λ u. refl))
 
 -- ---- where there is no file
 pub is_alone : (k : Kept) → k.told ≡ no_file.told → k.synced ≡ no_file.synced → k.failures ≡ 0 → k.mode ≡ no_file.mode → k.broken ≡ false → k ≡ no_file
 is_alone k t s f m b = λ i. record { told = t i; synced = s i; failures = f i; mode = m i; broken = b i }
 
-pub piped_alone : (g : Given) (c d : Core) (p q old new : Option (List ℕ)) (k n : Kept) (r : Result (Unit {0}) PipeFault) → c ≡ d → k ≡ no_file
+pub piped_alone : (g : Given) (c d : PipeState) (p q old new : Option (List ℕ)) (k n : Kept) (r : Result (Unit {0}) PipeFault) → c ≡ d → k ≡ no_file
     → IsPiped g c p q (record { output = old; kept = k }) (record { output = new; kept = n }) r → IsPipedAlone g d p q old new r
 piped_alone g c d p q old new k n r same none h = (
   n,
@@ -157,14 +158,14 @@ no_cause a b sound none (inl broken) = let e : true ≡ false = sym broken ∙ s
 no_cause a b sound none (inr (inl more)) = omega (arith, more, none)
 no_cause a b sound none (inr (inr most)) = omega (arith, most, none)
 
-no_tear : (g : Given) (c : Core) (u : List ℕ) (x y : Outside) → x.kept.broken ≡ false → y.kept.failures ≡ 0 → Tears g c u x y → ⊥
+no_tear : (g : Given) (c : PipeState) (u : List ℕ) (x y : Outside) → x.kept.broken ≡ false → y.kept.failures ≡ 0 → Tears g c u x y → ⊥
 no_tear g c u x y sound none t = no_cause t.torn.between y.kept (stays_sound t.torn.made x.kept t.torn.between t.torn.filed sound) none t.torn.fails.cause
 
 err_is : (w v : PipeFault) → ◌≡◌ {A = Result (Unit {0}) PipeFault} (Err w) (Err v) → w ≡ v
 err_is w v e = cc
 
-pub never_fails : (g : Given) (c : Core) (p q : Option (List ℕ)) (x y : Outside) (r : Result (Unit {0}) PipeFault) → x.kept.broken ≡ false → y.kept.failures ≡ 0 → IsPiped g c p q x y r → IsErrOf r fault.File → ⊥
+pub never_fails : (g : Given) (c : PipeState) (p q : Option (List ℕ)) (x y : Outside) (r : Result (Unit {0}) PipeFault) → x.kept.broken ≡ false → y.kept.failures ≡ 0 → IsPiped g c p q x y r → IsErrOf r fault.File → ⊥
 never_fails g c p q x y (Ok u) sound none h e = let wrong : ◌≡◌ {A = Result (Unit {0}) PipeFault} (Ok u) (Err fault.File) = e in cc
 never_fails g c p q x y (Err why) sound none h e =
     let k = h.breaks in
-    no_tear g k.core k.done.rest k.before y (stays_sound (all_changes k.done.moments) x.kept k.before.kept k.done.settled.filed sound) none (subst (λ w. IsLeft w g k.core k.done.rest k.before y) (err_is why fault.File e) k.left)
+    no_tear g k.at k.done.rest k.before y (stays_sound (all_changes k.done.moments) x.kept k.before.kept k.done.settled.filed sound) none (subst (λ w. IsLeft w g k.at k.done.rest k.before y) (err_is why fault.File e) k.left)

@@ -1,52 +1,69 @@
 -- Requests one after another, and however the bytes are cut.
 use Rattle.std.proofs.Common.{◌≡◌, ℕ, List, [], ◌∷◌, ◌++◌, refl, sym, ap, subst, ◌∙◌, append_assoc}
 use Rattle.mr_data.specs.declared.given.Given.{Given}
-use Rattle.mr_node.specs.State.{Core}
-use Rattle.mr_node.specs.Outs.{Output}
-use Rattle.mr_node.specs.Served.{Served}
+use Rattle.mr_outs.specs.Outs.{Output}
+use Rattle.mr_rows.specs.State.{Core}
+use Rattle.mr_rows.specs.Requests.{Asks, AsksNothing}
+use Rattle.mr_rows.specs.Telling.{Around}
+use Rattle.mr_rows.specs.Served.{Served}
+use Rattle.mr_rows.specs.ReplicaRows.{IsExpected}
 use Rattle.mr_pipe.specs.Outside.{Change}
-use Rattle.mr_pipe.specs.Sessions.{Moment, AreServed, changes_of, all_changes}
+use Rattle.mr_pipe.specs.State.{PipeState}
+use Rattle.mr_pipe.specs.Sessions.{Moment, AreServed, IsServed, changes_of, all_changes}
 
 pub append_nil : {A : Type 0} (xs : List A) → xs ++ [] ≡ xs
 append_nil [] = refl
 append_nil (x ∷ xs) = ap (λ ys. x ∷ ys) (append_nil xs)
 
 -- one more request
-pub serves_then : (g : Given) (c : Core) (u : List ℕ) (ts : List Moment) (d : Core) (rest said : List ℕ) (e : Core) (left : List ℕ) (out : Output)
-    → AreServed g c u ts d rest said → Served d rest g e left out → AreServed g c u (ts ++ record { core = e; left = left; out = out } ∷ []) e left (said ++ out.said)
-serves_then g c u [] d rest said e left out s r = (
-  subst (λ z. Served z u g e left out) s.0 (subst (λ z. Served d z g e left out) s.1 r),
-  ([], (refl, refl, refl), ap (λ z. z ++ out.said) s.2 ∙ sym (append_nil out.said)),
+pub serves_then : (g : Given) (s : PipeState) (u : List ℕ) (ms : List Moment) (t : PipeState) (rest said : List ℕ) (e : PipeState) (left : List ℕ) (out : Output)
+    → AreServed g s u ms t rest said → IsServed g t rest e left out → AreServed g s u (ms ++ record { pipe = e; left = left; out = out } ∷ []) e left (said ++ out.said)
+serves_then g s u [] t rest said e left out h r = (
+  subst (λ z. IsServed g z u e left out) h.0 (subst (λ z. IsServed g t z e left out) h.1 r),
+  ([], (refl, refl, refl), ap (λ z. z ++ out.said) h.2 ∙ sym (append_nil out.said)),
 )
-serves_then g c u (t ∷ ts) d rest said e left out s r =
-    (s.0, (s.1.0 ++ out.said, serves_then g t.core t.left ts d rest s.1.0 e left out s.1.1 r, ap (λ z. z ++ out.said) s.1.2 ∙ append_assoc t.out.said s.1.0 out.said))
+serves_then g s u (m ∷ ms) t rest said e left out h r =
+    (h.0, (h.1.0 ++ out.said, serves_then g m.pipe m.left ms t rest h.1.0 e left out h.1.1 r, ap (λ z. z ++ out.said) h.1.2 ∙ append_assoc m.out.said h.1.0 out.said))
 
 -- more bytes behind
-served_more : (c : Core) (u m : List ℕ) (g : Given) (d : Core) (rest : List ℕ) (out : Output) → Served c u g d rest out → Served c (u ++ m) g d (rest ++ m) out
-served_more c u m g d rest out (Served.request words a s) =
-    Served.request words (record { text = a.text; begins = ap (λ z. z ++ m) a.begins ∙ append_assoc a.text rest m; request = a.request }) s
-served_more c u m g d rest out (Served.nothing a e o) =
-    Served.nothing (record { text = a.text; begins = ap (λ z. z ++ m) a.begins ∙ append_assoc a.text rest m; empty = a.empty }) e o
+asks_more : (u m : List ℕ) (words : List (List ℕ)) (rest : List ℕ) → Asks u words rest → Asks (u ++ m) words (rest ++ m)
+asks_more u m words rest a = record { text = a.text; begins = ap (λ z. z ++ m) a.begins ∙ append_assoc a.text rest m; request = a.request }
+
+asks_nothing_more : (u m rest : List ℕ) → AsksNothing u rest → AsksNothing (u ++ m) (rest ++ m)
+asks_nothing_more u m rest a = record { text = a.text; begins = ap (λ z. z ++ m) a.begins ∙ append_assoc a.text rest m; empty = a.empty }
+
+served_more : (c : Core) (around : Around) (u m : List ℕ) (g : Given) (d : Core) (rest : List ℕ) (out : Output) → Served c around u g d rest out → Served c around (u ++ m) g d (rest ++ m) out
+served_more c around u m g d rest out (Served.request words a s) = Served.request words (asks_more u m words rest a) s
+served_more c around u m g d rest out (Served.nothing a e o) = Served.nothing (asks_nothing_more u m rest a) e o
+
+expected_more : (u m rest : List ℕ) → IsExpected u rest → IsExpected (u ++ m) (rest ++ m)
+expected_more u m rest (IsExpected.acknowledgement words offset a w) = IsExpected.acknowledgement words offset (asks_more u m words rest a) w
+expected_more u m rest (IsExpected.nothing a) = IsExpected.nothing (asks_nothing_more u m rest a)
+
+one_more : (g : Given) (s : PipeState) (u m : List ℕ) (t : PipeState) (rest : List ℕ) (out : Output) → IsServed g s u t rest out → IsServed g s (u ++ m) t (rest ++ m) out
+one_more g s u m t rest out (IsServed.serves k d h is) = IsServed.serves k d (served_more s.core _ u m g d rest out h) is
+one_more g s u m t rest out (IsServed.takes_role k words a h) = IsServed.takes_role k words (asks_more u m words rest a) h
+one_more g s u m t rest out (IsServed.notes k e is o) = IsServed.notes k (expected_more u m rest e) is o
 
 pub more_moments : List ℕ → List Moment → List Moment
 more_moments m [] = []
 more_moments m (t ∷ ts) = record t { left = t.left ++ m } ∷ more_moments m ts
 
 -- Whatever comes later, what was served stays served: so cuts don't matter.
-pub serves_more : (g : Given) (m : List ℕ) (c : Core) (u : List ℕ) (ts : List Moment) (d : Core) (rest said : List ℕ)
-    → AreServed g c u ts d rest said → AreServed g c (u ++ m) (more_moments m ts) d (rest ++ m) said
+pub serves_more : (g : Given) (m : List ℕ) (s : PipeState) (u : List ℕ) (ms : List Moment) (t : PipeState) (rest said : List ℕ)
+    → AreServed g s u ms t rest said → AreServed g s (u ++ m) (more_moments m ms) t (rest ++ m) said
 unfolding more_moments
-serves_more g m c u [] d rest said s = (s.0, ap (λ z. z ++ m) s.1, s.2)
-serves_more g m c u (t ∷ ts) d rest said s =
-    (served_more c u m g t.core t.left t.out s.0, (s.1.0, serves_more g m t.core t.left ts d rest s.1.0 s.1.1, s.1.2))
+serves_more g m s u [] t rest said h = (h.0, ap (λ z. z ++ m) h.1, h.2)
+serves_more g m s u (n ∷ ms) t rest said h =
+    (one_more g s u m n.pipe n.left n.out h.0, (h.1.0, serves_more g m n.pipe n.left ms t rest h.1.0 h.1.1, h.1.2))
 
 -- one session after another
-pub serves_join : (g : Given) (c : Core) (u : List ℕ) (ts : List Moment) (d : Core) (rest said : List ℕ) (ss : List Moment) (e : Core) (left more : List ℕ)
-    → AreServed g c u ts d rest said → AreServed g d rest ss e left more → AreServed g c u (ts ++ ss) e left (said ++ more)
-serves_join g c u [] d rest said ss e left more s r =
-    subst (λ o. AreServed g c u ss e left (o ++ more)) (sym s.2) (subst (λ z. AreServed g z u ss e left more) s.0 (subst (λ z. AreServed g d z ss e left more) s.1 r))
-serves_join g c u (t ∷ ts) d rest said ss e left more s r =
-    (s.0, (s.1.0 ++ more, serves_join g t.core t.left ts d rest s.1.0 ss e left more s.1.1 r, ap (λ z. z ++ more) s.1.2 ∙ append_assoc t.out.said s.1.0 more))
+pub serves_join : (g : Given) (s : PipeState) (u : List ℕ) (ms : List Moment) (t : PipeState) (rest said : List ℕ) (ns : List Moment) (e : PipeState) (left more : List ℕ)
+    → AreServed g s u ms t rest said → AreServed g t rest ns e left more → AreServed g s u (ms ++ ns) e left (said ++ more)
+serves_join g s u [] t rest said ns e left more h r =
+    subst (λ o. AreServed g s u ns e left (o ++ more)) (sym h.2) (subst (λ z. AreServed g z u ns e left more) h.0 (subst (λ z. AreServed g t z ns e left more) h.1 r))
+serves_join g s u (m ∷ ms) t rest said ns e left more h r =
+    (h.0, (h.1.0 ++ more, serves_join g m.pipe m.left ms t rest h.1.0 ns e left more h.1.1 r, ap (λ z. z ++ more) h.1.2 ∙ append_assoc m.out.said h.1.0 more))
 
 -- what is done to the file, one session after another
 pub changes_join : (ts ss : List Moment) → all_changes (ts ++ ss) ≡ all_changes ts ++ all_changes ss

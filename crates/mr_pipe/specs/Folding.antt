@@ -8,10 +8,10 @@ use Rattle.mr_effect.specs.declared.effect.Effect.{Effect}
 use Rattle.mr_entries.specs.Dataset.{Dataset}
 use Rattle.mr_data.specs.Meaning.{apply_all}
 use Rattle.mr_data.specs.declared.given.Given.{Given}
-use Rattle.mr_node.specs.State.{Core}
 use Rattle.mr_file.specs.LogFile.{IsSynced}
 use Rattle.mr_file.specs.declared.sync_mode.SyncMode.TheVariants.{Always}
 use Rattle.mr_pipe.specs.Outside.{Outside}
+use Rattle.mr_pipe.specs.State.{PipeState}
 use Rattle.mr_pipe.specs.Piped.{Session, Broken}
 use Rattle.mr_pipe.specs.declared.fault.PipeFault.{PipeFault}
 
@@ -36,14 +36,14 @@ pub record FoldsTorn (bytes : List ℕ) (old : Dataset) : Type 0 where
 
 -- where a file's bytes fold to the dataset that a pipe began with, they fold to its node's dataset at the end
 abbrev pub FilesFold : Type 0
-FilesFold = (g : Given) (c : Core) (before after : Option (List ℕ)) (x y : Outside) → (s : Session g c before after x y) → (xs : List ℕ) → x.kept.told ≡ Some xs → Folds xs empty c.held
-    → (ys : List ℕ) × ((y.kept.told ≡ Some ys) × Folds ys empty s.core.held)
+FilesFold = (g : Given) (p : PipeState) (before after : Option (List ℕ)) (x y : Outside) → (s : Session g p before after x y) → (xs : List ℕ) → x.kept.told ≡ Some xs → Folds xs empty p.core.held
+    → (ys : List ℕ) × ((y.kept.told ≡ Some ys) × Folds ys empty s.pipe.core.held)
 
 -- .. and after a fault they are texts of effects of which at most the last step's are torn
 abbrev pub FilesFoldTorn : Type 0
-FilesFoldTorn = (g : Given) (c : Core) (before after : Option (List ℕ)) (x : Outside) (why : PipeFault) (y : Outside) → Broken g c before after x why y → (xs : List ℕ) → x.kept.told ≡ Some xs → Folds xs empty c.held
+FilesFoldTorn = (g : Given) (p : PipeState) (before after : Option (List ℕ)) (x : Outside) (why : PipeFault) (y : Outside) → Broken g p before after x why y → (xs : List ℕ) → x.kept.told ≡ Some xs → Folds xs empty p.core.held
     → (ys : List ℕ) × ((y.kept.told ≡ Some ys) × FoldsTorn ys empty)
 
 -- where each append is synced, and all bytes of the file were at the beginning, all are at the end
 abbrev pub FilesStaySynced : Type 0
-FilesStaySynced = (g : Given) (c : Core) (before after : Option (List ℕ)) (x y : Outside) → Session g c before after x y → x.kept.mode ≡ Always → IsSynced x.kept.told x.kept.synced → IsSynced y.kept.told y.kept.synced
+FilesStaySynced = (g : Given) (p : PipeState) (before after : Option (List ℕ)) (x y : Outside) → Session g p before after x y → x.kept.mode ≡ Always → IsSynced x.kept.told x.kept.synced → IsSynced y.kept.told y.kept.synced

@@ -8,7 +8,7 @@ ghost use Rattle.mr_pipe.specs.Sessions.{changes_of, output_of};
 use crate::fault::PipeFault;
 use mr_aof::Log;
 use mr_file::LogFile;
-use mr_node::Outs;
+use mr_outs::Outs;
 use std::io::{ErrorKind, Write};
 
 /// Appends texts to the file, where there are some.

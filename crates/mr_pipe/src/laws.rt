@@ -1,5 +1,6 @@
 // What holds of the definitions.
 ghost use Rattle.mr_pipe.specs.Folding.{FilesFold, FilesFoldTorn, FilesStaySynced};
+ghost use Rattle.mr_pipe.specs.Roles.{ReplicaLinksAreSilent, ReplicaLinksEndSilently, ReplicasOnlyRewrite};
 
 /// Where a file's bytes are the texts of effects that make the dataset with which a pipe begins, its bytes at the end are texts of
 /// effects that make the dataset of the pipe's node then, also where it was written anew. After a fault at most the texts of the last
@@ -12,4 +13,16 @@ pub fn files_fold()
 /// Where each append is synced, and all bytes of the file were when a pipe began, all are at its end.
 pub fn files_stay_synced()
     ensures { FilesStaySynced }
+{}
+
+/// Where the node of a pipe is a replica, no request changes its dataset or puts something behind its stream or its file. The file is
+/// replaced where the client asks for it, by what makes the dataset again.
+pub fn replicas_only_rewrite()
+    ensures { ReplicasOnlyRewrite }
+{}
+
+/// Once the link of a pipe is a replica's, nothing that comes there is answered, and neither the node nor its file changes.
+pub fn replica_links_are_silent()
+    ensures steps { ReplicaLinksAreSilent }
+    ensures ends { ReplicaLinksEndSilently }
 {}

@@ -5,10 +5,11 @@ mod config;
 mod fault;
 mod keep;
 mod laws;
+mod linked_node;
 mod relay;
 mod serve;
 
 pub use config::PipeConfig;
 pub use fault::PipeFault;
-pub use laws::{files_fold, files_stay_synced};
+pub use laws::{files_fold, files_stay_synced, replica_links_are_silent, replicas_only_rewrite};
 pub use relay::{pipe, pipe_with};

@@ -1,30 +1,25 @@
 // A whole input, answered.
 ghost use Rattle.std.specs.Prelude.{◌≡◌, ◌⊎◌, ◌++◌, ◌<◌, ℕ, List, [], Option, IfOk, IfErr, OnErr, IsErrOf, length, take};
 ghost use Rattle.std.specs.Io.KnownBytes.{Consumes, IsAtEnd, Keeps};
-ghost use Rattle.mr_node.specs.State.{NodeState, Agrees};
+ghost use Rattle.mr_pipe.specs.State.{PipeState, Stands};
 ghost use Rattle.mr_pipe.specs.Outside.{Outside, outside};
 ghost use Rattle.mr_pipe.specs.Serving.{Drained};
-ghost use Rattle.mr_pipe.specs.Piped.{IsRound, IsPiped, IsPipedAlone, core_with, fresh_core};
+ghost use Rattle.mr_pipe.specs.Piped.{IsRound, IsPiped, IsPipedAlone, begun_with, begun_empty};
 ghost use Rattle.mr_pipe.specs.Reading.{IsRead};
 
 use crate::config::PipeConfig;
 use crate::fault::PipeFault;
+use crate::linked_node::LinkedNode;
 use crate::serve::deliver;
 use mr_aof::Log;
 use mr_data::{Dataset, Given};
 use mr_file::LogFile;
-use mr_links::LinkId;
-use mr_node::{Config, Node};
-use mr_repl::ReplId;
 use std::alloc::Global;
 use std::hash::RandomState;
 use std::io::{ErrorKind, Read, Write};
 
 /// How many bytes are read at once.
 const PIECE: usize = 65_536;
-
-/// How many bytes the backlog holds.
-const BACKLOG: usize = 1_048_576;
 
 /// What a read came to.
 #[derive(Clone, Copy)]
@@ -57,8 +52,7 @@ fn read_piece<R: Read>(input: &mut R, buffer: &mut [u8]) -> Result<Option<usize>
 
 /// Reads once, and serves what came. What was written goes out before the next read.
 fn serve_piece<F: LogFile, R: Read, W: Write>(
-    node: &mut Node,
-    link: LinkId,
+    linked: &mut LinkedNode,
     given: Given,
     log: &mut Log<F>,
     input: &mut R,
@@ -66,10 +60,10 @@ fn serve_piece<F: LogFile, R: Read, W: Write>(
     output: &mut W,
 ) -> Result<Round, PipeFault>
     requires { 0 < length buffer.old }
-    ensures { (a : NodeState) (u : List ℕ) (x : Outside) → Drained given a link u x node.old (outside W.contents F.told F.synced F.failures output.old log.old)
-        → IsRound given a link u x (R.remaining input.old) (R.remaining input.new) node.new (outside W.contents F.told F.synced F.failures output.new log.new) result }
+    ensures { (s : PipeState) (u : List ℕ) (x : Outside) → Drained given s u x linked.old (outside W.contents F.told F.synced F.failures output.old log.old)
+        → IsRound given s u x (R.remaining input.old) (R.remaining input.new) linked.new (outside W.contents F.told F.synced F.failures output.new log.new) result }
 {
-    let room = node.room(link).unwrap_or(0);
+    let room = linked.node.room(linked.link).unwrap_or(0);
     let most = room.min(buffer.len());
     if most == 0 {
         return Err(PipeFault::Memory);
@@ -81,7 +75,7 @@ fn serve_piece<F: LogFile, R: Read, W: Write>(
     if count == 0 {
         return Ok(Round::End);
     }
-    let goes_on = deliver(node, link, given, &piece[..count], log, output)?;
+    let goes_on = deliver(linked, given, &piece[..count], log, output)?;
     if goes_on {
         return Ok(Round::On);
     }
@@ -90,8 +84,7 @@ fn serve_piece<F: LogFile, R: Read, W: Write>(
 
 /// Reads to the end, or to the request that is the last, and serves all.
 fn relay<F: LogFile, R: Read, W: Write>(
-    node: &mut Node,
-    link: LinkId,
+    linked: &mut LinkedNode,
     given: Given,
     log: &mut Log<F>,
     input: &mut R,
@@ -99,11 +92,11 @@ fn relay<F: LogFile, R: Read, W: Write>(
     output: &mut W,
 ) -> Result<(), PipeFault>
     requires { 0 < length buffer.old }
-    ensures { Agrees node.old link [] → IsPiped given node.old.core (R.remaining input.old) (R.remaining input.new)
+    ensures { (s : PipeState) → Stands linked.old s [] → IsPiped given s (R.remaining input.old) (R.remaining input.new)
         (outside W.contents F.told F.synced F.failures output.old log.old) (outside W.contents F.told F.synced F.failures output.new log.new) result }
 {
     for _round in 0..u64::MAX {
-        match serve_piece(node, link, given, log, input, buffer, output)? {
+        match serve_piece(linked, given, log, input, buffer, output)? {
             Round::On => {}
             Round::End => return Ok(()),
             Round::Shut => return Ok(()),
@@ -112,28 +105,15 @@ fn relay<F: LogFile, R: Read, W: Write>(
     Err(PipeFault::Read)
 }
 
-/// A node with this dataset, and a client's link of it.
-fn begin(alloc: Global, id: ReplId, dataset: Dataset) -> Result<(Node, LinkId), PipeFault>
-    ensures core { IfOk result (λ begun. begun.0.core ≡ core_with id dataset) }
-    ensures agrees { IfOk result (λ begun. Agrees begun.0 begun.1 []) }
-    ensures fault { IfErr result (λ e. (e ≡ PipeFault.Memory) ⊎ (e ≡ PipeFault.Stopped)) }
-{
-    let Some(start) = Config::new(false, 0, BACKLOG) else {
-        unreachable!()
-    };
-    let Ok(mut node) = Node::start(alloc, id, dataset, start) else {
-        return Err(PipeFault::Memory);
-    };
-    let link = node.open()?;
-    Ok((node, link))
-}
-
-/// Answers the requests that the input has, one after another, as one client's of a node that begins with this dataset. The texts of
-/// a request's effects are in the log's file before its reply is written, synced in the mode `Always`; a request that has the file
-/// written anew is answered once the new file stands in the place of the old, synced in either mode. Each reply is written
-/// before the next step, and out before the next read. Where it answers `Ok`, the input was read to its end, or to the request that
-/// broke the protocol, to QUIT or to SHUTDOWN, and what was written is exactly the replies to it. After a fault it is a beginning of them: nothing of
-/// the reply to a request whose changes of the file weren't made.
+/// Answers the requests that the input has, one after another, as one client's of a node that begins as a master with this
+/// dataset. The texts of a request's effects are in the log's file before its reply is written, synced in the mode `Always`; a
+/// request that has the file written anew is answered once the new file stands in the place of the old, synced in either mode.
+/// Each reply is written before the next step, and out before the next read. A request may make the link a replica's, which is
+/// sent nothing more, or the node a replica, which dials nobody, or a master again under a fresh id.
+///
+/// Where it answers `Ok`, the input was read to its end, or to the request that broke the protocol, to QUIT or to SHUTDOWN, or
+/// on a replica's link to what a replica doesn't send, and what was written is exactly the replies to it. After a fault it is a
+/// beginning of them: nothing of the reply to a request whose changes of the file weren't made.
 pub fn pipe_with<F: LogFile, R: Read, W: Write>(
     alloc: Global,
     config: &PipeConfig,
@@ -142,16 +122,15 @@ pub fn pipe_with<F: LogFile, R: Read, W: Write>(
     input: &mut R,
     output: &mut W,
 ) -> Result<(), PipeFault>
-    ensures { IsPiped config.now.given (core_with config.now.id dataset) (R.remaining input.old) (R.remaining input.new)
+    ensures { IsPiped config.now.given (begun_with config.now.id dataset) (R.remaining input.old) (R.remaining input.new)
         (outside W.contents F.told F.synced F.failures output.old log.old) (outside W.contents F.told F.synced F.failures output.new log.new) result }
 {
     let Ok(mut buffer) = vec![in alloc; 0u8; PIECE] else {
         return Err(PipeFault::Memory);
     };
-    let (mut node, link) = begin(alloc, config.id, dataset)?;
+    let mut linked = LinkedNode::begin(alloc, config.id, dataset)?;
     relay(
-        &mut node,
-        link,
+        &mut linked,
         config.given,
         log,
         input,
@@ -168,7 +147,7 @@ pub fn pipe<R: Read, W: Write>(
     input: &mut R,
     output: &mut W,
 ) -> Result<(), PipeFault>
-    ensures piped { IsPipedAlone config.now.given (fresh_core config.now.id) (R.remaining input.old) (R.remaining input.new) (W.contents output.old) (W.contents output.new) result }
+    ensures piped { IsPipedAlone config.now.given (begun_empty config.now.id) (R.remaining input.old) (R.remaining input.new) (W.contents output.old) (W.contents output.new) result }
     ensures no_file { IsErrOf result PipeFault.File → ⊥ }
 {
     let mut log = Log::none();

@@ -6,7 +6,7 @@ use Rattle.mr_links.specs.LinkId.{id_cmp}
 use Rattle.mr_links.specs.declared.link_id.LinkId.{LinkId}
 use Rattle.mr_follow.specs.State.{FollowState, started}
 use Rattle.mr_follow.specs.Handshake.{ping_line}
-use Rattle.mr_course.specs.State.{offer_of}
+use Rattle.mr_course.specs.State.{name_of, offer_of}
 use Rattle.mr_ends.specs.State.{EndState, opened_as, without}
 use Rattle.mr_ends.specs.State.EndState.{client, upstream}
 use Rattle.mr_outs.specs.Outs.{OutsState, no_outs}
@@ -44,3 +44,4 @@ pub record Feeds (a : NodeState) (l : LinkId) (bytes : List ℕ) (b : NodeState)
   pub at_shut : IsShut a l → b ≡ a
   pub others : OthersStay a b l
   pub core : b.core ≡ a.core
+  pub follow : name_of a.follow ≢ Some l → b.follow ≡ a.follow

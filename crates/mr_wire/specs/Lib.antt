@@ -1,1 +1,2 @@
+pub mod Peer
 pub mod Wire

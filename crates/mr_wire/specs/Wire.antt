@@ -1,9 +1,11 @@
 -- What a wire tells of its links, and what each call makes of them.
-use Rattle.std.specs.Prelude.{◌≡◌, ℕ, ◌+◌, ◌≤◌, List, [], ◌++◌, Bool, true, false, ◌||◌, Option, None, take, if◌then◌else◌, nat_le, IfSome}
+use Rattle.std.specs.Prelude.{◌≡◌, ℕ, ◌+◌, ◌≤◌, List, [], ◌++◌, Bool, true, false, ◌||◌, Option, Some, None, take, if◌then◌else◌, nat_le, IfSome}
 use Rattle.std.specs.FinMap as map
 use Rattle.std.specs.List.{find}
 use Rattle.mr_links.specs.declared.link_id.LinkId.{LinkId}
 use Rattle.mr_links.specs.Links.{Links}
+use Rattle.std.specs.declared.net.socket_addr.SocketAddrV4.{SocketAddrV4}
+use Rattle.mr_wire.specs.Peer.{Names}
 use Rattle.mr_wire.specs.declared.wire.Moved.{Moved}
 use Rattle.mr_wire.specs.declared.wire.Moved.TheVariants as moved
 
@@ -12,9 +14,15 @@ pub record LinkState : Type 0 where
   pub given : List ℕ  -- the bytes that its reads gave
   pub moved : List ℕ  -- the bytes that its writes moved
   pub ended : Bool  -- a read or a write of it answered that it ended or failed
+  pub asked : Option SocketAddrV4  -- the peer that it was asked for, if this end opened it
 
+-- a link that a peer opened
 abbrev pub new_link : LinkState
-new_link = record { given = []; moved = []; ended = false }
+new_link = record { given = []; moved = []; ended = false; asked = None }
+
+-- a link that this peer was asked for
+abbrev pub asked_link : SocketAddrV4 → LinkState
+asked_link peer = record new_link { asked = Some peer }
 
 -- how many bytes a call moved
 abbrev pub count_of : Moved → ℕ
@@ -46,13 +54,21 @@ behind_write tells m bytes e = record e { moved = e.moved ++ told tells (take (c
 abbrev pub ChangesLink : Links LinkState → LinkId → (LinkState → LinkState) → Links LinkState → Type 0
 ChangesLink a l f b = IfSome (map.get a.open_links l) (λ e. b ≡ record a { open_links = map.insert a.open_links l (f e) })
 
--- A new link under a name that was never given before, and nothing else.
-pub record Accepts (a : Links LinkState) (l : LinkId) (b : Links LinkState) : Type 0 where
+-- A new link in this state under a name that was never given before, and nothing else.
+pub record Opens (a : Links LinkState) (l : LinkId) (e : LinkState) (b : Links LinkState) : Type 0 where
   pub generation : l.generation ≡ a.opened
   pub fresh : map.get a.open_links l ≡ None
-  pub links : b ≡ record { open_links = map.insert a.open_links l new_link; opened = a.opened + 1 }
+  pub links : b ≡ record { open_links = map.insert a.open_links l e; opened = a.opened + 1 }
 
--- Nothing is accepted. A name may be spent on a link that isn't there.
+-- a peer opened a link
+abbrev pub Accepts : Links LinkState → LinkId → Links LinkState → Type 0
+Accepts a l b = Opens a l new_link b
+
+-- a link is opened to the peer that this host and this port name
+abbrev pub Connects : Links LinkState → List ℕ → ℕ → LinkId → Links LinkState → Type 0
+Connects a host port l b = (peer : SocketAddrV4) × Names host port peer × Opens a l (asked_link peer) b
+
+-- No link is opened. A name may be spent on a link that isn't there.
 pub record AcceptsNone (a b : Links LinkState) : Type 0 where
   pub links : b.open_links ≡ a.open_links
   pub opened : a.opened ≤ b.opened

@@ -1,12 +1,14 @@
-ghost use Rattle.std.specs.Prelude.{◌≡◌, ◌≤◌, ◌||◌, false, length, IfSome};
-ghost use Rattle.mr_wire.specs.Wire.{new_link, behind_read, behind_write, count_of, is_over};
+ghost use Rattle.std.specs.Prelude.{◌≡◌, ◌≤◌, ◌||◌, false, length, IfOk, IfSome};
+ghost use Rattle.mr_wire.specs.Wire.{new_link, asked_link, behind_read, behind_write, count_of, is_over};
 
 use crate::wire::Moved;
 use mio::event::Event;
 use mio::net::TcpStream;
 use mio::{Interest, Poll, Token};
+use std::io;
 use std::io::{ErrorKind, Read, Write};
 use std::marker::Model;
+use std::net::{Net, SocketAddr, SocketAddrV4};
 
 /// A socket, and what is known of it without asking the system.
 #[derive(Drop)]
@@ -22,6 +24,8 @@ pub(crate) struct Connection {
     /// moved all its bytes while a read may still give some.
     unfinished: bool,
     ended: bool,
+    /// The peer that it was asked for, if this end opened it.
+    asked: Option<SocketAddrV4>,
 }
 
 impl Model for Connection {
@@ -30,10 +34,11 @@ impl Model for Connection {
 
     ghost Value = { LinkState };
 
-    ghost view = { λ c. record { given = []; moved = []; ended = c.ended } };
+    ghost view = { λ c. record { given = []; moved = []; ended = c.ended; asked = c.asked } };
 }
 
 impl Connection {
+    /// A socket that a peer opened.
     pub(crate) fn new(stream: TcpStream) -> Connection
         ensures { result ≡ new_link }
     {
@@ -44,7 +49,24 @@ impl Connection {
             closing: false,
             unfinished: false,
             ended: false,
+            asked: None,
         }
+    }
+
+    /// A socket that begins to connect to a peer. Nothing can be moved until an event says how that went.
+    pub(crate) fn asked_of(net: &impl Net, peer: SocketAddrV4) -> io::Result<Connection>
+        ensures { IfOk result (λ connection. connection ≡ asked_link peer) }
+    {
+        let stream = TcpStream::connect(net, SocketAddr::V4(peer))?;
+        let mut connection = Connection::new(stream);
+        connection.writable = false;
+        connection.asked = Some(peer);
+        Ok(connection)
+    }
+
+    /// Has small writes go out at once. Whether they do.
+    pub(crate) fn send_at_once(&self) -> bool {
+        self.stream.set_nodelay(true).is_ok()
     }
 
     /// Has the system tell what becomes of it. Whether it does.

@@ -5,11 +5,12 @@ mod connection;
 mod failures;
 mod mem_link;
 mod mem_wire;
+mod peer;
 mod ready_links;
 mod socket_wire;
 mod wire;
 
 pub use mem_link::{MemLink, Reading, Writing};
-pub use mem_wire::{Accepting, MemWire, Waiting};
+pub use mem_wire::{Accepting, Connecting, MemWire, Waiting};
 pub use socket_wire::SocketWire;
 pub use wire::{Failed, Moved, Wire};

@@ -1,10 +1,11 @@
 ghost use Rattle.std.specs.Prelude.{◌≡◌, ◌≤◌, ◌||◌, true, length, IfSome};
-ghost use Rattle.mr_wire.specs.Wire.{new_link, behind_read, behind_write, count_of, is_over};
+ghost use Rattle.mr_wire.specs.Wire.{new_link, asked_link, behind_read, behind_write, count_of, is_over};
 
 use crate::wire::Moved;
 use std::alloc::Global;
 use std::collections::VecDeque;
 use std::marker::Model;
+use std::net::SocketAddrV4;
 
 /// What a read is to come to.
 #[derive(Drop)]
@@ -41,6 +42,8 @@ pub struct MemLink {
     given: Vec<u8>,
     moved: Vec<u8>,
     ended: bool,
+    /// The peer that it was asked for, if this end opened it.
+    asked: Option<SocketAddrV4>,
 }
 
 impl Model for MemLink {
@@ -48,7 +51,7 @@ impl Model for MemLink {
 
     ghost Value = { LinkState };
 
-    ghost view = { λ l. record { given = l.given.items; moved = l.moved.items; ended = l.ended } };
+    ghost view = { λ l. record { given = l.given.items; moved = l.moved.items; ended = l.ended; asked = l.asked } };
 }
 
 impl MemLink {
@@ -63,7 +66,29 @@ impl MemLink {
             given: Vec::new(alloc),
             moved: Vec::new(alloc),
             ended: false,
+            asked: None,
         }
+    }
+
+    /// A link that a peer was asked for, whose reads and writes come to these.
+    pub(crate) fn asked_of(
+        alloc: Global,
+        peer: SocketAddrV4,
+        reads: VecDeque<Reading>,
+        writes: VecDeque<Writing>,
+    ) -> MemLink
+        ensures { result ≡ asked_link peer }
+    {
+        let mut link = MemLink::new(alloc, reads, writes);
+        link.asked = Some(peer);
+        link
+    }
+
+    /// The peer that it was asked for, if this end opened it.
+    pub(crate) fn asked(&self) -> Option<SocketAddrV4>
+        ensures { result ≡ self.now.asked }
+    {
+        self.asked
     }
 
     /// All bytes that its writes moved.

@@ -1,14 +1,16 @@
 ghost use Rattle.std.specs.Prelude.{◌≡◌, ◌≤◌, ◌↔◌, true, length, None, IfOk, IfSome, IsSome, IsNone, OnErr};
 ghost use Rattle.std.specs.FinMap as map;
 ghost use Rattle.mr_file.specs.LogFile.{Rose};
-ghost use Rattle.mr_wire.specs.Wire.{Accepts, ChangesLink, behind_read, behind_write, count_of, first_from, new_link};
+ghost use Rattle.mr_wire.specs.Wire.{Opens, ChangesLink, behind_read, behind_write, count_of, first_from};
 
 use crate::failures::Failures;
 use crate::mem_link::{MemLink, Reading, Writing};
+use crate::peer::peer_named;
 use crate::wire::{Failed, Moved, Wire};
 use mr_links::{LinkId, Links};
 use std::alloc::Global;
 use std::collections::VecDeque;
+use std::net::SocketAddrV4;
 
 /// What an accept is to come to.
 #[derive(Drop)]
@@ -18,6 +20,15 @@ pub enum Accepting {
     /// No peer has opened one.
     NotReady,
     /// The listener fails.
+    Failed,
+}
+
+/// What a connect is to come to.
+#[derive(Drop)]
+pub enum Connecting {
+    /// A link, whose reads and writes come to these. Those of a peer that hasn't answered yet are not ready.
+    Link(VecDeque<Reading>, VecDeque<Writing>),
+    /// No link can be opened.
     Failed,
 }
 
@@ -31,13 +42,15 @@ pub enum Waiting {
 /// No more links are opened in one run.
 const MOST_LINKS: u64 = 1 << 62;
 
-/// A wire in memory. Each wait and each accept takes the next of its list: at its end a wait succeeds, and nothing is accepted.
-/// Behind each wait all open links are named, in the order of their places. Where memory runs out it fails.
+/// A wire in memory. Each wait, each accept and each connect takes the next of its list: at its end a wait succeeds, nothing is
+/// accepted, and a connect fails. Behind each wait all open links are named, in the order of their places. Where memory runs out it
+/// fails.
 #[derive(Drop)]
 pub struct MemWire {
     alloc: Global,
     waits: VecDeque<Waiting>,
     accepts: VecDeque<Accepting>,
+    connects: VecDeque<Connecting>,
     links: Links<MemLink>,
     /// The first place whose link wasn't named since the last wait.
     unnamed: usize,
@@ -45,8 +58,13 @@ pub struct MemWire {
 }
 
 impl MemWire {
-    /// A wire without links, whose waits and accepts come to these.
-    pub fn new(alloc: Global, waits: VecDeque<Waiting>, accepts: VecDeque<Accepting>) -> MemWire
+    /// A wire without links, whose waits, accepts and connects come to these.
+    pub fn new(
+        alloc: Global,
+        waits: VecDeque<Waiting>,
+        accepts: VecDeque<Accepting>,
+        connects: VecDeque<Connecting>,
+    ) -> MemWire
         ensures links { result.links.open_links ≡ map.empty }
         ensures opened { result.links.opened ≡ 0 }
         ensures failed { result.failed.count ≡ 0 }
@@ -55,6 +73,7 @@ impl MemWire {
             alloc,
             waits,
             accepts,
+            connects,
             links: Links::new(alloc),
             unnamed: 0,
             failed: Failures::new(),
@@ -72,11 +91,17 @@ impl MemWire {
         }
     }
 
+    /// The peer that an open link was asked for, if this end opened it.
+    pub fn asked(&self, link: LinkId) -> Option<SocketAddrV4>
+        ensures there { IfSome (map.get self.now.links.open_links link) (λ e. result ≡ e.asked) }
+        ensures absent { map.get self.now.links.open_links link ≡ None → result ≡ None }
+    {
+        self.links.get(link)?.asked()
+    }
+
     /// Opens a link.
-    fn open(&mut self, end: MemLink) -> Result<Option<LinkId>, Failed>
-        requires { end ≡ new_link }
-        ensures some { IfOk result (λ next. IfSome next (λ link. Accepts self.old.links link self.new.links)) }
-        ensures none { IfOk result IsSome }
+    fn open(&mut self, end: MemLink) -> Result<LinkId, Failed>
+        ensures ok { IfOk result (λ link. Opens self.old.links link end self.new.links) }
         ensures err { OnErr result (self.new.links ≡ self.old.links) }
         ensures later { self.old.failed.count ≤ self.new.failed.count }
         ensures cause { OnErr result (Rose self.old.failed.count self.new.failed.count) }
@@ -85,7 +110,7 @@ impl MemWire {
             return Err(self.failed.failure());
         }
         match self.links.insert(end) {
-            Ok(link) => Ok(Some(link)),
+            Ok(link) => Ok(link),
             Err(_refused) => Err(self.failed.failure()),
         }
     }
@@ -146,10 +171,24 @@ impl Wire for MemWire {
     fn accept(&mut self) -> Result<Option<LinkId>, Failed> {
         match self.accepts.pop_front() {
             Some(Accepting::Link(reads, writes)) => {
-                self.open(MemLink::new(self.alloc, reads, writes))
+                let link = self.open(MemLink::new(self.alloc, reads, writes))?;
+                Ok(Some(link))
             }
             Some(Accepting::NotReady) | None => Ok(None),
             Some(Accepting::Failed) => Err(self.failed.failure()),
+        }
+    }
+
+    fn connect(&mut self, host: &[u8], port: u16) -> Result<LinkId, Failed> {
+        let next = self.connects.pop_front();
+        let Some(peer) = peer_named(host, port) else {
+            return Err(self.failed.failure());
+        };
+        match next {
+            Some(Connecting::Link(reads, writes)) => {
+                self.open(MemLink::asked_of(self.alloc, peer, reads, writes))
+            }
+            Some(Connecting::Failed) | None => Err(self.failed.failure()),
         }
     }
 

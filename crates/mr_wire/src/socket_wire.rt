@@ -1,20 +1,21 @@
-ghost use Rattle.std.specs.Prelude.{◌≡◌, ◌≤◌, false, length, None, IfOk, IfSome, IfNone, IsSome, OnErr};
+ghost use Rattle.std.specs.Prelude.{◌≡◌, ◌≤◌, false, length, None, IfOk, IfSome, IsSome, OnErr};
 ghost use Rattle.std.specs.FinMap as map;
 ghost use Rattle.mr_file.specs.LogFile.{Rose};
-ghost use Rattle.mr_wire.specs.Wire.{Accepts, AcceptsNone, ChangesLink, behind_read, behind_write, count_of};
+ghost use Rattle.mr_wire.specs.Wire.{Opens, AcceptsNone, ChangesLink, behind_read, behind_write, count_of};
 
 use crate::connection::Connection;
 use crate::failures::Failures;
+use crate::peer::peer_named;
 use crate::ready_links::ReadyLinks;
 use crate::wire::{Failed, Moved, Wire};
 use mio::event::Event;
-use mio::net::{TcpListener, TcpStream};
+use mio::net::TcpListener;
 use mio::{Events, Interest, Poll, Token};
 use mr_links::{LinkId, Links};
 use std::alloc::Global;
 use std::io;
 use std::io::ErrorKind;
-use std::net::{Net, SocketAddr};
+use std::net::SocketAddr;
 use std::time::Duration;
 
 const LISTENER: Token = Token(usize::MAX);
@@ -32,6 +33,7 @@ const NONE_LEFT: [i32; 2] = [23, 24];
 /// call is made that can't move a byte, and none of those on which nothing comes is named. It tells no bytes.
 #[derive(Drop)]
 pub struct SocketWire {
+    net: HostRuntime,
     poll: Poll,
     events: Events,
     listener: TcpListener,
@@ -45,17 +47,18 @@ pub struct SocketWire {
 
 impl SocketWire {
     /// Listens on an address.
-    pub fn listen(net: &impl Net, alloc: Global, address: SocketAddr) -> io::Result<SocketWire>
+    pub fn listen(net: HostRuntime, alloc: Global, address: SocketAddr) -> io::Result<SocketWire>
         ensures links { IfOk result (λ wire. wire.links.open_links ≡ map.empty) }
         ensures opened { IfOk result (λ wire. wire.links.opened ≡ 0) }
         ensures failed { IfOk result (λ wire. wire.failed.count ≡ 0) }
     {
-        let poll = Poll::new(net)?;
+        let poll = Poll::new(&net)?;
         let events = Events::with_capacity(alloc, MOST_EVENTS)?;
-        let mut listener = TcpListener::bind(net, address)?;
+        let mut listener = TcpListener::bind(&net, address)?;
         poll.registry()
             .register(&mut listener, LISTENER, Interest::READABLE)?;
         Ok(SocketWire {
+            net,
             poll,
             events,
             listener,
@@ -80,21 +83,20 @@ impl SocketWire {
     }
 
     /// Opens a link over a socket, or drops the socket.
-    fn open(&mut self, stream: TcpStream) -> Result<Option<LinkId>, Failed>
-        ensures some { IfOk result (λ next. IfSome next (λ link. Accepts self.old.links link self.new.links)) }
-        ensures none { IfOk result (λ next. IfNone next (self.new.links ≡ self.old.links)) }
+    fn open(&mut self, connection: Connection) -> Result<LinkId, Failed>
+        ensures ok { IfOk result (λ link. Opens self.old.links link connection self.new.links) }
         ensures err { OnErr result (AcceptsNone self.old.links self.new.links) }
         ensures later { self.old.failed.count ≤ self.new.failed.count }
         ensures cause { OnErr result (Rose self.old.failed.count self.new.failed.count) }
     {
-        if self.links.opened() >= MOST_LINKS || stream.set_nodelay(true).is_err() {
+        if self.links.opened() >= MOST_LINKS || !connection.send_at_once() {
             return Err(self.failed.failure());
         }
-        let Ok(link) = self.links.insert(Connection::new(stream)) else {
+        let Ok(link) = self.links.insert(connection) else {
             return Err(self.failed.failure());
         };
         if self.settle(link) {
-            return Ok(Some(link));
+            return Ok(link);
         }
         let _ = self.links.remove(link);
         Err(self.failed.failure())
@@ -247,7 +249,10 @@ impl Wire for SocketWire {
         }
         self.lacks_descriptors = false;
         match self.listener.accept() {
-            Ok((stream, _address)) => self.open(stream),
+            Ok((stream, _address)) => {
+                let link = self.open(Connection::new(stream))?;
+                Ok(Some(link))
+            }
             Err(error) => match error.kind() {
                 ErrorKind::Interrupted => Ok(None),
                 ErrorKind::WouldBlock => {
@@ -259,6 +264,16 @@ impl Wire for SocketWire {
                     Err(self.failed.failure())
                 }
             },
+        }
+    }
+
+    fn connect(&mut self, host: &[u8], port: u16) -> Result<LinkId, Failed> {
+        let Some(peer) = peer_named(host, port) else {
+            return Err(self.failed.failure());
+        };
+        match Connection::asked_of(&self.net, peer) {
+            Ok(connection) => self.open(connection),
+            Err(_error) => Err(self.failed.failure()),
         }
     }
 

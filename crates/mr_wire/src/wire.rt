@@ -2,7 +2,7 @@ ghost use Rattle.std.specs.Prelude.{◌≡◌, ◌≤◌, Bool, ℕ, None, lengt
 ghost use Rattle.std.specs.FinMap as map;
 ghost use Rattle.mr_links.specs.Links.{Links};
 ghost use Rattle.mr_file.specs.LogFile.{Rose};
-ghost use Rattle.mr_wire.specs.Wire.{LinkState, Accepts, AcceptsNone, ChangesLink, behind_read, behind_write, count_of};
+ghost use Rattle.mr_wire.specs.Wire.{LinkState, Accepts, AcceptsNone, Connects, ChangesLink, behind_read, behind_write, count_of};
 
 use mr_links::LinkId;
 use thiserror::Error;
@@ -47,6 +47,15 @@ pub trait Wire {
     fn accept(&mut self) -> Result<Option<LinkId>, Failed>
         ensures some { IfOk result (λ next. IfSome next (λ link. Accepts (links self.old) link (links self.new))) }
         ensures none { IfOk result (λ next. IfNone next (links self.new ≡ links self.old)) }
+        ensures err { OnErr result (AcceptsNone (links self.old) (links self.new)) }
+        ensures later { failures self.old ≤ failures self.new }
+        ensures cause { OnErr result (Rose (failures self.old) (failures self.new)) };
+
+    /// Opens a link to a peer. The host is an IPv4 address as text, or `localhost`: any other fails, for no name is looked up. The
+    /// call doesn't wait: until the peer has answered, nothing can be moved on the link. Where it refuses, the next read or write
+    /// fails, or finds the end.
+    fn connect(&mut self, host: &[u8], port: u16) -> Result<LinkId, Failed>
+        ensures ok { IfOk result (λ link. Connects (links self.old) host.now port link (links self.new)) }
         ensures err { OnErr result (AcceptsNone (links self.old) (links self.new)) }
         ensures later { failures self.old ≤ failures self.new }
         ensures cause { OnErr result (Rose (failures self.old) (failures self.new)) };

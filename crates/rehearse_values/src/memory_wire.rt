@@ -2,9 +2,9 @@
 use crate::fault::RehearsalFault;
 use crate::kind::Kind;
 use crate::step::{Step, bytes_of, count_of, link_of};
-use crate::telling::{tell, tell_bytes};
+use crate::telling::{tell, tell_bytes, tell_shown};
 use crate::wires::on_wire;
-use mr_wire::{Accepting, MemWire, Reading, Waiting, Writing};
+use mr_wire::{Accepting, Connecting, MemWire, Reading, Waiting, Writing};
 use std::alloc::Global;
 use std::collections::VecDeque;
 use std::mem;
@@ -14,7 +14,8 @@ use std::mem;
 pub struct MemoryWire {
     waits: VecDeque<Waiting>,
     accepts: VecDeque<Accepting>,
-    /// Of the link that is accepted next.
+    connects: VecDeque<Connecting>,
+    /// Of the link that is accepted or connected next.
     reads: VecDeque<Reading>,
     writes: VecDeque<Writing>,
     wire: Option<MemWire>,
@@ -25,6 +26,7 @@ impl MemoryWire {
         MemoryWire {
             waits: VecDeque::new(alloc),
             accepts: VecDeque::new(alloc),
+            connects: VecDeque::new(alloc),
             reads: VecDeque::new(alloc),
             writes: VecDeque::new(alloc),
             wire: None,
@@ -34,7 +36,8 @@ impl MemoryWire {
     fn begin(&mut self, alloc: Global, out: &mut Vec<u8>) -> Result<(), RehearsalFault> {
         let waits = mem::replace(&mut self.waits, VecDeque::new(alloc));
         let accepts = mem::replace(&mut self.accepts, VecDeque::new(alloc));
-        self.wire = Some(MemWire::new(alloc, waits, accepts));
+        let connects = mem::replace(&mut self.connects, VecDeque::new(alloc));
+        self.wire = Some(MemWire::new(alloc, waits, accepts, connects));
         tell(out, "begun")
     }
 
@@ -81,7 +84,10 @@ impl MemoryWire {
         out: &mut Vec<u8>,
     ) -> Result<(), RehearsalFault> {
         match step.first {
-            "link" => self.list_link(alloc)?,
+            "link" => {
+                let (reads, writes) = self.take_listed(alloc);
+                self.accepts.push_back(Accepting::Link(reads, writes))?
+            }
             "not-ready" => self.accepts.push_back(Accepting::NotReady)?,
             "failed" => self.accepts.push_back(Accepting::Failed)?,
             _ => return Err(RehearsalFault::Line),
@@ -89,12 +95,28 @@ impl MemoryWire {
         tell(out, "listed")
     }
 
-    /// A link whose reads and writes come to those that were listed since the one before.
-    fn list_link(&mut self, alloc: Global) -> Result<(), RehearsalFault> {
+    fn list_connect(
+        &mut self,
+        alloc: Global,
+        step: Step<'_>,
+        out: &mut Vec<u8>,
+    ) -> Result<(), RehearsalFault> {
+        match step.first {
+            "link" => {
+                let (reads, writes) = self.take_listed(alloc);
+                self.connects.push_back(Connecting::Link(reads, writes))?
+            }
+            "failed" => self.connects.push_back(Connecting::Failed)?,
+            _ => return Err(RehearsalFault::Line),
+        }
+        tell(out, "listed")
+    }
+
+    /// The reads and writes that were listed since the link before.
+    fn take_listed(&mut self, alloc: Global) -> (VecDeque<Reading>, VecDeque<Writing>) {
         let reads = mem::replace(&mut self.reads, VecDeque::new(alloc));
         let writes = mem::replace(&mut self.writes, VecDeque::new(alloc));
-        self.accepts.push_back(Accepting::Link(reads, writes))?;
-        Ok(())
+        (reads, writes)
     }
 }
 
@@ -110,6 +132,7 @@ impl Kind for MemoryWire {
             "reads" => self.list_read(alloc, step, out),
             "writes" => self.list_write(step, out),
             "accepts" => self.list_accept(alloc, step, out),
+            "connects" => self.list_connect(alloc, step, out),
             "begin" => self.begin(alloc, out),
             _ => match &mut self.wire {
                 Some(wire) => on_memory(alloc, wire, step, out),
@@ -127,6 +150,7 @@ fn on_memory(
 ) -> Result<(), RehearsalFault> {
     match step.name {
         "written" => tell_written(alloc, wire, step, out),
+        "asked" => tell_asked(alloc, wire, step, out),
         _ => on_wire(alloc, wire, step, out),
     }
 }
@@ -143,6 +167,24 @@ fn tell_written(
         Some(bytes) => {
             tell(out, "written")?;
             tell_bytes(alloc, bytes, out)
+        }
+        None => tell(out, "none"),
+    }
+}
+
+/// The peer that a link was asked for.
+fn tell_asked(
+    alloc: Global,
+    wire: &MemWire,
+    step: Step<'_>,
+    out: &mut Vec<u8>,
+) -> Result<(), RehearsalFault> {
+    let link = link_of(step)?;
+    match wire.asked(link) {
+        Some(peer) => {
+            tell(out, "asked")?;
+            tell_shown(alloc, *peer.ip(), out)?;
+            tell_shown(alloc, peer.port(), out)
         }
         None => tell(out, "none"),
     }

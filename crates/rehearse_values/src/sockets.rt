@@ -1,7 +1,7 @@
 //! Wires over the system's sockets.
 use crate::fault::RehearsalFault;
 use crate::kind::Kind;
-use crate::step::{Step, count_of};
+use crate::step::{Step, port_of};
 use crate::telling::{tell, tell_shown};
 use crate::wires::on_wire;
 use mr_wire::SocketWire;
@@ -27,12 +27,8 @@ impl Sockets {
         step: Step<'_>,
         out: &mut Vec<u8>,
     ) -> Result<(), RehearsalFault> {
-        let port = count_of(step.first)?;
-        if port > 65_535 {
-            return Err(RehearsalFault::Line);
-        }
-        let address = SocketAddr::from((Ipv4Addr::LOCALHOST, port as u16));
-        let wire = SocketWire::listen(&self.rt, alloc, address)?;
+        let address = SocketAddr::from((Ipv4Addr::LOCALHOST, port_of(step.first)?));
+        let wire = SocketWire::listen(self.rt.clone()?, alloc, address)?;
         let bound = wire.address()?;
         self.wire = Some(wire);
         tell(out, "listens")?;

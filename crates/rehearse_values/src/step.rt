@@ -51,6 +51,14 @@ pub fn count_of(word: &str) -> Result<u64, RehearsalFault> {
     }
 }
 
+/// A port, from 0 on.
+pub fn port_of(word: &str) -> Result<u16, RehearsalFault> {
+    match word.parse::<u16>() {
+        Ok(port) => Ok(port),
+        Err(_) => Err(RehearsalFault::Line),
+    }
+}
+
 /// A number with a sign or none.
 pub fn number_of(word: &str) -> Result<i64, RehearsalFault> {
     match word.parse::<i64>() {

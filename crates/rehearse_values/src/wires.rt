@@ -3,7 +3,7 @@ ghost use Rattle.std.specs.Prelude.{◌≤◌, length};
 ghost use Rattle.mr_wire.specs.Wire as spec;
 
 use crate::fault::RehearsalFault;
-use crate::step::{Step, bytes_of, count_of, link_of};
+use crate::step::{Step, bytes_of, count_of, link_of, port_of};
 use crate::telling::{tell, tell_bytes, tell_shown};
 use mr_links::LinkId;
 use mr_wire::{Failed, Moved, Wire};
@@ -28,6 +28,7 @@ pub fn on_wire<W: Wire>(
         "wait" => wait(wire, step, out),
         "accept" => tell_accepted(alloc, wire.accept(), out),
         "accept-ready" => tell_accepted(alloc, accept_ready(wire), out),
+        "connect" => connect(alloc, wire, step, out),
         "ready" => tell_named(alloc, wire.ready(), out),
         "name-ready" => tell_accepted(alloc, name_ready(wire), out),
         "read" => read(alloc, wire, step, out),
@@ -62,6 +63,20 @@ fn close<W: Wire>(wire: &mut W, step: Step<'_>, out: &mut Vec<u8>) -> Result<(),
     let link = link_of(step)?;
     wire.close(link);
     tell(out, "closed")
+}
+
+fn connect<W: Wire>(
+    alloc: Global,
+    wire: &mut W,
+    step: Step<'_>,
+    out: &mut Vec<u8>,
+) -> Result<(), RehearsalFault> {
+    let host = bytes_of(alloc, step.first)?;
+    let port = port_of(step.second)?;
+    match wire.connect(host.as_slice(), port) {
+        Ok(link) => tell_named(alloc, Some(link), out),
+        Err(_failed) => tell(out, "failed"),
+    }
 }
 
 /// The next link, once a peer has opened one.

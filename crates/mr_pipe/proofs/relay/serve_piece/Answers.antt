@@ -10,65 +10,65 @@ use Rattle.mr_pipe.proofs.Relaying.{no_more, broken_round, read_failed, delivere
 use Rattle.mr_pipe.proofs.relay.serve_piece.Goals as goal
 
 pub returns-then-most-eq0 : goal.returns-then-most-eq0
-returns-then-most-eq0 g c = λ a u x d.
+returns-then-most-eq0 g c = λ s u x d.
     let out = outside g.W.Write.contents g.F.LogFile.told g.F.LogFile.synced g.F.LogFile.failures in
-    let y = out c.args.output.now c.args.log.now in let p = g.R.Read.remaining c.args.input.now in let n = c.args.node.now in
-    broken_round c.args.given a c.args.link u x p p n y fault.Memory d (Keeps-refl p) (λ k v. refl)
+    let y = out c.args.output.now c.args.log.now in let b = g.R.Read.remaining c.args.input.now in let p = c.args.linked.now in
+    broken_round c.args.given s u x b b p y fault.Memory d (Keeps-refl b) (λ k v. refl)
 
 pub returns-in_err-count : goal.returns-in_err-count
-returns-in_err-count g c = λ a u x d.
+returns-in_err-count g c = λ s u x d.
     let out = outside g.W.Write.contents g.F.LogFile.told g.F.LogFile.synced g.F.LogFile.failures in
-    let y = out c.args.output.now c.args.log.now in let p = g.R.Read.remaining c.args.input.now in let n = c.args.node.now in
-    let q = g.R.Read.remaining c.read_piece.new.input in
+    let y = out c.args.output.now c.args.log.now in let b = g.R.Read.remaining c.args.input.now in let p = c.args.linked.now in
+    let e = g.R.Read.remaining c.read_piece.new.input in
     let why = c.in_err-count.field-0.0 in
     let told : c.from_residual.result ≡ Err why = search rules in
-    subst (λ r. IsRound c.args.given a c.args.link u x p q n y r) (sym told) (read_failed c.args.given a c.args.link u x p q n y why c.in_err-count.ensures.fault d c.in_err-count.ensures.failed)
+    subst (λ r. IsRound c.args.given s u x b e p y r) (sym told) (read_failed c.args.given s u x b e p y why c.in_err-count.ensures.fault d c.in_err-count.ensures.failed)
 
 pub returns-in_default : goal.returns-in_default
-returns-in_default g c = λ a u x d.
+returns-in_default g c = λ s u x d.
     let out = outside g.W.Write.contents g.F.LogFile.told g.F.LogFile.synced g.F.LogFile.failures in
-    let y = out c.args.output.now c.args.log.now in let p = g.R.Read.remaining c.args.input.now in let n = c.args.node.now in
-    let q = g.R.Read.remaining c.read_piece.new.input in
-    let kept : Keeps p q = subst (λ r. IsRead p q c.read_piece.new.buffer r) c.in_default.is c.in_ok-count.ensures.read in
-    no_more c.args.given a c.args.link u x p q n y d kept
+    let y = out c.args.output.now c.args.log.now in let b = g.R.Read.remaining c.args.input.now in let p = c.args.linked.now in
+    let e = g.R.Read.remaining c.read_piece.new.input in
+    let kept : Keeps b e = subst (λ r. IsRead b e c.read_piece.new.buffer r) c.in_default.is c.in_ok-count.ensures.read in
+    no_more c.args.given s u x b e p y d kept
 
 pub returns-then-count-eq0 : goal.returns-then-count-eq0
-returns-then-count-eq0 g c = λ a u x d.
+returns-then-count-eq0 g c = λ s u x d.
     let out = outside g.W.Write.contents g.F.LogFile.told g.F.LogFile.synced g.F.LogFile.failures in
-    let y = out c.args.output.now c.args.log.now in let p = g.R.Read.remaining c.args.input.now in let n = c.args.node.now in
-    let q = g.R.Read.remaining c.read_piece.new.input in
-    let came = subst (λ r. IsRead p q c.read_piece.new.buffer r) c.in-Some.is c.in_ok-count.ensures.read in
+    let y = out c.args.output.now c.args.log.now in let b = g.R.Read.remaining c.args.input.now in let p = c.args.linked.now in
+    let e = g.R.Read.remaining c.read_piece.new.input in
+    let came = subst (λ r. IsRead b e c.read_piece.new.buffer r) c.in-Some.is c.in_ok-count.ensures.read in
     let none : c.in-Some.count ≡ 0 = search rules in
-    at_end_round c.args.given a c.args.link u x p q n y c.read_piece.new.buffer c.in-Some.count none came d
+    at_end_round c.args.given s u x b e p y c.read_piece.new.buffer c.in-Some.count none came d
 
 pub returns-in_err-goes_on : goal.returns-in_err-goes_on
-returns-in_err-goes_on g c = λ a u x d.
+returns-in_err-goes_on g c = λ s u x d.
     let out = outside g.W.Write.contents g.F.LogFile.told g.F.LogFile.synced g.F.LogFile.failures in
-    let y = out c.args.output.now c.args.log.now in let p = g.R.Read.remaining c.args.input.now in let n = c.args.node.now in
-    let q = g.R.Read.remaining c.read_piece.new.input in
-    let z = out c.deliver.new.output c.deliver.new.log in let m = c.deliver.new.node in
+    let y = out c.args.output.now c.args.log.now in let b = g.R.Read.remaining c.args.input.now in let p = c.args.linked.now in
+    let e = g.R.Read.remaining c.read_piece.new.input in
+    let z = out c.deliver.new.output c.deliver.new.log in let q = c.deliver.new.linked in
     let bytes = take c.in-Some.count c.read_piece.new.buffer in
-    let came = subst (λ r. IsRead p q c.read_piece.new.buffer r) c.in-Some.is c.in_ok-count.ensures.read in
+    let came = subst (λ r. IsRead b e c.read_piece.new.buffer r) c.in-Some.is c.in_ok-count.ensures.read in
     let why = c.in_err-goes_on.field-0.0 in
     let told : c.from_residual-in_err-goes_on.result ≡ Err why = search rules in
-    subst (λ r. IsRound c.args.given a c.args.link u x p q m z r) (sym told) (not_delivered c.args.given a c.args.link u x p q bytes m z why came.1 (c.in_err-goes_on.ensures a u x d.going))
+    subst (λ r. IsRound c.args.given s u x b e q z r) (sym told) (not_delivered c.args.given s u x b e bytes q z why came.1 (c.in_err-goes_on.ensures s u x d.going))
 
 pub returns-then-goes_on : goal.returns-then-goes_on
-returns-then-goes_on g c = λ a u x d.
+returns-then-goes_on g c = λ s u x d.
     let out = outside g.W.Write.contents g.F.LogFile.told g.F.LogFile.synced g.F.LogFile.failures in
-    let y = out c.args.output.now c.args.log.now in let p = g.R.Read.remaining c.args.input.now in let n = c.args.node.now in
-    let q = g.R.Read.remaining c.read_piece.new.input in
-    let z = out c.deliver.new.output c.deliver.new.log in let m = c.deliver.new.node in
+    let y = out c.args.output.now c.args.log.now in let b = g.R.Read.remaining c.args.input.now in let p = c.args.linked.now in
+    let e = g.R.Read.remaining c.read_piece.new.input in
+    let z = out c.deliver.new.output c.deliver.new.log in let q = c.deliver.new.linked in
     let bytes = take c.in-Some.count c.read_piece.new.buffer in
-    let came = subst (λ r. IsRead p q c.read_piece.new.buffer r) c.in-Some.is c.in_ok-count.ensures.read in
-    delivered c.args.given a c.args.link u x p q bytes m z came.1 (subst (λ b. IsDrained c.args.given a c.args.link (u ++ bytes) x m z (Ok b)) c.if-goes_on.true (c.in_ok-goes_on.ensures a u x d.going))
+    let came = subst (λ r. IsRead b e c.read_piece.new.buffer r) c.in-Some.is c.in_ok-count.ensures.read in
+    delivered c.args.given s u x b e bytes q z came.1 (subst (λ r. IsDrained c.args.given s (u ++ bytes) x q z (Ok r)) c.if-goes_on.true (c.in_ok-goes_on.ensures s u x d.going))
 
 pub returns : goal.returns
-returns g c = λ a u x d.
+returns g c = λ s u x d.
     let out = outside g.W.Write.contents g.F.LogFile.told g.F.LogFile.synced g.F.LogFile.failures in
-    let y = out c.args.output.now c.args.log.now in let p = g.R.Read.remaining c.args.input.now in let n = c.args.node.now in
-    let q = g.R.Read.remaining c.read_piece.new.input in
-    let z = out c.deliver.new.output c.deliver.new.log in let m = c.deliver.new.node in
+    let y = out c.args.output.now c.args.log.now in let b = g.R.Read.remaining c.args.input.now in let p = c.args.linked.now in
+    let e = g.R.Read.remaining c.read_piece.new.input in
+    let z = out c.deliver.new.output c.deliver.new.log in let q = c.deliver.new.linked in
     let bytes = take c.in-Some.count c.read_piece.new.buffer in
-    let came = subst (λ r. IsRead p q c.read_piece.new.buffer r) c.in-Some.is c.in_ok-count.ensures.read in
-    delivered_all c.args.given a c.args.link u x p q bytes m z came.1 (subst (λ b. IsDrained c.args.given a c.args.link (u ++ bytes) x m z (Ok b)) c.if-goes_on.false (c.in_ok-goes_on.ensures a u x d.going))
+    let came = subst (λ r. IsRead b e c.read_piece.new.buffer r) c.in-Some.is c.in_ok-count.ensures.read in
+    delivered_all c.args.given s u x b e bytes q z came.1 (subst (λ r. IsDrained c.args.given s (u ++ bytes) x q z (Ok r)) c.if-goes_on.false (c.in_ok-goes_on.ensures s u x d.going))

@@ -41,7 +41,7 @@ returns-in-Ok c =
           let fed : w.hear_master-fed.new.self ≡ fed_as c.args.bytes.now c.self.inside.state = went w.hear_master-fed.result c.in-Ok.field-0 (sym w.fed-is ∙ c.in-Ok.is) w.hear_master-fed.ensures.ok in (
             up,
             there,
-            feeds_master a c.match-kind.self c.args.link c.args.bytes.now w.fed_bytes_are_unread.ensures (found ∙ ap Some (kind_upstream end (was kind.Upstream w.in-Upstream.is)))
+            feeds_master a c.match-kind.self c.args.link c.args.bytes.now node w.fed_bytes_are_unread.ensures (found ∙ ap Some (kind_upstream end (was kind.Upstream w.in-Upstream.is)))
                 (w.self-is ∙ (fed ∙ ap (fed_as c.args.bytes.now) c.self.view_is)),
           )
       | in-Shut w ↦ (up, there, feeds_shut a c.match-kind.self c.args.link c.args.bytes.now node (found ∙ ap Some (kind_shut end (was kind.Shut w.in-Shut.is))) w.self-is)

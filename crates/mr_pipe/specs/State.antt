@@ -1,0 +1,39 @@
+-- What a pipe is between two steps.
+use Rattle.std.specs.Prelude.{◌≡◌, ◌≢◌, ◌+◌, ◌-◌, ◌^◌, ℕ, List, Bool, true, false, Option, None, Some, min}
+use Rattle.mr_repl.specs.ReplId.{id_of_number}
+use Rattle.mr_links.specs.declared.link_id.LinkId.{LinkId}
+use Rattle.mr_ends.specs.State.{EndState}
+use Rattle.mr_ends.specs.State.EndState.{client, replica}
+use Rattle.mr_rows.specs.State.{Core, end_of}
+use Rattle.mr_pipe.specs.declared.linked_node.LinkedNode.{LinkedNode}
+
+pub record PipeState : Type 0 where
+  pub core : Core  -- the node, its links apart
+  pub replica : Bool  -- the link is a replica's: it was answered CONTINUE or FULLRESYNC
+  pub used : ℕ  -- so many fresh ids were taken
+
+-- no number of an id is greater
+abbrev pub most_numbered : ℕ
+most_numbered = 2 ^ 64 - 1
+
+-- the fresh id of a step, where so many were taken before
+abbrev pub fresh_id : ℕ → List ℕ
+fresh_id used = id_of_number (min (used + 1) most_numbered)
+
+-- how many were taken behind a step that took this one
+abbrev pub counted : Option (List ℕ) → ℕ → ℕ
+counted None used = used
+counted (Some id) used = min (used + 1) most_numbered
+
+-- the node's end of the link
+abbrev pub end_as : (as_replica : Bool) → List ℕ → EndState
+end_as true unread = replica unread
+end_as false unread = client unread
+
+-- The node has one link, with these unread bytes, and the link to a master isn't there.
+pub record Stands (p : LinkedNode) (s : PipeState) (unread : List ℕ) : Type 0 where
+  pub core : p.node.core ≡ s.core
+  pub end : end_of p.node p.link ≡ Some (end_as s.replica unread)
+  pub alone : (x : LinkId) → x ≢ p.link → end_of p.node x ≡ None
+  pub follow : p.node.follow ≡ None
+  pub used : p.used ≡ min s.used most_numbered

@@ -1,0 +1,111 @@
+-- Nodes that begin, as histories see them; and what an event keeps.
+use Rattle.std.proofs.Common.{◌≡◌, ℕ, List, [], Bool, true, false, Option, None, Some, ◌==◌, length, refl, sym, ap, subst, ◌∙◌}
+use Rattle.std.specs.Prelude.{slice_get, slice_set, bytes_eq}
+use Rattle.std.specs.Option.{option_map}
+use Rattle.std.specs.FinMap.{empty}
+use Rattle.std.proofs.lemmas.Option.{slice_get-map}
+use Rattle.std.proofs.lemmas.List.Elements.{All-nil}
+use Rattle.std.proofs.lemmas.Slice.Eq.{bytes_eq-Decides}
+use Rattle.mr_entries.specs.Dataset.{Dataset}
+use Rattle.mr_replay.specs.Effects.{IsGoodEffect, Makes}
+use Rattle.mr_history.specs.History.{Book, Draws, History}
+use Rattle.mr_history.specs.World as history
+use Rattle.mr_history.specs.Rows.{fresh_node}
+use Rattle.mr_history.proofs.Headline.{row_keeps}
+use Rattle.mr_history.proofs.Theorem.{nowhere_ok}
+use Rattle.mr_language.specs.Minired.{minired}
+use Rattle.mr_language.proofs.MiniredLaws.{minired_laws}
+use Rattle.mr_seen.specs.State.{Link, Entry}
+use Rattle.mr_seen.specs.Seeing.{seen, seen_node, seen_link}
+use Rattle.mr_seen.specs.Books.{entry_of, IsKeptAs, IsBook, begun}
+use Rattle.mr_seen.specs.Carrying.{shut_if, begun_slot}
+use Rattle.mr_seen.specs.Events.{StartsAreRows, RestartsAreRows, EventsKeepHistories, WorldsBegin}
+use Rattle.mr_seen.proofs.Seen.{put_at, push_at, none_at_end, is_seen}
+use Rattle.mr_seen.proofs.Places.{push_none}
+use Rattle.mr_seen.proofs.Reading.{set_as}
+use Rattle.mr_seen.proofs.Keeping.{entry_push, kept_on, is_none, with_history, set_history}
+
+abbrev history_from : Dataset → History minired
+history_from m = record { start = m; effects = [] }
+
+abbrev entry_from : List ℕ → List ℕ → Entry
+entry_from id start = record { id = id; start = start; texts = [] }
+
+begun_kept : (es : List Entry) (book : Book minired) (id start : List ℕ) (m : Dataset) → IsBook es book → Makes start m → entry_of es id ≡ None → IsBook (begun es id start) (with_history book id (history_from m))
+begun_kept es book id start m is makes none = record {
+  each = λ i. subst (λ z. IsKeptAs z (with_history book id (history_from m) i)) (sym (entry_push es (entry_from id start) i))
+      (kept_on (bytes_eq id i) (entry_of es i) (book i) (entry_from id start) (history_from m) (is.each i) (record { start = makes; texts_are = refl }) (λ t. ap (entry_of es) (sym ((bytes_eq-Decides id i).0 t)) ∙ none));
+}
+
+begun_draws : (es : List Entry) (book : Book minired) (id : List ℕ) (m : Dataset) → IsBook es book → entry_of es id ≡ None → Draws minired book (with_history book id (history_from m)) id m
+begun_draws es book id m is none = record { new_id = is_none (entry_of es id) (book id) (is.each id) none; book = set_history book id (history_from m) }
+
+-- no commands make the empty dataset
+nothing_makes : Makes [] empty
+nothing_makes = record { effects = []; good = All-nil IsGoodEffect; are_texts = refl; applied = refl }
+
+pub starts : StartsAreRows
+starts w book as_replica port backlog id file holds none = record {
+  new_book = with_history book id (history_from empty);
+  kept = begun_kept w.book book id [] empty holds.kept nothing_makes none;
+  row = record {
+    node = length w.slots;
+    new_node = none_at_end seen_node w.slots;
+    unnamed = λ l k e q.
+        let x = is_seen seen_link (slice_get w.links l) k e in
+        let h = holds.world.servers l x.0 x.1 in
+        let z : None ≡ Some h.slot = sym (push_none w.slots) ∙ (ap (slice_get w.slots) (sym q ∙ ap (λ z. z.to) (sym x.2)) ∙ h.found) in absurd (cc);
+    nodes = push_at seen_node w.slots (begun_slot as_replica port backlog id empty file);
+    links = λ j. refl;
+    book = begun_draws w.book book id empty holds.kept none;
+  };
+}
+
+shut_seen : (b : Bool) (k : Link) → seen_link (shut_if b k) ≡ history.shut b (seen_link k)
+shut_seen true k = refl
+shut_seen false k = refl
+
+pub restarts : RestartsAreRows
+restarts w book n s as_replica port backlog id found kept start m holds at role none reads makes = record {
+  new_book = with_history book id (history_from m);
+  kept = begun_kept w.book book id start m holds.kept makes none;
+  row = record {
+    old = seen_node s;
+    found = ap (option_map seen_node) at;
+    held = m;
+    restored = reads;
+    nodes = set_as (λ i. option_map seen_node (slice_get w.slots i)) (λ i. option_map seen_node (slice_get (slice_set w.slots n (begun_slot as_replica port backlog id m kept)) i)) n (seen_node (begun_slot as_replica port backlog id m kept)) _
+        (put_at seen_node w.slots n (begun_slot as_replica port backlog id m kept) s at) (ap (λ b. fresh_node minired id b m) (sym role));
+    no_links = λ l e. ap (option_map seen_link) (slice_get-map (λ k. shut_if (k.to == n) k) w.links l) ∙ nothing (slice_get w.links l) e;
+    links = λ l k e. ap (option_map seen_link) (slice_get-map (λ k. shut_if (k.to == n) k) w.links l) ∙ closed (slice_get w.links l) k e;
+    book = begun_draws w.book book id m holds.kept none;
+  };
+}
+  where
+    nothing : (o : Option Link) → option_map seen_link o ≡ None → option_map seen_link (option_map (λ k. shut_if (k.to == n) k) o) ≡ None
+    nothing None e = refl
+    nothing (Some x) e = absurd (cc)
+
+    closed : (o : Option Link) (k : history.Link) → option_map seen_link o ≡ Some k → option_map seen_link (option_map (λ k. shut_if (k.to == n) k) o) ≡ Some (history.shut (k.to == n) k)
+    closed None k e = absurd (cc)
+    closed (Some x) k e = let same : seen_link x ≡ k = cc in ap (λ z. Some z) (shut_seen (x.to == n) x) ∙ ap (λ z. Some (history.shut (z.to == n) z)) same
+
+pub kept_histories : EventsKeepHistories
+kept_histories w book e v holds x = row_keeps minired_laws (seen w book) e (seen v x.new_book) holds.invariant x.row
+
+none_there : {A : Type 0} (i : ℕ) (x : A) → ◌≡◌ {A = Option A} (slice_get [] i) (Some x) → ⊥
+none_there i x e = cc
+
+pub worlds_begin : WorldsBegin
+worlds_begin = record {
+  world = record {
+    asks = λ l k e. absurd (none_there l k e);
+    tells = λ l k e. absurd (none_there l k e);
+    servers = λ l k e. absurd (none_there l k e);
+    names = λ i j k m e. absurd (none_there i k e);
+    nodes = λ n s e u. absurd (none_there n s e);
+    followers = λ n s name f e u q. absurd (none_there n s e);
+  };
+  kept = record { each = λ i. tt };
+  invariant = nowhere_ok minired;
+}

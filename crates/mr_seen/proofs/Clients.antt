@@ -1,0 +1,328 @@
+-- Each row of a step at a client's end is a row of histories.
+use Rattle.std.proofs.Common.{◌≡◌, ◌+◌, ◌-◌, ◌<◌, ◌≤◌, inl, inr, ℕ, List, [], ◌∷◌, ◌++◌, Bool, true, false, not, Option, None, Some, Ok, length, drop, append_assoc, refl, sym, ap, subst, ◌∙◌, arith, ◌||◌}
+use Rattle.std.specs.Prelude.{is_some}
+use Rattle.std.proofs.lemmas.List.{append-nil}
+use Rattle.std.proofs.lemmas.List.Elements.{All-nil}
+use Rattle.mr_effect.specs.Spelling.{texts}
+use Rattle.mr_effect.specs.declared.effect.Effect.{Effect}
+use Rattle.mr_entries.specs.Dataset.{Dataset}
+use Rattle.mr_data.specs.Meaning.{apply_all}
+use Rattle.mr_data.specs.declared.given.Given.{Given}
+use Rattle.mr_resp.specs.Replies.{Tree, reply_text}
+use Rattle.mr_cmd_server.specs.Commands.{server_reply}
+use Rattle.mr_cmd_node.specs.declared.node_ask.NodeAsk.{NodeAsk}
+use Rattle.mr_ask.specs.Asks.{asked}
+use Rattle.mr_ask.specs.declared.ask.Ask.TheVariants as ask
+use Rattle.mr_replay.specs.Effects.{IsGoodEffect}
+use Rattle.mr_plan.specs.Requests.{HasPlan, halting_by, rewriting_by, question_by}
+use Rattle.mr_plan.proofs.Replicas.{none_on_replica}
+use Rattle.mr_repl.specs.Backlog.{IsWindow, last_of}
+use Rattle.mr_repl.specs.Lineage.{grown}
+use Rattle.mr_inline.specs.Language.{IsDoomed}
+use Rattle.mr_resp.specs.Request.{IsText}
+use Rattle.mr_resp.specs.Usual.{usual}
+use Rattle.mr_resp.specs.declared.fault.Fault.{Fault}
+use Rattle.mr_ends.specs.State.EndState.{client}
+use Rattle.mr_outs.specs.Outs.{OutsState, Output, no_output}
+use Rattle.mr_rows.specs.State.{Core, NodeState, end_of}
+use Rattle.mr_rows.specs.Requests as requests
+use Rattle.mr_rows.specs.Growing.{FedTo, grown_by, offset_behind, offset_limit}
+use Rattle.mr_rows.specs.Served.{Answered, Served, IsQuiet, AsksNode, IsPlain, left_of}
+use Rattle.mr_rows.specs.ClientRows as row
+use Rattle.mr_history.specs.Language.{Request}
+use Rattle.mr_history.specs.Language.Request.{Handshake, Psync, Ack, Command, ReplicaOfNoOne, ReplicaOf, Quit}
+use Rattle.mr_history.specs.Language.Line.{Plain, Refusal}
+use Rattle.mr_history.specs.History.{Book}
+use Rattle.mr_history.specs.World as history
+use Rattle.mr_history.specs.Event as events
+use Rattle.mr_history.specs.Event.Side.{Server}
+use Rattle.mr_history.specs.Changing.{LinkBecomes}
+use Rattle.mr_history.specs.ServerRows as rows
+use Rattle.mr_history.specs.ServerRows.{ServerRow, answered}
+use Rattle.mr_language.specs.Minired.{minired}
+use Rattle.mr_language.specs.Lines.{Says}
+use Rattle.mr_language.specs.Requests.{Kind, kind_of, kind_by}
+use Rattle.mr_language.specs.Requests.Kind.{handshake, command, quit}
+use Rattle.mr_language.specs.Requests as language
+use Rattle.mr_seen.specs.Way.{unread, used_on}
+use Rattle.mr_seen.specs.State.{Link, Slot, WorldState}
+use Rattle.mr_seen.specs.Seeing.{seen, seen_way, seen_node, seen_link, seen_host}
+use Rattle.mr_seen.specs.Carrying.{behind, filed}
+use Rattle.mr_seen.specs.Events.{IsEvent, Holds, IsServed}
+use Rattle.mr_seen.proofs.Reading.{node_is}
+use Rattle.mr_seen.proofs.Others.{no_names}
+use Rattle.mr_seen.proofs.Asking.{special, is_special, special_plan, or_second, PlainKind, plain_kind, quit_kind, ping_plan, wanted_or, says_ok, says_pong, says_not_chained, good_all}
+use Rattle.mr_seen.proofs.Steps as steps
+use Rattle.mr_seen.proofs.Steps.{Quiet, Grows, ends_as}
+
+-- ---- a stream that grows by nothing
+last_all : (n : ℕ) (xs : List ℕ) → length xs ≤ n → last_of n (xs ++ []) ≡ xs
+last_all n xs few = ap (last_of n) (append-nil xs) ∙ ap (λ z. drop z xs) (let none : length xs - n ≡ 0 = omega (arith, few) in none)
+
+pub grown_none : (c : Core) (m : Dataset) → IsWindow c.lineage.stream → m ≡ c.held → grown_by [] m c ≡ c
+grown_none c m is e =
+    let place : c.lineage.stream.offset + 0 ≡ c.lineage.stream.offset = omega arith in
+    ap (λ z. record c { held = z; lineage = grown c.lineage [] }) e
+    ∙ (ap (λ z. record c { lineage = record c.lineage { stream = record { held = z; capacity = c.lineage.stream.capacity; offset = c.lineage.stream.offset + 0 } } }) (last_all c.lineage.stream.capacity c.lineage.stream.held is.within)
+    ∙ ap (λ z. record c { lineage = record c.lineage { stream = record { held = c.lineage.stream.held; capacity = c.lineage.stream.capacity; offset = z } } }) place)
+
+some_is : (m n : Dataset) → Some m ≡ Some n → n ≡ m
+some_is m n e = cc
+
+pub left_none : (effects : List Effect) (m n : Dataset) → effects ≡ [] → apply_all effects m ≡ Some n → n ≡ m
+left_none effects m n none leads = some_is m n (ap (λ (es : List Effect). apply_all es m) (sym none) ∙ leads)
+
+pub doomed_by : (u : List ℕ) (fault : Fault) → requests.IsDoomedBy u fault → IsDoomed (IsText usual) u
+doomed_by u fault h = let f = h.fails in record {
+  never = λ more text rest p e.
+      f.doomed.never (f.rest ++ more) text rest p
+      (append_assoc f.front (f.byte ∷ []) (f.rest ++ more) ∙ (sym (append_assoc f.front (f.byte ∷ f.rest) more) ∙ (ap (λ z. z ++ more) (sym f.is) ∙ e)));
+}
+
+both : (b : Bool) → b ≡ true → b ≡ false → ⊥
+both b p q = cc
+
+module _ (w : WorldState) (book : Book minired) (l : ℕ) (k : Link) (s : Slot) (given : Given) (fresh : List ℕ) (b : NodeState) (outs : OutsState) (holds : Holds w book) (served : IsServed w l k s) (plain : k.streams ≡ false) where
+  abbrev Event : Type 0
+  Event = IsEvent w book (events.Event.Step l Server given fresh) (steps.V w book l k s given fresh b outs holds served)
+
+  abbrev IsQuietStep : Type 0
+  IsQuietStep = Quiet w book l k s given fresh b outs holds served
+
+  same_node : b.core ≡ s.node.core → b.follow ≡ s.node.follow → seen_node (behind s b outs) ≡ seen_node s
+  same_node e f = node_is s b (filed outs s.file) s.node.core s.node.follow e f
+
+  window : IsWindow s.node.core.lineage.stream
+  window = (steps.sound w book l k s given fresh b outs holds served).window
+
+  event : ServerRow (seen w book) (seen (steps.V w book l k s given fresh b outs holds served) book) l (seen_link k) (seen_node s) given fresh → IsQuietStep → Event
+  event row q = steps.event w book l k s given fresh b outs holds served (steps.V w book l k s given fresh b outs holds served) book (steps.quiet_book w book l k s given fresh b outs holds served q) row
+
+  -- ---- a request is used, and something is said
+  record Uses (request : Request (List ℕ)) : Type 0 where
+    words : List (List ℕ)
+    rest : List ℕ
+    asks : requests.Asks (unread k.ask) words rest
+    kind : language.Asks (kind_of words) request
+    core : b.core ≡ s.node.core
+    follow : b.follow ≡ s.node.follow
+    is : end_of b k.name ≡ Some (client rest)
+    quiet : IsQuietStep
+
+  becomes : (request : Request (List ℕ)) (u : Uses request)
+      → LinkBecomes (seen w book) (seen (steps.V w book l k s given fresh b outs holds served) book) l (answered (seen_link k) (seen_way (used_on (length u.asks.text) k.ask)) outs.reply)
+  becomes request u = steps.quiet_becomes w book l k s given fresh b outs holds served (answered (seen_link k) (seen_way (used_on (length u.asks.text) k.ask)) outs.reply) u.quiet (same_node u.core u.follow)
+      (steps.here_client w book l k s given fresh b outs holds served u.asks.text u.rest plain u.is u.asks.begins)
+
+  replies : (request : Request (List ℕ)) → rows.IsQuiet (seen_node s) request → Uses request → Event
+  replies request quiet u = event (ServerRow.replies (record {
+    client = plain;
+    request = request;
+    uses = steps.uses_of w book l k s given fresh b outs holds served u.words u.rest u.asks request u.kind;
+    quiet = quiet;
+    reply = outs.reply;
+    becomes = becomes request u;
+  })) u.quiet
+
+  greets : Says outs.reply Plain → Uses Handshake → Event
+  greets says u = event (ServerRow.greets (record {
+    client = plain;
+    uses = steps.uses_of w book l k s given fresh b outs holds served u.words u.rest u.asks Handshake u.kind;
+    reply = outs.reply;
+    plain = says;
+    becomes = becomes Handshake u;
+  })) u.quiet
+
+  refuses : (query : Option (List ℕ × ℕ)) → s.node.core.master ≡ false → Says outs.reply Refusal → Uses (Psync query) → Event
+  refuses query alone says u = event (ServerRow.refuses (record {
+    client = plain;
+    replica = alone;
+    query = query;
+    uses = steps.uses_of w book l k s given fresh b outs holds served u.words u.rest u.asks (Psync query) u.kind;
+    reply = outs.reply;
+    refusal = says;
+    becomes = becomes (Psync query) u;
+  })) u.quiet
+
+  passes_limit : (effects : List Effect) (reply : Tree) → s.node.core.master ≡ true → offset_limit < offset_behind effects s.node.core → (u : Uses Command) → HasPlan false s.node.core.held u.words given reply effects → Event
+  passes_limit effects reply master past u plan = event (ServerRow.passes_limit (record {
+    client = plain;
+    master = master;
+    uses = steps.uses_of w book l k s given fresh b outs holds served u.words u.rest u.asks Command u.kind;
+    effects = effects;
+    of_request = record { words = u.words; request = u.asks.request; reply = reply; plan = plan };
+    beyond = past;
+    reply = outs.reply;
+    becomes = becomes Command u;
+  })) u.quiet
+
+  -- A command that changes nothing: a master grows by nothing.
+  unchanged : (reply : Tree) → (u : Uses Command) → (s.node.core.master ≡ true → HasPlan false s.node.core.held u.words given reply []) → outs.closed ≡ [] → kind_of u.words ≡ command → Event
+  unchanged reply u plan closed kind = go s.node.core.master refl
+    where
+      go : (c : Bool) → s.node.core.master ≡ c → Event
+      go false e = replies Command e u
+      go true e =
+          let place : s.node.core.lineage.stream.offset ≡ s.node.core.lineage.stream.offset + 0 = omega arith in
+          let countable = window.countable in
+          steps.runs w book l k s given fresh b outs holds served u.words u.rest u.asks [] reply s.node.core.held s.node.core.lineage.stream.held plain e kind (plan e) u.is (record {
+            good = All-nil IsGoodEffect;
+            leads = refl;
+            within = omega (arith, countable);
+            last_bytes = ([], append-nil s.node.core.lineage.stream.held);
+            node = same_node u.core u.follow ∙ ap (λ z. record (seen_node s) { offset = z }) place;
+            fed = subst (λ z. FedTo z s.node outs.fed) (sym u.quiet.none) u.quiet.fed;
+            grown_is = u.quiet.none;
+            closed = closed;
+            unused = u.quiet.unused;
+          })
+
+  kind_asks : (words : List (List ℕ)) (kind : Kind) (request : Request (List ℕ)) → kind_of words ≡ kind → language.Asks kind request → language.Asks (kind_of words) request
+  kind_asks words kind request e a = subst (λ z. language.Asks z request) (sym e) a
+
+  special_step : (words : List (List ℕ)) (rest : List ℕ) (asks : requests.Asks (unread k.ask) words rest) → is_special (asked words) ≡ true → b.core ≡ s.node.core → b.follow ≡ s.node.follow → end_of b k.name ≡ Some (client rest) → IsQuietStep → outs.closed ≡ []
+      → Event
+  special_step words rest asks e core follow is quiet closed =
+      let x = special (asked words) e in
+      let kind : kind_of words ≡ command = ap kind_by x.1.0 ∙ x.1.1.0 in
+      unchanged (server_reply x.0) (record { words = words; rest = rest; asks = asks; kind = kind_asks words command Command kind refl; core = core; follow = follow; is = is; quiet = quiet })
+      (λ master. special_plan words given s.node.core.held x.0 x.1.0 x.1.1.1) closed kind
+
+  -- ---- a request that is answered
+  module _ (r : row.Serves s.node k.name (unread k.ask) given b outs) where
+    unused : outs.used ≡ None
+    unused = ap (λ (o : OutsState). o.used) r.outs_are
+
+    closed : outs.closed ≡ []
+    closed = ap (λ (o : OutsState). o.closed) r.outs_are
+
+    grown_is : outs.grown ≡ r.out.grown
+    grown_is = ap (λ (o : OutsState). o.grown) r.outs_are
+
+    said : outs.reply ≡ r.out.said
+    said = ap (λ (o : OutsState). o.reply) r.outs_are
+
+    quiet_of : r.out.grown ≡ [] → IsQuietStep
+    quiet_of none = record { fed = subst (λ z. FedTo z s.node outs.fed) none r.fed; closed = no_names s.node outs.closed closed; unused = unused; none = grown_is ∙ none }
+
+    abbrev used : (request : Request (List ℕ)) (words : List (List ℕ)) → requests.Asks (unread k.ask) words r.rest → language.Asks (kind_of words) request → b.core ≡ s.node.core → r.out.grown ≡ [] → Uses request
+    used request words asks kind core none = record { words = words; rest = r.rest; asks = asks; kind = kind; core = core; follow = r.leaves.follow; is = r.leaves.is; quiet = quiet_of none }
+
+    -- its plan is carried out
+    within : (words : List (List ℕ)) → requests.Asks (unread k.ask) words r.rest → IsPlain words → (reply : Tree) (effects : List Effect) → HasPlan (not s.node.core.master) s.node.core.held words given reply effects
+        → offset_behind effects s.node.core ≤ offset_limit → b.core ≡ grown_by effects (left_of s.node.core words given) s.node.core → r.out.grown ≡ texts effects → r.out.said ≡ reply_text reply → Event
+    within words asks plain_words reply effects plan few core grown_texts told = go s.node.core.master refl (plain_kind (asked words) plain_words.asks_no_node plan.goes_on)
+      where
+        -- nothing grew
+        still : effects ≡ [] → (b.core ≡ s.node.core) × (r.out.grown ≡ [])
+        still none = (
+          core ∙ (ap (λ (es : List Effect). grown_by es (left_of s.node.core words given) s.node.core) none ∙ grown_none s.node.core (left_of s.node.core words given) window (left_none effects s.node.core.held (left_of s.node.core words given) none plan.leads)),
+          grown_texts ∙ ap texts none,
+        )
+
+        go : (c : Bool) → s.node.core.master ≡ c → PlainKind (asked words) → Event
+        go c e (inr ping) =
+            let p = ping_plan words (not s.node.core.master) given s.node.core.held reply effects ping plan in
+            let t = still p.1 in
+            greets (subst (λ z. Says z Plain) (sym (said ∙ (told ∙ ap reply_text p.0))) says_pong) (used Handshake words asks (kind_asks words handshake Handshake (ap kind_by ping) refl) t.0 t.1)
+        go false e (inl kind) =
+            let t = still (none_on_replica (not s.node.core.master) words given s.node.core.held reply effects (ap not e) plan.planned) in
+            replies Command e (used Command words asks (kind_asks words command Command kind refl) t.0 t.1)
+        go true e (inl kind) =
+            let mine : HasPlan false s.node.core.held words given reply effects = subst (λ c. HasPlan c s.node.core.held words given reply effects) (ap not e) plan in
+            steps.runs w book l k s given fresh b outs holds served words r.rest asks effects reply (left_of s.node.core words given) (last_of s.node.core.lineage.stream.capacity (s.node.core.lineage.stream.held ++ texts effects)) plain e kind mine r.leaves.is (record {
+              good = good_all effects s.node.core.held (left_of s.node.core words given) plan.leads plan.short;
+              leads = plan.leads;
+              within = few;
+              last_bytes = ends_as s.node.core.lineage.stream.capacity s.node.core.lineage.stream.held (texts effects);
+              node = node_is s b (filed outs s.file) (grown_by effects (left_of s.node.core words given) s.node.core) s.node.follow core r.leaves.follow;
+              fed = subst (λ z. FedTo z s.node outs.fed) (sym grown_is) r.fed;
+              grown_is = grown_is ∙ grown_texts;
+              closed = closed;
+              unused = unused;
+            })
+
+    beyond : (words : List (List ℕ)) → requests.Asks (unread k.ask) words r.rest → IsPlain words → (reply : Tree) (effects : List Effect) → HasPlan (not s.node.core.master) s.node.core.held words given reply effects
+        → offset_limit < offset_behind effects s.node.core → b.core ≡ s.node.core → r.out.grown ≡ [] → Event
+    beyond words asks plain_words reply effects plan past core none = go s.node.core.master refl (plain_kind (asked words) plain_words.asks_no_node plan.goes_on)
+      where
+        some : effects ≡ [] → ⊥
+        some e = let countable = window.countable in let over : offset_limit < s.node.core.lineage.stream.offset + length (texts []) = subst (λ (es : List Effect). offset_limit < offset_behind es s.node.core) e past in omega (arith, countable, over)
+
+        go : (c : Bool) → s.node.core.master ≡ c → PlainKind (asked words) → Event
+        go c e (inr ping) = absurd (some (ping_plan words (not s.node.core.master) given s.node.core.held reply effects ping plan).1)
+        go false e (inl kind) = absurd (some (none_on_replica (not s.node.core.master) words given s.node.core.held reply effects (ap not e) plan.planned))
+        go true e (inl kind) = passes_limit effects reply e past (used Command words asks (kind_asks words command Command kind refl) core none)
+            (subst (λ c. HasPlan c s.node.core.held words given reply effects) (ap not e) plan)
+
+    quietly : (words : List (List ℕ)) → requests.Asks (unread k.ask) words r.rest → (wish : NodeAsk) → AsksNode words wish → b.core ≡ s.node.core → IsQuiet s.node.core wish r.out → Event
+    quietly words asks wish e core (IsQuiet.introduces told is gives) =
+        greets (subst (λ z. Says z Plain) (sym (said ∙ ap (λ (o : Output). o.said) gives)) says_ok)
+        (used Handshake words asks (kind_asks words handshake Handshake (ap kind_by (e ∙ ap (λ z. Ok (ask.Node z)) is)) refl) core (ap (λ (o : Output). o.grown) gives))
+    quietly words asks wish e core (IsQuiet.acknowledges offset is gives) =
+        replies Ack tt (used Ack words asks (kind_asks words Kind.ack Ack (ap kind_by (e ∙ ap (λ z. Ok (ask.Node z)) is)) refl) core (ap (λ (o : Output). o.grown) gives))
+    quietly words asks wish e core (IsQuiet.refuses id wanted is alone gives) =
+        let q = wanted_or id wanted in
+        refuses q.0 alone (subst (λ z. Says z Refusal) (sym (said ∙ ap (λ (o : Output). o.said) gives)) says_not_chained)
+        (used (Psync q.0) words asks (kind_asks words (Kind.psync id wanted) (Psync q.0) (ap kind_by (e ∙ ap (λ z. Ok (ask.Node z)) is)) (q.0, q.1, refl)) core (ap (λ (o : Output). o.grown) gives))
+    quietly words asks wish e core (IsQuiet.stays_master is master gives) =
+        replies ReplicaOfNoOne master (used ReplicaOfNoOne words asks (kind_asks words Kind.no_one ReplicaOfNoOne (ap kind_by (e ∙ ap (λ z. Ok (ask.Node z)) is)) refl) core (ap (λ (o : Output). o.grown) gives))
+    quietly words asks wish e core (IsQuiet.stays_replica host port is alone followed gives) =
+        replies (ReplicaOf (language.address host port)) (alone, ap seen_host followed)
+        (used (ReplicaOf (language.address host port)) words asks (kind_asks words (Kind.follow host port) (ReplicaOf (language.address host port)) (ap kind_by (e ∙ ap (λ z. Ok (ask.Node z)) is)) refl) core (ap (λ (o : Output). o.grown) gives))
+
+    answered_by : (words : List (List ℕ)) → requests.Asks (unread k.ask) words r.rest → Answered s.node.core r.around words given b.core r.out → Event
+    answered_by words asks (Answered.within p reply effects plan fits is gives) = within words asks p reply effects plan fits is (ap (λ (o : Output). o.grown) gives) (ap (λ (o : Output). o.said) gives)
+    answered_by words asks (Answered.beyond p reply effects plan past is gives) = beyond words asks p reply effects plan past is (ap (λ (o : Output). o.grown) gives)
+    answered_by words asks (Answered.rewritten e remakes is gives) =
+        special_step words r.rest asks (ap (λ z. z || (halting_by (asked words) || is_some (question_by (asked words)))) e)
+        is r.leaves.follow r.leaves.is (quiet_of (ap (λ (o : Output). o.grown) gives)) closed
+    answered_by words asks (Answered.tells question e is gives) =
+        special_step words r.rest asks (or_second (rewriting_by (asked words)) _ (or_second (halting_by (asked words)) _ (ap is_some e)))
+        is r.leaves.follow r.leaves.is (quiet_of (ap (λ (o : Output). o.grown) gives)) closed
+    answered_by words asks (Answered.keeps_role wish e quiet is) = quietly words asks wish e is quiet
+
+    skipped : requests.AsksNothing (unread k.ask) r.rest → b.core ≡ s.node.core → r.out ≡ no_output → Event
+    skipped asks core gives =
+        let q = quiet_of (ap (λ (o : Output). o.grown) gives) in
+        let none : outs.reply ≡ [] = said ∙ ap (λ (o : Output). o.said) gives in
+        event (ServerRow.skips (record {
+          uses = steps.uses_none w book l k s given fresh b outs holds served r.rest asks;
+          becomes = steps.quiet_becomes w book l k s given fresh b outs holds served (record (seen_link k) { ask = seen_way (used_on (length asks.text) k.ask) }) q (same_node core r.leaves.follow)
+              (steps.here_client w book l k s given fresh b outs holds served asks.text r.rest plain r.leaves.is asks.begins
+              ∙ (ap (answered (seen_link k) (seen_way (used_on (length asks.text) k.ask))) none ∙ steps.answered_nothing w book l k s given fresh b outs holds served (seen_way (used_on (length asks.text) k.ask))));
+        })) q
+
+    pub serves : Event
+    serves = go r.served
+      where
+        go : Served s.node.core r.around (unread k.ask) given b.core r.rest r.out → Event
+        go (Served.request words asks a) = answered_by words asks a
+        go (Served.nothing asks is gives) = skipped asks is gives
+
+  -- ---- a client asks that the program end
+  pub halts : row.Halts s.node k.name (unread k.ask) b outs → Event
+  halts r = special_step r.asks.words r.rest r.asks.asks
+      (or_second (rewriting_by (asked r.asks.words)) _ (ap (λ z. z || is_some (question_by (asked r.asks.words))) r.asks.halting))
+      r.core r.leaves.follow r.leaves.is
+      (record { fed = ap (λ (o : OutsState). o.fed) r.outs_are; closed = no_names s.node outs.closed (ap (λ (o : OutsState). o.closed) r.outs_are); unused = ap (λ (o : OutsState). o.used) r.outs_are; none = ap (λ (o : OutsState). o.grown) r.outs_are })
+      (ap (λ (o : OutsState). o.closed) r.outs_are)
+
+  -- ---- the link ends
+  pub closes : row.Closes s.node k.name (unread k.ask) b outs → Event
+  closes r = go r.ends
+    where
+      quiet : IsQuietStep
+      quiet = record { fed = ap (λ (o : OutsState). o.fed) r.outs_are; closed = no_names s.node outs.closed (ap (λ (o : OutsState). o.closed) r.outs_are); unused = ap (λ (o : OutsState). o.used) r.outs_are; none = ap (λ (o : OutsState). o.grown) r.outs_are }
+
+      gone : LinkBecomes (seen w book) (seen (steps.V w book l k s given fresh b outs holds served) book) l (history.shut true (history.told (seen_link k) outs.reply))
+      gone = steps.quiet_becomes w book l k s given fresh b outs holds served (history.shut true (history.told (seen_link k) outs.reply)) quiet (same_node r.core r.follow) (steps.here_shut w book l k s given fresh b outs holds served r.shut.is)
+
+      go : row.Ends (unread k.ask) r.last → Event
+      go (row.Ends.doomed fault d last) = event (ServerRow.faults (record { client = plain; doomed = doomed_by (unread k.ask) fault d; reply = outs.reply; becomes = gone })) quiet
+      go (row.Ends.quit words rest asks q last) = event (ServerRow.quits (record {
+        client = plain;
+        uses = steps.uses_of w book l k s given fresh b outs holds served words rest asks Quit (kind_asks words quit Quit (quit_kind (asked words) q) refl);
+        reply = outs.reply;
+        becomes = gone;
+      })) quiet

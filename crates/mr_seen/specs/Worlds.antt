@@ -1,0 +1,63 @@
+-- What is true of each World.
+use Rattle.std.specs.Prelude.{◌≡◌, ◌<◌, ◌^◌, ℕ, List, [], Bool, true, false, Some, IfSome, slice_get}
+use Rattle.mr_links.specs.declared.link_id.LinkId.{LinkId}
+use Rattle.mr_repl.specs.Backlog.{IsWindow}
+use Rattle.mr_repl.specs.ReplId.{IsId}
+use Rattle.mr_follow.specs.State.{FollowState, IsFollower, Agrees}
+use Rattle.mr_course.specs.State.{IsReader}
+use Rattle.mr_ends.specs.State.{EndState}
+use Rattle.mr_ends.specs.State.EndState.{client, replica}
+use Rattle.mr_rows.specs.State.{NodeState, IsNode, end_of}
+use Rattle.mr_seen.specs.Way.{IsWay, unread}
+use Rattle.mr_seen.specs.State.{Link, Slot, WorldState, a_node}
+
+-- no port is as much
+abbrev pub ports : ℕ
+ports = 2 ^ 16
+
+-- what reads at the link to the master fits in with the node
+pub record IsReading (a : NodeState) (f : FollowState) : Type 0 where
+  pub reader : IsReader a.core.master a.core.offers a.core.lineage f
+  pub follower : IsFollower f
+  pub port : f.port < ports
+
+-- What the types of a node's parts keep: its ids are ids, and its stream and its ports have their bounds.
+pub record IsSound (a : NodeState) : Type 0 where
+  pub node : IsNode a
+  pub window : IsWindow a.core.lineage.stream
+  pub id : IsId a.core.lineage.id
+  pub second : IfSome a.core.lineage.second (λ s. IsId s.0)
+  pub upstream : IfSome a.core.upstream (λ h. h.port < ports)
+  pub reading : IfSome a.follow (λ f. IsReading a f.1)
+
+-- the end that a link's server has while it is open
+abbrev pub end_for : Bool → List ℕ → EndState
+end_for true unread = replica unread
+end_for false unread = client unread
+
+-- The server of a link is there. While it runs and its end is open, it agrees with the link.
+pub record HasServer (slots : List Slot) (k : Link) : Type 0 where
+  pub slot : Slot
+  pub found : slice_get slots k.to ≡ Some slot
+  pub agrees : slot.node.core.up ≡ true → k.serving ≡ true → end_of slot.node k.name ≡ Some (end_for k.streams (unread k.ask))
+
+-- The link that a node dialled last carries what the node has of it.
+pub record HasMaster (links : List Link) (n : ℕ) (s : Slot) (name : LinkId) (f : FollowState) : Type 0 where
+  pub link : Link
+  pub found : slice_get links s.dialled ≡ Some link
+  pub caller : link.caller ≡ a_node n name
+  pub agrees : Agrees f (unread link.tell)
+
+pub record IsWorld (w : WorldState) : Type 0 where
+  pub asks : (l : ℕ) (k : Link) → slice_get w.links l ≡ Some k → IsWay k.ask
+  pub tells : (l : ℕ) (k : Link) → slice_get w.links l ≡ Some k → IsWay k.tell
+  pub servers : (l : ℕ) (k : Link) → slice_get w.links l ≡ Some k → HasServer w.slots k
+  -- no two open ends have one name at one node
+  pub names : (i j : ℕ) (k m : Link) → slice_get w.links i ≡ Some k → slice_get w.links j ≡ Some m → k.serving ≡ true → m.serving ≡ true
+      → k.to ≡ m.to → k.name ≡ m.name → i ≡ j
+  pub nodes : (n : ℕ) (s : Slot) → slice_get w.slots n ≡ Some s → s.node.core.up ≡ true → IsSound s.node
+  pub followers : (n : ℕ) (s : Slot) (name : LinkId) (f : FollowState) → slice_get w.slots n ≡ Some s → s.node.core.up ≡ true → s.node.follow ≡ Some (name, f) → HasMaster w.links n s name f
+
+-- no nodes, no links, and no id
+abbrev pub no_world : WorldState
+no_world = record { slots = []; links = []; book = [] }

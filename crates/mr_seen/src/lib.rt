@@ -1,0 +1,5 @@
+//! What a node, a link and a World are to histories, and that what each call on a node does is a row there. Definitions and laws; no World
+//! stands yet.
+#![tactic(auto)]
+
+pub mod laws;

@@ -1,0 +1,120 @@
+// A link to a node.
+ghost use Rattle.std.specs.Prelude.{◌≡◌, ◌+◌, ◌≤◌, ◌↔◌, true, false, length, take, drop, IsTrue, OnOk, OnErr};
+ghost use Rattle.mr_seen.specs.State.{a_client};
+ghost use Rattle.mr_seen.specs.Way.{sent_on, taken_on};
+ghost use Rattle.mr_seen.specs.Carrying.{opened_link};
+ghost use Rattle.mr_world.specs.Calls.{IsAsking};
+
+use crate::way::Way;
+use mr_links::LinkId;
+use std::alloc::{AllocError, Global};
+use std::marker::Model;
+
+/// A link to a node, of a client or of another node.
+#[derive(Drop)]
+pub(crate) struct Link {
+    peer: Option<(usize, LinkId)>,
+    asking: bool,
+    to: usize,
+    name: LinkId,
+    serving: bool,
+    streams: bool,
+    ask: Way,
+    tell: Way,
+}
+
+impl Model for Link {
+    ghost use Rattle.mr_seen.specs.State.{Link as LinkState};
+    ghost use Rattle.mr_world.specs.Codes.{caller_as, link_code};
+
+    ghost Value = { LinkState };
+
+    ghost coded = { link_code };
+
+    ghost view = { λ k. record { caller = caller_as k.peer k.asking; to = k.to; name = k.name; serving = k.serving; streams = k.streams; ask = k.ask; tell = k.tell } };
+}
+
+impl Link {
+    /// A client's link to a node that knows it by this name.
+    pub(crate) fn client(alloc: Global, to: usize, name: LinkId) -> Link
+        ensures { result ≡ opened_link to name }
+    {
+        Link {
+            peer: None,
+            asking: true,
+            to,
+            name,
+            serving: true,
+            streams: false,
+            ask: Way::new(alloc),
+            tell: Way::new(alloc),
+        }
+    }
+
+    /// Whether it is a client's, whose end is open.
+    pub(crate) fn is_asking(&self) -> bool
+        ensures { IsTrue result ↔ IsAsking self.now }
+    {
+        self.peer.is_none() && self.asking
+    }
+
+    /// The caller sends more.
+    pub(crate) fn ask(&mut self, bytes: &[u8]) -> Result<(), AllocError>
+        ensures ok { OnOk result (self.new ≡ record self.old { ask = sent_on bytes.now self.old.ask }) }
+        ensures err { OnErr result (self.new ≡ self.old) }
+    {
+        self.ask.send(bytes)?;
+        Ok(())
+    }
+
+    /// Whether so many bytes more were sent to the caller.
+    pub(crate) fn has_told(&self, count: usize) -> bool
+        ensures { IsTrue result ↔ (self.now.tell.taken + count ≤ length self.now.tell.sent) }
+    {
+        self.tell.has(count)
+    }
+
+    /// The caller takes them.
+    pub(crate) fn take_told(&mut self, count: usize)
+        requires { self.old.tell.taken + count ≤ length self.old.tell.sent }
+        ensures { self.new ≡ record self.old { tell = taken_on count self.old.tell } }
+    {
+        self.tell.take(count);
+    }
+
+    /// The client closes its end.
+    pub(crate) fn leave(&mut self)
+        requires { IsAsking self.old }
+        ensures { self.new ≡ record self.old { caller = a_client false } }
+    {
+        self.asking = false;
+    }
+
+    /// Whether the server's end is open.
+    pub(crate) fn serving(&self) -> bool
+        ensures { result ≡ self.now.serving }
+    {
+        self.serving
+    }
+
+    /// The node that serves.
+    pub(crate) fn to(&self) -> usize
+        ensures { result ≡ self.now.to }
+    {
+        self.to
+    }
+
+    /// By which that node knows it.
+    pub(crate) fn name(&self) -> LinkId
+        ensures { result ≡ self.now.name }
+    {
+        self.name
+    }
+
+    /// The server's end closes.
+    pub(crate) fn shut(&mut self)
+        ensures { self.new ≡ record self.old { serving = false } }
+    {
+        self.serving = false;
+    }
+}

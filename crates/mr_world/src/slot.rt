@@ -1,0 +1,79 @@
+// A node among others.
+ghost use Rattle.std.specs.Prelude.{◌≡◌, [], IfOk};
+ghost use Rattle.std.specs.FinMap.{empty};
+ghost use Rattle.mr_peer.specs.Calls.{OpenRow};
+ghost use Rattle.mr_rows.specs.LinkRows.{closed_at};
+ghost use Rattle.mr_seen.specs.Carrying.{begun_slot};
+
+use mr_data::Dataset;
+use mr_links::LinkId;
+use mr_peer::{Config, Node, NodeFault};
+use mr_repl::ReplId;
+use std::alloc::{AllocError, Global};
+use std::hash::RandomState;
+use std::marker::Model;
+
+/// A node, its file, the role in which it starts, and the link that it dialled last.
+#[derive(Drop)]
+pub(crate) struct Slot {
+    node: Node,
+    file: Vec<u8>,
+    as_master: bool,
+    dialled: usize,
+}
+
+impl Model for Slot {
+    ghost use Rattle.mr_seen.specs.State.{Slot as SlotState};
+    ghost use Rattle.mr_world.specs.Codes.{slot_code};
+
+    ghost Value = { SlotState };
+
+    ghost coded = { slot_code };
+
+    ghost view = { λ s. record { node = s.node; file = s.file.items; as_master = s.as_master; dialled = s.dialled } };
+}
+
+impl Slot {
+    /// A node that begins, with an empty dataset and an empty file.
+    pub(crate) fn start(
+        alloc: Global,
+        seed: RandomState,
+        id: ReplId,
+        config: Config,
+    ) -> Result<Slot, AllocError>
+        ensures { IfOk result (λ s. s ≡ begun_slot config.replica config.port config.backlog id empty []) }
+    {
+        let held = Dataset::new(alloc, seed);
+        let Ok(node) = Node::start(alloc, id, held, config) else {
+            return Err(AllocError);
+        };
+        Ok(Slot {
+            node,
+            file: Vec::new(alloc),
+            as_master: !config.replica,
+            dialled: 0,
+        })
+    }
+
+    /// Whether the node runs.
+    pub(crate) fn is_up(&self) -> bool
+        ensures { result ≡ self.now.node.core.up }
+    {
+        self.node.shows().is_some()
+    }
+
+    /// Opens the node's end of a client's link.
+    pub(crate) fn open(&mut self) -> Result<LinkId, NodeFault>
+        ensures row { OpenRow self.old.node self.new.node result }
+        ensures rest { self.new ≡ record self.old { node = self.new.node } }
+    {
+        self.node.open()
+    }
+
+    /// Closes the node's end of a link.
+    pub(crate) fn close(&mut self, name: LinkId)
+        ensures { self.new ≡ record self.old { node = closed_at name self.old.node } }
+    {
+        self.node.close(name);
+    }
+}
