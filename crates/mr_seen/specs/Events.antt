@@ -146,7 +146,7 @@ DialsAreRows = (w : WorldState) (book : Book minired) (n m : ℕ) (s t : Slot) (
     → Dials s.node name b outs
     → IsEvent w book (events.Event.Dial n m) (connected w n s b name outs m t c at)
 
--- Bytes are fed at the server's end, of those that were sent there. Whom the node follows stays: the row leaves that open.
+-- Bytes are fed at the server's end, of those that were sent there, where whom the node follows stays.
 abbrev pub ServerFeedsAreRows : Type 0
 ServerFeedsAreRows = (w : WorldState) (book : Book minired) (l : ℕ) (k : Link) (s : Slot) (count : ℕ) (bytes : List ℕ) (b : NodeState)
     → Holds w book → IsServed w l k s → k.ask.taken + count ≤ length k.ask.sent
