@@ -2,8 +2,8 @@
 ghost use Rattle.std.specs.Prelude.{◌≡◌, true, None};
 ghost use Rattle.std.specs.FinMap as map;
 ghost use Rattle.std.specs.Option.{option_copied};
-ghost use Rattle.mr_course.specs.State.{CountsUnread, name_of, phase_of};
-ghost use Rattle.mr_rows.specs.State.{IsNode};
+ghost use Rattle.mr_course.specs.State.{CountsUnread, IsCourse, name_of, phase_of};
+ghost use Rattle.mr_rows.specs.State.{IsNode, course_of};
 ghost use Rattle.mr_state.specs.Parts.{node_of};
 
 mod linking;
@@ -134,8 +134,11 @@ impl State {
 
     /// How many bytes of the master were fed and not used; 0 where none is followed.
     pub fn unread_len(&self) -> u64
-        ensures { CountsUnread self.now.follow result }
+        ensures count { CountsUnread self.now.follow result }
+        ensures course { IsCourse (course_of self.now) }
     {
+        // its clause says what is true of the course
+        let _ = self.course.name();
         self.course.unread_len()
     }
 
