@@ -48,8 +48,9 @@ unfolding words
 beat_is = refl
 
 -- ---- the master is dialled
-pub dials_row : (a m b : NodeState) (l : LinkId) (outs : OutsState) → m ≡ a → end_of m l ≡ None → l.generation ≡ m.ends.opened → b ≡ dialled_as l m → outs ≡ record no_outs { link = Some l; reply = ping_line } → Dials a l b outs
-dials_row a m b l outs same fresh generation node outs_are = subst (λ (z : NodeState). Dials z l b outs) same (record { fresh = fresh; generation = generation; node = node; outs_are = outs_are })
+pub dials_row : (a m b : NodeState) (l : LinkId) (outs : OutsState) → m ≡ a → a.core.master ≡ false → a.follow ≡ None → end_of m l ≡ None → l.generation ≡ m.ends.opened → b ≡ dialled_as l m → outs ≡ record no_outs { link = Some l; reply = ping_line } → Dials a l b outs
+dials_row a m b l outs same follows alone fresh generation node outs_are = subst (λ (z : NodeState). Dials z l b outs) same
+    (record { replica = ap (λ (z : NodeState). z.core.master) same ∙ follows; alone = ap (λ (z : NodeState). z.follow) same ∙ alone; fresh = fresh; generation = generation; node = node; outs_are = outs_are })
 
 -- ---- bytes come on a link
 -- The end of a link that is followed is the master's
