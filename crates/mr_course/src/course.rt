@@ -1,5 +1,6 @@
-ghost use Rattle.std.specs.Prelude.{◌≡◌, ◌≤◌, ◌+◌, IsSome, [], length, true, false, None, OnOk, OnErr};
+ghost use Rattle.std.specs.Prelude.{◌≡◌, ◌≤◌, ◌<◌, ◌+◌, ◌^◌, IfSome, IsSome, [], length, true, false, None, option_map, OnOk, OnErr};
 ghost use Rattle.mr_lines.specs.Lines.{most_counted};
+ghost use Rattle.mr_follow.specs.State.{IsFollower};
 ghost use Rattle.mr_course.specs.State.{CourseState, IsCourse, CountsUnread, name_of, phase_of, dialled, left, spoiled, promoted, obeys, grows, fed};
 ghost use Rattle.mr_course.specs.Rows.{Listens};
 
@@ -78,6 +79,15 @@ impl Course {
         ensures { result ≡ phase_of self.now.follow }
     {
         self.parts.phase()
+    }
+
+    /// The port that is named at the link to the master, where it follows one.
+    pub fn port(&self) -> Option<u16>
+        ensures port { result ≡ option_map (λ f. f.1.port) self.now.follow }
+        ensures follower { IfSome self.now.follow (λ f. IsFollower f.1) }
+        ensures bound { IfSome self.now.follow (λ f. f.1.port < 2 ^ 16) }
+    {
+        self.parts.port()
     }
 
     /// How many bytes of the master were fed and not used; 0 where none is followed.

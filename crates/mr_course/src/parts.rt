@@ -1,6 +1,6 @@
-ghost use Rattle.std.specs.Prelude.{◌≡◌, ◌≤◌, ◌+◌, IsSome, [], length, None, OnOk, OnErr};
+ghost use Rattle.std.specs.Prelude.{◌≡◌, ◌≤◌, ◌<◌, ◌+◌, ◌^◌, IfSome, IsSome, [], length, None, option_map, OnOk, OnErr};
 ghost use Rattle.mr_lines.specs.Lines.{most_counted};
-ghost use Rattle.mr_follow.specs.State.{IsOffer};
+ghost use Rattle.mr_follow.specs.State.{IsFollower, IsOffer};
 ghost use Rattle.mr_course.specs.State.{CourseState, CountsUnread, offer_of, name_of, phase_of, dialled, left, spoiled, promoted, obeys, grows, fed};
 ghost use Rattle.mr_course.specs.Rows.{Listens};
 ghost use Rattle.mr_course.specs.Heard.{place_of as placed, IsCounted, IsReady, IsSound, HeardAs, GivesUp};
@@ -96,6 +96,18 @@ impl Parts {
     {
         match &self.follow {
             Some((_, follower)) => Some(follower.phase()),
+            None => None,
+        }
+    }
+
+    /// The port that is named there.
+    pub(crate) fn port(&self) -> Option<u16>
+        ensures port { result ≡ option_map (λ f. f.1.port) self.now.follow }
+        ensures follower { IfSome self.now.follow (λ f. IsFollower f.1) }
+        ensures bound { IfSome self.now.follow (λ f. f.1.port < 2 ^ 16) }
+    {
+        match &self.follow {
+            Some((_, follower)) => Some(follower.port()),
             None => None,
         }
     }

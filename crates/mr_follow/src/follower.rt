@@ -47,7 +47,7 @@ impl Model for Follower {
 }
 
 impl Follower {
-    ghost use Rattle.mr_follow.specs.State.{Agrees, IsOffer, IsPlaced, IsTaking, started, heard};
+    ghost use Rattle.mr_follow.specs.State.{Agrees, IsFollower, IsOffer, IsPlaced, IsTaking, started, heard};
     ghost use Rattle.mr_follow.specs.Loading.{HandsOver, TakesOut};
     ghost use Rattle.mr_follow.specs.Rows.{Steps, StepsAside};
 
@@ -85,6 +85,14 @@ impl Follower {
         ensures placed { IsPlaced self.now.phase }
     {
         self.phase
+    }
+
+    /// The port that it names.
+    pub fn port(&self) -> u16
+        ensures port { result ≡ self.now.port }
+        ensures follower { IsFollower self.now }
+    {
+        self.port
     }
 
     /// How many bytes were fed and not used.

@@ -1,4 +1,4 @@
--- Links that are dialled and fed.
+-- Links that are dialled, fed and asked about.
 use Rattle.std.proofs.Common.{◌≡◌, ◌+◌, ◌<◌, ◌++◌, ◌∷◌, ◌⊎◌, inl, inr, ℕ, List, [], true, false, Option, None, Some, codes, length, refl, sym, ap, subst, ◌∙◌, arith, lit<}
 use Rattle.std.specs.Prelude.{Result, Ok, Err, OnOk}
 use Rattle.std.specs.Result.{is_err}
@@ -19,6 +19,7 @@ use Rattle.mr_rows.specs.State.{FollowedAt, IsNode, IsTooMuch, MasterAgrees, Nod
 use Rattle.mr_rows.specs.LinkRows.{Dials, Feeds}
 use Rattle.mr_rows.specs.UpstreamRows.{beat}
 use Rattle.mr_state.specs.Parts.{dialled_as, fed_as, with_ends}
+use Rattle.mr_peer.specs.Calls.{IsClients}
 use Rattle.mr_peer.proofs.Ends.{one_end, one_replica, put_leaves}
 
 -- ---- what is true where a call succeeds, once it has
@@ -47,8 +48,9 @@ unfolding words
 beat_is = refl
 
 -- ---- the master is dialled
-pub dials_row : (a m b : NodeState) (l : LinkId) (outs : OutsState) → m ≡ a → end_of m l ≡ None → l.generation ≡ m.ends.opened → b ≡ dialled_as l m → outs ≡ record no_outs { link = Some l; reply = ping_line } → Dials a l b outs
-dials_row a m b l outs same fresh generation node outs_are = subst (λ (z : NodeState). Dials z l b outs) same (record { fresh = fresh; generation = generation; node = node; outs_are = outs_are })
+pub dials_row : (a m b : NodeState) (l : LinkId) (outs : OutsState) → m ≡ a → a.core.master ≡ false → a.follow ≡ None → end_of m l ≡ None → l.generation ≡ m.ends.opened → b ≡ dialled_as l m → outs ≡ record no_outs { link = Some l; reply = ping_line } → Dials a l b outs
+dials_row a m b l outs same follows alone fresh generation node outs_are = subst (λ (z : NodeState). Dials z l b outs) same
+    (record { replica = ap (λ (z : NodeState). z.core.master) same ∙ follows; alone = ap (λ (z : NodeState). z.follow) same ∙ alone; fresh = fresh; generation = generation; node = node; outs_are = outs_are })
 
 -- ---- bytes come on a link
 -- The end of a link that is followed is the master's
@@ -198,3 +200,10 @@ over_room shut room count served is more = absurd is
 
 pub too_much : (a : NodeState) (l : LinkId) (end : EndState) (room count : ℕ) → a.core.up ≡ true → end_of a l ≡ Some end → serves end ≡ true → IsRoom room end → room < count → IsTooMuch a l count
 too_much a l end room count up found served is more = record { up = up; end = end; found = found; served = served; over = over_room end room count served is more }
+
+-- ---- a client's end
+pub client_end : (a : NodeState) (l : LinkId) (end : EndState) → end_of a l ≡ Some end → kind_of end ≡ kind.Client → IsClients a l
+client_end a l (client unread) found k = record { unread = unread; agrees = record { is = found } }
+client_end a l (replica unread) found k = absurd (cc)
+client_end a l upstream found k = absurd (cc)
+client_end a l shut found k = absurd (cc)

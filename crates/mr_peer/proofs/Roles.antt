@@ -1,5 +1,5 @@
 -- A change of roles, from what becomes of the ends.
-use Rattle.std.proofs.Common.{◌≡◌, ◌≢◌, ℕ, ℤ, List, [], true, false, cond, drop, Option, None, Some, refl, sym, ap, ◌∙◌}
+use Rattle.std.proofs.Common.{◌≡◌, ◌≢◌, ◌<◌, ℕ, ℤ, List, [], true, false, cond, drop, Option, None, Some, refl, sym, ap, ◌∙◌}
 use Rattle.std.specs.FinMap.{get, get-remove}
 use Rattle.mr_links.specs.Links.{Links}
 use Rattle.mr_links.specs.declared.link_id.LinkId.{LinkId}
@@ -19,6 +19,7 @@ use Rattle.mr_ends.proofs.Naming.{at_or_other}
 use Rattle.mr_outs.specs.Address.{AddressState}
 use Rattle.mr_outs.specs.Outs.{no_outs}
 use Rattle.mr_rows.specs.State.{Core, NodeState, Agrees, FollowedAt, IsNode, end_of}
+use Rattle.mr_rows.specs.Sound.{ports}
 use Rattle.mr_rows.specs.Ends.{Leaves, Settles, names_of}
 use Rattle.mr_rows.specs.ClientRows.{ClientRow, IsAnswerToPsync}
 use Rattle.mr_state.specs.Parts.{Obeys, OnlyEnds, promoted_as, turned_to, with_ends, without_one}
@@ -83,10 +84,10 @@ promote_row a mid b l u given fresh used at follows w uses is =
       outs_are = refl;
     })
 
-pub turn_row : (a mid b : NodeState) (l : LinkId) (u : List ℕ) (given : Given) (fresh : List ℕ) (used : ℕ) (address : AddressState) → IsAt a l u → a.core.master ≡ false → a.core.upstream ≢ Some address
+pub turn_row : (a mid b : NodeState) (l : LinkId) (u : List ℕ) (given : Given) (fresh : List ℕ) (used : ℕ) (address : AddressState) → IsAt a l u → a.core.master ≡ false → address.port < ports → a.core.upstream ≢ Some address
     → Wishes u used (node.ReplicaOf address.host address.port) → Uses a l used mid → b ≡ turned_to address mid
     → ClientRow a l u given fresh b (record no_outs { link = Some l; reply = reply_text done; closed = names_of (name_of a.follow); follows = Some address })
-turn_row a mid b l u given fresh used address at follows another w uses is =
+turn_row a mid b l u given fresh used address at follows port another w uses is =
     let leaves = uses.leaves (client u) at.agrees.is in
     ClientRow.turns (record {
       up = at.up;
@@ -96,6 +97,7 @@ turn_row a mid b l u given fresh used address at follows another w uses is =
       asks = w.reads.asks;
       address = address;
       wish = w.asks;
+      port = port;
       another = another;
       core = ap (λ (z : NodeState). z.core) is ∙ ap (λ (c : Core). record c { upstream = Some address }) uses.core;
       follow = ap (λ (z : NodeState). z.follow) is;
@@ -135,10 +137,10 @@ settles_obeying a mid b l u rest names at leaves shuts listed = record {
   opened = shuts.opened ∙ leaves.others.opened;
 }
 
-pub demote_row : (a mid b : NodeState) (l : LinkId) (u : List ℕ) (given : Given) (fresh : List ℕ) (used : ℕ) (address : AddressState) (names : List LinkId) → IsAt a l u → a.core.master ≡ true
+pub demote_row : (a mid b : NodeState) (l : LinkId) (u : List ℕ) (given : Given) (fresh : List ℕ) (used : ℕ) (address : AddressState) (names : List LinkId) → IsAt a l u → a.core.master ≡ true → address.port < ports
     → Wishes u used (node.ReplicaOf address.host address.port) → Uses a l used mid → Obeys mid address b → Lists names a.ends.open_links
     → ClientRow a l u given fresh b (record no_outs { link = Some l; reply = reply_text done; closed = names; follows = Some address })
-demote_row a mid b l u given fresh used address names at master w uses obeys listed =
+demote_row a mid b l u given fresh used address names at master port w uses obeys listed =
     let leaves = uses.leaves (client u) at.agrees.is in
     ClientRow.demotes (record {
       up = at.up;
@@ -148,6 +150,7 @@ demote_row a mid b l u given fresh used address names at master w uses obeys lis
       asks = w.reads.asks;
       address = address;
       wish = w.asks;
+      port = port;
       core = obeys.core ∙ ap (λ (c : Core). record c { master = false; offers = true; upstream = Some address; mark = None }) uses.core;
       follow = obeys.follow ∙ (leaves.follow ∙ uses.is_node.nobody master);
       closed = listed;

@@ -3,6 +3,7 @@ ghost use Rattle.std.specs.Prelude.{◌≡◌, true, None, Some, IfOk};
 ghost use Rattle.mr_outs.specs.Outs.{no_outs};
 ghost use Rattle.mr_ends.specs.Parts.{HasAhead};
 ghost use Rattle.mr_rows.specs.State.{shown, started};
+ghost use Rattle.mr_rows.specs.Sound.{IsSound};
 ghost use Rattle.mr_peer.specs.Parts.{Uses};
 
 mod answering;
@@ -76,6 +77,14 @@ impl Node {
         }
         let lineage = self.state.lineage();
         Some((lineage.id(), lineage.stream().end()))
+    }
+
+    /// What the types of a node's parts keep, stopped or not: its ids are ids, and its stream and its ports have their bounds. It does
+    /// nothing.
+    pub fn sound(&self)
+        ensures { IsSound self.now }
+    {
+        self.state.sound();
     }
 
     /// Takes outs back, to use their room again.

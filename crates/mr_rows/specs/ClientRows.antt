@@ -14,6 +14,7 @@ use Rattle.mr_cmd_node.specs.declared.node_ask.NodeAsk.TheVariants as node
 use Rattle.mr_repl.specs.Lineage.{LineageState, standing_of, renamed}
 use Rattle.mr_repl.specs.Backlog.{bytes_from}
 use Rattle.mr_repl.specs.Standing.{MayContinue}
+use Rattle.mr_lines.specs.Lines.{most_counted}
 use Rattle.mr_lines.specs.Written.{reply_line, length_line}
 use Rattle.mr_lines.specs.declared.psync.PsyncReply.TheVariants.{FullResync, Continue}
 use Rattle.mr_course.specs.State.{name_of}
@@ -23,6 +24,7 @@ use Rattle.mr_ends.specs.Replicas.{Lists}
 use Rattle.mr_outs.specs.Address.{AddressState}
 use Rattle.mr_outs.specs.Outs.{OutsState, Output, no_outs, outs_with}
 use Rattle.mr_rows.specs.State.{NodeState, IsShut, OthersStay, Agrees, spent_as}
+use Rattle.mr_rows.specs.Sound.{ports}
 use Rattle.mr_rows.specs.Requests.{Asks, Waits, IsDoomedBy}
 use Rattle.mr_rows.specs.Growing.{FedTo, Remakes, offset_behind, offset_limit, rebuilt}
 use Rattle.mr_rows.specs.Telling.{Around, IsAround}
@@ -74,10 +76,11 @@ pub record Halts (a : NodeState) (l : LinkId) (u : List ℕ) (b : NodeState) (ou
   pub outs_are : outs ≡ record no_outs { link = Some l; halts = true }
 
 -- What PSYNC is answered by a master: where the stream may be continued from the byte that is wanted, the stream from there on; and else the
--- whole dataset. Either comes behind the line that says so, with the id and, of a dataset, the offset at which it stands.
+-- whole dataset, which has no more bytes than the line of its length can tell. Either comes behind the line that says so, with the id and, of
+-- a dataset, the offset at which it stands.
 pub data IsAnswerToPsync (a : LineageState) (m : Dataset) (id : List ℕ) (wanted : ℤ) (text : List ℕ) : Type 0 where
   continues : (from : ℕ) → wanted ≡ pos from → MayContinue (standing_of a) id from → text ≡ reply_line (Continue a.id) ++ bytes_from a.stream from → IsAnswerToPsync a m id wanted text
-  resynchronizes : ((from : ℕ) → wanted ≡ pos from → MayContinue (standing_of a) id from → ⊥) → Remakes (rebuilding m) m
+  resynchronizes : ((from : ℕ) → wanted ≡ pos from → MayContinue (standing_of a) id from → ⊥) → Remakes (rebuilding m) m → length (rebuilt m) ≤ most_counted
       → text ≡ reply_line (FullResync a.id a.stream.offset) ++ (length_line (length (rebuilt m)) ++ rebuilt m) → IsAnswerToPsync a m id wanted text
 
 -- A master is asked for its stream: all that stands ready is sent in one, and the link is a replica's from then on.
@@ -119,6 +122,7 @@ pub record Turns (a : NodeState) (l : LinkId) (u : List ℕ) (b : NodeState) (ou
   pub asks : Asks u words rest
   pub address : AddressState
   pub wish : AsksNode words (node.ReplicaOf address.host address.port)
+  pub port : address.port < ports
   pub another : a.core.upstream ≢ Some address
   pub core : b.core ≡ record a.core { upstream = Some address }
   pub follow : b.follow ≡ None
@@ -134,6 +138,7 @@ pub record Demotes (a : NodeState) (l : LinkId) (u : List ℕ) (b : NodeState) (
   pub asks : Asks u words rest
   pub address : AddressState
   pub wish : AsksNode words (node.ReplicaOf address.host address.port)
+  pub port : address.port < ports
   pub core : b.core ≡ record a.core { master = false; offers = true; upstream = Some address; mark = None }
   pub follow : b.follow ≡ None
   pub closed : Lists outs.closed a.ends.open_links

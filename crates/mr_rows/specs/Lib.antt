@@ -1,4 +1,5 @@
 pub mod State
+pub mod Sound
 pub mod Requests
 pub mod Telling
 pub mod Growing

@@ -22,6 +22,8 @@ pub record Opens (a : NodeState) (l : LinkId) (b : NodeState) : Type 0 where
 -- A replica without a link to its master has one: its end is there under a name that was never given before, and the first line of the handshake
 -- is sent.
 pub record Dials (a : NodeState) (l : LinkId) (b : NodeState) (outs : OutsState) : Type 0 where
+  pub replica : a.core.master ≡ false
+  pub alone : a.follow ≡ None
   pub fresh : end_of a l ≡ None
   pub generation : l.generation ≡ a.ends.opened
   pub node : b ≡ record a { ends = opened_as a.ends l upstream; follow = Some (l, started (offer_of a.core.offers a.core.lineage) a.core.port) }

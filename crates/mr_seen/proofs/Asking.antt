@@ -34,6 +34,7 @@ use Rattle.mr_lines.specs.Replies.{IsReplyText}
 use Rattle.mr_lines.specs.declared.psync.PsyncReply.{PsyncReply}
 use Rattle.mr_lines.specs.declared.psync.PsyncReply.TheVariants as reply
 use Rattle.mr_outs.specs.Address.{AddressState}
+use Rattle.mr_rows.specs.Sound.{ports}
 use Rattle.mr_rows.specs.Served.{not_chained}
 use Rattle.mr_history.specs.Language.{Request}
 use Rattle.mr_history.specs.Language.Request.{Handshake, Psync, Ack, Command, ReplicaOfNoOne, ReplicaOf, Quit}
@@ -42,7 +43,6 @@ use Rattle.mr_language.specs.Lines.{Says}
 use Rattle.mr_language.specs.Requests.{Kind, kind_by, kind_to_server, Asks, IsWanted, address}
 use Rattle.mr_language.specs.Requests.Kind.{handshake, psync, ack, no_one, follow, quit, command}
 use Rattle.mr_follow.proofs.Loadings.{possible, then_some}
-use Rattle.mr_seen.specs.Worlds.{ports}
 
 -- ---- commands to the server that are answered by the node
 abbrev pub is_special : Result Ask AskFault → Bool

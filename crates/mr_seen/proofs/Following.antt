@@ -15,10 +15,11 @@ use Rattle.mr_ends.specs.State.EndState.{upstream}
 use Rattle.mr_ends.proofs.Naming.{at_or_other}
 use Rattle.mr_outs.specs.Outs.{OutsState}
 use Rattle.mr_rows.specs.State.{NodeState, FollowedAt, course_of, end_of}
+use Rattle.mr_rows.specs.Sound.{IsSound}
 use Rattle.mr_rows.specs.UpstreamRows.{ends_behind}
 use Rattle.mr_seen.specs.Way.{IsWay, unread, left_on}
 use Rattle.mr_seen.specs.State.{Link, Slot, WorldState, a_node}
-use Rattle.mr_seen.specs.Worlds.{IsSound, IsWorld, HasServer, HasMaster, end_for}
+use Rattle.mr_seen.specs.Worlds.{IsWorld, HasServer, HasMaster, end_for}
 use Rattle.mr_seen.specs.Carrying.{behind, followed, heard_as, unread_count}
 use Rattle.mr_seen.specs.Events.{IsFollowed, MasterStepsKeepWorlds}
 use Rattle.mr_seen.proofs.Places.{set_here, set_there, set_cases, some_is}

@@ -10,9 +10,10 @@ use Rattle.mr_ends.specs.State.EndState.{client, replica, upstream, shut}
 use Rattle.mr_ends.specs.Replicas.{is_named}
 use Rattle.mr_outs.specs.Outs.{OutsState}
 use Rattle.mr_rows.specs.State.{NodeState, end_of}
+use Rattle.mr_rows.specs.Sound.{IsSound}
 use Rattle.mr_seen.specs.Way.{WayState, IsWay, unread, left_on, sent_on}
 use Rattle.mr_seen.specs.State.{Link, Slot, WorldState}
-use Rattle.mr_seen.specs.Worlds.{IsSound, IsWorld, HasServer, HasMaster, end_for}
+use Rattle.mr_seen.specs.Worlds.{IsWorld, HasServer, HasMaster, end_for}
 use Rattle.mr_seen.specs.Carrying.{is_at, fed_if, shut_if, reached, told, settled, behind, stepped, said_by, said_on, ticked}
 use Rattle.mr_rows.specs.TimeRows.{TickRow}
 use Rattle.mr_seen.specs.Events.{IsServed, TicksKeepWorlds}

@@ -25,7 +25,7 @@ use Rattle.mr_language.specs.Requests.IsAsked.{by_words}
 use Rattle.mr_language.proofs.Ids.{forty}
 use Rattle.mr_lines.specs.Lines.{most_counted}
 use Rattle.mr_follow.specs.Handshake.{ping_line, port_line, capabilities_line, psync_line}
-use Rattle.mr_seen.specs.Worlds.{ports}
+use Rattle.mr_rows.specs.Sound.{ports}
 
 -- each word has less than 100 bytes
 abbrev AreShort : List (List ℕ) → Type 0

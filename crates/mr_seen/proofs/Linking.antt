@@ -58,7 +58,7 @@ open_stops w book n s b holds runs down = record {
 }
 
 pub dials : DialsAreRows
-dials w book n m s t name at b c outs holds runs o there up alone waiting r =
+dials w book n m s t name at b c outs holds runs o there up r =
     let line : outs.reply ≡ ping_line = ap (λ (z : OutsState). z.reply) r.outs_are in
     let same : seen_node (record t { node = c }) ≡ seen_node t = ap (λ z. seen_node (record t { node = z })) o.node in
     let still : (j : ℕ) → option_map seen_node (slice_get (slice_set w.slots m (record t { node = c })) j) ≡ option_map seen_node (slice_get w.slots j) = still_at seen_node w.slots m (record t { node = c }) t runs.at same in
@@ -69,8 +69,8 @@ dials w book n m s t name at b c outs holds runs o there up alone waiting r =
       row = record {
         node = seen_node s;
         found = sym (still n) ∙ ap (option_map seen_node) there;
-        replica = alone;
-        waiting = ap (seen_follow s.dialled) waiting;
+        replica = r.replica;
+        waiting = ap (seen_follow s.dialled) r.alone;
         server = seen_node t;
         server_found = ap (option_map seen_node) runs.at;
         does = acts up (acts runs.up (rows.Dials.connects (record {

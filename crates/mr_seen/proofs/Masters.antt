@@ -25,6 +25,7 @@ use Rattle.mr_course.specs.declared.upstream.UpstreamStep.TheVariants as outcome
 use Rattle.mr_ends.specs.State.{EndState}
 use Rattle.mr_outs.specs.Outs.{OutsState, no_outs}
 use Rattle.mr_rows.specs.State.{NodeState, course_of}
+use Rattle.mr_rows.specs.Sound.{IsReading}
 use Rattle.mr_rows.specs.UpstreamRows as row
 use Rattle.mr_rows.specs.UpstreamRows.{node_behind, outs_behind}
 use Rattle.mr_history.specs.Language.{Line}
@@ -48,7 +49,6 @@ use Rattle.mr_seen.specs.Way.{unread, used_on, left_on}
 use Rattle.mr_seen.specs.State.{Link, Slot, WorldState}
 use Rattle.mr_seen.specs.Seeing.{seen, seen_way, seen_node, seen_link, seen_follow, seen_phase}
 use Rattle.mr_seen.specs.Books.{IsBook}
-use Rattle.mr_seen.specs.Worlds.{IsReading}
 use Rattle.mr_seen.specs.Carrying.{behind, followed, heard_as, unread_count, count_by, put_node}
 use Rattle.mr_seen.specs.Events.{IsEvent, Holds, IsFollowed, MasterStepsAreRows, WaitsAreRows, LacksAreUnseen, SpendsAreRows}
 use Rattle.mr_seen.proofs.Places.{some_is}

@@ -25,7 +25,8 @@ use Rattle.mr_ends.specs.State.EndState.{upstream}
 use Rattle.mr_ends.proofs.Naming.{at_or_other}
 use Rattle.mr_outs.specs.Address.{AddressState}
 use Rattle.mr_outs.specs.Outs.{OutsState}
-use Rattle.mr_rows.specs.State.{Core, NodeState, FollowedAt, end_of}
+use Rattle.mr_rows.specs.State.{NodeState, FollowedAt, end_of}
+use Rattle.mr_rows.specs.Sound.{IsSound, ports}
 use Rattle.mr_rows.specs.Growing.{Remakes, rebuilt}
 use Rattle.mr_rows.specs.Ends.{names_of}
 use Rattle.mr_rows.specs.Served.{AsksNode}
@@ -50,9 +51,8 @@ use Rattle.mr_seen.specs.Way.{unread, used_on}
 use Rattle.mr_seen.specs.State.{Link, Slot, WorldState}
 use Rattle.mr_seen.specs.Seeing.{seen, seen_way, seen_node, seen_link, seen_host}
 use Rattle.mr_seen.specs.Books.{IsBook, entry_of}
-use Rattle.mr_seen.specs.Worlds.{IsSound, ports}
 use Rattle.mr_seen.specs.Carrying.{filed, reached, booked_as}
-use Rattle.mr_seen.specs.Events.{IsEvent, Holds, IsServed, IsCounted, ClientStepsAreRows}
+use Rattle.mr_seen.specs.Events.{IsEvent, Holds, IsServed, ClientStepsAreRows}
 use Rattle.mr_seen.proofs.Reading.{node_is}
 use Rattle.mr_seen.proofs.Others.{NoneServed, no_names, shut_reached, others_there, here}
 use Rattle.mr_seen.proofs.Keeping.{with_history, branched_kept, branches}
@@ -122,8 +122,8 @@ module _ (w : WorldState) (book : Book minired) (l : ℕ) (k : Link) (s : Slot) 
               (said ∙ (is ∙ ap (λ z. reply_line (reply.Continue s.node.core.lineage.id) ++ drop z s.node.core.lineage.stream.held) place));
         }))
 
-    answer : IsCounted s.node → IsAnswerToPsync s.node.core.lineage s.node.core.held r.id r.wanted r.text → Event
-    answer counted (IsAnswerToPsync.continues from is may text) = go may.known
+    answer : IsAnswerToPsync s.node.core.lineage s.node.core.held r.id r.wanted r.text → Event
+    answer (IsAnswerToPsync.continues from is may text) = go may.known
       where
         first : s.node.core.lineage.stream.offset + 1 ≤ from + length s.node.core.lineage.stream.held
         first = let h = may.from_first in omega (arith, h)
@@ -135,7 +135,7 @@ module _ (w : WorldState) (book : Book minired) (l : ℕ) (k : Link) (s : Slot) 
         go : IsKnown (standing_of s.node.core.lineage) r.id from → Event
         go (inl e) = goes_on s.node.core.lineage.id from (record { is_id = sound.id; id_is = e; offset_is = is }) (record { known = inl refl; from_first = first; to_end = may.to_next }) text
         go (inr h) = before s.node.core.lineage.second refl sound.second h
-    answer counted (IsAnswerToPsync.resynchronizes none remakes text) =
+    answer (IsAnswerToPsync.resynchronizes none remakes counted text) =
         let line = says_reply (reply.FullResync s.node.core.lineage.id s.node.core.lineage.stream.offset) (sound.id, sound.window.countable) in
         let q = wanted_or r.id r.wanted in
         event (ServerRow.resynchronizes (record {
@@ -164,8 +164,8 @@ module _ (w : WorldState) (book : Book minired) (l : ℕ) (k : Link) (s : Slot) 
         refused : (i : List ℕ) (o : ℕ) → Wants r.id r.wanted i o → Continues (seen_node s) i o → ⊥
         refused i o q c = none o q.offset_is (record { known = known i o q c.known; from_first = (let h = c.from_first in omega (arith, h)); to_next = c.to_end })
 
-    pub synchronizes : IsCounted s.node → Event
-    synchronizes counted = answer counted r.answer
+    pub synchronizes : Event
+    synchronizes = answer r.answer
 
   -- ---- changes of roles
   pub promotes : entry_of w.book fresh ≡ None → row.Promotes s.node k.name (unread k.ask) fresh b outs → Event
@@ -190,8 +190,8 @@ module _ (w : WorldState) (book : Book minired) (l : ℕ) (k : Link) (s : Slot) 
         book = branches w.book book s.node.core.lineage.id fresh s.node.core.lineage.stream.offset inner.start inner.earlier inner.later holds.kept inner.front undrawn;
       }))
 
-  pub turns : IsSound b → row.Turns s.node k.name (unread k.ask) b outs → Event
-  turns after r =
+  pub turns : row.Turns s.node k.name (unread k.ask) b outs → Event
+  turns r =
       let fed : outs.fed ≡ [] = ap (λ (o : OutsState). o.fed) r.outs_are in
       let closed : outs.closed ≡ names_of (name_of s.node.follow) = ap (λ (o : OutsState). o.closed) r.outs_are in
       steps.event w book l k s given fresh b outs holds served (steps.V w book l k s given fresh b outs holds served) book
@@ -215,12 +215,9 @@ module _ (w : WorldState) (book : Book minired) (l : ℕ) (k : Link) (s : Slot) 
       empty_or [] p e = absurd (cc)
       empty_or (x ∷ h) p e = absurd (cc)
 
-      there : r.address.port < ports
-      there = subst (λ o. IfSome o (λ h. h.port < ports)) (ap (λ (c : Core). c.upstream) r.core) after.upstream
-
       other : (o : Option AddressState) → s.node.core.upstream ≡ o → IfSome o (λ h. h.port < ports) → seen_host s.node.core.upstream ≢ address r.address.host r.address.port
       other None e h q = empty_or r.address.host r.address.port (sym (ap seen_host e) ∙ q)
-      other (Some a) e h q = r.another (e ∙ ap (λ z. Some z) (one_address a r.address h there (sym (ap seen_host e) ∙ q)))
+      other (Some a) e h q = r.another (e ∙ ap (λ z. Some z) (one_address a r.address h r.port (sym (ap seen_host e) ∙ q)))
 
   pub demotes : row.Demotes s.node k.name (unread k.ask) b outs → Event
   demotes r =
@@ -247,14 +244,14 @@ module _ (w : WorldState) (book : Book minired) (l : ℕ) (k : Link) (s : Slot) 
       gone fed j ne = others_there (reached k.to outs) w.links l (steps.m w book l k s given fresh b outs holds served) (λ y. history.shut (hears k.to y) y)
           (λ i y f. shut_reached w holds.world k.to s served.at served.up outs fed r.closed i y f) j ne
 
-  pub client_row : IsSound b → entry_of w.book fresh ≡ None → (row.Synchronizes s.node k.name (unread k.ask) b outs → IsCounted s.node) → ClientRow s.node k.name (unread k.ask) given fresh b outs → Event
-  client_row after undrawn counted (ClientRow.serves r) = clients.serves w book l k s given fresh b outs holds served plain r
-  client_row after undrawn counted (ClientRow.closes r) = clients.closes w book l k s given fresh b outs holds served plain r
-  client_row after undrawn counted (ClientRow.halts r) = clients.halts w book l k s given fresh b outs holds served plain r
-  client_row after undrawn counted (ClientRow.synchronizes r) = synchronizes r (counted r)
-  client_row after undrawn counted (ClientRow.promotes r) = promotes undrawn r
-  client_row after undrawn counted (ClientRow.turns r) = turns after r
-  client_row after undrawn counted (ClientRow.demotes r) = demotes r
+  pub client_row : entry_of w.book fresh ≡ None → ClientRow s.node k.name (unread k.ask) given fresh b outs → Event
+  client_row undrawn (ClientRow.serves r) = clients.serves w book l k s given fresh b outs holds served plain r
+  client_row undrawn (ClientRow.closes r) = clients.closes w book l k s given fresh b outs holds served plain r
+  client_row undrawn (ClientRow.halts r) = clients.halts w book l k s given fresh b outs holds served plain r
+  client_row undrawn (ClientRow.synchronizes r) = synchronizes r
+  client_row undrawn (ClientRow.promotes r) = promotes undrawn r
+  client_row undrawn (ClientRow.turns r) = turns r
+  client_row undrawn (ClientRow.demotes r) = demotes r
 
 pub client_steps : ClientStepsAreRows
-client_steps w book l k s given fresh b outs holds served plain undrawn after counted r = client_row w book l k s given fresh b outs holds served plain after undrawn counted r
+client_steps w book l k s given fresh b outs holds served plain undrawn r = client_row w book l k s given fresh b outs holds served plain undrawn r

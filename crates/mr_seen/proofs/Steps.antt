@@ -16,6 +16,7 @@ use Rattle.mr_lines.specs.Lines.{most_counted}
 use Rattle.mr_ends.specs.State.EndState.{client, replica, shut}
 use Rattle.mr_outs.specs.Outs.{OutsState}
 use Rattle.mr_rows.specs.State.{NodeState, end_of}
+use Rattle.mr_rows.specs.Sound.{IsSound}
 use Rattle.mr_rows.specs.Requests.{AsksNothing}
 use Rattle.mr_rows.specs.Requests as requests
 use Rattle.mr_rows.specs.Growing.{FedTo}
@@ -40,7 +41,6 @@ use Rattle.mr_seen.specs.Way.{unread, used_on}
 use Rattle.mr_seen.specs.State.{Link, Slot, Entry, WorldState}
 use Rattle.mr_seen.specs.Seeing.{seen, seen_way, seen_node, seen_link}
 use Rattle.mr_seen.specs.Books.{IsBook, extended}
-use Rattle.mr_seen.specs.Worlds.{IsSound}
 use Rattle.mr_seen.specs.Carrying.{stepped, settled, told, reached, behind, booked, booked_as}
 use Rattle.mr_seen.specs.Events.{IsEvent, Holds, IsServed}
 use Rattle.mr_seen.proofs.Seen.{put_at}

@@ -9,6 +9,7 @@ use Rattle.mr_ends.specs.State.{EndState}
 use Rattle.mr_ends.specs.State.EndState.{client, replica, upstream, shut}
 use Rattle.mr_outs.specs.Outs.{OutsState, Output}
 use Rattle.mr_rows.specs.State.{Core, NodeState, FollowedAt, OthersStay, end_of}
+use Rattle.mr_rows.specs.Sound.{IsSound}
 use Rattle.mr_rows.specs.Ends.{Settles}
 use Rattle.mr_rows.specs.Telling.{Around}
 use Rattle.mr_rows.specs.Served.{Served}
@@ -16,7 +17,7 @@ use Rattle.mr_rows.specs.ClientRows.{ClientRow}
 use Rattle.mr_rows.specs.ReplicaRows.{ReplicaRow, IsExpected}
 use Rattle.mr_seen.specs.Way.{unread}
 use Rattle.mr_seen.specs.State.{Link, Slot}
-use Rattle.mr_seen.specs.Worlds.{IsSound, HasServer, HasMaster, end_for}
+use Rattle.mr_seen.specs.Worlds.{HasServer, HasMaster, end_for}
 use Rattle.mr_seen.specs.Carrying.{put_node}
 use Rattle.mr_seen.specs.Events.{ClientStepsKeepWorlds, ReplicaStepsKeepWorlds, StopsKeepWorlds}
 use Rattle.mr_seen.proofs.Places.{set_here, set_there, set_cases}

@@ -3,7 +3,6 @@ use Rattle.std.specs.Prelude.{◌≡◌, ◌≤◌, ◌+◌, ℕ, ℤ, List, Boo
 use Rattle.std.specs.FinMap.{empty}
 use Rattle.mr_entries.specs.Dataset.{Dataset}
 use Rattle.mr_data.specs.declared.given.Given.{Given}
-use Rattle.mr_lines.specs.Lines.{most_counted}
 use Rattle.mr_links.specs.declared.link_id.LinkId.{LinkId}
 use Rattle.mr_follow.specs.State.{FollowState, heard}
 use Rattle.mr_course.specs.declared.upstream.UpstreamStep.{UpstreamStep}
@@ -18,8 +17,8 @@ use Rattle.mr_history.specs.Invariant.{Invariant}
 use Rattle.mr_language.specs.Minired.{minired}
 use Rattle.mr_language.specs.Snapshots.{IsReadAs}
 use Rattle.mr_rows.specs.State.{NodeState}
-use Rattle.mr_rows.specs.Growing.{rebuilt}
-use Rattle.mr_rows.specs.ClientRows.{ClientRow, Synchronizes}
+use Rattle.mr_rows.specs.Sound.{IsSound}
+use Rattle.mr_rows.specs.ClientRows.{ClientRow}
 use Rattle.mr_rows.specs.ClientRows as client
 use Rattle.mr_rows.specs.ReplicaRows.{ReplicaRow}
 use Rattle.mr_rows.specs.UpstreamRows as master
@@ -29,7 +28,7 @@ use Rattle.mr_seen.specs.Way.{unread}
 use Rattle.mr_seen.specs.State.{Link, Slot, WorldState}
 use Rattle.mr_seen.specs.Seeing.{seen}
 use Rattle.mr_seen.specs.Books.{entry_of, IsBook}
-use Rattle.mr_seen.specs.Worlds.{IsSound, IsWorld, no_world}
+use Rattle.mr_seen.specs.Worlds.{IsWorld, no_world}
 use Rattle.mr_seen.specs.Carrying.{stepped, followed, ticked, put_node, opened, connected, fed_server, fed_caller, broken, begun_slot, started_with, restarted_with}
 
 -- From the one World to the other there is one event of histories: of the Worlds that are seen, with what is known of each id.
@@ -51,14 +50,9 @@ pub record IsServed (w : WorldState) (l : ℕ) (k : Link) (s : Slot) : Type 0 wh
   pub at : slice_get w.slots k.to ≡ Some s
   pub up : s.node.core.up ≡ true
 
--- No more bytes rebuild the dataset than the line of a snapshot can tell.
-abbrev pub IsCounted : NodeState → Type 0
-IsCounted a = length (rebuilt a.core.held) ≤ most_counted
-
 abbrev pub ClientStepsAreRows : Type 0
 ClientStepsAreRows = (w : WorldState) (book : Book minired) (l : ℕ) (k : Link) (s : Slot) (given : Given) (fresh : List ℕ) (b : NodeState) (outs : OutsState)
-    → Holds w book → IsServed w l k s → k.streams ≡ false → entry_of w.book fresh ≡ None → IsSound b
-    → (Synchronizes s.node k.name (unread k.ask) b outs → IsCounted s.node)
+    → Holds w book → IsServed w l k s → k.streams ≡ false → entry_of w.book fresh ≡ None
     → ClientRow s.node k.name (unread k.ask) given fresh b outs
     → IsEvent w book (events.Event.Step l Server given fresh) (stepped w k.to s l k b outs)
 
@@ -142,7 +136,7 @@ OpenStopsAreRows = (w : WorldState) (book : Book minired) (n : ℕ) (s : Slot) (
 abbrev pub DialsAreRows : Type 0
 DialsAreRows = (w : WorldState) (book : Book minired) (n m : ℕ) (s t : Slot) (name at : LinkId) (b c : NodeState) (outs : OutsState)
     → Holds w book → IsRunning w m t → Opens t.node at c
-    → slice_get (slice_set w.slots m (record t { node = c })) n ≡ Some s → s.node.core.up ≡ true → s.node.core.master ≡ false → s.node.follow ≡ None
+    → slice_get (slice_set w.slots m (record t { node = c })) n ≡ Some s → s.node.core.up ≡ true
     → Dials s.node name b outs
     → IsEvent w book (events.Event.Dial n m) (connected w n s b name outs m t c at)
 

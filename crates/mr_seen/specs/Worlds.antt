@@ -1,34 +1,13 @@
 -- What is true of each World.
-use Rattle.std.specs.Prelude.{◌≡◌, ◌<◌, ◌^◌, ℕ, List, [], Bool, true, false, Some, IfSome, slice_get}
+use Rattle.std.specs.Prelude.{◌≡◌, ℕ, List, [], Bool, true, false, Some, slice_get}
 use Rattle.mr_links.specs.declared.link_id.LinkId.{LinkId}
-use Rattle.mr_repl.specs.Backlog.{IsWindow}
-use Rattle.mr_repl.specs.ReplId.{IsId}
-use Rattle.mr_follow.specs.State.{FollowState, IsFollower, Agrees}
-use Rattle.mr_course.specs.State.{IsReader}
+use Rattle.mr_follow.specs.State.{FollowState, Agrees}
 use Rattle.mr_ends.specs.State.{EndState}
 use Rattle.mr_ends.specs.State.EndState.{client, replica}
-use Rattle.mr_rows.specs.State.{NodeState, IsNode, end_of}
+use Rattle.mr_rows.specs.State.{end_of}
+use Rattle.mr_rows.specs.Sound.{IsSound}
 use Rattle.mr_seen.specs.Way.{IsWay, unread}
 use Rattle.mr_seen.specs.State.{Link, Slot, WorldState, a_node}
-
--- no port is as much
-abbrev pub ports : ℕ
-ports = 2 ^ 16
-
--- what reads at the link to the master fits in with the node
-pub record IsReading (a : NodeState) (f : FollowState) : Type 0 where
-  pub reader : IsReader a.core.master a.core.offers a.core.lineage f
-  pub follower : IsFollower f
-  pub port : f.port < ports
-
--- What the types of a node's parts keep: its ids are ids, and its stream and its ports have their bounds.
-pub record IsSound (a : NodeState) : Type 0 where
-  pub node : IsNode a
-  pub window : IsWindow a.core.lineage.stream
-  pub id : IsId a.core.lineage.id
-  pub second : IfSome a.core.lineage.second (λ s. IsId s.0)
-  pub upstream : IfSome a.core.upstream (λ h. h.port < ports)
-  pub reading : IfSome a.follow (λ f. IsReading a f.1)
 
 -- the end that a link's server has while it is open
 abbrev pub end_for : Bool → List ℕ → EndState

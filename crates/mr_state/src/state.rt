@@ -1,9 +1,11 @@
 // What a node holds.
-ghost use Rattle.std.specs.Prelude.{◌≡◌, true, None};
+ghost use Rattle.std.specs.Prelude.{◌≡◌, ◌<◌, IfSome, true, None};
 ghost use Rattle.std.specs.FinMap as map;
 ghost use Rattle.std.specs.Option.{option_copied};
-ghost use Rattle.mr_course.specs.State.{CountsUnread, name_of, phase_of};
-ghost use Rattle.mr_rows.specs.State.{IsNode};
+ghost use Rattle.mr_course.specs.State.{CountsUnread, IsCourse, name_of, phase_of};
+ghost use Rattle.mr_repl.specs.ReplId.{IsId};
+ghost use Rattle.mr_rows.specs.State.{IsNode, course_of};
+ghost use Rattle.mr_rows.specs.Sound.{IsSound, ports};
 ghost use Rattle.mr_state.specs.Parts.{node_of};
 
 mod linking;
@@ -16,7 +18,7 @@ use mr_ends::Ends;
 use mr_follow::Phase;
 use mr_links::LinkId;
 use mr_outs::Address;
-use mr_repl::Lineage;
+use mr_repl::{Lineage, ReplId};
 use std::alloc::Global;
 use std::marker::Model;
 
@@ -134,9 +136,27 @@ impl State {
 
     /// How many bytes of the master were fed and not used; 0 where none is followed.
     pub fn unread_len(&self) -> u64
-        ensures { CountsUnread self.now.follow result }
+        ensures count { CountsUnread self.now.follow result }
+        ensures course { IsCourse (course_of self.now) }
     {
+        // its clause says what is true of the course
+        let _ = self.course.name();
         self.course.unread_len()
+    }
+
+    /// What the types of its parts keep: its ids are ids, and its stream and its ports have their bounds. It does nothing.
+    pub fn sound(&self)
+        ensures { IsSound self.now }
+    {
+        // each clause says a part of it
+        let _ = self.course.name();
+        let _ = self.course.port();
+        let lineage = self.course.lineage();
+        let _ = lineage.stream().end();
+        let id = lineage.id();
+        let _ = id.bytes();
+        keeps_id(lineage.second());
+        keeps_port(self.upstream.as_ref());
     }
 
     /// What is waited for there.
@@ -144,5 +164,29 @@ impl State {
         ensures { result ≡ phase_of self.now.follow }
     {
         self.course.phase()
+    }
+}
+
+/// The id that a stream had before, if it had one, is an id.
+fn keeps_id(second: Option<(ReplId, u64)>)
+    ensures { IfSome second (λ s. IsId s.0) }
+{
+    match second {
+        None => {}
+        Some((id, _)) => {
+            let _ = id.bytes();
+        }
+    }
+}
+
+/// The port of an address, if there is one, is a port.
+fn keeps_port(address: Option<&Address>)
+    ensures { IfSome (option_copied address.entry) (λ h. h.port < ports) }
+{
+    match address {
+        None => {}
+        Some(address) => {
+            let _ = address.port();
+        }
     }
 }

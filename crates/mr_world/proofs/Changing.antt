@@ -4,9 +4,10 @@ use Rattle.std.specs.Prelude.{slice_get, slice_set}
 use Rattle.mr_links.specs.declared.link_id.LinkId.{LinkId}
 use Rattle.mr_follow.specs.State.{FollowState, Agrees}
 use Rattle.mr_rows.specs.State.{end_of}
+use Rattle.mr_rows.specs.Sound.{IsSound}
 use Rattle.mr_seen.specs.Way.{IsWay, unread}
 use Rattle.mr_seen.specs.State.{a_node, Entry, Link, Slot, WorldState}
-use Rattle.mr_seen.specs.Worlds.{IsSound, IsWorld, HasServer, HasMaster, end_for}
+use Rattle.mr_seen.specs.Worlds.{IsWorld, HasServer, HasMaster, end_for}
 use Rattle.mr_seen.proofs.Places.{set_here, set_there, set_cases, push_cases, push_old, some_is}
 use Rattle.mr_seen.proofs.Reading.{number_or}
 

@@ -13,11 +13,12 @@ use Rattle.mr_ends.specs.State.EndState.{client, upstream}
 use Rattle.mr_ends.proofs.Naming.{at_or_other}
 use Rattle.mr_entries.specs.Dataset.{Dataset}
 use Rattle.mr_rows.specs.State.{NodeState, IsNode, end_of, started, stopped_as}
+use Rattle.mr_rows.specs.Sound.{IsReading, IsSound}
 use Rattle.mr_rows.specs.LinkRows.{Opens, closed_at, follow_without}
 use Rattle.mr_state.proofs.Nodes.{closed_node, opened_node}
 use Rattle.mr_seen.specs.Way.{IsWay, no_way, sent_on, taken_on, unread}
 use Rattle.mr_seen.specs.State.{a_client, a_node, Link, Slot, WorldState}
-use Rattle.mr_seen.specs.Worlds.{IsReading, IsSound, IsWorld, end_for}
+use Rattle.mr_seen.specs.Worlds.{IsWorld, end_for}
 use Rattle.mr_seen.specs.Carrying.{begun_slot, broken, opened_link, opened, put_node}
 use Rattle.mr_seen.specs.Events.{IsServed}
 use Rattle.mr_seen.specs.Books.{begun}

@@ -1,8 +1,8 @@
 // Links that come, are fed and go.
-ghost use Rattle.std.specs.Prelude.{◌≡◌, ◌↔◌, true, false, None, IsTrue, length};
-ghost use Rattle.mr_rows.specs.State.{room_of};
+ghost use Rattle.std.specs.Prelude.{◌≡◌, ◌↔◌, ◌⊎◌, true, false, None, IfNone, IfSome, IsTrue, length};
+ghost use Rattle.mr_rows.specs.State.{end_of, room_of};
 ghost use Rattle.mr_rows.specs.LinkRows.{closed_at};
-ghost use Rattle.mr_peer.specs.Calls.{DialRow, FeedRow, IsUnread, OpenRow, OpensNoMore, OpensOn};
+ghost use Rattle.mr_peer.specs.Calls.{DialRow, FeedRow, IsClients, IsUnread, OpenRow, OpensNoMore, OpensOn, Unreads};
 
 use crate::fault::NodeFault;
 use crate::node::Node;
@@ -87,9 +87,24 @@ impl Node {
         }
     }
 
+    /// Whether the node's end of a link is a client's, stopped or not. It takes no memory.
+    pub fn is_client(&self, link: LinkId) -> bool
+        ensures { IsTrue result ↔ IsClients self.now link }
+    {
+        let Some(end) = self.state.ends().get(link) else {
+            return false;
+        };
+        match end.kind() {
+            Kind::Client => true,
+            Kind::Replica | Kind::Upstream | Kind::Shut => false,
+        }
+    }
+
     /// How many bytes were fed on a link and not used; none where the link isn't there or the node is stopped. It takes no memory.
     pub fn unread(&self, link: LinkId) -> Option<usize>
-        ensures { IsUnread self.now link result }
+        ensures count { IsUnread self.now link result }
+        ensures there { IfSome result (λ count. Unreads self.now link count) }
+        ensures absent { IfNone result ((self.now.core.up ≡ false) ⊎ (end_of self.now link ≡ None)) }
     {
         if !self.state.up() {
             return None;

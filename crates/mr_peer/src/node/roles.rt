@@ -1,5 +1,5 @@
 // A change of roles.
-ghost use Rattle.std.specs.Prelude.{◌≡◌, ◌≢◌, ℕ, List, [], true, false, Some, OnOk};
+ghost use Rattle.std.specs.Prelude.{◌≡◌, ◌≢◌, ◌<◌, ℕ, List, [], true, false, Some, OnOk};
 ghost use Rattle.mr_resp.specs.Replies.{reply_text};
 ghost use Rattle.mr_planning.specs.Answered.{done};
 ghost use Rattle.mr_data.specs.declared.given.Given.{Given};
@@ -9,6 +9,7 @@ ghost use Rattle.mr_ends.specs.Parts.{HasAhead};
 ghost use Rattle.mr_ends.specs.Replicas.{Lists};
 ghost use Rattle.mr_outs.specs.Outs.{no_outs};
 ghost use Rattle.mr_rows.specs.Ends.{names_of};
+ghost use Rattle.mr_rows.specs.Sound.{ports};
 ghost use Rattle.mr_course.specs.State.{name_of};
 ghost use Rattle.mr_peer.specs.Reading.{Wishes};
 ghost use Rattle.mr_peer.specs.Steps.{ClientStep, IsAt};
@@ -111,7 +112,8 @@ impl Node {
 
     /// Whom the node follows from now on.
     fn put_following(&self, address: &Address, outs: &mut Outs) -> Result<(), AllocError>
-        ensures { OnOk result (outs.new ≡ record outs.old { follows = Some address.now }) }
+        ensures told { OnOk result (outs.new ≡ record outs.old { follows = Some address.now }) }
+        ensures port { address.now.port < ports }
     {
         let told = Address::copied(self.alloc, address.host(), address.port())?;
         outs.follow(told);

@@ -4,6 +4,7 @@ ghost use Rattle.mr_data.specs.declared.given.Given.{Given};
 ghost use Rattle.mr_cmd_node.specs.declared.node_ask.NodeAsk.TheVariants as node;
 ghost use Rattle.mr_ends.specs.Parts.{IsClient};
 ghost use Rattle.mr_repl.specs.Backlog.{first_of, bytes_from};
+ghost use Rattle.mr_lines.specs.Lines.{most_counted};
 ghost use Rattle.mr_lines.specs.Written.{reply_line, length_line};
 ghost use Rattle.mr_lines.specs.declared.psync.PsyncReply.TheVariants.{FullResync, Continue};
 ghost use Rattle.mr_rows.specs.Growing.{Remakes, rebuilt};
@@ -78,6 +79,7 @@ impl Node {
     fn put_dataset(&self, outs: &mut Outs) -> Result<(), AllocError>
         requires { outs.old.reply ≡ [] }
         ensures remakes { OnOk result (Remakes (rebuilding self.now.core.held) self.now.core.held) }
+        ensures counted { OnOk result (length (rebuilt self.now.core.held) ≤ most_counted) }
         ensures text { OnOk result (outs.new ≡ record outs.old {
           reply = reply_line (FullResync self.now.core.lineage.id self.now.core.lineage.stream.offset) ++ (length_line (length (rebuilt self.now.core.held)) ++ rebuilt self.now.core.held);
         }) }

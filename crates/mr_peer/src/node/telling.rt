@@ -1,5 +1,5 @@
 // What a node tells of itself.
-ghost use Rattle.std.specs.Prelude.{◌≡◌, ◌↔◌, ◌⊎◌, ℕ, List, Some, false, IfOk, IfErr, IsErrOf, length, not};
+ghost use Rattle.std.specs.Prelude.{◌≡◌, ◌↔◌, ◌⊎◌, ℕ, List, Some, false, IfOk, IfErr, IsErrOf, length, not, option_copied};
 ghost use Rattle.mr_resp.specs.ReplyView.{view};
 ghost use Rattle.mr_data.specs.declared.given.Given.{Given};
 ghost use Rattle.mr_info.specs.Info.{info_text};
@@ -20,6 +20,7 @@ use mr_ends::End;
 use mr_follow::Phase;
 use mr_info::{MasterLink, Replica, info, master_role, replica_role};
 use mr_links::LinkId;
+use mr_outs::Address;
 use mr_resp::Reply;
 use std::alloc::AllocError;
 
@@ -125,6 +126,13 @@ impl Node {
             MasterLink::Sync => Role::Sync,
             MasterLink::Connected => Role::Connected,
         }
+    }
+
+    /// Whom the node was told to follow, since it was started or promoted, stopped or not. It takes no memory.
+    pub fn upstream(&self) -> Option<&Address>
+        ensures { option_copied result ≡ self.now.core.upstream }
+    {
+        self.state.upstream()
     }
 
     /// How far a replica has come with the link to its master.

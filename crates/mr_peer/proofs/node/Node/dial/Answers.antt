@@ -12,6 +12,6 @@ returns c =
     let greets : (z : OutsState) → z ≡ no_outs → record z { link = Some c.in-Ok.link; reply = z.reply ++ ping } ≡ record no_outs { link = Some c.in-Ok.link; reply = ping_line } =
     λ z none. ap (λ (z : OutsState). record z { link = Some c.in-Ok.link; reply = z.reply ++ ping }) none ∙ ap (λ (line : List ℕ). record no_outs { link = Some c.in-Ok.link; reply = line }) ping_bytes in (
       on.up,
-      dials_row c.args.self.now c.self.inside.state c.dial.new.self c.in-Ok.link c.bind.new.self same c.in-Ok.ensures.fresh c.in-Ok.ensures.generation c.in-Ok.ensures.dials
+      dials_row c.args.self.now c.self.inside.state c.dial.new.self c.in-Ok.link c.bind.new.self same c.requires.replica c.requires.alone c.in-Ok.ensures.fresh c.in-Ok.ensures.generation c.in-Ok.ensures.dials
           (c.bind.ensures ∙ (ap (λ (z : OutsState). record z { link = Some c.in-Ok.link }) said ∙ greets c.fresh_outs-outs.result c.fresh_outs-outs.ensures.outs)),
     )

@@ -20,5 +20,5 @@ returns-in-Full c =
     let stands : c.standing.result ≡ standing_of c.args.self.now.core.lineage = c.standing.ensures ∙ ap (λ (a : LineageState). standing_of a) (c.lineage.ensures ∙ ap (λ (s : NodeState). s.core.lineage) c.self.view_is) in
     let never : (from : ℕ) → c.args.wanted ≡ pos from → MayContinue (standing_of c.args.self.now.core.lineage) c.args.id.now from → ⊥ =
     λ from is may. c.in-Full.ensures from (to_z-of_z w64 c.args.wanted c.ranges.wanted ∙ is) (subst (λ (s : Standing). MayContinue s c.args.id.now from) (sym stands) may) in
-    on_ok_map c.put_dataset.result _ _ (on_ok_both c.put_dataset.result _ _ c.put_dataset.ensures.remakes c.put_dataset.ensures.text)
-    (λ both. record { text = _; answer = IsAnswerToPsync.resynchronizes never both.0 refl; outs_are = both.1 })
+    on_ok_map c.put_dataset.result _ _ (on_ok_both c.put_dataset.result _ _ c.put_dataset.ensures.remakes (on_ok_both c.put_dataset.result _ _ c.put_dataset.ensures.counted c.put_dataset.ensures.text))
+    (λ both. record { text = _; answer = IsAnswerToPsync.resynchronizes never both.0 both.1.0 refl; outs_are = both.1.1 })

@@ -21,10 +21,10 @@ returns c = λ u given fresh at w.
     let a = c.args.self.now in let b = c.turn.new.self in let mid = c.advance.new.self in let l = c.args.link in
     let uses = subst (λ (s : NodeState). Uses s l c.args.used mid) c.fresh_outs-outs.ensures.same c.advance.ensures in
     let left = on_ok_is c.put_leaving.result _ (sym c.is_err.ensures.value ∙ c.if-is_err.false) c.put_leaving.ensures in
-    let told = on_ok_is c.put_following.result _ (sym c.is_err-else-is_err.ensures.value ∙ c.if-is_err-2.false) c.put_following.ensures in
+    let told = on_ok_is c.put_following.result _ (sym c.is_err-else-is_err.ensures.value ∙ c.if-is_err-2.false) c.put_following.ensures.told in
     let outs : c.put_following.new.outs ≡ record no_outs { link = Some l; reply = reply_text done; closed = names_of (name_of a.follow); follows = Some c.args.address } =
     told ∙ ap (λ (o : OutsState). record o { follows = Some c.args.address })
     (left ∙ (ap (λ (o : OutsState). record o { reply = reply_text done; closed = names_of (name_of c.fresh_outs-outs.new.self.follow) }) c.fresh_outs-outs.ensures.outs
     ∙ ap (λ (s : NodeState). record no_outs { link = Some l; reply = reply_text done; closed = names_of (name_of s.follow) }) c.fresh_outs-outs.ensures.same)) in
     subst (λ (o : OutsState). ClientRow a l u given fresh b o) (sym outs)
-    (turn_row a mid b l u given fresh c.args.used c.args.address at c.requires.replica c.requires.another w uses (c.turn.ensures ∙ ap (λ (s : NodeState). turned_to c.args.address s) c.self.view_is))
+    (turn_row a mid b l u given fresh c.args.used c.args.address at c.requires.replica c.put_following.ensures.port c.requires.another w uses (c.turn.ensures ∙ ap (λ (s : NodeState). turned_to c.args.address s) c.self.view_is))
