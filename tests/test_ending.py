@@ -52,10 +52,28 @@ BAD_LINES = [
     (["serve", "--port", "1", "--turns", "18446744073709551616"], b"18446744073709551616"),
     (["serve", "--port", "1", "--sync"], b"--sync <sync>"),
     (["serve", "--port", "1", "--sync", "no", "--sync", "no"], b"multiple times"),
+    (["serve", "--port", "1", "--backlog"], b"--backlog <backlog>"),
+    (["serve", "--port", "1", "--backlog", "x"], b"x"),
+    (["serve", "--port", "1", "--backlog", "0"], b"0 is not in 1..=1073741824"),
+    (["serve", "--port", "1", "--backlog", "1073741825"], b"1073741825 is not in 1..=1073741824"),
+    (["serve", "--port", "1", "--backlog", "2", "--backlog", "2"], b"multiple times"),
+    (["serve", "--port", "1", "--replicaof"], b"--replicaof <replicaof>"),
+    (["serve", "--port", "1", "--replicaof", "h:2", "--replicaof", "h:2"], b"multiple times"),
+    (["serve", "--port", "1", "--replicaof", "h", "2"], b"2"),
+    (["serve", "--replicaof", "h:2"], b"--port <port>"),
+    (["serve", "--port", "1", "--bind"], b"--bind <bind>"),
+    (["serve", "--port", "1", "--bind", "127.0.0.1", "--bind", "127.0.0.1"], b"multiple times"),
     (["serve", "--port", "1", "--now", "1"], b"--now"),
     (["serve", "--port", "1", "more"], b"more"),
     (["pipe", "--port", "1"], b"--port"),
+    (["pipe", "--backlog", "1"], b"--backlog"),
+    (["pipe", "--replicaof", "h:2"], b"--replicaof"),
+    (["pipe", "--bind", "127.0.0.1"], b"--bind"),
 ]
+
+# what names no node, and no address
+BAD_MASTERS = ["", "h", "2", ":", "h:", "h:0", "h:65536", "h:18446744073709551617", "h:-1", "h:+2", "h:02", "h:2 ", "h: 2", "h:x", "h:0x2", "h:2:", "[::1]", "h 2"]
+BAD_ADDRESSES = ["", "localhost", "*", "127.1", "127.0.0", "127.0.0.1.1", "127.0.0.256", "127.0.0.01", "127.0.0.+1", "127.0.0.1 ", " 127.0.0.1", "127.0.0.1:2", "::1", "0x7f000001", "2130706433"]
 
 
 class Options(unittest.TestCase):
@@ -93,21 +111,38 @@ class Options(unittest.TestCase):
                 self.assertEqual(ran.stderr, b"minired: bad value: --sync takes always or no\n")
 
 
+    def test_a_master_that_is_none_is_told_what_is_taken(self):
+        for master in BAD_MASTERS:
+            with self.subTest(master=master):
+                ran = run(PING, "serve", "--port=1", "--replicaof=" + master)
+                self.assertEqual((ran.returncode, ran.stdout), (1, b""))
+                self.assertEqual(ran.stderr, b"minired: bad value: --replicaof takes HOST:PORT\n")
+
+    def test_an_address_that_is_none_is_told_what_is_taken(self):
+        for address in BAD_ADDRESSES:
+            with self.subTest(address=address):
+                ran = run(PING, "serve", "--port=1", "--bind=" + address)
+                self.assertEqual((ran.returncode, ran.stdout), (1, b""))
+                self.assertEqual(ran.stderr, b"minired: bad value: --bind takes an IPv4 address\n")
+
+
 class Questions(unittest.TestCase):
     def test_the_help_names_all_words_and_their_usual_values(self):
         for words in (["--help"], ["-h"], ["serve", "--help"], ["pipe", "-h"], ["serve", "--port", "1", "--help"], ["--version", "--help"], ["nothing", "-h"]):
             with self.subTest(words=words):
                 ran = run(PING, *words)
                 self.assertEqual((ran.returncode, ran.stderr), (0, b""))
-                for word in ("serve", "pipe", "--port", "--aof", "--sync", "--turns", "--id", "--now", "--word", "--help", "--version"):
+                words_of_it = ("serve", "pipe", "--port", "--aof", "--sync", "--turns", "--backlog", "--replicaof", "--bind", "--id", "--now", "--word")
+                for word in (*words_of_it, "--help", "--version"):
                     self.assertRegex(ran.stdout, rb"(?m)(^|[\s|\[])" + re.escape(word.encode()) + rb"\b")
-                for usual in ("always", "1000000000000", "40 times a", "usually 0"):
+                for usual in ("always", "1000000000000", "1048576", "127.0.0.1", "40 times a", "usually 0"):
                     self.assertIn(usual.encode(), ran.stdout)
                 self.assertTrue(all(len(line) <= 120 for line in ran.stdout.decode().split("\n")))
 
     def test_each_line_of_the_help_is_taken_by_the_parser(self):
         said = run(b"", "--help").stdout.decode()
         values = {"--port": "6379", "--aof": "", "--sync": "always", "--turns": "0", "--id": 40 * "a", "--now": "0", "--word": "0"}
+        values |= {"--backlog": "1048576", "--replicaof": "127.0.0.1:6379", "--bind": "127.0.0.1"}
         self.assertEqual(set(re.findall(r"--\w+", said)), {*values, "--help", "--version"})
         with tempfile.TemporaryDirectory() as folder:
             values["--aof"] = os.path.join(folder, "data.aof")

@@ -10,6 +10,8 @@ abbrev pub status_of : Failure → ℕ
 status_of (Usage (usage.Line text)) = 1
 status_of (Usage usage.BadValue) = 1
 status_of (Usage usage.BadMode) = 1
+status_of (Usage usage.BadMaster) = 1
+status_of (Usage usage.BadAddress) = 1
 status_of (Usage usage.Memory) = 3
 status_of (Pipe fault) = 3
 status_of (Loop loop.Listener) = 2

@@ -54,6 +54,7 @@ impl Failure {
         match self {
             Failure::Usage(UsageFault::Line(_)) => 1,
             Failure::Usage(UsageFault::BadValue) | Failure::Usage(UsageFault::BadMode) => 1,
+            Failure::Usage(UsageFault::BadMaster) | Failure::Usage(UsageFault::BadAddress) => 1,
             Failure::Loop(LoopFault::Listener) | Failure::Listen(_, _) => 2,
             Failure::Loop(LoopFault::File) | Failure::Loop(LoopFault::Stopped) => 3,
             Failure::Usage(UsageFault::Memory) | Failure::Pipe(_) | Failure::Memory => 3,

@@ -9,14 +9,19 @@ const HELP: &str = "\
 minired: an in-memory data structure server in the manner of Redis
 
 usage: minired serve --port P [--aof PATH] [--sync always|no] [--turns N]
+                     [--backlog N] [--replicaof HOST:PORT] [--bind A]
        minired pipe [--aof PATH] [--id H] [--now N] [--word N]
        minired --help | --version
 
-minired serve  answers clients on 127.0.0.1, over RESP2, until one says SHUTDOWN
+minired serve  answers clients over RESP2, until one says SHUTDOWN
   --port P     the port, from 1 to 65535; there is no usual one
   --aof PATH   the append-only file that keeps the dataset; usually none: it is in memory alone
   --sync MODE  always: a write is on the disk before its answer; no: the system puts it there later; usually always
   --turns N    it ends behind so many turns of its loop; usually 1000000000000
+  --backlog N  so many bytes of its stream it keeps for its replicas, from 1 to 1073741824; usually 1048576
+  --replicaof HOST:PORT
+               the node that it begins as a replica of; usually none: it begins as a master
+  --bind A     the IPv4 address that it listens on; who reaches it is asked for no password; usually 127.0.0.1
 
 minired pipe   answers one client on standard input and output, until the input ends; so does minired without a word
   --aof PATH   the append-only file that keeps the dataset; usually none: it is in memory alone

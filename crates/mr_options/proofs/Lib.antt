@@ -1,6 +1,9 @@
+pub mod Colons
 pub mod Commands
+pub mod Firsts
 pub mod Lines
 pub mod Numbers
 pub mod Passing
+pub mod Ports
 pub mod Ranges
 pub mod Rows

@@ -7,8 +7,9 @@ use Rattle.clap.specs.Words.{App, HasMatchesOf, Row, Text, fault_of, is_simple, 
 use Rattle.clap.specs.declared.parser.matches.ArgMatches.{ArgMatches}
 use Rattle.clap.specs.declared.parser.matches.ArgMatches.TheViews.{out-ArgMatches, out-SubCommand}
 use Rattle.mr_options.specs.Lines.{line}
-use Rattle.mr_options.specs.Outcomes.{AreOptionsOf, IsLineOf, SaysOptions}
+use Rattle.mr_options.specs.Outcomes.{AreOptionsOf, ExplainsFault, ExplainsServe, IsLineOf, IsServeLine, SaysOptions}
 use Rattle.mr_options.specs.declared.fault.UsageFault.{UsageFault}
+use Rattle.mr_options.specs.declared.fault.UsageFault.TheVariants.{Line, BadValue, BadMode, BadMaster, BadAddress, Memory}
 use Rattle.mr_options.specs.declared.line.Options.{Options}
 
 pair_is : (o : Option (Text × List Row)) (name : Text) (rows : List Row) → option_map (λ (p : Text × List Row). p.0) o ≡ Some name → option_map (λ (p : Text × List Row). p.1) o ≡ Some rows → o ≡ Some (name, rows)
@@ -30,3 +31,12 @@ pub of_some : {X : Type 0} (f : X → Text) (xs : List X) (r : Result Options Us
 of_some f [] r e h = absurd (let wrong : true ≡ false = e in cc)
 of_some f (x ∷ xs) (Ok options) e h = h
 of_some f (x ∷ xs) (Err fault) e h = h
+
+-- why a line of `serve` is refused, where one of its values is none
+pub explained : (words : List Text) (rows : List Row) (fault : UsageFault) → IsServeLine words rows → ExplainsServe rows fault → ExplainsFault words fault
+explained words rows BadMode is why = (rows, (is, why))
+explained words rows BadMaster is why = (rows, (is, why))
+explained words rows BadAddress is why = (rows, (is, why))
+explained words rows (Line text) is why = absurd why
+explained words rows BadValue is why = absurd why
+explained words rows Memory is why = absurd why

@@ -15,7 +15,7 @@ use Rattle.clap.specs.declared.builder.value_parser.ValueParser.TheVariants as v
 use Rattle.clap.specs.declared.error.kind.ErrorKind.TheVariants.{MissingRequiredArgument}
 use Rattle.mr_options.specs.Lines.{line, pipe_line, serve_line}
 use Rattle.mr_options.specs.Outcomes.{IsLineOf, IsPipeLine, IsServeLine}
-use Rattle.mr_options.specs.Values.{PipeNumbersPass, ServeNumbersPass, usual_turns}
+use Rattle.mr_options.specs.Values.{PipeNumbersPass, ServeNumbersPass, usual_backlog, usual_turns}
 use Rattle.mr_options.proofs.Ranges.{number_given, number_there}
 use Rattle.mr_options.proofs.Rows.{AreOptions, Each, IsKnown, RowsFine, first_none, one_valued, option_known, second_none, settled_fine, some_of}
 
@@ -83,14 +83,14 @@ are_pipe = record {
 
 abbrev serve_rules : List Rule
 serve_rules =
-    one_valued (codes "port") (vp.Unsigned 1 65535) true ∷ one_valued (codes "aof") vp.String false ∷ one_valued (codes "sync") vp.String false ∷ one_valued (codes "turns") (vp.Unsigned 0 (2 ^ 64 - 1)) false ∷ []
+    one_valued (codes "port") (vp.Unsigned 1 65535) true ∷ one_valued (codes "aof") vp.String false ∷ one_valued (codes "sync") vp.String false ∷ one_valued (codes "turns") (vp.Unsigned 0 (2 ^ 64 - 1)) false ∷ one_valued (codes "backlog") (vp.Unsigned 1 (2 ^ 30)) false ∷ one_valued (codes "replicaof") vp.String false ∷ one_valued (codes "bind") vp.String false ∷ []
 
 abbrev serve_shape : Shape
 serve_shape = built_leaf (inherited (built line).top serve_line.top)
 
 are_serve : AreOptions serve_rules
 are_serve = record {
-  all = (option_known refl, (option_known refl, (option_known refl, (option_known refl, tt))));
+  all = (option_known refl, (option_known refl, (option_known refl, (option_known refl, (option_known refl, (option_known refl, (option_known refl, tt)))))));
   no_short = λ x. refl;
   no_index = λ i. refl;
 }
@@ -123,8 +123,9 @@ apart e = let wrong : false ≡ true = ap (λ (t : Text). bytes_eq t (codes "pip
 pub pipe_numbers : (words : List Text) (rows : List Row) → IsPipeLine words rows → PipeNumbersPass rows
 pipe_numbers words rows h = elim (line_passes (codes "pipe") words rows h) [
   | inl passed ↦
-      let word = number_there pipe_rules (codes "word") 0 (2 ^ 64 - 1) false rows refl passed.fine 0 (omega arith) in
-      record { now = number_there pipe_rules (codes "now") 0 (2 ^ 61) false rows refl passed.fine 0 (omega arith); word = (word.0, word.1.1) }
+      let now = number_there pipe_rules (codes "now") 0 (2 ^ 61) false rows refl passed.fine 0 (omega arith) (omega arith) in
+      let word = number_there pipe_rules (codes "word") 0 (2 ^ 64 - 1) false rows refl passed.fine 0 (omega arith) (omega arith) in
+      record { now = (now.0, (now.1.1, now.1.2)); word = (word.0, word.1.2) }
   | inr passed ↦ absurd (apart passed.named)
 ]
 
@@ -142,6 +143,10 @@ pub serve_numbers : (words : List Text) (rows : List Row) → IsServeLine words 
 serve_numbers words rows h = elim (line_passes (codes "serve") words rows h) [
   | inl passed ↦ absurd (apart (sym passed.named))
   | inr passed ↦
-      let turns = number_there serve_rules (codes "turns") 0 (2 ^ 64 - 1) false rows refl passed.fine usual_turns (omega arith) in
-      record { port = number_given serve_rules (codes "port") 1 65535 true rows refl passed.fine (port_given rows passed.checked); turns = (turns.0, turns.1.1) }
+      let turns = number_there serve_rules (codes "turns") 0 (2 ^ 64 - 1) false rows refl passed.fine usual_turns (omega arith) (omega arith) in
+      record {
+        port = number_given serve_rules (codes "port") 1 65535 true rows refl passed.fine (port_given rows passed.checked);
+        turns = (turns.0, turns.1.2);
+        backlog = number_there serve_rules (codes "backlog") 1 (2 ^ 30) false rows refl passed.fine usual_backlog (omega arith) (omega arith);
+      }
 ]

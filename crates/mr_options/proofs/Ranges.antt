@@ -65,13 +65,13 @@ module _ (c : List Rule) (name : Text) (least most : ℕ) (is_needed : Bool) (ro
       (n.0, (n.1.0, n.1.1, (n.1.2.0, (ap (λ (o : Option Row). option_and_then row_text o) is ∙ n.1.2.1.0, n.1.2.1.1))))
 
   -- an option that the line may leave out
-  pub number_there : (usual : ℕ) → usual ≤ most → (n : ℕ) × ((n ≤ most) × HasNumber rows name usual n)
-  number_there usual le =
-      elim its_row as (λ o. its_row ≡ o → (n : ℕ) × ((n ≤ most) × HasNumber rows name usual n)) [
+  pub number_there : (usual : ℕ) → least ≤ usual → usual ≤ most → (n : ℕ) × ((least ≤ n) × (n ≤ most) × HasNumber rows name usual n)
+  number_there usual ge le =
+      elim its_row as (λ o. its_row ≡ o → (n : ℕ) × ((least ≤ n) × (n ≤ most) × HasNumber rows name usual n)) [
         | None ↦ λ is.
             let P : Option Text → Type 0 = λ text. IsNumber text usual usual in
-            (usual, (le, subst P (sym (ap (λ (o : Option Row). option_and_then row_text o) is)) refl))
-        | Some r ↦ λ is. let named = row_number r is in (named.0, (named.1.1, named_number rows name usual named.0 named.1.2))
+            (usual, (ge, le, subst P (sym (ap (λ (o : Option Row). option_and_then row_text o) is)) refl))
+        | Some r ↦ λ is. let named = row_number r is in (named.0, (named.1.0, named.1.1, named_number rows name usual named.0 named.1.2))
       ] refl
 
   -- an option that the line names

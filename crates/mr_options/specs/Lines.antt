@@ -24,14 +24,20 @@ pipe_line =
     (number_rule (codes "word") 0 (2 ^ 64 - 1)))
     (text_rule (codes "aof"))
 
--- `serve --port P [--aof PATH] [--sync MODE] [--turns N]`
+-- `serve --port P [--aof PATH] [--sync MODE] [--turns N] [--backlog N] [--replicaof HOST:PORT] [--bind ADDRESS]`
 abbrev pub serve_line : App
 serve_line =
     with_rule
     (with_rule
+    (with_rule
+    (with_rule
+    (with_rule
     (with_rule (with_rule (new_app (codes "serve")) (needed (number_rule (codes "port") 1 65535))) (text_rule (codes "aof")))
     (text_rule (codes "sync")))
-    (number_rule (codes "turns") 0 (2 ^ 64 - 1))
+    (number_rule (codes "turns") 0 (2 ^ 64 - 1)))
+    (number_rule (codes "backlog") 1 (2 ^ 30)))
+    (text_rule (codes "replicaof")))
+    (text_rule (codes "bind"))
 
 -- the program: one of its subcommands is named, and nothing answers with a help text
 abbrev pub bare : App

@@ -6,11 +6,11 @@ use Rattle.clap.specs.Words.{Row, Text, fault_of, kind_of, subcommand_of}
 use Rattle.clap.specs.declared.error.Error.{Error}
 use Rattle.clap.specs.declared.error.kind.ErrorKind.TheVariants.{OutOfMemory}
 use Rattle.mr_options.specs.Lines.{line}
-use Rattle.mr_options.specs.Values.{ArePipeOf, AreServeOf, NamesNoId, NamesNoMode, usual_pipe}
+use Rattle.mr_options.specs.Values.{ArePipeOf, AreServeOf, NamesNoAddress, NamesNoId, NamesNoMaster, NamesNoMode, usual_pipe}
 use Rattle.mr_options.specs.declared.line.Options.{Options}
 use Rattle.mr_options.specs.declared.line.Options.TheVariants.{Pipe, Serve}
 use Rattle.mr_options.specs.declared.fault.UsageFault.{UsageFault}
-use Rattle.mr_options.specs.declared.fault.UsageFault.TheVariants.{Line, BadValue, BadMode, Memory}
+use Rattle.mr_options.specs.declared.fault.UsageFault.TheVariants.{Line, BadValue, BadMode, BadMaster, BadAddress, Memory}
 
 -- the parser finds no fault in the line, which names this subcommand with these rows
 abbrev pub IsLineOf : Text → List Text → List Row → Type 0
@@ -42,12 +42,25 @@ abbrev pub IsFaultOf : Error → UsageFault → Type 0
 IsFaultOf error (Line text) = (kind_of error ≢ OutOfMemory) × IsOneLine (string_bytes text)
 IsFaultOf error BadValue = ⊥
 IsFaultOf error BadMode = ⊥
+IsFaultOf error BadMaster = ⊥
+IsFaultOf error BadAddress = ⊥
 IsFaultOf error Memory = Unit {0}
 
+-- why the values of a line of `serve` are refused: one that it names is none
+abbrev pub ExplainsServe : List Row → UsageFault → Type 0
+ExplainsServe rows (Line text) = ⊥
+ExplainsServe rows BadValue = ⊥
+ExplainsServe rows BadMode = NamesNoMode rows
+ExplainsServe rows BadMaster = NamesNoMaster rows
+ExplainsServe rows BadAddress = NamesNoAddress rows
+ExplainsServe rows Memory = ⊥
+
 -- why a line is refused: the parser finds fault with it; or it does not, and a line of `pipe` names
--- an id that is none, or one of `serve` a mode that is none
+-- an id that is none, or one of `serve` a mode, a master or an address that is none
 abbrev pub ExplainsFault : List Text → UsageFault → Type 0
 ExplainsFault words (Line text) = (fault_of line words ≢ []) × IsOneLine (string_bytes text)
 ExplainsFault words BadValue = (rows : List Row) × (IsPipeLine words rows × NamesNoId rows)
 ExplainsFault words BadMode = (rows : List Row) × (IsServeLine words rows × NamesNoMode rows)
+ExplainsFault words BadMaster = (rows : List Row) × (IsServeLine words rows × NamesNoMaster rows)
+ExplainsFault words BadAddress = (rows : List Row) × (IsServeLine words rows × NamesNoAddress rows)
 ExplainsFault words Memory = Unit {0}

@@ -1,11 +1,15 @@
 -- The values of the options: those that a line names, and else the usual ones.
-use Rattle.std.specs.Prelude.{◌≡◌, ◌≢◌, ℕ, ◌≤◌, ◌≤ℤ◌, ◌<◌, ◌^◌, List, Option, None, pos, Some, Ok, codes, replicate, option_map}
+use Rattle.std.specs.Prelude.{◌≡◌, ◌≢◌, ℕ, ◌≤◌, ◌≤ℤ◌, ◌<◌, ◌^◌, ◌++◌, List, [], ◌∷◌, Option, None, pos, Some, Ok, IfSome, IsSomeAnd, codes, decimal, replicate, option_map}
+use Rattle.std.specs.Net.Addr.{ipv4_octets}
+use Rattle.std.specs.Net.Grammar.{IsIpv4Text}
 use Rattle.std.specs.Str.Parse.{ParsesUnsigned}
+use Rattle.std.specs.declared.net.ipv4_addr.Ipv4Addr.{Ipv4Addr}
 use Rattle.std.specs.declared.num.ParseIntError.{ParseIntError}
 use Rattle.clap.specs.Words.{Row, Text, first_of, one_of}
 use Rattle.mr_repl.specs.ReplId.{IsId, digits_of}
 use Rattle.mr_file.specs.declared.sync_mode.SyncMode.{SyncMode}
 use Rattle.mr_file.specs.declared.sync_mode.SyncMode.TheVariants.{Always, No}
+use Rattle.mr_options.specs.declared.line.Master.{Master}
 use Rattle.mr_options.specs.declared.line.Options.{Options}
 use Rattle.mr_options.specs.declared.line.Options.TheVariants.{Pipe, Serve}
 use Rattle.mr_options.specs.declared.line.PipeOptions.{PipeOptions}
@@ -18,6 +22,10 @@ usual_pipe = record { id = replicate 20 170; now = pos 0; word = 0; aof = None }
 -- after so many turns `serve` ends, where the line doesn't say
 abbrev pub usual_turns : ℕ
 usual_turns = 1000000000000
+
+-- so many bytes of its stream a node keeps for its replicas, where the line doesn't say
+abbrev pub usual_backlog : ℕ
+usual_backlog = 1048576
 
 -- the number whose text this is, or the usual one where there is none
 abbrev pub IsNumber : Option Text → ℕ → ℕ → Type 0
@@ -55,6 +63,36 @@ IsModeWord (Some text) mode = mode_word mode ≡ text
 abbrev pub HasMode : List Row → SyncMode → Type 0
 HasMode rows mode = IsModeWord (first_of (codes "sync") rows) mode
 
+-- the port of a node
+abbrev pub IsPort : ℕ → Type 0
+IsPort port = (1 ≤ port) × (port ≤ 65535)
+
+-- `HOST:PORT`: any host, a colon (58), and the one spelling of the port, in which there is none: so the colon is the last
+abbrev pub master_text : Text → ℕ → Text
+master_text host port = host ++ 58 ∷ decimal port
+
+-- the text names this node
+abbrev pub Names : Text → Master → Type 0
+Names text master = IsPort master.port × (master_text master.host.now master.port ≡ text)
+
+-- the node that this text names, or none where there is no text
+abbrev pub IsMaster : Option Text → Option Master → Type 0
+IsMaster None master = master ≡ None
+IsMaster (Some text) master = IsSomeAnd master (Names text)
+
+-- the value of the option `replicaof`, or none
+abbrev pub HasMaster : List Row → Option Master → Type 0
+HasMaster rows master = IsMaster (first_of (codes "replicaof") rows) master
+
+-- the address that this text writes, or the usual one, 127.0.0.1, where there is none
+abbrev pub IsAddress : Option Text → Ipv4Addr → Type 0
+IsAddress None address = ipv4_octets address ≡ 127 ∷ 0 ∷ 0 ∷ 1 ∷ []
+IsAddress (Some text) address = IsIpv4Text text address
+
+-- the value of the option `bind`
+abbrev pub HasAddress : List Row → Ipv4Addr → Type 0
+HasAddress rows address = IsAddress (first_of (codes "bind") rows) address
+
 -- the path of the append-only file: the value of the option `aof`, or none
 abbrev pub HasPath : List Row → Option Text → Type 0
 HasPath rows path = path ≡ first_of (codes "aof") rows
@@ -73,21 +111,28 @@ pub record AreServeOf (rows : List Row) (options : ServeOptions) : Type 0 where
   pub aof : HasPath rows (option_map (λ s. s.now) options.aof)
   pub sync : HasMode rows options.sync
   pub turns : HasNumber rows (codes "turns") usual_turns options.turns
+  pub backlog : HasNumber rows (codes "backlog") usual_backlog options.backlog
+  pub master : HasMaster rows options.master
+  pub bind : HasAddress rows options.bind
 
 -- the parser lets through a number of `pipe` that is within its range, or none
 pub record PipeNumbersPass (rows : List Row) : Type 0 where
   pub now : (n : ℕ) × ((n ≤ 2 ^ 61) × HasNumber rows (codes "now") 0 n)
   pub word : (n : ℕ) × HasNumber rows (codes "word") 0 n
 
--- the parser lets through a port within its range, and never none, and a number of turns, or none
+-- the parser lets through a port within its range, and never none; a number of turns, or none; and a backlog within its
+-- range, or none
 pub record ServeNumbersPass (rows : List Row) : Type 0 where
   pub port : (n : ℕ) × ((1 ≤ n) × (n ≤ 65535) × NamesNumber rows (codes "port") n)
   pub turns : (n : ℕ) × HasNumber rows (codes "turns") usual_turns n
+  pub backlog : (n : ℕ) × ((1 ≤ n) × (n ≤ 2 ^ 30) × HasNumber rows (codes "backlog") usual_backlog n)
 
 -- each number is within its range
 abbrev pub IsInRange : Options → Type 0
 IsInRange (Pipe options) = (pos 0 ≤ℤ options.now) × (options.now ≤ℤ pos (2 ^ 61)) × (options.word < 2 ^ 64)
-IsInRange (Serve options) = (1 ≤ options.port) × (options.port ≤ 65535) × (options.turns < 2 ^ 64)
+IsInRange (Serve options) =
+    (1 ≤ options.port) × (options.port ≤ 65535) × (options.turns < 2 ^ 64) × (1 ≤ options.backlog) × (options.backlog ≤ 2 ^ 30)
+    × IfSome options.master (λ master. IsPort master.port)
 
 -- the line names an id, which is none
 abbrev pub NamesNoId : List Row → Type 0
@@ -96,3 +141,12 @@ NamesNoId rows = (text : Text) × ((first_of (codes "id") rows ≡ Some text) ×
 -- the line names a mode, which is none
 abbrev pub NamesNoMode : List Row → Type 0
 NamesNoMode rows = (text : Text) × ((first_of (codes "sync") rows ≡ Some text) × ((mode : SyncMode) → mode_word mode ≢ text))
+
+-- the line names a master, which is none: the text isn't any host's and port's
+abbrev pub NamesNoMaster : List Row → Type 0
+NamesNoMaster rows =
+    (text : Text) × ((first_of (codes "replicaof") rows ≡ Some text) × ((host : Text) (port : ℕ) → IsPort port → master_text host port ≢ text))
+
+-- the line names an address, which is none
+abbrev pub NamesNoAddress : List Row → Type 0
+NamesNoAddress rows = (text : Text) × ((first_of (codes "bind") rows ≡ Some text) × ((address : Ipv4Addr) → ¬ (IsIpv4Text text address)))

@@ -11,6 +11,9 @@ use std::alloc::{AllocError, Global};
 /// The greatest time, in milliseconds.
 const MOST_NOW: u64 = 1 << 61;
 
+/// The greatest number of bytes that a node keeps for its replicas.
+const MOST_BACKLOG: u64 = 1 << 30;
+
 /// The greatest port.
 const MOST_PORT: u64 = 65_535;
 
@@ -84,7 +87,10 @@ fn serve_command<'a>(alloc: Global) -> Result<Command<'a>, AllocError>
     let met = with_needed_number(Command::new(alloc, "serve"), alloc, "port", 1, MOST_PORT)?;
     let kept = with_text(met, alloc, "aof")?;
     let synced = with_text(kept, alloc, "sync")?;
-    with_number(synced, alloc, "turns", 0, u64::MAX)
+    let ended = with_number(synced, alloc, "turns", 0, u64::MAX)?;
+    let held = with_number(ended, alloc, "backlog", 1, MOST_BACKLOG)?;
+    let led = with_text(held, alloc, "replicaof")?;
+    with_text(led, alloc, "bind")
 }
 
 /// The program with its subcommand `pipe` alone.

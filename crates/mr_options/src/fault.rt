@@ -14,6 +14,12 @@ pub enum UsageFault {
     /// A mode that is neither `always` nor `no`.
     #[error("bad value: --sync takes always or no")]
     BadMode,
+    /// A master that isn't a host, a colon and a port from 1 to 65535.
+    #[error("bad value: --replicaof takes HOST:PORT")]
+    BadMaster,
+    /// An address that isn't four numbers from 0 to 255 with dots between them.
+    #[error("bad value: --bind takes an IPv4 address")]
+    BadAddress,
     /// There was no memory to read the words.
     #[error("out of memory")]
     Memory,

@@ -18,13 +18,14 @@ mod command;
 mod explain;
 mod fault;
 mod line;
+mod named_master;
 mod pipe_values;
 mod serve_values;
 mod values;
 
 pub use asking::{Question, asked};
 pub use fault::UsageFault;
-pub use line::{Options, PipeOptions, ServeOptions};
+pub use line::{Master, Options, PipeOptions, ServeOptions};
 
 /// The options of the subcommand `name`, or the fault where a value is none.
 fn options_of<'a>(name: &str, matches: &ArgMatches<'a>) -> Result<Options<'a>, UsageFault>
@@ -39,8 +40,8 @@ fn options_of<'a>(name: &str, matches: &ArgMatches<'a>) -> Result<Options<'a>, U
             None => Err(UsageFault::BadValue),
         },
         "serve" => match serve_of(matches) {
-            Some(options) => Ok(Options::Serve(options)),
-            None => Err(UsageFault::BadMode),
+            Ok(options) => Ok(Options::Serve(options)),
+            Err(fault) => Err(fault),
         },
         _ => unreachable!(),
     }

@@ -1,6 +1,7 @@
 //! What a command line says.
 use mr_file::SyncMode;
 use mr_repl::ReplId;
+use std::net::Ipv4Addr;
 
 /// The options of `pipe`: one node, asked by one client on standard input.
 #[derive(Clone, Copy, Debug, PartialEq, Eq)]
@@ -32,6 +33,15 @@ impl<'a> PipeOptions<'a> {
     }
 }
 
+/// The node that a replica follows.
+#[derive(Clone, Copy, Debug, PartialEq, Eq)]
+pub struct Master<'a> {
+    /// Its host as the line has it: whether it is one is seen when it is dialled.
+    pub host: &'a str,
+    /// Its port, from 1 to 65535.
+    pub port: u16,
+}
+
 /// The options of `serve`: one node, asked by many clients over the network.
 #[derive(Clone, Copy, Debug, PartialEq, Eq)]
 pub struct ServeOptions<'a> {
@@ -43,6 +53,12 @@ pub struct ServeOptions<'a> {
     pub sync: SyncMode,
     /// After so many turns of the event loop `serve` ends.
     pub turns: u64,
+    /// So many bytes of its stream the node keeps for its replicas, from 1 to 2^30.
+    pub backlog: usize,
+    /// The node that this one begins as a replica of, where there is one.
+    pub master: Option<Master<'a>>,
+    /// The address at which clients are met.
+    pub bind: Ipv4Addr,
 }
 
 /// A subcommand with the values of its options.

@@ -1,45 +1,86 @@
 //! The values of the options of `serve`.
-ghost use Rattle.std.specs.Prelude.{IfSome, IfNone};
+ghost use Rattle.std.specs.Prelude.{IfOk, IfErr};
 ghost use Rattle.clap.specs.Words.{found_of, rows_of};
-ghost use Rattle.mr_options.specs.Values.{AreServeOf, HasMode, IsInRange, NamesNoMode, ServeNumbersPass};
+ghost use Rattle.mr_options.specs.Outcomes.{ExplainsServe};
+ghost use Rattle.mr_options.specs.Values.{AreServeOf, HasAddress, HasMaster, HasMode, IsInRange, ServeNumbersPass};
 ghost use Rattle.mr_options.specs.declared.line.Options.TheVariants.{Serve};
 
-use crate::line::ServeOptions;
+use crate::fault::UsageFault;
+use crate::line::{Master, ServeOptions};
+use crate::named_master::master_named;
 use crate::values::{needed_number_of, number_of, path_of};
 use clap::ArgMatches;
 use mr_file::SyncMode;
+use std::net::Ipv4Addr;
 
 /// After so many turns `serve` ends, where the line doesn't say.
 const USUAL_TURNS: u64 = 1_000_000_000_000;
 
-/// Whether each append is synced, or None where the line names a mode that is none.
-fn mode_of(matches: &ArgMatches<'_>) -> Option<SyncMode>
-    ensures some { IfSome result (HasMode (rows_of (found_of matches.now))) }
-    ensures none { IfNone result (NamesNoMode (rows_of (found_of matches.now))) }
+/// So many bytes the node keeps for its replicas, where the line doesn't say.
+const USUAL_BACKLOG: u64 = 1_048_576;
+
+/// Whether each append is synced.
+fn mode_of(matches: &ArgMatches<'_>) -> Result<SyncMode, UsageFault>
+    ensures ok { IfOk result (HasMode (rows_of (found_of matches.now))) }
+    ensures err { IfErr result (ExplainsServe (rows_of (found_of matches.now))) }
 {
     match matches.get_str("sync") {
-        None => Some(SyncMode::Always),
-        Some("always") => Some(SyncMode::Always),
-        Some("no") => Some(SyncMode::No),
-        Some(_other) => None,
+        None => Ok(SyncMode::Always),
+        Some("always") => Ok(SyncMode::Always),
+        Some("no") => Ok(SyncMode::No),
+        Some(_other) => Err(UsageFault::BadMode),
     }
 }
 
-/// The values of `serve`, or None where the line names a mode that is none.
-pub(crate) fn serve_of<'a>(matches: &ArgMatches<'a>) -> Option<ServeOptions<'a>>
+/// The node that this one begins as a replica of, where the line names one.
+fn master_of<'a>(matches: &ArgMatches<'a>) -> Result<Option<Master<'a>>, UsageFault>
+    ensures ok { IfOk result (HasMaster (rows_of (found_of matches.now))) }
+    ensures err { IfErr result (ExplainsServe (rows_of (found_of matches.now))) }
+{
+    match matches.get_str("replicaof") {
+        None => Ok(None),
+        Some(text) => match master_named(text) {
+            Some(master) => Ok(Some(master)),
+            None => Err(UsageFault::BadMaster),
+        },
+    }
+}
+
+/// The address at which clients are met.
+fn address_of(matches: &ArgMatches<'_>) -> Result<Ipv4Addr, UsageFault>
+    ensures ok { IfOk result (HasAddress (rows_of (found_of matches.now))) }
+    ensures err { IfErr result (ExplainsServe (rows_of (found_of matches.now))) }
+{
+    match matches.get_str("bind") {
+        None => Ok(Ipv4Addr::LOCALHOST),
+        Some(text) => match text.parse::<Ipv4Addr>() {
+            Ok(address) => Ok(address),
+            Err(_other) => Err(UsageFault::BadAddress),
+        },
+    }
+}
+
+/// The values of `serve`.
+pub(crate) fn serve_of<'a>(matches: &ArgMatches<'a>) -> Result<ServeOptions<'a>, UsageFault>
     requires { ServeNumbersPass (rows_of (found_of matches.now)) }
-    ensures some { IfSome result (AreServeOf (rows_of (found_of matches.now))) }
-    ensures range { IfSome result (λ options. IsInRange (Serve options)) }
-    ensures none { IfNone result (NamesNoMode (rows_of (found_of matches.now))) }
+    ensures ok { IfOk result (AreServeOf (rows_of (found_of matches.now))) }
+    ensures range { IfOk result (λ options. IsInRange (Serve options)) }
+    ensures err { IfErr result (ExplainsServe (rows_of (found_of matches.now))) }
 {
     let sync = mode_of(matches)?;
+    let master = master_of(matches)?;
+    let bind = address_of(matches)?;
     let port = needed_number_of(matches, "port");
     let aof = path_of(matches);
     let turns = number_of(matches, "turns", USUAL_TURNS);
-    Some(ServeOptions {
+    let backlog = number_of(matches, "backlog", USUAL_BACKLOG);
+    Ok(ServeOptions {
         port: port as u16,
         aof,
         sync,
         turns,
+        backlog: backlog as usize,
+        master,
+        bind,
     })
 }

@@ -1,6 +1,7 @@
 use Rattle.std.proofs.Common.{subst}
 use Rattle.clap.specs.Words.{Text, found_of, rows_of}
 use Rattle.mr_options.specs.Outcomes.{IsLineOf}
+use Rattle.mr_options.proofs.Lines.{explained}
 use Rattle.mr_options.proofs.Passing.{pipe_numbers, serve_numbers}
 use Rattle.mr_options.proofs.options_of.Goals as goal
 
@@ -22,8 +23,8 @@ returns-in-None-clause-err c = λ words is.
     let P : Text → Type 0 = λ name. IsLineOf name words rows in
     (rows, (subst P c.in-pipe.is is, c.in-None.ensures.none))
 
-pub returns-in-None-serve_of-clause-err : goal.returns-in-None-serve_of-clause-err
-returns-in-None-serve_of-clause-err c = λ words is.
+pub returns-in-Err-clause-err : goal.returns-in-Err-clause-err
+returns-in-Err-clause-err c = λ words is.
     let rows = rows_of (found_of c.args.matches.now) in
     let P : Text → Type 0 = λ name. IsLineOf name words rows in
-    (rows, (subst P c.in-serve.is is, c.in-None-serve_of.ensures.none))
+    explained words rows c.in-Err.fault (subst P c.in-serve.is is) c.in-Err.ensures.err

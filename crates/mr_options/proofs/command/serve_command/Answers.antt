@@ -1,13 +1,17 @@
 use Rattle.std.specs.Prelude.{◌^◌, ◌-◌, codes}
-use Rattle.clap.specs.Words.{new_app}
 use Rattle.mr_options.specs.Lines.{needed, number_rule, text_rule}
-use Rattle.mr_options.proofs.Commands.{with_four}
+use Rattle.mr_options.proofs.Commands.{grown, with_last}
 use Rattle.mr_options.proofs.command.serve_command.Goals as goal
 
 pub returns-clause-shape : goal.returns-clause-shape
 returns-clause-shape c =
-    with_four c.with_number.result (new_app (codes "serve")) (needed (number_rule (codes "port") 1 65535)) (text_rule (codes "aof")) (text_rule (codes "sync")) (number_rule (codes "turns") 0 (2 ^ 64 - 1))
-    c.new.ensures.app c.in_ok-met.ensures.shape c.in_ok-kept.ensures.shape c.in_ok-synced.ensures.shape c.with_number.ensures.shape
+    let met = grown (needed (number_rule (codes "port") 1 65535)) c.new.ensures.app c.in_ok-met.ensures.shape in
+    let kept = grown (text_rule (codes "aof")) met c.in_ok-kept.ensures.shape in
+    let synced = grown (text_rule (codes "sync")) kept c.in_ok-synced.ensures.shape in
+    let ended = grown (number_rule (codes "turns") 0 (2 ^ 64 - 1)) synced c.in_ok-ended.ensures.shape in
+    let held = grown (number_rule (codes "backlog") 1 (2 ^ 30)) ended c.in_ok-held.ensures.shape in
+    let led = grown (text_rule (codes "replicaof")) held c.in_ok-led.ensures.shape in
+    with_last c.with_text-4.result (text_rule (codes "bind")) led c.with_text-4.ensures.shape
 
 pub returns-clause-local : goal.returns-clause-local
-returns-clause-local c = c.with_number.ensures.local
+returns-clause-local c = c.with_text-4.ensures.local
