@@ -1,5 +1,5 @@
 -- Places as a map from names to values.
-use Rattle.std.proofs.Common.{◌≡◌, ◌≢◌, ℕ, ◌+◌, ◌<◌, zero, suc, true, false, cond, List, [], ◌∷◌, ◌++◌, map, Option, Some, None, IsSome, is_some, Bor, Result, Ok, Err, OnErr, get_or, set, length, refl, sym, ap, ◌∙◌, arith}
+use Rattle.std.proofs.Common.{◌≡◌, ◌≢◌, ℕ, ◌<◌, zero, suc, true, false, List, [], ◌∷◌, ◌++◌, map, Option, Some, None, IsSome, is_some, Bor, Result, Ok, Err, OnErr, get_or, set, length, refl, sym, ap, ◌∙◌, arith}
 use Rattle.std.specs.Option.{unwrap_or, option_copied}
 use Rattle.std.specs.FinMap.{FinMap, get, insert, remove, same_map}
 use Rattle.std.proofs.lemmas.List.{get_or-set_same, get_or-set_other}

@@ -1,4 +1,4 @@
-use Rattle.std.proofs.Common.{◌≡◌, ◌∙◌, None, Some, get_or, set, sym, ap}
+use Rattle.std.proofs.Common.{◌∙◌, None, get_or, sym, ap}
 use Rattle.std.specs.FinMap as map
 use Rattle.mr_connections.proofs.Places.{copied_none, get-table_of, held_none, on_err, same_table, table_of-set}
 use Rattle.mr_connections.proofs.table.Table.put.Goals as goal

@@ -19,7 +19,7 @@ returns g c =
     let places = c.self.inside.places.items in let id = c.args.id in let entry = c.entry_mut.result.now in
     let found = under places c.args.self.now id c.self.view_is c.requires in
     let was : get_or places id.index None ≡ Some entry =
-        found.1.0 ∙ sym (c.index_mut.ensures.value ∙ place_is places id.index found.0 c.index_mut.result.now found.1.0) ∙ c.entry_mut.ensures.value in
+    found.1.0 ∙ sym (c.index_mut.ensures.value ∙ place_is places id.index found.0 c.index_mut.result.now found.1.0) ∙ c.entry_mut.ensures.value in
     let generation : entry.generation ≡ id.generation = ap (λ o. (unwrap_or o entry).generation) (sym was ∙ found.1.0) ∙ found.1.1 in (
       (refl, λ w. table_of-written places id entry w was generation ∙ ap (λ t. map.insert t id w) c.self.view_is),
       record {
