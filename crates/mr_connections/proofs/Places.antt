@@ -62,10 +62,14 @@ module _ {T : Type 0} where
       let row = matching_some (row_of (Some entry)) g h in
       (entry, (refl, ap (λ (o : Option (Row T)). (unwrap_or o (record { generation = entry.generation; link = entry.value })).generation) row.1.0 ∙ row.1.1))
 
-  pub place_is : (places : List (Option (Entry T))) (k : ℕ) (entry : Entry T) (d : Option (Entry T)) → get_or places k None ≡ Some entry → get_or places k d ≡ Some entry
+  place_is : (places : List (Option (Entry T))) (k : ℕ) (entry : Entry T) (d : Option (Entry T)) → get_or places k None ≡ Some entry → get_or places k d ≡ Some entry
   place_is [] k entry d is = absurd (let wrong : ◌≡◌ {A = Option (Entry T)} None (Some entry) = is in cc)
   place_is (p ∷ rest) zero entry d is = is
   place_is (p ∷ rest) (suc k) entry d is = place_is rest k entry d is
+
+  -- what was lent of a place is what is there
+  pub lent_is : (places : List (Option (Entry T))) (k : ℕ) (entry : Entry T) (lent : Option (Entry T)) → lent ≡ get_or places k lent → get_or places k None ≡ Some entry → lent ≡ Some entry
+  lent_is places k entry lent is was = is ∙ place_is places k entry lent was
 
   pub has_place : (places : List (Option (Entry T))) (k : ℕ) (entry : Entry T) → get_or places k None ≡ Some entry → k < length places
   has_place [] k entry is = absurd (let wrong : ◌≡◌ {A = Option (Entry T)} None (Some entry) = is in cc)

@@ -92,7 +92,7 @@ impl Connection {
     pub fn is_full(&self) -> bool
         ensures { IsTrue result ↔ (most_kept < length self.now.waiting) }
     {
-        self.unsent.waiting().len() > MOST_KEPT
+        self.waiting().len() > MOST_KEPT
     }
 
     /// Whether its end is closed and nothing waits any more.
@@ -113,7 +113,7 @@ impl Connection {
 
     /// Whether so much waits that little more is read of it at once.
     fn has_much(&self) -> bool {
-        self.unsent.waiting().len() > MUCH_KEPT
+        self.waiting().len() > MUCH_KEPT
     }
 
     /// Its replies were large: less of it is read at once.

@@ -123,7 +123,7 @@ impl Connections {
     pub fn remove(&mut self, socket: LinkId)
         ensures { self.new ≡ map.remove self.old socket }
     {
-        if self.rows.get(socket).is_none() {
+        if self.get(socket).is_none() {
             return;
         }
         one::forget_link(&self.rows, &mut self.sockets, socket);
@@ -188,7 +188,7 @@ impl Connections {
     pub fn serve(&mut self, socket: LinkId)
         ensures { self.new ≡ self.old }
     {
-        if self.rows.get(socket).is_some() {
+        if self.get(socket).is_some() {
             let _room = self.ready.push(socket);
         }
     }
