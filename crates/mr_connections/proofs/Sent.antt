@@ -1,5 +1,5 @@
 -- Bytes that are sent go to the one connection that has the link.
-use Rattle.std.proofs.Common.{◌≡◌, ℕ, List, [], ◌∷◌, ◌++◌, length, append-nil, Bool, true, false, cond, Option, Some, None, refl, sym, ap, ◌∙◌, arith}
+use Rattle.std.proofs.Common.{◌≡◌, ℕ, List, [], ◌∷◌, ◌++◌, length, append-nil, append_assoc, Bool, true, false, cond, Option, Some, None, refl, sym, ap, ◌∙◌, arith}
 use Rattle.std.specs.Ordering.{eq_by_cmp}
 use Rattle.std.specs.Bool.{◌==◌}
 use Rattle.std.proofs.lemmas.Bool.{eqb-true}
@@ -11,7 +11,7 @@ use Rattle.mr_links.specs.declared.link_id.LinkId.{LinkId}
 use Rattle.mr_links.proofs.LinkRows.{exact_ids}
 use Rattle.mr_connections.specs.State.{AreToldApart, ConnectionState, HasLink, NoneHas, Rows, changed, is_link, pushed, sent, told}
 use Rattle.mr_connections.proofs.Changed.{get-changed, same_rows}
-use Rattle.mr_connections.proofs.Each.{get-with_each}
+use Rattle.mr_connections.proofs.Each.{get-with_each, with_each-alike, with_each-with_each}
 use Rattle.mr_connections.proofs.Indexed.{alike, apart_of}
 
 module _ (link : LinkId) (bytes : List ℕ) where
@@ -56,6 +56,15 @@ sent-nil link bytes m is = same_rows m (sent link bytes m) (λ q. sym (get-with_
   all_same : (o : Option ConnectionState) → option_map (told link bytes) o ≡ o
   all_same None = refl
   all_same (Some c) = ap Some (same c (is_link link c.link))
+
+-- what is sent to a link in two goes
+pub sent-sent : (link : LinkId) (a b : List ℕ) (m : Rows) → sent link b (sent link a m) ≡ sent link (a ++ b) m
+sent-sent link a b m = with_each-with_each (told link b) (told link a) m ∙ with_each-alike (λ c. told link b (told link a c)) (told link (a ++ b)) m (λ k c _. twice c) where
+  twice : (c : ConnectionState) → told link b (told link a c) ≡ told link (a ++ b) c
+  twice c = elim (is_link link c.link) as (λ v. is_link link c.link ≡ v → told link b (cond v (pushed a c) c) ≡ cond v (pushed (a ++ b) c) c) [
+    | true ↦ λ e. ap (λ v. cond v (pushed b (pushed a c)) (pushed a c)) e ∙ ap (λ w. record c { waiting = w }) (append_assoc c.waiting a b)
+    | false ↦ λ e. ap (λ v. cond v (pushed b c) c) e
+  ] refl
 
 pub nil_of : (bytes : List ℕ) → true ≡ (length bytes == 0) → bytes ≡ []
 nil_of [] e = refl
