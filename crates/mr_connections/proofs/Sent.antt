@@ -46,6 +46,17 @@ module _ (link : LinkId) (bytes : List ℕ) where
     ] refl
   ] refl)))
 
+-- nobody's link changes
+pub told-link : (link : LinkId) (bytes : List ℕ) (c : ConnectionState) → (told link bytes c).link ≡ c.link
+told-link link bytes c = elim (is_link link c.link) as (λ v. (cond v (pushed bytes c) c).link ≡ c.link) [ true ↦ refl | false ↦ refl ]
+
+pub has_link-sent : (link : LinkId) (bytes : List ℕ) (m : Rows) (k l : LinkId) → HasLink m k l → HasLink (sent link bytes m) k l
+has_link-sent link bytes m k l h = record {
+  connection = told link bytes h.connection;
+  is = get-with_each (told link bytes) m k ∙ ap (option_map (told link bytes)) h.is;
+  has = told-link link bytes h.connection ∙ h.has;
+}
+
 -- nothing is sent where there are no bytes
 pub sent-nil : (link : LinkId) (bytes : List ℕ) (m : Rows) → bytes ≡ [] → m ≡ sent link bytes m
 sent-nil link bytes m is = same_rows m (sent link bytes m) (λ q. sym (get-with_each (told link bytes) m q ∙ all_same (get m q))) where
