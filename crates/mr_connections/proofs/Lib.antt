@@ -1,0 +1,5 @@
+pub mod Changed
+pub mod Each
+pub mod Indexed
+pub mod Places
+pub mod Sent

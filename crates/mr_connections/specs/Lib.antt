@@ -1,0 +1,3 @@
+pub mod Lends
+pub mod State
+pub mod Table

@@ -1,0 +1,241 @@
+ghost use Rattle.std.specs.Prelude.{◌≡◌, ◌≤◌, ◌↔◌, length, IfNone, IfSome, IsTrue, None, OnErr, OnOk, option_copied};
+ghost use Rattle.std.specs.FinMap as map;
+ghost use Rattle.mr_connections.specs.State.{AreToldApart, HasLink, NoneHas, begun, changed, left, moved, pushed, sent};
+
+use crate::connection::Connection;
+use crate::one;
+use crate::table::Table;
+use mr_links::LinkId;
+use std::alloc::{AllocError, Global};
+use std::marker::Model;
+
+/// The connections of an event loop, each under the name of its socket.
+#[derive(Drop)]
+pub struct Connections {
+    alloc: Global,
+    rows: Table<Connection>,
+    /// The socket of each of the node's links.
+    sockets: Table<LinkId>,
+    /// Who is served in this turn, in order.
+    ready: Vec<LinkId>,
+    /// Who is written to next, in order.
+    noted: Vec<LinkId>,
+    /// How many connections there are.
+    count: usize,
+}
+
+impl Model for Connections {
+    ghost use Rattle.std.specs.FinMap as map;
+    ghost use Rattle.mr_links.specs.LinkId.{id_cmp, coded_id};
+    ghost use Rattle.mr_connections.specs.State.{ConnectionState, IsIndexed, connection_code};
+
+    ghost Value = { map.FinMap id_cmp ConnectionState };
+
+    ghost coded = { map.code coded_id connection_code };
+
+    ghost view = { λ c. c.rows };
+
+    ghost invariant = { λ c. IsIndexed c.rows c.sockets c.count };
+}
+
+impl Connections {
+    /// No connections.
+    pub fn new(alloc: Global) -> Connections
+        ensures { result ≡ map.empty }
+    {
+        Connections {
+            alloc,
+            rows: Table::new(alloc),
+            sockets: Table::new(alloc),
+            ready: Vec::new(alloc),
+            noted: Vec::new(alloc),
+            count: 0,
+        }
+    }
+
+    /// How many there are.
+    pub fn len(&self) -> usize
+        ensures { result ≡ map.len self.now }
+    {
+        self.count
+    }
+
+    /// Whether there is none.
+    pub fn is_empty(&self) -> bool
+        ensures { IsTrue result ↔ (map.len self.now ≡ 0) }
+    {
+        self.count == 0
+    }
+
+    /// The connection under the name of a socket, if there is one.
+    pub fn get(&self, socket: LinkId) -> Option<&Connection>
+        ensures { option_copied result ≡ map.get self.now socket }
+    {
+        self.rows.get(socket)
+    }
+
+    /// The socket of the connection that has one of the node's links. No two have the same.
+    pub fn socket_of(&self, link: LinkId) -> Option<LinkId>
+        ensures some { IfSome result (λ socket. HasLink self.now socket link) }
+        ensures none { IfNone result (NoneHas self.now link) }
+        ensures apart { AreToldApart self.now }
+    {
+        let socket = *self.sockets.get(link)?;
+        if one::has_link(&self.rows, socket, link) {
+            Some(socket)
+        } else {
+            None
+        }
+    }
+
+    /// A connection begins, under the name of its socket and with the node's link. It is refused where either is taken, or the
+    /// place of either, or memory is lacking.
+    pub fn join(&mut self, socket: LinkId, link: LinkId) -> Result<(), AllocError>
+        ensures absent { OnOk result (map.get self.old socket ≡ None) }
+        ensures alone { OnOk result (NoneHas self.old link) }
+        ensures joined { OnOk result (self.new ≡ map.insert self.old socket (begun link)) }
+        ensures err { OnErr result (self.new ≡ self.old) }
+    {
+        let Some(count) = self.count.checked_add(1) else {
+            return Err(AllocError);
+        };
+        self.ready.reserve(count)?;
+        self.noted.reserve(count)?;
+        self.sockets.put(link, socket)?;
+        let connection = Connection::new(self.alloc, link);
+        if self.rows.put(socket, connection).is_err() {
+            self.sockets.remove(link);
+            return Err(AllocError);
+        }
+        self.count = count;
+        Ok(())
+    }
+
+    /// The node's end of a connection is closed: what waits is still written, and nothing is read.
+    pub fn leave(&mut self, socket: LinkId)
+        ensures { self.new ≡ changed socket left self.old }
+    {
+        one::forget_link(&self.rows, &mut self.sockets, socket);
+        one::leave(&mut self.rows, socket);
+    }
+
+    /// Takes a connection out.
+    pub fn remove(&mut self, socket: LinkId)
+        ensures { self.new ≡ map.remove self.old socket }
+    {
+        if self.get(socket).is_none() {
+            return;
+        }
+        one::forget_link(&self.rows, &mut self.sockets, socket);
+        self.rows.remove(socket);
+        self.count = self.count.saturating_sub(1);
+    }
+
+    /// Puts bytes behind what waits for whoever has a link, who is written to next. Where nobody has it nothing happens.
+    pub fn send(&mut self, link: LinkId, bytes: &[u8]) -> Result<(), AllocError>
+        ensures ok { OnOk result (self.new ≡ sent link bytes.now self.old) }
+        ensures err { OnErr result (self.new ≡ self.old) }
+    {
+        if bytes.is_empty() {
+            return Ok(());
+        }
+        let Some(socket) = self.socket_of(link) else {
+            return Ok(());
+        };
+        self.push(socket, bytes)?;
+        self.note(socket);
+        Ok(())
+    }
+
+    /// Puts bytes behind what waits for a connection.
+    fn push(&mut self, socket: LinkId, bytes: &[u8]) -> Result<(), AllocError>
+        ensures ok { OnOk result (self.new ≡ changed socket (pushed bytes.now) self.old) }
+        ensures err { OnErr result (self.new ≡ self.old) }
+    {
+        one::push(&mut self.rows, socket, bytes)
+    }
+
+    /// A write moved so many of the bytes that wait for a connection.
+    pub fn wrote(&mut self, socket: LinkId, count: usize)
+        requires { IfSome (map.get self.old socket) (λ c. count ≤ length c.waiting) }
+        ensures { self.new ≡ changed socket (moved count) self.old }
+    {
+        one::advance(&mut self.rows, socket, count);
+    }
+
+    /// The replies of a connection were large: less of it is read at once.
+    pub fn narrow(&mut self, socket: LinkId)
+        ensures { self.new ≡ self.old }
+    {
+        one::narrow(&mut self.rows, socket);
+    }
+
+    /// So many bytes of a connection were read at once.
+    pub fn widen(&mut self, socket: LinkId, count: usize)
+        ensures { self.new ≡ self.old }
+    {
+        one::widen(&mut self.rows, socket, count);
+    }
+
+    /// A turn begins, in which nobody is served yet.
+    pub fn serve_nobody(&mut self)
+        ensures { self.new ≡ self.old }
+    {
+        self.ready.clear();
+    }
+
+    /// Serves a connection behind the others, if it is there. Its room was taken as it joined.
+    pub fn serve(&mut self, socket: LinkId)
+        ensures { self.new ≡ self.old }
+    {
+        if self.get(socket).is_some() {
+            let _room = self.ready.push(socket);
+        }
+    }
+
+    /// How many connections are served in this turn, one after another.
+    pub fn ready_count(&self) -> usize {
+        self.ready.len()
+    }
+
+    /// Who is served there. It may be gone.
+    pub fn ready_at(&self, index: usize) -> Option<LinkId> {
+        self.ready.get(index).copied()
+    }
+
+    /// A connection is written to next, behind the others, where something waits for it. Its room was taken as it joined.
+    pub fn note(&mut self, socket: LinkId)
+        ensures { self.new ≡ self.old }
+    {
+        if one::note(&mut self.rows, socket) {
+            let _room = self.noted.push(socket);
+        }
+    }
+
+    /// How many connections are written to next, one after another.
+    pub fn noted_count(&self) -> usize {
+        self.noted.len()
+    }
+
+    /// Who is written to there. It may be gone.
+    pub fn noted_at(&self, index: usize) -> Option<LinkId> {
+        self.noted.get(index).copied()
+    }
+
+    /// Nobody is written to next any more.
+    pub fn forget_noted(&mut self)
+        ensures { self.new ≡ self.old }
+    {
+        forget_each(&mut self.rows, &self.noted);
+        self.noted.clear();
+    }
+}
+
+/// These connections aren't among those any more that are written to next.
+fn forget_each(rows: &mut Table<Connection>, noted: &[LinkId])
+    ensures { rows.new ≡ rows.old }
+{
+    for socket in noted {
+        one::forget_noted(rows, *socket);
+    }
+}
