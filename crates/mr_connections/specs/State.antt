@@ -29,17 +29,17 @@ left c = record c { link = None }
 abbrev pub pushed : List ℕ → ConnectionState → ConnectionState
 pushed bytes c = record c { waiting = c.waiting ++ bytes }
 
-abbrev pub moved : ℕ → ConnectionState → ConnectionState
-moved count c = record c { waiting = drop count c.waiting }
+abbrev pub wrote : ℕ → ConnectionState → ConnectionState
+wrote count c = record c { waiting = drop count c.waiting }
 
 -- whether this is the node's link
 abbrev pub is_link : LinkId → Option LinkId → Bool
 is_link link None = false
 is_link link (Some l) = eq_by_cmp id_cmp l link
 
--- with these bytes behind what waits, where it has this link
-abbrev pub told : LinkId → List ℕ → ConnectionState → ConnectionState
-told link bytes c = cond (is_link link c.link) (pushed bytes c) c
+-- this was made of it, where it has this link
+abbrev pub where_linked : LinkId → (ConnectionState → ConnectionState) → ConnectionState → ConnectionState
+where_linked link f c = cond (is_link link c.link) (f c) c
 
 -- what becomes of all
 
@@ -58,9 +58,17 @@ changed socket f m = changed_by (get m socket) socket f m
 abbrev pub with_each : (ConnectionState → ConnectionState) → Rows → Rows
 with_each f m = from_entries (map (λ (e : LinkId × ConnectionState). (e.0, f e.1)) (entries m))
 
+-- this was made of those that have this link
+abbrev pub at_link : LinkId → (ConnectionState → ConnectionState) → Rows → Rows
+at_link link f m = with_each (where_linked link f) m
+
 -- these bytes go behind what waits where the node's link is this one
 abbrev pub sent : LinkId → List ℕ → Rows → Rows
-sent link bytes m = with_each (told link bytes) m
+sent link bytes m = at_link link (pushed bytes) m
+
+-- the node's end of this link is closed
+abbrev pub parted : LinkId → Rows → Rows
+parted link m = at_link link left m
 
 -- who has which link
 

@@ -1,5 +1,5 @@
 ghost use Rattle.std.specs.Prelude.{◌≡◌, ◌≤◌, ◌<◌, ◌↔◌, [], None, Some, length, IsTrue, OnErr, OnOk};
-ghost use Rattle.mr_connections.specs.State.{begun, left, most_kept, moved, pushed};
+ghost use Rattle.mr_connections.specs.State.{begun, left, most_kept, pushed, wrote};
 
 use mr_links::LinkId;
 use mr_unsent::Unsent;
@@ -132,11 +132,11 @@ impl Connection {
         }
     }
 
-    /// Whether it is written to next, and wasn't before: something waits.
+    /// Whether it is written to next, and wasn't before: something waits, or the node's end is closed.
     pub(crate) fn note(&mut self) -> bool
         ensures { self.new ≡ self.old }
     {
-        let is_new = !self.noted && !self.unsent.is_empty();
+        let is_new = !self.noted && (!self.unsent.is_empty() || self.link.is_none());
         self.noted = self.noted || is_new;
         is_new
     }
@@ -163,7 +163,7 @@ impl Connection {
     /// A write moved so many of the bytes that wait.
     pub(crate) fn advance(&mut self, count: usize)
         requires { count ≤ length self.old.waiting }
-        ensures { self.new ≡ moved count self.old }
+        ensures { self.new ≡ wrote count self.old }
     {
         self.unsent.advance(count);
     }

@@ -1,6 +1,6 @@
 ghost use Rattle.std.specs.Prelude.{◌≡◌, ◌≤◌, ◌↔◌, length, IfNone, IfSome, IsTrue, None, OnErr, OnOk, option_copied};
 ghost use Rattle.std.specs.FinMap as map;
-ghost use Rattle.mr_connections.specs.State.{AreToldApart, HasLink, NoneHas, begun, changed, left, moved, pushed, sent};
+ghost use Rattle.mr_connections.specs.State.{AreToldApart, HasLink, NoneHas, begun, changed, left, parted, pushed, sent, wrote};
 
 use crate::connection::Connection;
 use crate::one;
@@ -111,8 +111,20 @@ impl Connections {
         Ok(())
     }
 
-    /// The node's end of a connection is closed: what waits is still written, and nothing is read.
-    pub fn leave(&mut self, socket: LinkId)
+    /// The node's end of a link is closed: on the connection that has it what waits is still written, which comes next, and nothing is
+    /// read. Where nobody has it nothing happens.
+    pub fn part(&mut self, link: LinkId)
+        ensures { self.new ≡ parted link self.old }
+    {
+        let Some(socket) = self.socket_of(link) else {
+            return;
+        };
+        self.leave(socket);
+        self.note(socket);
+    }
+
+    /// The node's end of a connection is closed.
+    fn leave(&mut self, socket: LinkId)
         ensures { self.new ≡ changed socket left self.old }
     {
         one::forget_link(&self.rows, &mut self.sockets, socket);
@@ -158,7 +170,7 @@ impl Connections {
     /// A write moved so many of the bytes that wait for a connection.
     pub fn wrote(&mut self, socket: LinkId, count: usize)
         requires { IfSome (map.get self.old socket) (λ c. count ≤ length c.waiting) }
-        ensures { self.new ≡ changed socket (moved count) self.old }
+        ensures { self.new ≡ changed socket (wrote count) self.old }
     {
         one::advance(&mut self.rows, socket, count);
     }
@@ -203,7 +215,8 @@ impl Connections {
         self.ready.get(index).copied()
     }
 
-    /// A connection is written to next, behind the others, where something waits for it. Its room was taken as it joined.
+    /// A connection is written to next, behind the others, where something waits for it or the node's end is closed. Its room was
+    /// taken as it joined.
     pub fn note(&mut self, socket: LinkId)
         ensures { self.new ≡ self.old }
     {

@@ -1,7 +1,7 @@
 //! What is done with one connection of a table.
 ghost use Rattle.std.specs.Prelude.{◌≡◌, ◌≤◌, ◌↔◌, length, IfSome, IsTrue, OnErr, OnOk};
 ghost use Rattle.std.specs.FinMap as map;
-ghost use Rattle.mr_connections.specs.State.{HasLink, changed, left, moved, pushed, without};
+ghost use Rattle.mr_connections.specs.State.{HasLink, changed, left, pushed, without, wrote};
 
 use crate::connection::Connection;
 use crate::table::Table;
@@ -59,7 +59,7 @@ pub(crate) fn push(
 /// A write moved so many of the bytes that wait.
 pub(crate) fn advance(rows: &mut Table<Connection>, socket: LinkId, count: usize)
     requires { IfSome (map.get rows.old socket) (λ c. count ≤ length c.waiting) }
-    ensures { rows.new ≡ changed socket (moved count) rows.old }
+    ensures { rows.new ≡ changed socket (wrote count) rows.old }
 {
     match rows.get_mut(socket) {
         Some(connection) => connection.advance(count),

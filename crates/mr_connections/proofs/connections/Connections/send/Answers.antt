@@ -1,14 +1,15 @@
 use Rattle.std.proofs.Common.{◌∙◌}
-use Rattle.mr_connections.proofs.Sent.{nil_of, sent-nil, sent-none, sent-one}
+use Rattle.mr_connections.specs.State.{pushed}
+use Rattle.mr_connections.proofs.Sent.{linked-none, linked-one, nil_of, sent-nil}
 use Rattle.mr_connections.proofs.connections.Connections.send.Goals as goal
 
 pub returns-then-is_empty-clause-ok : goal.returns-then-is_empty-clause-ok
 returns-then-is_empty-clause-ok c = sent-nil c.args.link c.args.bytes.now c.args.self.now (nil_of c.args.bytes.now c.if-is_empty.ensures)
 
 pub returns-in_default-clause-ok : goal.returns-in_default-clause-ok
-returns-in_default-clause-ok c = sent-none c.args.link c.args.bytes.now c.args.self.now c.in_default.ensures.none
+returns-in_default-clause-ok c = linked-none c.args.link (pushed c.args.bytes.now) c.args.self.now c.in_default.ensures.none
 
 pub returns-clause-ok : goal.returns-clause-ok
 returns-clause-ok c =
     c.note.ensures ∙ c.in_ok-push.ensures.ok
-    ∙ sent-one c.args.link c.args.bytes.now c.args.self.now c.in-Some.socket c.in-Some.ensures.some c.socket_of.ensures.apart
+    ∙ linked-one c.args.link (pushed c.args.bytes.now) c.args.self.now c.in-Some.socket c.in-Some.ensures.some c.socket_of.ensures.apart
