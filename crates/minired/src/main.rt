@@ -8,6 +8,8 @@ mod help;
 mod kept;
 mod kept_file;
 mod notice;
+mod obeying;
+mod roles;
 mod served;
 mod told_wire;
 mod turns;

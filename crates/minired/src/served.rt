@@ -1,33 +1,35 @@
-//! A server: a node asked over TCP.
+//! A server: a node asked over TCP, which may follow another, and be followed.
+ghost use Rattle.std.specs.Prelude.{◌≤◌, ◌^◌};
+
 use crate::failure::Failure;
 use crate::kept::{opened, write_failure};
 use crate::notice::tell;
+use crate::obeying::follow;
 use crate::told_wire::ToldWire;
 use crate::turns::serve_turns;
 use mr_aof::Log;
 use mr_data::Dataset;
 use mr_file::LogFile;
 use mr_loop::{Links, LoopFault};
-use mr_node::{Config, Node};
 use mr_options::ServeOptions;
+use mr_peer::{Config, Node};
 use mr_source::{Source, SystemSource};
 use mr_wire::SocketWire;
 use std::hash::RandomState;
-use std::net::{Ipv4Addr, SocketAddr};
-
-/// How many bytes of its stream the node keeps for its replicas.
-const BACKLOG: usize = 1_048_576;
+use std::net::SocketAddr;
 
 /// A server, whose dataset is kept in a file where the options name one. That is opened before anything is listened on.
 pub fn run_server(
     rt: &HostRuntime,
     options: &ServeOptions<'_>,
     seed: RandomState,
-) -> Result<(), Failure> {
+) -> Result<(), Failure>
+    requires { (1 ≤ options.now.backlog) × (options.now.backlog ≤ 2 ^ 30) }
+{
     match options.aof {
         Some(path) => {
             let (mut log, dataset) = opened(rt, path, true, options.sync, seed)?;
-            match serve_node(rt, options, dataset, &mut log) {
+            match serve_node(rt, options, dataset, &mut log, seed) {
                 Err(Failure::Loop(LoopFault::File)) => Err(write_failure(rt, path, &log)),
                 ended => ended,
             }
@@ -37,29 +39,31 @@ pub fn run_server(
             options,
             Dataset::new(rt.alloc(), seed),
             &mut Log::none(),
+            seed,
         ),
     }
 }
 
-/// Serves the clients of a node that begins with this dataset.
+/// Serves the peers of a node that begins with this dataset.
 fn serve_node<F: LogFile>(
     rt: &HostRuntime,
     options: &ServeOptions<'_>,
     dataset: Dataset,
     log: &mut Log<F>,
-) -> Result<(), Failure> {
+    seed: RandomState,
+) -> Result<(), Failure>
+    requires { (1 ≤ options.now.backlog) × (options.now.backlog ≤ 2 ^ 30) }
+{
     let mut source = source_of(rt)?;
-    let mut wire = listening(rt, options.port)?;
-    let Ok(mut links) = Links::new(rt.alloc()) else {
+    let mut wire = listening(rt, options)?;
+    let Ok(mut links) = Links::new(rt.alloc(), seed) else {
         return Err(Failure::Memory);
     };
     let keys = dataset.len();
-    let Some(config) = Config::new(false, options.port, BACKLOG) else {
-        unreachable!()
-    };
-    let Ok(mut node) = Node::start(rt.alloc(), source.id(), dataset, config) else {
-        return Err(Failure::Memory);
-    };
+    let mut node = node_of(rt, options, dataset, &mut source)?;
+    if node.shows().is_none() {
+        return Err(Failure::Loop(LoopFault::Stopped));
+    }
     tell_ready(rt, options, keys);
     let ended = serve_turns(
         rt,
@@ -75,6 +79,27 @@ fn serve_node<F: LogFile>(
         Ok(()) => Ok(()),
         Err(fault) => Err(Failure::Loop(fault)),
     }
+}
+
+/// A node with this dataset, which follows the master that the options name, if they name one.
+fn node_of<S: Source>(
+    rt: &HostRuntime,
+    options: &ServeOptions<'_>,
+    dataset: Dataset,
+    source: &mut S,
+) -> Result<Node, Failure>
+    requires { (1 ≤ options.now.backlog) × (options.now.backlog ≤ 2 ^ 30) }
+{
+    let Some(config) = Config::new(false, options.port, options.backlog) else {
+        unreachable!()
+    };
+    let Ok(mut node) = Node::start(rt.alloc(), source.id(), dataset, config) else {
+        return Err(Failure::Memory);
+    };
+    if let Some(master) = &options.master {
+        follow(rt, &mut node, master, source)?;
+    }
+    Ok(node)
 }
 
 /// Tells why the server ends.
@@ -102,27 +127,31 @@ fn source_of(rt: &HostRuntime) -> Result<SystemSource, Failure> {
     }
 }
 
-/// A wire of this machine's own address.
-fn listening(rt: &HostRuntime, port: u16) -> Result<ToldWire, Failure> {
+/// A wire that listens where the options say.
+fn listening(rt: &HostRuntime, options: &ServeOptions<'_>) -> Result<ToldWire, Failure> {
     let (of_sockets, of_wire) = (another(rt)?, another(rt)?);
-    let address = SocketAddr::from((Ipv4Addr::LOCALHOST, port));
+    let address = SocketAddr::from((options.bind, options.port));
     match SocketWire::listen(of_sockets, rt.alloc(), address) {
         Ok(wire) => Ok(ToldWire::new(of_wire, wire)),
-        Err(error) => Err(Failure::Listen(port, error)),
+        Err(error) => Err(Failure::Listen(options.port, error)),
     }
 }
 
-/// The lines that say that clients may come: one on standard output, and a notice. Those that can't be written are left out.
+/// The lines that say that clients may come: one on standard output, and a notice. Where others than this machine's reach the server,
+/// a notice says that they are asked for no password. Lines that can't be written are left out.
 fn tell_ready(rt: &HostRuntime, options: &ServeOptions<'_>, keys: usize) {
-    let port = options.port;
+    let (address, port) = (options.bind, options.port);
+    if !address.is_loopback() {
+        tell(rt, &"whoever reaches it is asked for no password");
+    }
     match options.aof {
         Some(path) => {
-            let text = format_args!("ready on 127.0.0.1:{port}, {keys} keys from {path}");
+            let text = format_args!("ready on {address}:{port}, {keys} keys from {path}");
             tell(rt, &text);
             let _ = println!(rt; "minired: {text}");
         }
         None => {
-            let text = format_args!("ready on 127.0.0.1:{port}, {keys} keys");
+            let text = format_args!("ready on {address}:{port}, {keys} keys");
             tell(rt, &text);
             let _ = println!(rt; "minired: {text}");
         }

@@ -1,14 +1,15 @@
 //! Turns of the event loop, and what is said of them on standard error.
 ghost use Rattle.std.specs.Prelude.{◌≡◌, [], OnOk, false, true, IsErrOf};
-ghost use Rattle.mr_loop.specs.Stage.{stage_of};
+ghost use Rattle.mr_loop.specs.Stage.{stage};
 ghost use Rattle.mr_loop.specs.Outcomes.{Serves};
 ghost use Rattle.mr_loop.specs.Quiet.{AllWait};
 
 use crate::notice::{Seldom, tell};
+use crate::roles::RoleNotice;
 use mr_aof::Log;
 use mr_file::LogFile;
 use mr_loop::{Links, LoopFault, turn};
-use mr_node::Node;
+use mr_peer::Node;
 use mr_source::Source;
 use mr_wire::Wire;
 
@@ -58,7 +59,7 @@ pub fn serve_turns<W: Wire, F: LogFile, S: Source>(
     requires filed { links.old.batch ≡ [] }
     requires runs { links.old.halted ≡ false }
     requires up { node.old.core.up ≡ true }
-    ensures went { Serves W.tells log.old.mode result (stage_of W.links F.told F.synced node.old links.old wire.old log.old) (stage_of W.links F.told F.synced node.new links.new wire.new log.new) }
+    ensures went { Serves W.tells log.old.mode result (stage node.old links.old (W.links wire.old) (F.told log.old.file) (F.synced log.old.file)) (stage node.new links.new (W.links wire.new) (F.told log.new.file) (F.synced log.new.file)) }
     ensures device { IsErrOf result LoopFault.File → log.new.broken ≡ true }
     ensures written { OnOk result (links.new.batch ≡ []) }
     ensures quiet { AllWait node.old → OnOk result (AllWait node.new) }
@@ -67,9 +68,11 @@ pub fn serve_turns<W: Wire, F: LogFile, S: Source>(
         untold: 0,
         notice: Seldom::new(),
     };
+    let mut roles = RoleNotice::new();
     for _ in 0..turns {
         let told = turn(node, links, wire, log, source)?;
         deaf.close(rt, told.deaf);
+        roles.look(rt, node);
         if told.halted {
             deaf.end(rt);
             return Ok(());

@@ -1,14 +1,16 @@
 -- That the loop knows of each SHUTDOWN.
-use Rattle.std.proofs.Common.{◌≡◌, ℕ, List, [], ◌∷◌, Bool, true, false, ◌||◌, Option, None, Some, refl, ap, ◌∙◌}
+use Rattle.std.proofs.Common.{◌≡◌, List, [], ◌∷◌, Bool, true, false, ◌||◌, Option, None, Some, refl, ap, ◌∙◌}
 use Rattle.mr_file.specs.declared.sync_mode.SyncMode.{SyncMode}
+use Rattle.mr_outs.specs.Outs.{OutsState, outs_of}
+use Rattle.mr_loop.specs.declared.fault.LoopFault.{LoopFault}
 use Rattle.mr_loop.specs.Stage.{Stage, LoopState}
-use Rattle.mr_loop.specs.Rows.{Event, fault_of, Happens, Run, behind_replacing, queued, joins, turns_away, takes, finds_none, hears_end, loses, is_refused, is_deaf, hangs_up, steps, idles, spills, tears, spills_tick, writes, appends, fails, ticks, misses_tick, settles, closes, stops}
+use Rattle.mr_loop.specs.Causes.{Act, Calls, at_dial, at_step, at_tick}
+use Rattle.mr_loop.specs.Rows.{Event, fault_of, Happens, Run, acts, appends, breaks, closes, fails, finds_none, hears_end, idles, is_deaf, is_refused, joins, loses, misses, misses_dial, misses_tick, settles, spills, stops, takes, tears, turns_away, writes}
 use Rattle.mr_loop.specs.Counting.{halts_by, halts_in, KnowsShutdown}
-use Rattle.mr_loop.proofs.Sending.{no_fault}
+use Rattle.mr_loop.proofs.Carried.{carried_halts, outs_halt}
 
-replaced_halted : (whole : Option (List ℕ)) (o : LoopState) → (behind_replacing whole o).halted ≡ o.halted
-replaced_halted None o = refl
-replaced_halted (Some bytes) o = refl
+pub no_fault : {why : LoopFault} → ◌≡◌ {A = Option LoopFault} (Some why) None → ⊥
+no_fault e = cc
 
 regrouped : (x y b : Bool) → (y || (x || b)) ≡ ((x || y) || b)
 regrouped true true b = refl
@@ -16,29 +18,34 @@ regrouped true false b = refl
 regrouped false true b = refl
 regrouped false false b = refl
 
+called : (act : Act) (s m : Stage) (outs : OutsState) → Calls act s m outs → m.own.halted ≡ s.own.halted
+called (at_step socket link given fresh) s m outs c = ap (λ (z : Stage). z.own.halted) c.same
+called (at_tick given) s m outs c = ap (λ (z : Stage). z.own.halted) c.same
+called (at_dial socket link) s m outs c = c.halted
+
 module _ (tells : Bool) (mode : SyncMode) where
   kept : (e : Event) (s t : Stage) → fault_of e ≡ None → Happens tells mode s e t → t.own.halted ≡ (halts_by e || s.own.halted)
-  kept (joins j) s t goes_on h = h.halted
+  kept (joins socket link) s t goes_on h = h.halted
   kept turns_away s t goes_on h = ap (λ (z : LoopState). z.halted) h.own
-  kept (takes j bytes) s t goes_on h = ap (λ (z : LoopState). z.halted) h.own
-  kept (finds_none j) s t goes_on h = ap (λ (z : LoopState). z.halted) h.own
-  kept (hears_end j) s t goes_on h = ap (λ (z : LoopState). z.halted) h.own
-  kept (loses j) s t goes_on h = ap (λ (z : LoopState). z.halted) h.own
-  kept (is_refused j) s t goes_on h = ap (λ (z : LoopState). z.halted) h.given_up.own
-  kept (is_deaf j) s t goes_on h = ap (λ (z : LoopState). z.halted) h.given_up.own
-  kept (hangs_up j) s t goes_on h = ap (λ (z : LoopState). z.halted) h.own
-  kept (steps j given outs) s t goes_on h = ap (λ (z : LoopState). z.halted) h.own ∙ replaced_halted outs.replaced (queued outs j h.client s.own)
-  kept (idles j given) s t goes_on h = ap (λ (z : LoopState). z.halted) h.own
-  kept (spills j given outs) s t goes_on h = absurd (no_fault goes_on)
-  kept (tears j given outs) s t goes_on h = absurd (no_fault goes_on)
-  kept (spills_tick given outs) s t goes_on h = absurd (no_fault goes_on)
-  kept (writes j bytes) s t goes_on h = ap (λ (z : LoopState). z.halted) h.own
+  kept (takes socket bytes) s t goes_on h = ap (λ (z : LoopState). z.halted) h.own
+  kept (finds_none socket) s t goes_on h = ap (λ (z : LoopState). z.halted) h.own
+  kept (hears_end socket link) s t goes_on h = ap (λ (z : LoopState). z.halted) h.own
+  kept (loses socket) s t goes_on h = h.dropped.halted
+  kept (misses socket) s t goes_on h = h.dropped.halted
+  kept (is_refused socket link given fresh) s t goes_on h = h.dropped.halted
+  kept (is_deaf socket link) s t goes_on h = h.dropped.halted
+  kept (idles socket link given fresh) s t goes_on h = ap (λ (z : Stage). z.own.halted) h.same
+  kept (acts act outs) s t goes_on h = carried_halts (outs_of outs) h.called t h.carried ∙ (ap (λ b. b || h.called.own.halted) (outs_halt outs) ∙ ap (λ b. outs.halts || b) (called act s h.called outs h.calls))
+  kept (spills act outs) s t goes_on h = absurd (no_fault goes_on)
+  kept (tears act outs) s t goes_on h = absurd (no_fault goes_on)
+  kept (writes socket bytes) s t goes_on h = ap (λ (z : LoopState). z.halted) h.own
+  kept (breaks socket) s t goes_on h = h.dropped.halted
+  kept (closes socket) s t goes_on h = h.dropped.halted
   kept (appends texts) s t goes_on h = ap (λ (z : LoopState). z.halted) h.own
   kept fails s t goes_on h = absurd (no_fault goes_on)
-  kept (ticks given outs) s t goes_on h = ap (λ (z : LoopState). z.halted) h.own
-  kept (misses_tick given) s t goes_on h = ap (λ (z : LoopState). z.halted) h.own
-  kept (settles hurries) s t goes_on h = ap (λ (z : LoopState). z.halted) h.own
-  kept (closes j) s t goes_on h = h.halted
+  kept (misses_tick given) s t goes_on h = ap (λ (z : Stage). z.own.halted) h
+  kept misses_dial s t goes_on h = ap (λ (z : LoopState). z.halted) h.own
+  kept (settles hurries) s t goes_on h = ap (λ (z : Stage). z.own.halted) h.is
   kept stops s t goes_on h = absurd (no_fault goes_on)
 
   known : (es : List Event) (s t : Stage) → Run tells mode s es t → t.own.halted ≡ (halts_in es || s.own.halted)

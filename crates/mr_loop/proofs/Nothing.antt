@@ -1,7 +1,20 @@
 -- No bytes.
-use Rattle.std.proofs.Common.{rules, [], ◌∷◌, refl, inl, inr, lit<}
-use Rattle.mr_node.specs.Requests.{Waits}
+use Rattle.std.proofs.Common.{rules, ℕ, List, [], ◌∷◌, refl, inl, inr, lit<, Option}
+use Rattle.mr_inline.specs.Language.{Continues}
+use Rattle.mr_lines.specs.Lines.{IsLineText}
+use Rattle.mr_lines.proofs.Ends.{nothing_yet}
+use Rattle.mr_follow.specs.State.{started}
+use Rattle.mr_rows.specs.Requests.{Waits}
+use Rattle.mr_loop.specs.Quiet.{Awaits}
 
 -- a request may follow nothing
 pub waits_nothing : Waits []
 waits_nothing = record { more = record { more = 42 ∷ 45 ∷ 49 ∷ 13 ∷ 10 ∷ []; some = lit< tt; are_bytes = search rules; whole = inr (inl (inr refl)) } }
+
+-- .. and a line may
+pub line_nothing : Continues IsLineText []
+line_nothing = nothing_yet [] refl
+
+-- who was dialled waits for an answer
+pub awaits_first : (offer : Option (List ℕ × ℕ)) (port : ℕ) → Awaits (started offer port)
+awaits_first offer port = record { unread = []; agrees = record { by = refl }; waits = line_nothing }

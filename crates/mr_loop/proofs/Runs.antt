@@ -1,80 +1,118 @@
--- Events one after another, and what a fault leaves.
-use Rattle.std.proofs.Common.{◌≡◌, Bool, List, [], ◌∷◌, ◌++◌, ℕ, ◌+◌, arith, Option, None, Some, Result, Ok, Err, refl, sym, ap, subst, ◌∙◌}
+-- Events one after another, what is counted in them, and what a fault leaves.
+use Rattle.std.proofs.Common.{◌≡◌, Bool, List, [], ◌∷◌, ◌++◌, ℕ, zero, suc, ◌+◌, arith, None, Some, Result, Ok, Err, refl, sym, ap, subst, ◌∙◌}
 use Rattle.mr_file.specs.declared.sync_mode.SyncMode.{SyncMode}
-use Rattle.mr_links.specs.Links.{Links}
-use Rattle.mr_node.specs.State.{NodeState}
-use Rattle.mr_wire.specs.Wire.{LinkState}
 use Rattle.mr_loop.specs.declared.fault.LoopFault.{LoopFault}
 use Rattle.mr_loop.specs.declared.fault.LoopFault.TheVariants as fault
-use Rattle.mr_loop.specs.Stage.{Stage, LoopState, stage}
-use Rattle.mr_loop.specs.Rows.{Event, fault_of, Happens, IsToldToStop, Run, Went, spills, tears, spills_tick, fails, stops}
-use Rattle.mr_loop.specs.Counting.{calls_by, uses_by, deaf_by, ticks_by, calls_in, uses_in, deaf_in, ticks_in, Counted}
+use Rattle.mr_loop.specs.declared.told.Turn.{Turn}
+use Rattle.mr_loop.specs.Stage.{Stage}
+use Rattle.mr_loop.specs.Rows.{Event, fault_of, Happens, IsToldToStop, Run, Went, spills, tears, fails, stops}
+use Rattle.mr_loop.specs.Counting.{calls_by, uses_by, ids_by, deaf_by, ticks_by, counted, raised, sum_in, CountsOn, CountsStill}
 use Rattle.mr_loop.specs.Outcomes.{Broke, Does, Ends, Fails, Serves}
 
 pub run_append : (tells : Bool) (mode : SyncMode) (xs ys : List Event) (a b c : Stage) → Run tells mode a xs b → Run tells mode b ys c → Run tells mode a (xs ++ ys) c
 run_append tells mode [] ys a b c r q = subst (λ x. Run tells mode x ys c) r q
 run_append tells mode (x ∷ xs) ys a b c r q = (r.0, r.1, r.2, run_append tells mode xs ys r.0 b c r.3 q)
 
-pub went_further : {tells : Bool} {mode : SyncMode} {a b c : Stage} → Went tells mode a b → Went tells mode b c → Went tells mode a c
+abbrev pub went_further : {tells : Bool} {mode : SyncMode} {a b c : Stage} → Went tells mode a b → Went tells mode b c → Went tells mode a c
 went_further {tells} {mode} {a} {b} {c} x y = record { events = x.events ++ y.events; run = run_append tells mode x.events y.events a b c x.run y.run }
 
-went_nowhere : {tells : Bool} {mode : SyncMode} (s : Stage) → Went tells mode s s
+abbrev pub went_nowhere : {tells : Bool} {mode : SyncMode} (s : Stage) → Went tells mode s s
 went_nowhere s = record { events = []; run = refl }
 
--- .. with how many of them step, give somebody up, and let time pass
+-- ---- what is counted
 
-pub calls_append : (xs ys : List Event) → calls_in (xs ++ ys) ≡ calls_in xs + calls_in ys
-calls_append [] ys = omega arith
-calls_append (x ∷ xs) ys = omega (arith, calls_append xs ys)
+pub sum_append : (f : Event → ℕ) (xs ys : List Event) → sum_in f (xs ++ ys) ≡ sum_in f xs + sum_in f ys
+sum_append f [] ys = omega arith
+sum_append f (x ∷ xs) ys = omega (arith, sum_append f xs ys)
 
-pub uses_append : (xs ys : List Event) → uses_in (xs ++ ys) ≡ uses_in xs + uses_in ys
-uses_append [] ys = omega arith
-uses_append (x ∷ xs) ys = omega (arith, uses_append xs ys)
+-- .. of one event
+pub sum_one : (f : Event → ℕ) (e : Event) → sum_in f (e ∷ []) ≡ f e
+sum_one f e = omega arith
 
-pub deaf_append : (xs ys : List Event) → deaf_in (xs ++ ys) ≡ deaf_in xs + deaf_in ys
-deaf_append [] ys = omega arith
-deaf_append (x ∷ xs) ys = omega (arith, deaf_append xs ys)
+-- a count that is raised twice
+raised_sum : (a b n : ℕ) → raised (a + b) n ≡ raised b (raised a n)
+raised_sum zero b n = let none : 0 + b ≡ b = omega arith in ap (λ k. raised k n) none
+raised_sum (suc a) b n = let more : suc a + b ≡ suc (a + b) = omega arith in ap (λ k. raised k n) more ∙ raised_sum a b (counted (n + 1))
 
-pub ticks_append : (xs ys : List Event) → ticks_in (xs ++ ys) ≡ ticks_in xs + ticks_in ys
-ticks_append [] ys = omega arith
-ticks_append (x ∷ xs) ys = omega (arith, ticks_append xs ys)
+pub raised_on : (f : Event → ℕ) (xs ys : List Event) (old mid new : ℕ) → mid ≡ raised (sum_in f xs) old → new ≡ raised (sum_in f ys) mid → new ≡ raised (sum_in f (xs ++ ys)) old
+raised_on f xs ys old mid new first second = second ∙ (ap (raised (sum_in f ys)) first ∙ (sym (raised_sum (sum_in f xs) (sum_in f ys) old) ∙ ap (λ k. raised k old) (sym (sum_append f xs ys))))
 
-unfoldable pub went_refl : {tells : Bool} {mode : SyncMode} (s : Stage) → Counted tells mode 0 0 0 0 s s
-went_refl s = record { went = record { events = []; run = refl }; called = refl; used = refl; gave_up = refl; ticked = refl }
+pub raised_once : (f : Event → ℕ) (e : Event) (old new : ℕ) → new ≡ raised (f e) old → new ≡ raised (sum_in f (e ∷ [])) old
+raised_once f e old new is = is ∙ ap (λ k. raised k old) (sym (sum_one f e))
 
-unfoldable pub went_one : {tells : Bool} {mode : SyncMode} {s t : Stage} (e : Event) → fault_of e ≡ None → Happens tells mode s e t → Counted tells mode (calls_by e) (uses_by e) (deaf_by e) (ticks_by e) s t
-went_one {tells} {mode} {s} {t} e goes_on h = record {
+abbrev pub counts_on : {tells : Bool} {mode : SyncMode} {old mid new : Turn} {a b c : Stage} → CountsOn tells mode old mid a b → CountsOn tells mode mid new b c → CountsOn tells mode old new a c
+counts_on {tells} {mode} {old} {mid} {new} x y = record {
+  went = went_further x.went y.went;
+  steps_are = raised_on calls_by x.went.events y.went.events old.steps mid.steps new.steps x.steps_are y.steps_are;
+  done_are = raised_on uses_by x.went.events y.went.events old.done mid.done new.done x.done_are y.done_are;
+  used_are = raised_on ids_by x.went.events y.went.events old.used mid.used new.used x.used_are y.used_are;
+  deaf_are = raised_on deaf_by x.went.events y.went.events old.deaf mid.deaf new.deaf x.deaf_are y.deaf_are;
+}
+
+pub still_on : {tells : Bool} {mode : SyncMode} {old mid new : Turn} {a b c : Stage} → CountsStill tells mode old mid a b → CountsStill tells mode mid new b c → CountsStill tells mode old new a c
+still_on x y = record {
+  counts = counts_on x.counts y.counts;
+  no_tick = sum_append ticks_by x.counts.went.events y.counts.went.events ∙ omega (arith, x.no_tick, y.no_tick);
+}
+
+-- nothing happens
+pub still_here : {tells : Bool} {mode : SyncMode} (turn : Turn) (s : Stage) → CountsStill tells mode turn turn s s
+still_here turn s = record { counts = record { went = went_nowhere s; steps_are = refl; done_are = refl; used_are = refl; deaf_are = refl }; no_tick = refl }
+
+-- .. as two equations say
+pub stays_still : {tells : Bool} {mode : SyncMode} (old new : Turn) (s t : Stage) → t ≡ s → new ≡ old → CountsStill tells mode old new s t
+stays_still {tells} {mode} old new s t same turn = subst (λ x. CountsStill tells mode old new s x) (sym same) (subst (λ x. CountsStill tells mode old x s s) (sym turn) (still_here old s))
+
+-- one event, and the counts behind it
+abbrev pub counts_event : {tells : Bool} {mode : SyncMode} {s t : Stage} (e : Event) (old new : Turn) → fault_of e ≡ None → Happens tells mode s e t
+    → new.steps ≡ raised (calls_by e) old.steps → new.done ≡ raised (uses_by e) old.done → new.used ≡ raised (ids_by e) old.used → new.deaf ≡ raised (deaf_by e) old.deaf
+    → CountsOn tells mode old new s t
+counts_event {tells} {mode} {s} {t} e old new goes_on h steps done used deaf = record {
   went = record { events = e ∷ []; run = (t, goes_on, h, refl) };
-  called = omega arith;
-  used = omega arith;
-  gave_up = omega arith;
-  ticked = omega arith;
+  steps_are = raised_once calls_by e old.steps new.steps steps;
+  done_are = raised_once uses_by e old.done new.done done;
+  used_are = raised_once ids_by e old.used new.used used;
+  deaf_are = raised_once deaf_by e old.deaf new.deaf deaf;
 }
 
-unfoldable pub went_trans : {tells : Bool} {mode : SyncMode} {n u d p m v e q : ℕ} {a b c : Stage} → Counted tells mode n u d p a b → Counted tells mode m v e q b c → Counted tells mode (n + m) (u + v) (d + e) (p + q) a c
-went_trans {tells} {mode} {n} {u} {d} {p} {m} {v} {e} {q} {a} {b} {c} x y = record {
-  went = record { events = x.went.events ++ y.went.events; run = run_append tells mode x.went.events y.went.events a b c x.went.run y.went.run };
-  called = omega (arith, calls_append x.went.events y.went.events, x.called, y.called);
-  used = omega (arith, uses_append x.went.events y.went.events, x.used, y.used);
-  gave_up = omega (arith, deaf_append x.went.events y.went.events, x.gave_up, y.gave_up);
-  ticked = omega (arith, ticks_append x.went.events y.went.events, x.ticked, y.ticked);
-}
+-- .. that is no tick
+pub still_event : {tells : Bool} {mode : SyncMode} {s t : Stage} (e : Event) (old new : Turn) → fault_of e ≡ None → ticks_by e ≡ 0 → Happens tells mode s e t
+    → new.steps ≡ raised (calls_by e) old.steps → new.done ≡ raised (uses_by e) old.done → new.used ≡ raised (ids_by e) old.used → new.deaf ≡ raised (deaf_by e) old.deaf
+    → CountsStill tells mode old new s t
+still_event e old new goes_on none h steps done used deaf = record { counts = counts_event e old new goes_on h steps done used deaf; no_tick = sum_one ticks_by e ∙ none }
+
+-- .. of which nothing is counted
+pub still_one : {tells : Bool} {mode : SyncMode} {s t : Stage} (e : Event) (old new : Turn) → fault_of e ≡ None → ticks_by e ≡ 0 → calls_by e ≡ 0 → uses_by e ≡ 0 → ids_by e ≡ 0 → deaf_by e ≡ 0
+    → Happens tells mode s e t → new ≡ old → CountsStill tells mode old new s t
+still_one e old new goes_on none calls uses ids deaf h same = still_event e old new goes_on none h
+    (ap (λ (x : Turn). x.steps) same ∙ ap (λ k. raised k old.steps) (sym calls))
+    (ap (λ (x : Turn). x.done) same ∙ ap (λ k. raised k old.done) (sym uses))
+    (ap (λ (x : Turn). x.used) same ∙ ap (λ k. raised k old.used) (sym ids))
+    (ap (λ (x : Turn). x.deaf) same ∙ ap (λ k. raised k old.deaf) (sym deaf))
+
+-- ---- faults
 
 -- an event that is told as a fault
 pub broke_one : {tells : Bool} {mode : SyncMode} {why : LoopFault} {s t : Stage} (e : Event) → fault_of e ≡ Some why → Happens tells mode s e t → Broke tells mode why s t
 broke_one {tells} {mode} {why} {s} {t} e told h = record { before = s; went = went_nowhere s; last = e; told = told; happens = h }
 
 -- .. behind events that went on
-pub went_broke : {tells : Bool} {mode : SyncMode} {n u d p : ℕ} {why : LoopFault} {a b c : Stage} → Counted tells mode n u d p a b → Broke tells mode why b c → Broke tells mode why a c
-went_broke x y = record { before = y.before; went = went_further x.went y.went; last = y.last; told = y.told; happens = y.happens }
+pub went_broke : {tells : Bool} {mode : SyncMode} {why : LoopFault} {a b c : Stage} → Went tells mode a b → Broke tells mode why b c → Broke tells mode why a c
+went_broke x y = record { before = y.before; went = went_further x y.went; last = y.last; told = y.told; happens = y.happens }
+
+pub still_broke : {tells : Bool} {mode : SyncMode} {old new : Turn} {why : LoopFault} {a b c : Stage} → CountsStill tells mode old new a b → Broke tells mode why b c → Broke tells mode why a c
+still_broke x y = went_broke x.counts.went y
 
 -- what answers a fault broke
-pub breaks : {A : Type 0} {tells : Bool} {mode : SyncMode} {s t : Stage} (r : Result A LoopFault) (why : LoopFault) → r ≡ Err why → Broke tells mode why s t → Does tells mode r s t
-breaks {A} {tells} {mode} {s} {t} r why e b = subst (λ (z : Result A LoopFault). Does tells mode z s t) (sym e) b
+pub breaks : {A : Type 0} {tells : Bool} {mode : SyncMode} {s t : Stage} (old new : Turn) (r : Result A LoopFault) (why : LoopFault) → r ≡ Err why → Broke tells mode why s t → Does tells mode r old new s t
+breaks {A} {tells} {mode} {s} {t} old new r why e b = subst (λ (z : Result A LoopFault). Does tells mode z old new s t) (sym e) b
 
 -- the mode of a log stays
-pub moded : {tells : Bool} {calls uses deaf passes : ℕ} {a b : Stage} (m n : SyncMode) → m ≡ n → Counted tells m calls uses deaf passes a b → Counted tells n calls uses deaf passes a b
-moded {tells} {calls} {uses} {deaf} {passes} {a} {b} m n e x = subst (λ k. Counted tells k calls uses deaf passes a b) e x
+pub still_moded : {tells : Bool} {old new : Turn} {a b : Stage} (m n : SyncMode) → m ≡ n → CountsStill tells m old new a b → CountsStill tells n old new a b
+still_moded {tells} {old} {new} {a} {b} m n e x = subst (λ k. CountsStill tells k old new a b) e x
+
+pub counts_moded : {tells : Bool} {old new : Turn} {a b : Stage} (m n : SyncMode) → m ≡ n → CountsOn tells m old new a b → CountsOn tells n old new a b
+counts_moded {tells} {old} {new} {a} {b} m n e x = subst (λ k. CountsOn tells k old new a b) e x
 
 pub went_moded : {tells : Bool} {a b : Stage} (m n : SyncMode) → m ≡ n → Went tells m a b → Went tells n a b
 went_moded {tells} {a} {b} m n e x = subst (λ k. Went tells k a b) e x
@@ -82,30 +120,12 @@ went_moded {tells} {a} {b} m n e x = subst (λ k. Went tells k a b) e x
 pub broke_moded : {tells : Bool} {why : LoopFault} {a b : Stage} (m n : SyncMode) → m ≡ n → Broke tells m why a b → Broke tells n why a b
 broke_moded {tells} {why} {a} {b} m n e x = subst (λ k. Broke tells k why a b) e x
 
--- what the loop holds is the same
-pub to_own : {tells : Bool} {mode : SyncMode} {calls uses deaf passes : ℕ} {a : Stage} (n : NodeState) (o p : LoopState) (w : Links LinkState) (told : Option (List ℕ)) (synced : Option ℕ) → p ≡ o → Counted tells mode calls uses deaf passes a (stage n o w told synced)
-    → Counted tells mode calls uses deaf passes a (stage n p w told synced)
-to_own {tells} {mode} {calls} {uses} {deaf} {passes} {a} n o p w told synced e x = subst (λ k. Counted tells mode calls uses deaf passes a (stage n k w told synced)) (sym e) x
-
--- the wire's links are the same
-pub went_same : {tells : Bool} {mode : SyncMode} (n : NodeState) (o : LoopState) (v w : Links LinkState) (told : Option (List ℕ)) (synced : Option ℕ) → w ≡ v → Counted tells mode 0 0 0 0 (stage n o v told synced) (stage n o w told synced)
-went_same {tells} {mode} n o v w told synced e = subst (λ k. Counted tells mode 0 0 0 0 (stage n o v told synced) (stage n o k told synced)) (sym e) (went_refl (stage n o v told synced))
-
--- .. and the node is
-pub went_still : {tells : Bool} {mode : SyncMode} (n m : NodeState) (o : LoopState) (w : Links LinkState) (told : Option (List ℕ)) (synced : Option ℕ) → m ≡ n → Counted tells mode 0 0 0 0 (stage n o w told synced) (stage m o w told synced)
-went_still {tells} {mode} n m o w told synced e = subst (λ k. Counted tells mode 0 0 0 0 (stage n o w told synced) (stage k o w told synced)) (sym e) (went_refl (stage n o w told synced))
-
 -- ---- a turn
-
--- a wire whose links are the same
-pub from_wire : (P : Stage → Type 0) (n : NodeState) (o : LoopState) (v w : Links LinkState) (told : Option (List ℕ)) (synced : Option ℕ) → v ≡ w → P (stage n o v told synced) → P (stage n o w told synced)
-from_wire P n o v w told synced e x = subst (λ k. P (stage n o k told synced)) e x
 
 -- no event is told as a wire that can't be waited on
 no_listener : (e : Event) → fault_of e ≡ Some fault.Listener → ⊥
-no_listener (spills k given outs) e = cc
-no_listener (tears k given outs) e = cc
-no_listener (spills_tick given outs) e = cc
+no_listener (spills act outs) e = cc
+no_listener (tears act outs) e = cc
 no_listener fails e = cc
 no_listener stops e = cc
 no_listener _ e = cc

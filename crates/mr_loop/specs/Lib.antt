@@ -1,8 +1,11 @@
+pub mod Stage
+pub mod Hosts
+pub mod Carrying
+pub mod Causes
+pub mod Rows
 pub mod Counting
-pub mod Going
-pub mod Left
 pub mod Outcomes
 pub mod Quiet
-pub mod Rows
+pub mod Writing
+pub mod Going
 pub mod Sent
-pub mod Stage

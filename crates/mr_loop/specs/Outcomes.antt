@@ -6,7 +6,7 @@ use Rattle.mr_loop.specs.declared.fault.LoopFault.TheVariants as fault
 use Rattle.mr_loop.specs.declared.told.Turn.{Turn}
 use Rattle.mr_loop.specs.Stage.{Stage}
 use Rattle.mr_loop.specs.Rows.{Event, fault_of, Happens, IsToldToStop, Went}
-use Rattle.mr_loop.specs.Counting.{Counted, CountsOn, TellsOf}
+use Rattle.mr_loop.specs.Counting.{CountsStill, TellsOf}
 
 module _ (tells : Bool) (mode : SyncMode) where
   -- Some events, behind each of which the turn goes on, and then one that is told as this fault. It is the last.
@@ -17,16 +17,11 @@ module _ (tells : Bool) (mode : SyncMode) where
     pub told : fault_of last ≡ Some why
     pub happens : Happens tells mode before last t
 
-  -- What a part of a turn did that steps nowhere, gives nobody up and lets no time pass, and answers this: behind a value each event went on, behind a fault the last one is
-  -- told as it.
-  abbrev pub Does : {A : Type 0} → Result A LoopFault → Stage → Stage → Type 0
-  Does (Ok value) s t = Counted tells mode 0 0 0 0 s t
-  Does (Err why) s t = Broke why s t
-
-  -- .. that steps, and counts that. Behind a fault no count is told.
-  abbrev pub DoesCounting : {A : Type 0} → Result A LoopFault → (old new : Turn) → Stage → Stage → Type 0
-  DoesCounting (Ok value) old new s t = CountsOn tells mode old new s t
-  DoesCounting (Err why) old new s t = Broke why s t
+  -- What a part of a turn did that answers this: behind a value each event went on and is counted, and none was a tick; behind a fault the last one is told as it, and no
+  -- count is told.
+  abbrev pub Does : {A : Type 0} → Result A LoopFault → (old new : Turn) → Stage → Stage → Type 0
+  Does (Ok value) old new s t = CountsStill tells mode old new s t
+  Does (Err why) old new s t = Broke why s t
 
   -- .. that tells what it counted
   abbrev pub DoesTelling : Result Turn LoopFault → Stage → Stage → Type 0

@@ -1,39 +1,64 @@
--- That a turn leaves nothing that could be stepped.
-use Rattle.std.specs.Prelude.{◌≡◌, ◌≢◌, ◌⊎◌, List, ℕ, Bool, true, false, Option, None, Some}
+-- That a turn leaves nothing that could be stepped, and how much a step may still use.
+use Rattle.std.specs.Prelude.{◌≡◌, ◌≢◌, ◌+◌, List, ℕ, Bool, true, false, Option, None, Some, length, if◌then◌else◌}
+use Rattle.std.specs.Ordering.{eq_by_cmp}
+use Rattle.mr_links.specs.LinkId.{id_cmp}
 use Rattle.mr_links.specs.declared.link_id.LinkId.{LinkId}
-use Rattle.mr_node.specs.State.{NodeState, Agrees}
-use Rattle.mr_node.specs.Requests.{Waits}
-use Rattle.mr_loop.specs.declared.client.Phase.TheVariants as phase
-use Rattle.mr_loop.specs.Stage.{ClientState}
+use Rattle.mr_ends.specs.State.{EndState}
+use Rattle.mr_ends.specs.State.EndState.{client, replica, upstream, shut}
+use Rattle.mr_follow.specs.State.{FollowState, Agrees as FollowAgrees}
+use Rattle.mr_follow.specs.Rows as follow
+use Rattle.mr_follow.specs.declared.taking.Taking.{Taking}
+use Rattle.mr_rows.specs.State.{NodeState, Agrees, ReplicaAgrees, end_of}
+use Rattle.mr_rows.specs.Requests.{Waits}
 
--- no open link's unread bytes begin with anything that a step uses
+-- What reads at the link to the master waits for more: bytes that can be unread there hold nothing whole.
+pub record Awaits (f : FollowState) : Type 0 where
+  pub unread : List ℕ
+  pub agrees : FollowAgrees f unread
+  pub waits : follow.Waits f.phase unread f.kept
+
+-- A step at the node's end of this link would use nothing.
+pub record IsStill (a : NodeState) (l : LinkId) : Type 0 where
+  pub at_client : (u : List ℕ) → Agrees a l u → Waits u
+  pub at_replica : (u : List ℕ) → ReplicaAgrees a l u → Waits u
+  pub at_master : (f : FollowState) → a.follow ≡ Some (l, f) → Awaits f
+
+-- .. of any link
 pub record AllWait (a : NodeState) : Type 0 where
-  pub each : (x : LinkId) (u : List ℕ) → Agrees a x u → Waits u
+  pub each : (l : LinkId) → IsStill a l
 
--- .. but maybe those of this one
+-- .. but maybe of this one
 pub record OthersWait (a : NodeState) (l : LinkId) : Type 0 where
-  pub each : (x : LinkId) → x ≢ l → (u : List ℕ) → Agrees a x u → Waits u
+  pub each : (x : LinkId) → x ≢ l → IsStill a x
 
--- .. but maybe those of a client that is served
-abbrev pub WaitsBut : Option ClientState → NodeState → Type 0
+-- .. or of any, where nothing more is to be stepped at it
+abbrev pub WaitsUnless : Bool → LinkId → NodeState → Type 0
+WaitsUnless true l a = OthersWait a l
+WaitsUnless false l a = AllWait a
+
+-- .. or where there is none
+abbrev pub WaitsBut : Option LinkId → NodeState → Type 0
 WaitsBut None a = AllWait a
-WaitsBut (Some c) a = OthersWait a c.link × (c.phase ≢ phase.Serving → AllWait a)
+WaitsBut (Some l) a = OthersWait a l
 
--- .. or of one that is lost, and whose link at the node is still open
-abbrev pub WaitsButLost : Option ClientState → NodeState → Type 0
-WaitsButLost None a = AllWait a
-WaitsButLost (Some c) a = OthersWait a c.link × (c.phase ≡ phase.Leaving → AllWait a)
+-- ---- how much is left
 
--- .. or none, where nothing more is to be stepped
-abbrev pub WaitsUnless : Bool → Option ClientState → NodeState → Type 0
-WaitsUnless true client a = WaitsBut client a
-WaitsUnless false client a = AllWait a
+-- the unread bytes of an end, and one more where it is open, so that what closes it leaves less
+abbrev pub left_in : Option EndState → ℕ
+left_in None = 0
+left_in (Some (client unread)) = 1 + length unread
+left_in (Some (replica unread)) = 1 + length unread
+left_in (Some upstream) = 1
+left_in (Some shut) = 0
 
--- A client is still there, under its link at the node. It may be lost now.
-pub record KeepsOn (c d : ClientState) : Type 0 where
-  pub link : d.link ≡ c.link
-  pub phase : (d.phase ≡ c.phase) ⊎ (d.phase ≡ phase.Lost)
+abbrev pub taken_in : Option Taking → ℕ
+taken_in None = 0
+taken_in (Some t) = t.head + t.done
 
-abbrev pub StaysThere : Option ClientState → Option ClientState → Type 0
-StaysThere None after = after ≡ None
-StaysThere (Some c) after = (d : ClientState) × ((after ≡ Some d) × KeepsOn c d)
+-- what was fed at the link to the master and isn't used
+abbrev pub left_of : LinkId → Option (LinkId × FollowState) → ℕ
+left_of l None = 0
+left_of l (Some f) = if eq_by_cmp id_cmp f.0 l then taken_in f.1.taking + length f.1.kept else 0
+
+abbrev pub left_at : NodeState → LinkId → ℕ
+left_at a l = left_in (end_of a l) + left_of l a.follow

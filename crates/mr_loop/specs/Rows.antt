@@ -1,353 +1,224 @@
 -- What a turn does: one event after another, each by its row. A row says what becomes of everything that a turn acts on.
-use Rattle.std.specs.Prelude.{◌≡◌, ◌≢◌, ◌<◌, ◌≤◌, ◌^◌, ℕ, List, [], ◌∷◌, ◌++◌, Bool, ◌||◌, false, Option, Some, None, length, take, drop, if◌then◌else◌}
+use Rattle.std.specs.Prelude.{◌≡◌, ◌≤◌, ℕ, List, [], ◌∷◌, Bool, true, false, Option, Some, None, Ok, Err, length, take}
 use Rattle.std.specs.FinMap as map
 use Rattle.mr_links.specs.Links.{Links}
 use Rattle.mr_links.specs.declared.link_id.LinkId.{LinkId}
 use Rattle.mr_data.specs.declared.given.Given.{Given}
-use Rattle.mr_node.specs.State.{NodeState, Agrees, IsShut, OthersStay, Opens, end_of, spent_as, stopped_as}
-use Rattle.mr_node.specs.Outs.{OutsState}
-use Rattle.mr_node.specs.Rows.{StepRow, Stops}
-use Rattle.mr_node.specs.Ticks.{TickRow}
-use Rattle.mr_node.specs.declared.step.Step.{Step}
-use Rattle.mr_node.specs.declared.step.Step.TheVariants as step
-use Rattle.mr_file.specs.LogFile.{Appends, AppendsSome, Replaces, IsOldOrNew, IsSynced}
+use Rattle.mr_outs.specs.Outs.{OutsState, outs_of}
+use Rattle.mr_rows.specs.State.{NodeState, stopped_as}
+use Rattle.mr_rows.specs.LinkRows.{Opens, closed_at}
+use Rattle.mr_peer.specs.declared.fault.NodeFault.TheVariants as refusal
+use Rattle.mr_peer.specs.declared.step.Step.TheVariants as step
+use Rattle.mr_file.specs.LogFile.{Appends, AppendsSome, IsSynced}
 use Rattle.mr_file.specs.declared.sync_mode.SyncMode.{SyncMode}
 use Rattle.mr_file.specs.declared.sync_mode.SyncMode.TheVariants as sync
-use Rattle.mr_wire.specs.Wire.{LinkState, Accepts, AcceptsNone, ChangesLink, behind_read, behind_write, count_of, is_over}
+use Rattle.mr_wire.specs.Wire.{LinkState, Accepts, AcceptsNone, behind_read, behind_write, count_of, is_over}
 use Rattle.mr_wire.specs.declared.wire.Moved.{Moved}
 use Rattle.mr_wire.specs.declared.wire.Moved.TheVariants as moved
-use Rattle.mr_loop.specs.declared.client.Phase.{Phase}
-use Rattle.mr_loop.specs.declared.client.Phase.TheVariants as phase
+use Rattle.mr_connections.specs.State.{HasLink, begun, changed, parted, wrote}
 use Rattle.mr_loop.specs.declared.fault.LoopFault.{LoopFault}
 use Rattle.mr_loop.specs.declared.fault.LoopFault.TheVariants as fault
-use Rattle.mr_loop.specs.Stage.{Stage, LoopState, ClientState, begun, client_of, put_client}
-
--- a client that the loop has, in this phase
-pub record Has (s : LoopState) (k : LinkId) (c : ClientState) : Type 0 where
-  pub is : client_of s k ≡ Some c
-
--- a client that is served, and left too much unread
-pub record IsBurdened (s : LoopState) (k : LinkId) : Type 0 where
-  pub client : ClientState
-  pub is : client_of s k ≡ Some client
-  pub serving : client.phase ≡ phase.Serving
-  pub too_much : 67108864 < length client.waiting
-
--- a client, if there is one, that isn't served or left no more unread than it may
-abbrev pub IsLight : Option ClientState → Type 0
-IsLight None = Unit {0}
-IsLight (Some c) = c.phase ≡ phase.Serving → length c.waiting ≤ 67108864
-
--- a link that is open at the node, and on which something is unread
-pub record HasInput (a : NodeState) (l : LinkId) : Type 0 where
-  pub unread : List ℕ
-  pub agrees : Agrees a l unread
-  pub some : unread ≢ []
-
--- where this client is served, something is unread on its link at the node
-abbrev pub IsReady : Option ClientState → NodeState → Type 0
-IsReady None a = Unit {0}
-IsReady (Some c) a = c.phase ≡ phase.Serving → HasInput a c.link
-
--- so much may wait for a client of which more is read
-abbrev pub most_kept : ℕ
-most_kept = 15728640
-
--- The wire's link becomes what this makes of it, if it is open; and nothing else.
-pub record Touches (a : Links LinkState) (l : LinkId) (f : LinkState → LinkState) (b : Links LinkState) : Type 0 where
-  pub changes : ChangesLink a l f b
-  pub absent : map.get a.open_links l ≡ None → b ≡ a
-
--- The node takes these bytes on a link that it has. One that it closed drops them.
-pub record Fed (a : NodeState) (l : LinkId) (bytes : List ℕ) (b : NodeState) : Type 0 where
-  pub there : end_of a l ≢ None
-  pub agrees : (u : List ℕ) → Agrees a l u → Agrees b l (u ++ bytes)
-  pub shut : IsShut a l → b ≡ a
-  pub others : OthersStay a b l
-  pub core : b.core ≡ a.core
-
--- The node closes a link, if it is there.
-pub record EndsAt (a : NodeState) (l : LinkId) (b : NodeState) : Type 0 where
-  pub ends : b.links.open_links ≡ map.remove a.links.open_links l
-  pub opened : b.links.opened ≡ a.links.opened
-  pub core : b.core ≡ a.core
-
--- The node has no other link: it opened none, or closed the one that it opened.
-pub data TurnsOff (a b : NodeState) : Type 0 where
-  stays : b ≡ a → TurnsOff a b
-  comes_and_goes : (mid : NodeState) (link : LinkId) → Opens a link mid → EndsAt mid link b → TurnsOff a b
+use Rattle.mr_loop.specs.Stage.{Stage, committed, connection_at, with_connections}
+use Rattle.mr_loop.specs.Carrying.{Carried, SameFile, Spilled, Torn}
+use Rattle.mr_loop.specs.Causes.{Act, Calls, Dropped, Fed, Has, HasInput, IsBurdened, IsRead, Stepped, Stopping, Touches, TurnsOff}
 
 -- what happens in a turn
 pub data Event : Type 0 where
-  -- the wire accepted a link, the node opened one, and they are a client's
-  joins : (k : LinkId) → Event
+  -- the wire accepted a link, the node opened one, and they are a connection
+  joins : (socket link : LinkId) → Event
   -- nobody came, or the wire's link was closed again, since the wire failed or memory ran out
   turns_away : Event
-  -- these bytes of a client were read, and fed to the node
-  takes : (k : LinkId) (bytes : List ℕ) → Event
+  -- these bytes were read, and fed to the node
+  takes : (socket : LinkId) (bytes : List ℕ) → Event
   -- a read found nothing
-  finds_none : (k : LinkId) → Event
-  -- a read found that the client sends no more: the node closes its link
-  hears_end : (k : LinkId) → Event
-  -- a read failed, or memory ran out for what was read
-  loses : (k : LinkId) → Event
-  -- memory ran out for a step
-  is_refused : (k : LinkId) → Event
-  -- more waits than a client may leave unread
-  is_deaf : (k : LinkId) → Event
-  -- the node closes its end of a lost client's link
-  hangs_up : (k : LinkId) → Event
-  -- a step used something
-  steps : (k : LinkId) (given : Given) (outs : OutsState) → Event
+  finds_none : (socket : LinkId) → Event
+  -- a read found that the peer sends no more: the node's end is closed
+  hears_end : (socket link : LinkId) → Event
+  -- a read failed: the connection is closed
+  loses : (socket : LinkId) → Event
+  -- memory ran out for bytes that were read: the connection is closed
+  misses : (socket : LinkId) → Event
+  -- memory ran out for a step: the connection is closed
+  is_refused : (socket link : LinkId) (given : Given) (fresh : List ℕ) → Event
+  -- more waits than a client may leave unread: its connection is closed in place of a step
+  is_deaf : (socket link : LinkId) → Event
   -- a step found nothing whole
-  idles : (k : LinkId) (given : Given) → Event
-  -- a step used something, and memory ran out for what it gave out: nobody is told
-  spills : (k : LinkId) (given : Given) (outs : OutsState) → Event
-  -- a step used something, and the file failed as it was to be replaced: nobody is told
-  tears : (k : LinkId) (given : Given) (outs : OutsState) → Event
-  -- time passed, and memory ran out for what that gave out
-  spills_tick : (given : Given) (outs : OutsState) → Event
+  idles : (socket link : LinkId) (given : Given) (fresh : List ℕ) → Event
+  -- the node did something, and what it gave out was carried out
+  acts : (act : Act) (outs : OutsState) → Event
+  -- .. and memory ran out for what it gave out: nobody is told
+  spills : (act : Act) (outs : OutsState) → Event
+  -- .. and the file failed as it was to be replaced: nobody is told
+  tears : (act : Act) (outs : OutsState) → Event
   -- a write moved these bytes
-  writes : (k : LinkId) (bytes : List ℕ) → Event
+  writes : (socket : LinkId) (bytes : List ℕ) → Event
+  -- a write failed: the connection is closed
+  breaks : (socket : LinkId) → Event
+  -- all is written to a peer whose end the node has closed: the connection is closed
+  closes : (socket : LinkId) → Event
   -- what no append had taken is in the file
   appends : (texts : List ℕ) → Event
   -- the file failed: a beginning of it is there
   fails : Event
-  -- time passes
-  ticks : (given : Given) (outs : OutsState) → Event
   -- time was to pass, and memory ran out for it
   misses_tick : (given : Given) → Event
+  -- the master couldn't be dialled
+  misses_dial : Event
   -- whether the next turn goes on without waiting is settled
   settles : (hurries : Bool) → Event
-  -- the link of a client is closed, at the node and on the wire
-  closes : (k : LinkId) → Event
-  -- the node stopped, or was stopped
+  -- the node stopped
   stops : Event
 
 -- The fault that an event is told as. Behind one that is told as none the turn goes on, and behind any other it does nothing more.
 abbrev pub fault_of : Event → Option LoopFault
-fault_of (spills k given outs) = Some fault.Stopped
-fault_of (tears k given outs) = Some fault.File
-fault_of (spills_tick given outs) = Some fault.Stopped
+fault_of (spills act outs) = Some fault.Stopped
+fault_of (tears act outs) = Some fault.File
 fault_of fails = Some fault.File
 fault_of stops = Some fault.Stopped
 fault_of _ = None
 
--- a link may be closed in this phase with this left
-pub data MayClose (c : ClientState) : Type 0 where
-  -- all that it was sent is written
-  is_done : c.phase ≡ phase.Leaving → c.waiting ≡ [] → MayClose c
-  -- a read or a write of it failed, memory ran out for it, or it left too much unread
-  is_lost : c.phase ≡ phase.Lost → MayClose c
-
--- the phase behind a write with this answer
-abbrev pub phase_behind : Moved → Phase → Phase
-phase_behind m p = if is_over m then phase.Lost else p
-
--- the phase behind a step
-abbrev pub phase_after : OutsState → Phase → Phase
-phase_after outs p = if outs.closes then phase.Leaving else p
-
--- What the loop holds once the file was replaced: that has all effects so far, so that nothing waits for it.
-abbrev pub behind_replacing : Option (List ℕ) → LoopState → LoopState
-behind_replacing None o = o
-behind_replacing (Some bytes) o = record o { batch = [] }
-
--- a client behind its step: its reply waits for it
-abbrev pub replied : OutsState → ClientState → ClientState
-replied outs c = record c { waiting = c.waiting ++ outs.reply; phase = phase_after outs c.phase }
-
--- .. and whether the program is to end
-abbrev pub answered : OutsState → LinkId → ClientState → LoopState → LoopState
-answered outs k c o = record (put_client o k (replied outs c)) { halted = outs.halts || o.halted }
-
--- .. and for the file: the texts of its effects
-abbrev pub queued : OutsState → LinkId → ClientState → LoopState → LoopState
-queued outs k c o = record (answered outs k c o) { batch = o.batch ++ outs.appended }
-
--- what the loop holds behind a client's step
-abbrev pub behind_step : OutsState → LinkId → ClientState → LoopState → LoopState
-behind_step outs k c o = behind_replacing outs.replaced (queued outs k c o)
-
-abbrev pub SameFile : Stage → Stage → Type 0
-SameFile s t = (t.told ≡ s.told) × (t.synced ≡ s.synced)
-
--- What a step makes of the file at once: nothing, unless it replaces it, which is synced in either mode.
-abbrev pub IsReplaced : Option (List ℕ) → Option (List ℕ) → Option ℕ → Option (List ℕ) → Option ℕ → Type 0
-IsReplaced None told synced told2 synced2 = (told2 ≡ told) × (synced2 ≡ synced)
-IsReplaced (Some bytes) told synced told2 synced2 = Replaces told told2 bytes × IsSynced told2 synced2
-
-pub record Joins (k : LinkId) (s t : Stage) : Type 0 where
-  pub name : LinkId
-  pub link : LinkId
-  pub wire : Accepts s.wire name t.wire
+pub record Joins (socket link : LinkId) (s t : Stage) : Type 0 where
+  pub wire : Accepts s.wire socket t.wire
   pub node : Opens s.node link t.node
-  pub fresh : client_of s.own k ≡ None
-  pub clients : t.own.clients.open_links ≡ map.insert s.own.clients.open_links k (begun name link)
+  pub fresh : connection_at s.own socket ≡ None
+  pub connections : t.own.connections ≡ map.insert s.own.connections socket (begun link)
   pub batch : t.own.batch ≡ s.own.batch
   pub halted : t.own.halted ≡ s.own.halted
+  pub hurries : t.own.hurries ≡ s.own.hurries
   pub file : SameFile s t
 
+-- No connection comes of what was accepted or dialled.
 pub record TurnsAway (s t : Stage) : Type 0 where
   pub wire : AcceptsNone s.wire t.wire
   pub node : TurnsOff s.node t.node
   pub own : t.own ≡ s.own
   pub file : SameFile s t
 
--- **A client is read of only where at most a MiB waits for it.**
-pub record Takes (tells : Bool) (k : LinkId) (bytes : List ℕ) (s t : Stage) : Type 0 where
-  pub client : ClientState
-  pub has : Has s.own k client
-  pub serving : client.phase ≡ phase.Serving
-  pub few : length client.waiting ≤ most_kept
+-- **A connection is read of only where at most so much waits for it.**
+pub record Takes (tells : Bool) (socket : LinkId) (bytes : List ℕ) (s t : Stage) : Type 0 where
+  pub link : LinkId
+  pub read : IsRead s.own socket link
   pub count : ℕ
   pub buffer : List ℕ
   pub bytes_are : bytes ≡ take count buffer
-  pub wire : Touches s.wire client.name (behind_read tells (moved.Bytes count) buffer) t.wire
-  pub node : Fed s.node client.link bytes t.node
+  pub wire : Touches s.wire socket (behind_read tells (moved.Bytes count) buffer) t.wire
+  pub node : Fed s.node link bytes t.node
   pub own : t.own ≡ s.own
   pub file : SameFile s t
 
-pub record FindsNone (tells : Bool) (k : LinkId) (s t : Stage) : Type 0 where
-  pub client : ClientState
-  pub has : Has s.own k client
-  pub serving : client.phase ≡ phase.Serving
-  pub few : length client.waiting ≤ most_kept
+pub record FindsNone (tells : Bool) (socket : LinkId) (s t : Stage) : Type 0 where
+  pub link : LinkId
+  pub read : IsRead s.own socket link
   pub answer : Moved
   pub buffer : List ℕ
   pub none : count_of answer ≡ 0
   pub goes_on : is_over answer ≡ false
-  pub wire : Touches s.wire client.name (behind_read tells answer buffer) t.wire
+  pub wire : Touches s.wire socket (behind_read tells answer buffer) t.wire
   pub node : t.node ≡ s.node
   pub own : t.own ≡ s.own
   pub file : SameFile s t
 
-pub record HearsEnd (tells : Bool) (k : LinkId) (s t : Stage) : Type 0 where
-  pub client : ClientState
-  pub has : Has s.own k client
-  pub serving : client.phase ≡ phase.Serving
-  pub few : length client.waiting ≤ most_kept
+-- The peer sends no more. What waits for it is still written.
+pub record HearsEnd (tells : Bool) (socket link : LinkId) (s t : Stage) : Type 0 where
+  pub read : IsRead s.own socket link
   pub buffer : List ℕ
-  pub wire : Touches s.wire client.name (behind_read tells moved.End buffer) t.wire
-  pub node : EndsAt s.node client.link t.node
-  pub own : t.own ≡ put_client s.own k (record client { phase = phase.Leaving })
+  pub wire : Touches s.wire socket (behind_read tells moved.End buffer) t.wire
+  pub node : t.node ≡ closed_at link s.node
+  pub own : t.own ≡ with_connections (parted link) s.own
   pub file : SameFile s t
 
--- A read failed, or what it gave couldn't be fed: nothing is fed, and the client is lost.
-pub record Loses (tells : Bool) (k : LinkId) (s t : Stage) : Type 0 where
-  pub client : ClientState
-  pub has : Has s.own k client
-  pub serving : client.phase ≡ phase.Serving
-  pub few : length client.waiting ≤ most_kept
-  pub answer : Moved
+-- A read failed.
+pub record Loses (tells : Bool) (socket : LinkId) (s t : Stage) : Type 0 where
+  pub link : LinkId
+  pub read : IsRead s.own socket link
   pub buffer : List ℕ
-  pub wire : Touches s.wire client.name (behind_read tells answer buffer) t.wire
-  pub node : t.node ≡ s.node
-  pub own : t.own ≡ put_client s.own k (record client { phase = phase.Lost })
-  pub file : SameFile s t
+  pub wire : Links LinkState
+  pub touched : Touches s.wire socket (behind_read tells moved.Failed buffer) wire
+  pub dropped : Dropped socket (Some link) (record s { wire = wire }) t
 
--- Nothing changes but that the client is lost.
-pub record IsGivenUp (k : LinkId) (client : ClientState) (s t : Stage) : Type 0 where
-  pub has : Has s.own k client
-  pub serving : client.phase ≡ phase.Serving
-  pub wire : t.wire ≡ s.wire
-  pub node : t.node ≡ s.node
-  pub own : t.own ≡ put_client s.own k (record client { phase = phase.Lost })
-  pub file : SameFile s t
+-- Bytes were read, and the node had no memory for them.
+pub record Misses (tells : Bool) (socket : LinkId) (s t : Stage) : Type 0 where
+  pub link : LinkId
+  pub read : IsRead s.own socket link
+  pub count : ℕ
+  pub buffer : List ℕ
+  pub wire : Links LinkState
+  pub touched : Touches s.wire socket (behind_read tells (moved.Bytes count) buffer) wire
+  pub dropped : Dropped socket (Some link) (record s { wire = wire }) t
 
-pub record IsRefused (k : LinkId) (s t : Stage) : Type 0 where
-  pub client : ClientState
-  pub unread : HasInput s.node client.link
-  pub given_up : IsGivenUp k client s t
+-- The node had no memory for a step.
+pub record IsRefused (socket link : LinkId) (given : Given) (fresh : List ℕ) (s t : Stage) : Type 0 where
+  pub has : HasLink s.own.connections socket link
+  pub node : NodeState
+  pub refused : Stepped s.node link given fresh node (Err refusal.Memory)
+  pub dropped : Dropped socket (Some link) (record s { node = node }) t
 
--- In place of a step: something is unread on the client's link, and more waits for it than it may leave so.
-pub record IsDeaf (k : LinkId) (s t : Stage) : Type 0 where
-  pub client : ClientState
-  pub unread : HasInput s.node client.link
-  pub too_much : 67108864 < length client.waiting
-  pub given_up : IsGivenUp k client s t
+-- **In place of a step**: something is unread on a client's link, and more waits for the client than it may leave so.
+pub record IsDeaf (socket link : LinkId) (s t : Stage) : Type 0 where
+  pub has : HasLink s.own.connections socket link
+  pub input : HasInput s.node link
+  pub burdened : IsBurdened s.node s.own socket link
+  pub dropped : Dropped socket (Some link) s t
 
--- The node's end of a lost client's link is closed.
-pub record HangsUp (k : LinkId) (s t : Stage) : Type 0 where
-  pub client : ClientState
-  pub has : Has s.own k client
-  pub lost : client.phase ≡ phase.Lost
-  pub node : EndsAt s.node client.link t.node
-  pub own : t.own ≡ s.own
-  pub wire : t.wire ≡ s.wire
-  pub file : SameFile s t
+pub record Idles (socket link : LinkId) (given : Given) (fresh : List ℕ) (s t : Stage) : Type 0 where
+  pub has : HasLink s.own.connections socket link
+  pub node : Stepped s.node link given fresh t.node (Ok step.Idle)
+  pub same : t ≡ record s { node = t.node }
 
--- **A step is made only where something is unread**, at an open link of the node, by the row of its unread bytes.
-pub record Stepped (a : NodeState) (l : LinkId) (given : Given) (b : NodeState) (s : Step) : Type 0 where
-  pub unread : List ℕ
-  pub agrees : Agrees a l unread
-  pub some : unread ≢ []
-  pub row : StepRow a l unread given b s
+-- What the node gave out is carried out, in its order.
+pub record Acts (act : Act) (outs : OutsState) (s t : Stage) : Type 0 where
+  pub called : Stage
+  pub calls : Calls act s called outs
+  pub carried : Carried (outs_of outs) called t
 
--- Of a client that left no more unread than it may: the texts of effects wait for the file, and the reply waits on the link. A file that is replaced is so before the reply is sent.
-pub record Steps (k : LinkId) (given : Given) (outs : OutsState) (s t : Stage) : Type 0 where
-  pub client : ClientState
-  pub has : Has s.own k client
-  pub serving : client.phase ≡ phase.Serving
-  pub few : length client.waiting ≤ 67108864
-  pub node : Stepped s.node client.link given t.node (step.Done outs)
-  pub own : t.own ≡ behind_step outs k client s.own
-  pub wire : t.wire ≡ s.wire
-  pub file : IsReplaced outs.replaced s.told s.synced t.told t.synced
+pub record Spills (act : Act) (outs : OutsState) (s t : Stage) : Type 0 where
+  pub called : Stage
+  pub calls : Calls act s called outs
+  pub spilled : Spilled (outs_of outs) called t
 
-pub record Idles (k : LinkId) (given : Given) (s t : Stage) : Type 0 where
-  pub client : ClientState
-  pub has : Has s.own k client
-  pub node : Stepped s.node client.link given t.node step.Idle
-  pub own : t.own ≡ s.own
-  pub wire : t.wire ≡ s.wire
-  pub file : SameFile s t
+pub record Tears (act : Act) (outs : OutsState) (s t : Stage) : Type 0 where
+  pub called : Stage
+  pub calls : Calls act s called outs
+  pub torn : Torn (outs_of outs) called t
 
--- What waits for the file may be torn. What waits for clients is as it was. The file is replaced, where it was to be.
-pub record Spills (k : LinkId) (given : Given) (outs : OutsState) (s t : Stage) : Type 0 where
-  pub client : ClientState
-  pub has : Has s.own k client
-  pub node : Stepped s.node client.link given t.node (step.Done outs)
-  pub clients : t.own.clients ≡ s.own.clients
-  pub wire : t.wire ≡ s.wire
-  pub file : IsReplaced outs.replaced s.told s.synced t.told t.synced
-
--- The file was to be replaced, and failed: the old bytes are there, or the new ones. The reply doesn't wait for its client.
-pub record Tears (k : LinkId) (given : Given) (outs : OutsState) (s t : Stage) : Type 0 where
-  pub client : ClientState
-  pub has : Has s.own k client
-  pub node : Stepped s.node client.link given t.node (step.Done outs)
-  pub own : t.own ≡ s.own
-  pub wire : t.wire ≡ s.wire
-  pub bytes : List ℕ
-  pub replaced : outs.replaced ≡ Some bytes
-  pub written : IsOldOrNew s.told t.told bytes
-
-pub record SpillsTick (given : Given) (outs : OutsState) (s t : Stage) : Type 0 where
-  pub node : TickRow s.node given.now t.node outs
-  pub own : t.own ≡ s.own
-  pub wire : t.wire ≡ s.wire
-  pub file : SameFile s t
-
--- **A write is made only where the file has the text of each effect before it**: none of them still waits for an append. What it
--- moves is a beginning of what waits, and the rest still waits.
-pub record Writes (tells : Bool) (k : LinkId) (bytes : List ℕ) (s t : Stage) : Type 0 where
-  pub client : ClientState
-  pub has : Has s.own k client
-  pub covered : s.own.batch ≡ []
+-- **Only what is filed is sent**: nothing waits for the file as bytes are moved.
+pub record Writes (tells : Bool) (socket : LinkId) (bytes : List ℕ) (s t : Stage) : Type 0 where
+  pub filed : s.own.batch ≡ []
+  pub link : Option LinkId
+  pub waiting : List ℕ
+  pub has : Has s.own socket link waiting
   pub answer : Moved
-  pub bytes_are : bytes ≡ take (count_of answer) client.waiting
-  pub wire : Touches s.wire client.name (behind_write tells answer client.waiting) t.wire
-  pub own : t.own ≡ put_client s.own k (record client { waiting = drop (count_of answer) client.waiting; phase = phase_behind answer client.phase })
+  pub goes_on : is_over answer ≡ false
+  pub within : count_of answer ≤ length waiting
+  pub bytes_are : bytes ≡ take (count_of answer) waiting
+  pub wire : Touches s.wire socket (behind_write tells answer waiting) t.wire
+  pub own : t.own ≡ with_connections (changed socket (wrote (count_of answer))) s.own
   pub node : t.node ≡ s.node
   pub file : SameFile s t
 
--- All that waited for the file is there, and with `Always` synced.
+-- A write failed, or found that the peer is gone.
+pub record Breaks (tells : Bool) (socket : LinkId) (s t : Stage) : Type 0 where
+  pub filed : s.own.batch ≡ []
+  pub link : Option LinkId
+  pub waiting : List ℕ
+  pub has : Has s.own socket link waiting
+  pub answer : Moved
+  pub is_over : is_over answer ≡ true
+  pub wire : Links LinkState
+  pub touched : Touches s.wire socket (behind_write tells answer waiting) wire
+  pub dropped : Dropped socket link (record s { wire = wire }) t
+
+-- All that was sent is written, and the node has no end any more.
+pub record Closes (socket : LinkId) (s t : Stage) : Type 0 where
+  pub has : Has s.own socket None []
+  pub dropped : Dropped socket None s t
+
+-- What waits for the file is in it, synced where each append is.
 pub record IsAppended (mode : SyncMode) (texts : List ℕ) (s t : Stage) : Type 0 where
   pub texts_are : texts ≡ s.own.batch
   pub written : Appends s.told t.told texts (length texts)
   pub synced : mode ≡ sync.Always → IsSynced t.told t.synced
-  pub own : t.own ≡ record s.own { batch = [] }
+  pub own : t.own ≡ committed s.own
   pub wire : t.wire ≡ s.wire
   pub node : t.node ≡ s.node
 
@@ -357,45 +228,8 @@ pub record FailsAtFile (s t : Stage) : Type 0 where
   pub wire : t.wire ≡ s.wire
   pub node : t.node ≡ s.node
 
-pub record IsTicked (given : Given) (outs : OutsState) (s t : Stage) : Type 0 where
-  pub node : TickRow s.node given.now t.node outs
-  pub own : t.own ≡ record s.own { batch = s.own.batch ++ outs.appended }
-  pub wire : t.wire ≡ s.wire
-  pub file : SameFile s t
-
--- Memory ran out for a tick: nothing changes.
-pub record MissesTick (s t : Stage) : Type 0 where
-  pub node : t.node ≡ s.node
-  pub own : t.own ≡ s.own
-  pub wire : t.wire ≡ s.wire
-  pub file : SameFile s t
-
 pub record Settles (hurries : Bool) (s t : Stage) : Type 0 where
-  pub node : t.node ≡ s.node
-  pub own : t.own ≡ record s.own { hurries = hurries }
-  pub wire : t.wire ≡ s.wire
-  pub file : SameFile s t
-
--- The link of a client is closed at one of the causes that there are, and what waits on it is dropped.
-pub record IsClosed (k : LinkId) (s t : Stage) : Type 0 where
-  pub client : ClientState
-  pub has : Has s.own k client
-  pub cause : MayClose client
-  pub node : EndsAt s.node client.link t.node
-  pub wire : t.wire.open_links ≡ map.remove s.wire.open_links client.name
-  pub opened : t.wire.opened ≡ s.wire.opened
-  pub clients : t.own.clients.open_links ≡ map.remove s.own.clients.open_links k
-  pub batch : t.own.batch ≡ s.own.batch
-  pub halted : t.own.halted ≡ s.own.halted
-  pub file : SameFile s t
-
--- why a node answers that it is stopped
-pub data Stopping (a b : NodeState) : Type 0 where
-  -- memory ran out while the effects of an open link's first request were applied: nothing but the dataset has changed
-  at_step : (link : LinkId) (unread : List ℕ) (given : Given) → Agrees a link unread → Stops a unread given → b ≡ spent_as b.core.held a → Stopping a b
-  -- it opened as many links as it may
-  at_open : 2 ^ 62 ≤ a.links.opened → b ≡ stopped_as a → Stopping a b
-  was_down : a.core.up ≡ false → b ≡ a → Stopping a b
+  pub is : t ≡ record s { own = record s.own { hurries = hurries } }
 
 -- The node is stopped from here on, or was.
 pub record IsStopped (s t : Stage) : Type 0 where
@@ -406,35 +240,32 @@ pub record IsStopped (s t : Stage) : Type 0 where
 
 -- The node is told to stop: of all that a turn acts on nothing changes but that it is up.
 pub record IsToldToStop (s t : Stage) : Type 0 where
-  pub node : t.node ≡ stopped_as s.node
-  pub own : t.own ≡ s.own
-  pub wire : t.wire ≡ s.wire
-  pub file : SameFile s t
+  pub is : t ≡ record s { node = stopped_as s.node }
 
 module _ (tells : Bool) (mode : SyncMode) where
   -- what an event makes of all that a turn acts on
   abbrev pub Happens : Stage → Event → Stage → Type 0
-  Happens s (joins k) t = Joins k s t
+  Happens s (joins socket link) t = Joins socket link s t
   Happens s turns_away t = TurnsAway s t
-  Happens s (takes k bytes) t = Takes tells k bytes s t
-  Happens s (finds_none k) t = FindsNone tells k s t
-  Happens s (hears_end k) t = HearsEnd tells k s t
-  Happens s (loses k) t = Loses tells k s t
-  Happens s (is_refused k) t = IsRefused k s t
-  Happens s (is_deaf k) t = IsDeaf k s t
-  Happens s (hangs_up k) t = HangsUp k s t
-  Happens s (steps k given outs) t = Steps k given outs s t
-  Happens s (idles k given) t = Idles k given s t
-  Happens s (spills k given outs) t = Spills k given outs s t
-  Happens s (tears k given outs) t = Tears k given outs s t
-  Happens s (spills_tick given outs) t = SpillsTick given outs s t
-  Happens s (writes k bytes) t = Writes tells k bytes s t
+  Happens s (takes socket bytes) t = Takes tells socket bytes s t
+  Happens s (finds_none socket) t = FindsNone tells socket s t
+  Happens s (hears_end socket link) t = HearsEnd tells socket link s t
+  Happens s (loses socket) t = Loses tells socket s t
+  Happens s (misses socket) t = Misses tells socket s t
+  Happens s (is_refused socket link given fresh) t = IsRefused socket link given fresh s t
+  Happens s (is_deaf socket link) t = IsDeaf socket link s t
+  Happens s (idles socket link given fresh) t = Idles socket link given fresh s t
+  Happens s (acts act outs) t = Acts act outs s t
+  Happens s (spills act outs) t = Spills act outs s t
+  Happens s (tears act outs) t = Tears act outs s t
+  Happens s (writes socket bytes) t = Writes tells socket bytes s t
+  Happens s (breaks socket) t = Breaks tells socket s t
+  Happens s (closes socket) t = Closes socket s t
   Happens s (appends texts) t = IsAppended mode texts s t
   Happens s fails t = FailsAtFile s t
-  Happens s (ticks given outs) t = IsTicked given outs s t
-  Happens s (misses_tick given) t = MissesTick s t
+  Happens s (misses_tick given) t = t ≡ s
+  Happens s misses_dial t = TurnsAway s t
   Happens s (settles hurries) t = Settles hurries s t
-  Happens s (closes k) t = IsClosed k s t
   Happens s stops t = IsStopped s t
 
   -- these events one after another, behind each of which the turn goes on

@@ -1,13 +1,13 @@
 // What holds of the definitions.
 ghost use Rattle.mr_loop.specs.Counting.{KnowsShutdown};
-ghost use Rattle.mr_loop.specs.Sent.{GoesOutInOrder, HaveLinksAlways, HaveLinksFirst, IsSentOnceFiled, IsSilentBehindFaults, WireHasReplies};
+ghost use Rattle.mr_loop.specs.Sent.{GoesOutInOrder, HaveSocketsAlways, HaveSocketsFirst, IsSentOnceFiled, IsSilentBehindFaults, WireHasWhatIsSent};
 
-/// What was moved on a client's link is a beginning of what waited there and of the replies of its steps, in order; the rest waits.
-pub fn replies_go_out_in_order()
+/// What was moved on a connection is a beginning of what waited there and of what the node sent on its link, in order; the rest waits.
+pub fn what_is_sent_goes_out_in_order()
     ensures { GoesOutInOrder }
 {}
 
-/// As bytes are moved to a client, they belong to steps whose texts are in the file, with those of all steps and ticks before.
+/// As bytes are moved to a peer, the node gave them out before, and the file has the texts of all that it gave out by then.
 pub fn what_is_sent_is_filed()
     ensures { IsSentOnceFiled }
 {}
@@ -17,16 +17,16 @@ pub fn nothing_is_sent_behind_a_fault()
     ensures { IsSilentBehindFaults }
 {}
 
-/// Each client has an open link of the wire, and no two have one: so it is where there is no client, and so it stays.
-pub fn clients_have_links()
-    ensures first { HaveLinksFirst }
-    ensures always { HaveLinksAlways }
+/// Each connection has an open link of the wire: so it is where there is none, and so it stays.
+pub fn connections_have_sockets()
+    ensures first { HaveSocketsFirst }
+    ensures always { HaveSocketsAlways }
 {}
 
-/// What a wire that tells its bytes moved on a client's link, with what waits there, is what it had moved, what waited, and the
-/// replies of the client's steps.
-pub fn the_wire_has_the_replies()
-    ensures { WireHasReplies }
+/// What a wire that tells its bytes moved on a connection, with what waits there, is what it had moved, what waited, and what the
+/// node sent since.
+pub fn the_wire_has_what_is_sent()
+    ensures { WireHasWhatIsSent }
 {}
 
 /// The loop holds that a client said SHUTDOWN where one did at a step, or where it held so before.

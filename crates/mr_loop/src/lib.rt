@@ -1,24 +1,28 @@
-//! The event loop: what clients send is read and stepped, what it changed is written to the file, and then they are answered.
+//! The event loop: what peers send is read and stepped, what it changed is written to the file, and then it is answered and sent on.
 #![tactic(auto)]
 
 mod accepting;
-mod client;
+mod carrying;
+mod dialing;
+mod dropping;
 mod fault;
 mod filing;
+mod host;
 mod laws;
 mod links;
 mod moment;
 mod reading;
 mod serving;
 mod stepping;
+mod ticking;
 mod told;
 mod turning;
 mod writing;
 
 pub use fault::LoopFault;
 pub use laws::{
-    clients_have_links, nothing_is_sent_behind_a_fault, replies_go_out_in_order, shutdown_is_known,
-    the_wire_has_the_replies, what_is_sent_is_filed,
+    connections_have_sockets, nothing_is_sent_behind_a_fault, shutdown_is_known,
+    the_wire_has_what_is_sent, what_is_sent_goes_out_in_order, what_is_sent_is_filed,
 };
 pub use links::Links;
 pub use serving::serve;

@@ -1,40 +1,38 @@
-// What the loop holds: its clients, and what waits for the file.
-ghost use Rattle.std.specs.Prelude.{◌≡◌, ◌++◌, ◌≤◌, ◌+◌, ◌||◌, [], length, drop, false, true, Some, None, IfOk, IfSome, OnOk, OnErr, IsTrue, option_copied};
+// What the loop holds: its connections, and what waits for the file.
+ghost use Rattle.std.specs.Prelude.{◌≡◌, ◌≤◌, ◌||◌, [], length, false, true, IfOk, IfSome, IfNone, OnOk, OnErr, None, option_copied};
 ghost use Rattle.std.specs.FinMap as map;
-ghost use Rattle.mr_wire.specs.Wire.{count_of};
-ghost use Rattle.mr_loop.specs.Stage.{IsNamed, LoopState, begun, client_of, put_client};
-ghost use Rattle.mr_loop.specs.Rows.{IsBurdened, IsLight, answered, phase_behind, queued, replied};
+ghost use Rattle.mr_connections.specs.State.{HasLink, NoneHas, begun, changed, parted, sent, wrote};
+ghost use Rattle.mr_loop.specs.Stage.{LoopState, committed, connection_at, filed, halting, with_connections};
 
-use crate::client::{Client, PIECE, Phase};
+use mr_connections::{Connection, Connections, PIECE};
 use mr_links::LinkId;
-use mr_node::Outs;
-use mr_wire::Moved;
 use std::alloc::{AllocError, Global};
+use std::hash::RandomState;
 use std::marker::Model;
 use std::mem;
-
-/// No more clients join in one run.
-const MOST_CLIENTS: u64 = 1 << 62;
 
 /// A turn waits so many milliseconds at most.
 const LONGEST_WAIT: u64 = 100;
 
-/// The clients of a loop, and the texts of effects that aren't in its file yet.
+/// So many milliseconds pass before a master that was dialled is dialled again, while the clock moves.
+const REDIAL_AFTER: i64 = 100;
+
+/// The connections of a loop, and the texts of effects that aren't in its file yet.
 #[derive(Drop)]
 pub struct Links {
     alloc: Global,
-    clients: mr_links::Links<Client>,
-    /// The client that joined last at each place of the wire. It may be gone.
-    places: Vec<Option<LinkId>>,
-    /// Who is served in this turn, in this order.
-    served: Vec<LinkId>,
+    connections: Connections,
     batch: Vec<u8>,
     /// A client asked that the program end.
     halted: bool,
-    /// Room for what one read gives.
-    piece: Vec<u8>,
     /// The last turn met a limit, so that the next doesn't wait.
     hurries: bool,
+    /// Room for what one read gives.
+    piece: Vec<u8>,
+    /// For the datasets of snapshots.
+    seed: RandomState,
+    /// When the master was dialled last. None where it may be dialled at once.
+    dialled: Option<i64>,
 }
 
 impl Model for Links {
@@ -44,29 +42,45 @@ impl Model for Links {
 
     ghost coded = { loop_code };
 
-    ghost view = { λ l. record { clients = l.clients; batch = l.batch.items; halted = l.halted; hurries = l.hurries } };
+    ghost view = { λ l. record { connections = l.connections; batch = l.batch.items; halted = l.halted; hurries = l.hurries } };
 }
 
 impl Links {
-    /// No clients.
-    pub fn new(alloc: Global) -> Result<Links, AllocError>
-        ensures clients { IfOk result (λ links. links.clients.open_links ≡ map.empty) }
-        ensures batch { IfOk result (λ links. links.batch ≡ []) }
-        ensures halted { IfOk result (λ links. links.halted ≡ false) }
+    /// No connections. The datasets of snapshots that are loaded have this seed, which changes no answer.
+    pub fn new(alloc: Global, seed: RandomState) -> Result<Links, AllocError>
+        ensures { IfOk result (λ links. links ≡ record { connections = map.empty; batch = []; halted = false; hurries = false }) }
     {
         let piece = Vec::from_elem(alloc, 0u8, PIECE)?;
         Ok(Links {
             alloc,
-            clients: mr_links::Links::new(alloc),
-            places: Vec::new(alloc),
-            served: Vec::new(alloc),
+            connections: Connections::new(alloc),
             batch: Vec::new(alloc),
             halted: false,
-            piece,
             hurries: false,
+            piece,
+            seed,
+            dialled: None,
         })
     }
 
+    /// How many milliseconds the next turn waits at most.
+    pub fn longest_wait(&self) -> u64
+        ensures hurries { self.now.hurries ≡ true → result ≡ 0 }
+        ensures waits { self.now.hurries ≡ false → result ≡ 100 }
+    {
+        if self.hurries { 0 } else { LONGEST_WAIT }
+    }
+
+    /// Whether a client said SHUTDOWN: no turn may begin any more.
+    pub fn halted(&self) -> bool
+        ensures { result ≡ self.now.halted }
+    {
+        self.halted
+    }
+}
+
+// Of a turn.
+impl Links {
     /// Takes the room for what one read gives.
     pub(crate) fn take_piece(&mut self) -> Vec<u8>
         ensures { self.new ≡ self.old }
@@ -81,171 +95,49 @@ impl Links {
         self.piece = piece;
     }
 
-    /// How many milliseconds the next turn waits at most.
-    pub fn longest_wait(&self) -> u64
-        ensures hurries { self.now.hurries ≡ true → result ≡ 0 }
-        ensures waits { self.now.hurries ≡ false → result ≡ 100 }
-    {
-        if self.hurries { 0 } else { LONGEST_WAIT }
-    }
-
     pub(crate) fn set_hurries(&mut self, hurries: bool)
         ensures { self.new ≡ record self.old { hurries = hurries } }
     {
         self.hurries = hurries;
     }
 
-    /// How many clients there are.
-    pub(crate) fn len(&self) -> usize {
-        self.clients.len()
+    /// A client asked that the program end.
+    pub(crate) fn halt(&mut self)
+        ensures { self.new ≡ halting self.old }
+    {
+        self.halted = true;
     }
 
-    /// How many clients are served in this turn, one after another.
-    pub(crate) fn count(&self) -> usize {
-        self.served.len()
+    /// For the datasets of snapshots.
+    pub(crate) fn seed(&self) -> RandomState {
+        self.seed
     }
 
-    /// The client that is served there.
-    pub(crate) fn at(&self, index: usize) -> Option<LinkId> {
-        self.served.get(index).copied()
+    /// Whether the master may be dialled at this moment: not so soon again, unless the clock stands still.
+    pub(crate) fn may_dial(&self, now: i64) -> bool {
+        match self.dialled {
+            None => true,
+            Some(last) => now <= last || now >= last.saturating_add(REDIAL_AFTER),
+        }
     }
 
-    /// A turn begins, in which nobody is served yet.
-    pub(crate) fn serve_nobody(&mut self)
+    /// The master is dialled at this moment.
+    pub(crate) fn note_dial(&mut self, now: i64)
         ensures { self.new ≡ self.old }
     {
-        self.served.clear();
+        self.dialled = Some(now);
     }
 
-    /// Serves the client behind the others whose link has this name on the wire. Its room was taken as it joined.
-    pub(crate) fn serve(&mut self, name: LinkId)
+    /// Another master is to be followed: it may be dialled at once.
+    pub(crate) fn forget_dial(&mut self)
         ensures { self.new ≡ self.old }
     {
-        if let Some(k) = self.named(name) {
-            let _served = self.served.push(k);
-        }
+        self.dialled = None;
     }
+}
 
-    /// The client whose link has this name on the wire.
-    fn named(&self, name: LinkId) -> Option<LinkId>
-        ensures { IfSome result (λ k. IsNamed self.now k name) }
-    {
-        let k = self.last_at(name.index)?;
-        match self.clients.get(k) {
-            Some(client) if client.name() == name => Some(k),
-            Some(_) | None => None,
-        }
-    }
-
-    /// The client that joined last at a place of the wire.
-    fn last_at(&self, place: usize) -> Option<LinkId> {
-        match self.places.get(place) {
-            Some(last) => *last,
-            None => None,
-        }
-    }
-
-    /// Whether a client that is served left too much unread.
-    pub(crate) fn is_burdened(&self, k: LinkId) -> bool
-        ensures burdened { IsTrue result → IsBurdened self.now k }
-        ensures light { result ≡ false → IsLight (client_of self.now k) }
-    {
-        match self.clients.get(k) {
-            Some(client) => client.is_serving() && client.is_too_much(),
-            None => false,
-        }
-    }
-
-    pub(crate) fn client(&self, k: LinkId) -> Option<&Client>
-        ensures { option_copied result ≡ client_of self.now k }
-    {
-        self.clients.get(k)
-    }
-
-    /// The replies of a client were large: less of it is read at once.
-    pub(crate) fn narrow(&mut self, k: LinkId)
-        ensures { self.new ≡ self.old }
-    {
-        narrow_client(&mut self.clients, k);
-    }
-
-    /// So many bytes of a client were read at once.
-    pub(crate) fn widen(&mut self, k: LinkId, count: usize)
-        ensures { self.new ≡ self.old }
-    {
-        widen_client(&mut self.clients, k, count);
-    }
-
-    /// A client begins. None does where memory runs out.
-    pub(crate) fn join(&mut self, name: LinkId, link: LinkId) -> Result<LinkId, AllocError>
-        ensures fresh { IfOk result (λ k. client_of self.old k ≡ None) }
-        ensures joined { IfOk result (λ k. self.new.clients.open_links ≡ map.insert self.old.clients.open_links k (begun name link)) }
-        ensures batch { self.new.batch ≡ self.old.batch }
-        ensures halted { self.new.halted ≡ self.old.halted }
-        ensures err { OnErr result (self.new ≡ self.old) }
-    {
-        if self.clients.opened() >= MOST_CLIENTS {
-            return Err(AllocError);
-        }
-        self.make_room(name.index)?;
-        let client = Client::new(self.alloc, name, link);
-        match self.clients.insert(client) {
-            Ok(k) => {
-                self.keep_place(name.index, k);
-                Ok(k)
-            }
-            Err(_refused) => Err(AllocError),
-        }
-    }
-
-    /// Takes the room to find and to serve one client more, at a place of the wire.
-    fn make_room(&mut self, place: usize) -> Result<(), AllocError>
-        ensures { self.new ≡ self.old }
-    {
-        fill_to(&mut self.places, place)?;
-        self.served.reserve(self.clients.len().saturating_add(1))
-    }
-
-    /// A client joined at a place of the wire.
-    fn keep_place(&mut self, place: usize, k: LinkId)
-        ensures { self.new ≡ self.old }
-    {
-        if let Some(last) = self.places.get_mut(place) {
-            *last = Some(k);
-        }
-    }
-
-    /// Takes a client out.
-    pub(crate) fn remove(&mut self, k: LinkId)
-        ensures clients { self.new.clients.open_links ≡ map.remove self.old.clients.open_links k }
-        ensures batch { self.new.batch ≡ self.old.batch }
-        ensures halted { self.new.halted ≡ self.old.halted }
-    {
-        let _removed = self.clients.remove(k);
-    }
-
-    /// A client comes to another phase.
-    pub(crate) fn set_phase(&mut self, k: LinkId, phase: Phase)
-        ensures { IfSome (client_of self.old k) (λ c. self.new ≡ put_client self.old k (record c { phase = phase })) }
-    {
-        match self.clients.get_mut(k) {
-            Some(client) => client.set_phase(phase),
-            None => {}
-        }
-    }
-
-    /// A write of what waits for a client came to this.
-    pub(crate) fn wrote(&mut self, k: LinkId, answer: Moved)
-        requires { IfSome (client_of self.old k) (λ c. count_of answer ≤ length c.waiting) }
-        ensures { IfSome (client_of self.old k) (λ c. self.new ≡ put_client self.old k (record c { waiting = drop (count_of answer) c.waiting; phase = phase_behind answer c.phase })) }
-    {
-        match self.clients.get_mut(k) {
-            Some(client) => client.wrote(answer),
-            None => {}
-        }
-    }
-
-    /// What waits for the file.
+// What waits for the file.
+impl Links {
     pub(crate) fn batch(&self) -> &[u8]
         ensures { result.now ≡ self.now.batch }
     {
@@ -254,91 +146,135 @@ impl Links {
 
     /// All of it is in the file.
     pub(crate) fn clear_batch(&mut self)
-        ensures { self.new ≡ record self.old { batch = [] } }
+        ensures { self.new ≡ committed self.old }
     {
         self.batch.clear();
     }
 
     /// Puts texts behind what waits for the file.
     pub(crate) fn file(&mut self, texts: &[u8]) -> Result<(), AllocError>
-        ensures ok { OnOk result (self.new ≡ record self.old { batch = self.old.batch ++ texts.now }) }
+        ensures ok { OnOk result (self.new ≡ filed texts.now self.old) }
         ensures err { OnErr result (self.new ≡ self.old) }
     {
         self.batch.extend_from_slice(texts)
     }
+}
 
-    /// Whether a client said SHUTDOWN: no turn may begin any more.
-    pub fn halted(&self) -> bool
-        ensures { result ≡ self.now.halted }
+// The connections.
+impl Links {
+    /// The connection under the name of this socket.
+    pub(crate) fn connection(&self, socket: LinkId) -> Option<&Connection>
+        ensures { option_copied result ≡ connection_at self.now socket }
     {
-        self.halted
+        self.connections.get(socket)
     }
 
-    /// Notes it where a client asked that the program end.
-    fn note_halt(&mut self, outs: &Outs)
-        ensures { self.new ≡ record self.old { halted = outs.now.halts || self.old.halted } }
-    {
-        if outs.halts() {
-            self.halted = true;
-        }
+    /// How many connections there are.
+    pub(crate) fn len(&self) -> usize {
+        self.connections.len()
     }
 
-    /// Puts what a step gave out behind what waits: for the file, and for its client. Where the node closed the link, its client leaves.
-    pub(crate) fn queue(&mut self, k: LinkId, outs: &Outs) -> Result<(), AllocError>
-        ensures ok { OnOk result (IfSome (client_of self.old k) (λ c. self.new ≡ queued outs.now k c self.old)) }
-        ensures err { OnErr result (self.new.clients ≡ self.old.clients) }
+    /// A connection begins. None does where memory runs out.
+    pub(crate) fn join(&mut self, socket: LinkId, link: LinkId) -> Result<(), AllocError>
+        ensures fresh { OnOk result (connection_at self.old socket ≡ None) }
+        ensures joined { OnOk result (self.new ≡ record self.old { connections = map.insert self.old.connections socket (begun link) }) }
+        ensures err { OnErr result (self.new ≡ self.old) }
     {
-        self.file(outs.appended())?;
-        self.answer(k, outs)
+        self.connections.join(socket, link)
     }
 
-    /// Puts what a step answered behind what waits for its client. Where the node closed the link, its client leaves.
-    pub(crate) fn answer(&mut self, k: LinkId, outs: &Outs) -> Result<(), AllocError>
-        ensures ok { OnOk result (IfSome (client_of self.old k) (λ c. self.new ≡ answered outs.now k c self.old)) }
-        ensures err { OnErr result (self.new.clients ≡ self.old.clients) }
+    /// Takes a connection out.
+    pub(crate) fn remove(&mut self, socket: LinkId)
+        ensures { self.new ≡ record self.old { connections = map.remove self.old.connections socket } }
     {
-        self.note_halt(outs);
-        answer_client(&mut self.clients, k, outs)
+        self.connections.remove(socket);
+    }
+
+    /// The node's end of the link is closed: what waits on its connection is still written.
+    pub(crate) fn part(&mut self, link: LinkId)
+        ensures { self.new ≡ with_connections (parted link) self.old }
+    {
+        self.connections.part(link);
+    }
+
+    /// Puts bytes behind what waits on the connection with this link.
+    pub(crate) fn send(&mut self, link: LinkId, bytes: &[u8]) -> Result<(), AllocError>
+        ensures ok { OnOk result (self.new ≡ with_connections (sent link bytes.now) self.old) }
+        ensures err { OnErr result (self.new ≡ self.old) }
+    {
+        self.connections.send(link, bytes)
+    }
+
+    /// So many bytes of what waits on a connection were moved.
+    pub(crate) fn wrote(&mut self, socket: LinkId, count: usize)
+        requires { IfSome (connection_at self.old socket) (λ c. count ≤ length c.waiting) }
+        ensures { self.new ≡ with_connections (changed socket (wrote count)) self.old }
+    {
+        self.connections.wrote(socket, count);
+    }
+
+    /// What is sent on a connection was large: less of it is read at once.
+    pub(crate) fn narrow(&mut self, socket: LinkId)
+        ensures { self.new ≡ self.old }
+    {
+        self.connections.narrow(socket);
+    }
+
+    /// So many bytes of a connection were read at once.
+    pub(crate) fn widen(&mut self, socket: LinkId, count: usize)
+        ensures { self.new ≡ self.old }
+    {
+        self.connections.widen(socket, count);
     }
 }
 
-fn narrow_client(clients: &mut mr_links::Links<Client>, k: LinkId)
-    ensures { clients.new ≡ clients.old }
-{
-    match clients.get_mut(k) {
-        Some(client) => client.narrow(),
-        None => {}
+// Who is served in a turn, and who is written to.
+impl Links {
+    /// A turn begins, in which nobody is served yet.
+    pub(crate) fn serve_nobody(&mut self)
+        ensures { self.new ≡ self.old }
+    {
+        self.connections.serve_nobody();
     }
-}
 
-fn widen_client(clients: &mut mr_links::Links<Client>, k: LinkId, count: usize)
-    ensures { clients.new ≡ clients.old }
-{
-    match clients.get_mut(k) {
-        Some(client) => client.widen(count),
-        None => {}
+    /// Serves the connection behind the others.
+    pub(crate) fn serve(&mut self, socket: LinkId)
+        ensures { self.new ≡ self.old }
+    {
+        self.connections.serve(socket);
     }
-}
 
-/// Puts a reply behind what waits for its client.
-fn answer_client(
-    clients: &mut mr_links::Links<Client>,
-    k: LinkId,
-    outs: &Outs,
-) -> Result<(), AllocError>
-    ensures ok { OnOk result (IfSome (map.get clients.old.open_links k) (λ c. clients.new ≡ record clients.old { open_links = map.insert clients.old.open_links k (replied outs.now c) })) }
-    ensures err { OnErr result (clients.new ≡ clients.old) }
-{
-    match clients.get_mut(k) {
-        Some(client) => client.take(outs),
-        None => Ok(()),
+    /// How many are served in this turn, one after another.
+    pub(crate) fn ready_count(&self) -> usize {
+        self.connections.ready_count()
     }
-}
 
-/// Makes as many places as it takes for this one.
-fn fill_to(places: &mut Vec<Option<LinkId>>, place: usize) -> Result<(), AllocError> {
-    for _ in places.len()..=place {
-        places.push(None)?;
+    /// The connection that is served there.
+    pub(crate) fn ready_at(&self, index: usize) -> Option<LinkId> {
+        self.connections.ready_at(index)
     }
-    Ok(())
+
+    /// The connection is written to next, where something waits there or the node has closed its end.
+    pub(crate) fn note(&mut self, socket: LinkId)
+        ensures { self.new ≡ self.old }
+    {
+        self.connections.note(socket);
+    }
+
+    /// How many are written to next.
+    pub(crate) fn noted_count(&self) -> usize {
+        self.connections.noted_count()
+    }
+
+    /// The connection that is written to there.
+    pub(crate) fn noted_at(&self, index: usize) -> Option<LinkId> {
+        self.connections.noted_at(index)
+    }
+
+    /// Those were written to.
+    pub(crate) fn forget_noted(&mut self)
+        ensures { self.new ≡ self.old }
+    {
+        self.connections.forget_noted();
+    }
 }

@@ -1,53 +1,91 @@
-// What the steps of a turn are given, and how many there were.
-ghost use Rattle.std.specs.Prelude.{◌≡◌};
+// What the steps of a turn are given, and what was counted in it so far.
+ghost use Rattle.std.specs.Prelude.{◌≡◌, ◌+◌, false};
 ghost use Rattle.mr_data.specs.Given.{IsMoment};
+ghost use Rattle.mr_loop.specs.Counting.{counted};
 
 use crate::told::Turn;
 use mr_data::Given;
 use mr_repl::ReplId;
 use mr_source::Source;
 
-/// The time of a turn, an id that was never drawn before, where chance comes from, and what was counted in the turn so far.
+/// The time of a turn, an id that was never drawn before, and what was counted in the turn so far.
 #[derive(Drop)]
-pub(crate) struct Moment<'a, S: Source> {
-    source: &'a mut S,
+pub(crate) struct Moment {
     time: i64,
     fresh: ReplId,
-    pub(crate) turn: Turn,
+    turn: Turn,
     ghost in_range: { IsMoment time },
 }
 
-impl<'a, S: Source> Moment<'a, S> {
-    pub(crate) fn new(source: &'a mut S) -> Moment<'a, S>
-        ensures steps { result.turn.steps ≡ 0 }
-        ensures done { result.turn.done ≡ 0 }
-        ensures deaf { result.turn.deaf ≡ 0 }
+impl Moment {
+    /// A turn begins: nothing is counted yet.
+    pub(crate) fn begun<S: Source>(source: &mut S) -> Moment
+        ensures { result.turn ≡ record { steps = 0; done = 0; used = 0; deaf = 0; halted = false } }
     {
         let fresh = source.id();
         let time = source.now();
         let turn = Turn::begun();
-        Moment {
-            source,
-            time,
-            fresh,
-            turn,
-        }
+        Moment { time, fresh, turn }
     }
 
+    /// The id that the next step may take.
     pub(crate) fn fresh(&self) -> ReplId {
         self.fresh
     }
 
-    /// What the next step is given.
-    pub(crate) fn given(&mut self) -> Given
-        ensures turn { self.new.turn ≡ self.old.turn }
-        ensures time { self.new.time ≡ self.old.time }
-        ensures now { result.now ≡ self.old.time }
+    pub(crate) fn time(&self) -> i64
+        ensures { result ≡ self.now.time }
     {
-        let word = self.source.word();
+        self.time
+    }
+
+    /// What was counted.
+    pub(crate) fn turn(&self) -> Turn
+        ensures { result ≡ self.now.turn }
+    {
+        self.turn
+    }
+
+    /// What a step is given at this time, with a random word.
+    pub(crate) fn given(&self, word: u64) -> Given
+        ensures { result.now ≡ self.now.time }
+    {
         match Given::new(self.time, word) {
             Some(given) => given,
             None => unreachable!(),
         }
+    }
+
+    /// The fresh id was taken: that is counted, and there is another.
+    pub(crate) fn renew(&mut self, fresh: ReplId)
+        ensures turn { self.new.turn ≡ record self.old.turn { used = counted (self.old.turn.used + 1) } }
+        ensures time { self.new.time ≡ self.old.time }
+    {
+        self.turn.count_id();
+        self.fresh = fresh;
+    }
+
+    /// Counts a step that the node is asked for.
+    pub(crate) fn count_step(&mut self)
+        ensures turn { self.new.turn ≡ record self.old.turn { steps = counted (self.old.turn.steps + 1) } }
+        ensures time { self.new.time ≡ self.old.time }
+    {
+        self.turn.count_step();
+    }
+
+    /// Counts that such a step used something.
+    pub(crate) fn count_use(&mut self)
+        ensures turn { self.new.turn ≡ record self.old.turn { done = counted (self.old.turn.done + 1) } }
+        ensures time { self.new.time ≡ self.old.time }
+    {
+        self.turn.count_use();
+    }
+
+    /// Counts a client that is given up since it left too much unread.
+    pub(crate) fn count_deaf(&mut self)
+        ensures turn { self.new.turn ≡ record self.old.turn { deaf = counted (self.old.turn.deaf + 1) } }
+        ensures time { self.new.time ≡ self.old.time }
+    {
+        self.turn.count_deaf();
     }
 }

@@ -1,95 +1,102 @@
-// What clients send.
-ghost use Rattle.std.specs.Prelude.{◌≡◌};
-ghost use Rattle.mr_loop.specs.Stage.{client_of};
-ghost use Rattle.mr_loop.specs.Going.{Goes};
-ghost use Rattle.mr_loop.specs.Quiet.{AllWait, WaitsUnless};
+// What peers send.
+ghost use Rattle.std.specs.Prelude.{◌≡◌, IfSome};
+ghost use Rattle.mr_connections.specs.State.{HasLink};
+ghost use Rattle.mr_loop.specs.Causes.{IsRead};
+ghost use Rattle.mr_loop.specs.Going.{Goes, StaysAs};
+ghost use Rattle.mr_loop.specs.Hosts.{IsSame};
+ghost use Rattle.mr_loop.specs.Quiet.{AllWait, WaitsBut};
 
-use crate::client::Phase;
-use crate::links::Links;
+use crate::host::Host;
+use mr_file::LogFile;
 use mr_links::LinkId;
-use mr_node::Node;
+use mr_source::Source;
 use mr_wire::{Moved, Wire};
 
-/// Serves those in this turn whose links the wire names, in its order.
-pub(crate) fn gather<W: Wire>(links: &mut Links, wire: &mut W)
-    ensures links { links.new ≡ links.old }
-    ensures wire { W.links wire.new ≡ W.links wire.old }
-{
-    links.serve_nobody();
-    for _ in 0..links.len() {
-        match wire.ready() {
-            Some(name) => links.serve(name),
-            None => return,
-        }
-    }
-}
-
-/// Reads a client's next bytes, as many as the node takes, the buffer has room for, and may be read at once, and feeds them. Nothing
-/// is read while too much waits for the client. It answers whether there may be more.
-pub(crate) fn read_piece<W: Wire>(
-    node: &mut Node,
-    links: &mut Links,
-    wire: &mut W,
-    k: LinkId,
-    piece: &mut [u8],
-    most: usize,
-) -> bool
-    ensures went { Goes W.tells node.old links.old (W.links wire.old) node.new links.new (W.links wire.new) }
-    ensures quiet { AllWait node.old → WaitsUnless result (client_of links.new k) node.new }
-{
-    let Some(client) = links.client(k) else {
-        return false;
-    };
-    if !client.is_serving() {
-        return false;
-    }
-    if client.is_full() {
-        links.narrow(k);
-        return false;
-    }
-    let name = client.name();
-    let link = client.link();
-    let room = room_of(node, link)
-        .min(piece.len())
-        .min(client.piece())
-        .min(most);
-    if room == 0 {
-        return false;
-    }
-    let buffer = &mut piece[..room];
-    match wire.read(name, buffer) {
-        Moved::Bytes(count) => {
-            if count == 0 {
-                return false;
-            }
-            match node.feed(link, &buffer[..count]) {
-                Ok(()) => {
-                    links.widen(k, count);
-                    true
-                }
-                Err(_refused) => {
-                    links.set_phase(k, Phase::Lost);
-                    false
-                }
+impl<W: Wire, F: LogFile, S: Source> Host<'_, '_, W, F, S> {
+    /// Serves those in this turn whose sockets the wire names, in its order.
+    pub(crate) fn gather(&mut self)
+        ensures stays { StaysAs W.tells W.links F.told F.synced self.old self.new }
+        ensures same { IsSame self.old self.new }
+    {
+        self.own.serve_nobody();
+        for _ in 0..self.own.len() {
+            match self.wire.ready() {
+                Some(socket) => self.own.serve(socket),
+                None => return,
             }
         }
-        Moved::NotReady => false,
-        Moved::End => {
-            node.close(link);
-            links.set_phase(k, Phase::Leaving);
-            false
-        }
-        Moved::Failed => {
-            links.set_phase(k, Phase::Lost);
-            false
-        }
     }
-}
 
-/// How many bytes the node takes on a link.
-fn room_of(node: &Node, link: LinkId) -> usize {
-    match node.room(link) {
-        Some(room) => room,
-        None => 0,
+    /// Reads the next bytes of a connection, as many as the node takes, the buffer has room for, and may be read at once, and feeds
+    /// them. Nothing is read while too much waits there. It answers on which link bytes were fed: where on none, nothing more is to
+    /// be read now.
+    pub(crate) fn read_piece(
+        &mut self,
+        socket: LinkId,
+        piece: &mut [u8],
+        most: usize,
+    ) -> Option<LinkId>
+        ensures went { Goes W.tells W.links F.told F.synced self.old self.new }
+        ensures same { IsSame self.old self.new }
+        ensures quiet { AllWait self.old.node.now → WaitsBut result self.new.node.now }
+        ensures linked { IfSome result (λ link. HasLink self.new.own.now.connections socket link) }
+    {
+        let Some(connection) = self.own.connection(socket) else {
+            return None;
+        };
+        let Some(link) = connection.link() else {
+            return None;
+        };
+        if connection.is_full() {
+            self.own.narrow(socket);
+            return None;
+        }
+        let room = self
+            .node
+            .room(link)
+            .unwrap_or(0)
+            .min(piece.len())
+            .min(connection.piece())
+            .min(most);
+        if room == 0 {
+            return None;
+        }
+        self.read_into(socket, link, &mut piece[..room])
+    }
+
+    /// Reads once, and feeds what came.
+    fn read_into(&mut self, socket: LinkId, link: LinkId, buffer: &mut [u8]) -> Option<LinkId>
+        requires { IsRead self.old.own.now socket link }
+        ensures went { Goes W.tells W.links F.told F.synced self.old self.new }
+        ensures same { IsSame self.old self.new }
+        ensures quiet { AllWait self.old.node.now → WaitsBut result self.new.node.now }
+        ensures linked { IfSome result (λ l. HasLink self.new.own.now.connections socket l) }
+    {
+        match self.wire.read(socket, buffer) {
+            Moved::Bytes(count) => {
+                if count == 0 {
+                    return None;
+                }
+                match self.node.feed(link, &buffer[..count]) {
+                    Ok(()) => {
+                        self.own.widen(socket, count);
+                        Some(link)
+                    }
+                    Err(_refused) => {
+                        self.drop_connection(socket, Some(link));
+                        None
+                    }
+                }
+            }
+            Moved::NotReady => None,
+            Moved::End => {
+                self.part(link);
+                None
+            }
+            Moved::Failed => {
+                self.drop_connection(socket, Some(link));
+                None
+            }
+        }
     }
 }

@@ -1,6 +1,6 @@
 // Turns one after another.
 ghost use Rattle.std.specs.Prelude.{◌≡◌, [], OnOk, false, true, IsErrOf};
-ghost use Rattle.mr_loop.specs.Stage.{stage_of};
+ghost use Rattle.mr_loop.specs.Stage.{stage};
 ghost use Rattle.mr_loop.specs.Outcomes.{Serves};
 ghost use Rattle.mr_loop.specs.Quiet.{AllWait};
 
@@ -9,7 +9,7 @@ use crate::links::Links;
 use crate::turning::turn;
 use mr_aof::Log;
 use mr_file::LogFile;
-use mr_node::Node;
+use mr_peer::Node;
 use mr_source::Source;
 use mr_wire::Wire;
 
@@ -25,7 +25,7 @@ pub fn serve<W: Wire, F: LogFile, S: Source>(
     requires filed { links.old.batch ≡ [] }
     requires runs { links.old.halted ≡ false }
     requires up { node.old.core.up ≡ true }
-    ensures went { Serves W.tells log.old.mode result (stage_of W.links F.told F.synced node.old links.old wire.old log.old) (stage_of W.links F.told F.synced node.new links.new wire.new log.new) }
+    ensures went { Serves W.tells log.old.mode result (stage node.old links.old (W.links wire.old) (F.told log.old.file) (F.synced log.old.file)) (stage node.new links.new (W.links wire.new) (F.told log.new.file) (F.synced log.new.file)) }
     ensures device { IsErrOf result LoopFault.File → log.new.broken ≡ true }
     ensures written { OnOk result (links.new.batch ≡ []) }
     ensures quiet { AllWait node.old → OnOk result (AllWait node.new) }

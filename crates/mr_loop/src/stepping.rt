@@ -1,160 +1,143 @@
-// What the node makes of what clients sent.
-ghost use Rattle.std.specs.Prelude.{◌≡◌, ◌<◌, ◌≤◌, [], false, true, IfOk, IfErr, IsErrOf};
-ghost use Rattle.mr_loop.specs.Stage.{client_of};
-ghost use Rattle.mr_loop.specs.Left.{left_of};
-ghost use Rattle.mr_loop.specs.Rows.{IsLight, IsReady};
-ghost use Rattle.mr_loop.specs.Going.{GoesAlone, GoesWithFileAs, IsCarriedOut, TicksAs};
-ghost use Rattle.mr_loop.specs.Quiet.{AllWait, WaitsBut, WaitsButLost, WaitsUnless};
+// What the node makes of what peers sent.
+ghost use Rattle.std.specs.Prelude.{◌≡◌, ◌<◌, false, true, IfErr, IfOk, IsErrOf, IsTrue, OnOk};
+ghost use Rattle.mr_connections.specs.State.{HasLink};
+ghost use Rattle.mr_loop.specs.Causes.{HasInput, IsBurdened, IsLight, IsLinked};
+ghost use Rattle.mr_loop.specs.Going.{GoesAs};
+ghost use Rattle.mr_loop.specs.Hosts.{IsSame};
+ghost use Rattle.mr_loop.specs.Quiet.{AllWait, OthersWait, WaitsUnless, left_at};
 
-use crate::client::Phase;
 use crate::fault::LoopFault;
-use crate::filing::replace;
-use crate::links::Links;
-use crate::told::Turn;
-use mr_aof::Log;
-use mr_data::Given;
+use crate::host::Host;
 use mr_file::LogFile;
 use mr_links::LinkId;
-use mr_node::{Node, NodeFault, Outs, Step};
-use mr_repl::ReplId;
+use mr_peer::{NodeFault, Step};
+use mr_source::Source;
+use mr_wire::Wire;
 
-/// A link on which nothing is unread has room for so many bytes.
-const EMPTY_ROOM: usize = 33_554_432;
+/// Where more bytes wait for the file, they don't wait for the end of the turn.
+const MOST_BATCH: usize = 1_048_576;
 
-/// Whether something is unread on the link of a client that is served. A stopped node doesn't tell.
-pub(crate) fn has_unread(node: &Node, links: &Links, k: LinkId) -> Result<bool, LoopFault>
-    ensures some { IfOk result (λ some. some ≡ true → IsReady (client_of links.now k) node.now) }
-    ensures none { IfOk result (λ some. some ≡ false → WaitsBut (client_of links.now k) node.now → AllWait node.now) }
-    ensures fault { IfErr result (λ e. (e ≡ LoopFault.Stopped) × (node.now.core.up ≡ false)) }
-{
-    let Some(client) = links.client(k) else {
-        return Ok(false);
-    };
-    if !client.is_serving() {
-        return Ok(false);
+impl<W: Wire, F: LogFile, S: Source> Host<'_, '_, W, F, S> {
+    /// Steps on a link until nothing whole is there.
+    pub(crate) fn step_all(&mut self, socket: LinkId, link: LinkId) -> Result<(), LoopFault>
+        requires { IsLinked self.old.node.now self.old.own.now socket link }
+        ensures went { GoesAs W.tells W.links F.told F.synced result self.old self.new }
+        ensures same { IsSame self.old self.new }
+        ensures device { IsErrOf result LoopFault.File → self.new.log.now.broken ≡ true }
+        ensures quiet { OthersWait self.old.node.now link → OnOk result (AllWait self.new.node.now) }
+    {
+        while self.step_next(socket, link)? {}
+        Ok(())
     }
-    match node.room(client.link()) {
-        Some(room) => Ok(room < EMPTY_ROOM),
-        None => match node.shows() {
-            Some(_shown) => Ok(false),
-            None => Err(LoopFault::Stopped),
-        },
-    }
-}
 
-/// The next step on a client's link, which is counted, of a client that left no more unread than it may, and of which something is
-/// unread. It answers whether something was used.
-pub(crate) fn step<F: LogFile>(
-    node: &mut Node,
-    links: &mut Links,
-    log: &mut Log<F>,
-    k: LinkId,
-    given: Given,
-    fresh: ReplId,
-    turn: &mut Turn,
-) -> Result<bool, LoopFault>
-    requires { IsReady (client_of links.old k) node.old }
-    ensures went { IsLight (client_of links.old k) → GoesWithFileAs log.old.mode result turn.old turn.new node.old links.old (F.told log.old.file) (F.synced log.old.file) node.new links.new (F.told log.new.file) (F.synced log.new.file) }
-    ensures mode { log.new.mode ≡ log.old.mode }
-    ensures device { IsErrOf result LoopFault.File → log.new.broken ≡ true }
-    ensures quiet { WaitsBut (client_of links.old k) node.old → IfOk result (λ used. WaitsUnless used (client_of links.new k) node.new) }
-    ensures uses { IfOk result (λ used. used ≡ true → left_of (client_of links.new k) node.new < left_of (client_of links.old k) node.old) }
-{
-    let Some(client) = links.client(k) else {
-        return Ok(false);
-    };
-    if !client.is_serving() {
-        return Ok(false);
+    /// The next step on a link, where something is unread there, unless its client left too much unread. It answers whether something
+    /// was used.
+    fn step_next(&mut self, socket: LinkId, link: LinkId) -> Result<bool, LoopFault>
+        requires { IsLinked self.old.node.now self.old.own.now socket link }
+        ensures went { GoesAs W.tells W.links F.told F.synced result self.old self.new }
+        ensures same { IsSame self.old self.new }
+        ensures device { IsErrOf result LoopFault.File → self.new.log.now.broken ≡ true }
+        ensures quiet { OthersWait self.old.node.now link → IfOk result (λ used. WaitsUnless used link self.new.node.now) }
+        ensures linked { IfOk result (λ used. used ≡ true → IsLinked self.new.node.now self.new.own.now socket link) }
+        ensures uses { IfOk result (λ used. used ≡ true → left_at self.new.node.now link < left_at self.old.node.now link) }
+    {
+        if !self.has_unread(link)? {
+            return Ok(false);
+        }
+        if !self.unburden(socket, link)? {
+            return Ok(false);
+        }
+        let used = self.step(socket, link)?;
+        if self.own.batch().len() > MOST_BATCH {
+            self.commit()?;
+        }
+        Ok(used)
     }
-    let link = client.link();
-    turn.count_step();
-    match node.step(link, given, fresh) {
-        Ok(Step::Done(outs)) => {
-            turn.count_use();
-            let carried = carry_out(links, log, k, &outs);
-            node.reuse(outs);
-            match carried {
-                Ok(()) => Ok(true),
-                Err(fault) => Err(fault),
+
+    /// Whether something is unread on a link. A stopped node doesn't tell.
+    fn has_unread(&self, link: LinkId) -> Result<bool, LoopFault>
+        ensures some { IfOk result (λ some. some ≡ true → HasInput self.now.node.now link) }
+        ensures none { IfOk result (λ some. some ≡ false → OthersWait self.now.node.now link → AllWait self.now.node.now) }
+        ensures fault { IfErr result (λ e. (e ≡ LoopFault.Stopped) × (self.now.node.now.core.up ≡ false)) }
+    {
+        // its clause says what the node's ends are
+        self.node.sound();
+        match self.node.unread(link) {
+            Some(count) => Ok(count > 0),
+            None => match self.node.shows() {
+                Some(_shown) => Ok(false),
+                None => Err(LoopFault::Stopped),
+            },
+        }
+    }
+
+    /// The next step on a link, which is counted. It answers whether something was used.
+    fn step(&mut self, socket: LinkId, link: LinkId) -> Result<bool, LoopFault>
+        requires input { HasInput self.old.node.now link }
+        requires has { HasLink self.old.own.now.connections socket link }
+        requires light { IsLight self.old.node.now self.old.own.now socket link }
+        ensures went { GoesAs W.tells W.links F.told F.synced result self.old self.new }
+        ensures same { IsSame self.old self.new }
+        ensures device { IsErrOf result LoopFault.File → self.new.log.now.broken ≡ true }
+        ensures quiet { OthersWait self.old.node.now link → IfOk result (λ used. WaitsUnless used link self.new.node.now) }
+        ensures linked { IfOk result (λ used. used ≡ true → IsLinked self.new.node.now self.new.own.now socket link) }
+        ensures uses { IfOk result (λ used. used ≡ true → left_at self.new.node.now link < left_at self.old.node.now link) }
+    {
+        let given = self.moment.given(self.source.word());
+        let fresh = self.moment.fresh();
+        self.moment.count_step();
+        match self.node.step(link, given, fresh) {
+            Ok(Step::Done(outs)) => {
+                self.moment.count_use();
+                self.take(outs)?;
+                Ok(true)
+            }
+            Ok(Step::Idle) => Ok(false),
+            Ok(Step::Closed) => Ok(false),
+            Err(NodeFault::Stopped) => Err(LoopFault::Stopped),
+            Err(_refused) => {
+                self.drop_connection(socket, Some(link));
+                Ok(false)
             }
         }
-        Ok(Step::Idle) => Ok(false),
-        Ok(Step::Closed) => Ok(false),
-        Err(NodeFault::Stopped) => Err(LoopFault::Stopped),
-        Err(_refused) => {
-            links.set_phase(k, Phase::Lost);
-            hang_up(node, links, k);
-            Ok(false)
+    }
+
+    /// Where a client left too much unread, what waits for it is written, and what waits for the file before that. Where too much is
+    /// left, its connection is closed, which is counted. It answers whether the connection is still there.
+    fn unburden(&mut self, socket: LinkId, link: LinkId) -> Result<bool, LoopFault>
+        requires input { HasInput self.old.node.now link }
+        requires linked { IsLinked self.old.node.now self.old.own.now socket link }
+        ensures went { GoesAs W.tells W.links F.told F.synced result self.old self.new }
+        ensures same { IsSame self.old self.new }
+        ensures device { IsErrOf result LoopFault.File → self.new.log.now.broken ≡ true }
+        ensures quiet { OthersWait self.old.node.now link → IfOk result (λ there. there ≡ false → AllWait self.new.node.now) }
+        ensures node { IfOk result (λ there. there ≡ true → self.new.node.now ≡ self.old.node.now) }
+        ensures has { IfOk result (λ there. there ≡ true → HasLink self.new.own.now.connections socket link) }
+        ensures light { IfOk result (λ there. there ≡ true → IsLight self.new.node.now self.new.own.now socket link) }
+    {
+        if !self.is_burdened(socket, link) {
+            return Ok(true);
         }
-    }
-}
-
-/// Has the node close its end of a client's link, if the client is lost.
-pub(crate) fn hang_up(node: &mut Node, links: &Links, k: LinkId)
-    ensures went { GoesAlone node.old links.now node.new links.now }
-    ensures quiet { WaitsButLost (client_of links.now k) node.old → WaitsBut (client_of links.now k) node.new }
-    ensures left { left_of (client_of links.now k) node.new ≤ left_of (client_of links.now k) node.old }
-    ensures ready { IsReady (client_of links.now k) node.old → IsReady (client_of links.now k) node.new }
-{
-    let Some(client) = links.client(k) else {
-        return;
-    };
-    if !client.is_lost() {
-        return;
-    }
-    let link = client.link();
-    node.close(link);
-}
-
-/// What a step gave out waits: for the file, and for its client. A file that is replaced is so at once, and only then something
-/// waits for the client.
-fn carry_out<F: LogFile>(
-    links: &mut Links,
-    log: &mut Log<F>,
-    k: LinkId,
-    outs: &Outs,
-) -> Result<(), LoopFault>
-    ensures went { IsCarriedOut outs.now k links.old (F.told log.old.file) (F.synced log.old.file) links.new (F.told log.new.file) (F.synced log.new.file) result }
-    ensures mode { log.new.mode ≡ log.old.mode }
-    ensures device { IsErrOf result LoopFault.File → log.new.broken ≡ true }
-{
-    let Some(whole) = outs.replaced() else {
-        return match links.queue(k, outs) {
-            Ok(()) => Ok(()),
-            Err(_refused) => Err(LoopFault::Stopped),
-        };
-    };
-    replace(links, log, whole)?;
-    match links.answer(k, outs) {
-        Ok(()) => Ok(()),
-        Err(_refused) => Err(LoopFault::Stopped),
-    }
-}
-
-/// Whether a tick deleted something.
-fn has_deleted(outs: &Outs) -> bool
-    ensures { result ≡ false → outs.now.appended ≡ [] }
-{
-    !outs.appended().is_empty()
-}
-
-/// Time passes at the node. It answers whether another tick may still delete.
-pub(crate) fn tick(node: &mut Node, links: &mut Links, given: Given) -> Result<bool, LoopFault>
-    ensures went { TicksAs result given.now node.old links.old node.new links.new }
-    ensures quiet { AllWait node.old → AllWait node.new }
-    ensures fault { IfErr result (λ e. e ≡ LoopFault.Stopped) }
-{
-    match node.tick(given) {
-        Ok(outs) => {
-            let more = has_deleted(&outs);
-            let filed = links.file(outs.appended());
-            node.reuse(outs);
-            match filed {
-                Ok(()) => Ok(more),
-                Err(_refused) => Err(LoopFault::Stopped),
-            }
+        self.commit()?;
+        if !self.write_ready(socket, link) {
+            return Ok(false);
         }
-        Err(NodeFault::Stopped) => Err(LoopFault::Stopped),
-        Err(_refused) => Ok(true),
+        if !self.is_burdened(socket, link) {
+            return Ok(true);
+        }
+        self.drop_connection(socket, Some(link));
+        self.moment.count_deaf();
+        Ok(false)
+    }
+
+    /// Whether a client left too much unread. Of a replica, and of the master, as much may wait as comes.
+    fn is_burdened(&self, socket: LinkId, link: LinkId) -> bool
+        ensures burdened { IsTrue result → IsBurdened self.now.node.now self.now.own.now socket link }
+        ensures light { result ≡ false → IsLight self.now.node.now self.now.own.now socket link }
+    {
+        match self.own.connection(socket) {
+            Some(connection) => connection.is_too_much() && self.node.is_client(link),
+            None => false,
+        }
     }
 }

@@ -8,14 +8,16 @@ const TICKS: u64 = 16;
 /// So many keys a tick deletes at most.
 const DELETED: u64 = 64;
 
-/// What a turn that ended well tells of itself.
+/// What a turn that ended well tells of itself. Each count stays at 2^64 - 1.
 #[derive(Clone, Copy, Debug, PartialEq, Eq)]
 pub struct Turn {
-    /// How often the node was asked for a step. It stays at 2^64 - 1.
+    /// How often the node was asked for a step.
     pub steps: u64,
-    /// How many of these steps used something of what a client sent. It stays at 2^64 - 1.
+    /// How many of these steps used something of what a peer sent.
     pub done: u64,
-    /// How many clients were given up since they left too much unread. It stays at 2^64 - 1.
+    /// How many fresh ids the node took.
+    pub used: u64,
+    /// How many clients were given up since they left too much unread.
     pub deaf: u64,
     /// A client said SHUTDOWN.
     pub halted: bool,
@@ -24,13 +26,12 @@ pub struct Turn {
 impl Turn {
     /// A turn begins: nothing is counted yet.
     pub(crate) fn begun() -> Turn
-        ensures steps { result.steps ≡ 0 }
-        ensures done { result.done ≡ 0 }
-        ensures deaf { result.deaf ≡ 0 }
+        ensures { result ≡ record { steps = 0; done = 0; used = 0; deaf = 0; halted = false } }
     {
         Turn {
             steps: 0,
             done: 0,
+            used: 0,
             deaf: 0,
             halted: false,
         }
@@ -38,27 +39,28 @@ impl Turn {
 
     /// Counts a step that the node is asked for.
     pub(crate) fn count_step(&mut self)
-        ensures steps { self.new.steps ≡ counted (self.old.steps + 1) }
-        ensures done { self.new.done ≡ self.old.done }
-        ensures deaf { self.new.deaf ≡ self.old.deaf }
+        ensures { self.new ≡ record self.old { steps = counted (self.old.steps + 1) } }
     {
         self.steps = self.steps.saturating_add(1);
     }
 
     /// Counts that such a step used something.
     pub(crate) fn count_use(&mut self)
-        ensures steps { self.new.steps ≡ self.old.steps }
-        ensures done { self.new.done ≡ counted (self.old.done + 1) }
-        ensures deaf { self.new.deaf ≡ self.old.deaf }
+        ensures { self.new ≡ record self.old { done = counted (self.old.done + 1) } }
     {
         self.done = self.done.saturating_add(1);
     }
 
+    /// Counts a fresh id that the node took.
+    pub(crate) fn count_id(&mut self)
+        ensures { self.new ≡ record self.old { used = counted (self.old.used + 1) } }
+    {
+        self.used = self.used.saturating_add(1);
+    }
+
     /// Counts a client that is given up since it left too much unread.
     pub(crate) fn count_deaf(&mut self)
-        ensures steps { self.new.steps ≡ self.old.steps }
-        ensures done { self.new.done ≡ self.old.done }
-        ensures deaf { self.new.deaf ≡ counted (self.old.deaf + 1) }
+        ensures { self.new ≡ record self.old { deaf = counted (self.old.deaf + 1) } }
     {
         self.deaf = self.deaf.saturating_add(1);
     }
@@ -72,14 +74,12 @@ impl Turn {
 
     /// The same, with whether a client said SHUTDOWN.
     pub(crate) fn with_halted(self, halted: bool) -> Turn
-        ensures steps { result.steps ≡ self.steps }
-        ensures done { result.done ≡ self.done }
-        ensures deaf { result.deaf ≡ self.deaf }
-        ensures halted { result.halted ≡ halted }
+        ensures { result ≡ record self { halted = halted } }
     {
         Turn {
             steps: self.steps,
             done: self.done,
+            used: self.used,
             deaf: self.deaf,
             halted,
         }

@@ -1,0 +1,268 @@
+-- How outs are carried out, one after another, and what is the same of a host behind it.
+use Rattle.std.proofs.Common.{◌≡◌, ◌<◌, ◌≤◌, ◌+◌, ℕ, List, [], ◌∷◌, ◌++◌, Bool, true, length, Option, None, Some, Result, Ok, Err, OnOk, OnErr, IfErr, MutBor, append_assoc, append-nil, arith, refl, sym, ap, subst, ◌∙◌}
+use Rattle.std.specs.declared.alloc.AllocError.{AllocError}
+use Rattle.mr_links.specs.declared.link_id.LinkId.{LinkId}
+use Rattle.mr_data.specs.declared.given.Given.{Given}
+use Rattle.mr_file.specs.declared.sync_mode.SyncMode.{SyncMode}
+use Rattle.mr_follow.specs.State.{FollowState, Agrees as FollowAgrees}
+use Rattle.mr_course.specs.State.{CourseState, name_of}
+use Rattle.mr_connections.specs.State.{HasLink, parted, sent}
+use Rattle.mr_outs.specs.Outs.{OutState, OutsState, append, close, outs_of, replace, send}
+use Rattle.mr_rows.specs.State.{MasterAgrees, NodeState, end_of}
+use Rattle.mr_rows.specs.LinkRows.{closed_at}
+use Rattle.mr_rows.specs.UpstreamRows as upstream
+use Rattle.mr_peer.specs.Calls.{Agreeing}
+use Rattle.mr_peer.specs.Calls.Agreeing.{client, replica, master, shut}
+use Rattle.mr_peer.specs.Steps.{ClientStep, MasterStep, ReplicaStep, Steps}
+use Rattle.mr_peer.specs.declared.fault.NodeFault.{NodeFault}
+use Rattle.mr_peer.specs.declared.fault.NodeFault.TheVariants as refusal
+use Rattle.mr_peer.specs.declared.step.Step.{Step}
+use Rattle.mr_peer.specs.declared.step.Step.TheVariants as step
+use Rattle.mr_loop.specs.declared.fault.LoopFault.{LoopFault}
+use Rattle.mr_loop.specs.declared.fault.LoopFault.TheVariants as fault
+use Rattle.mr_loop.specs.declared.host.Host.{Host}
+use Rattle.mr_loop.specs.declared.moment.Moment.{Moment}
+use Rattle.mr_loop.specs.declared.told.Turn.{Turn}
+use Rattle.mr_loop.specs.Hosts.{IsSame}
+use Rattle.mr_loop.specs.Stage.{Stage, LoopState, filed, stage, with_connections}
+use Rattle.mr_loop.specs.Carrying.{Carries, Carried, CarriesAs, CarriesOneAs, Spilled, WantsRoom}
+use Rattle.mr_loop.specs.Causes.{Act, Calls, HasInput, IsLight, Stepped, at_step}
+use Rattle.mr_loop.specs.Rows.{Event, Happens, acts, fault_of, spills, tears}
+use Rattle.mr_loop.specs.Counting.{CountsStill, calls_by, counted, deaf_by, ids_by, one_where, raised, taken, ticks_by, uses_by}
+use Rattle.mr_loop.specs.Outcomes.{Broke}
+use Rattle.mr_loop.specs.Quiet.{AllWait, OthersWait, left_at}
+use Rattle.mr_loop.proofs.Less.{carried_left, done_less}
+use Rattle.mr_loop.proofs.Runs.{broke_one, still_event}
+use Rattle.mr_loop.proofs.Waiting.{all_is, closed_waits, others_is, some_is}
+
+-- ---- what stays of a host
+
+-- a value that was borrowed is the one that is borrowed
+renewed : {A : Type 0} (x y z : MutBor A) → y ≡ record x { now = y.now } → z ≡ record y { now = z.now } → z ≡ record x { now = z.now }
+renewed {A} x y z e f = f ∙ ap (λ (b : MutBor A). record b { now = z.now }) e
+
+module _ {W F S : Type 0} where
+  -- the node and where chance comes from, changed in place
+  pub same_stepped : (a : Host W F S) (n : NodeState) (s : S) (m : Moment) → m.time ≡ a.moment.time → IsSame a (record a { node = record a.node { now = n }; source = record a.source { now = s }; moment = m })
+  same_stepped a n s m time = record { node = refl; own = refl; wire = refl; log = refl; source = refl; time = time; mode = refl }
+
+-- ---- one out
+
+pub carried_one : (out : OutState) (s t : Stage) → Carries out s t → Carried (out ∷ []) s t
+carried_one out s t c = (t, c, refl)
+
+-- .. as it is seen
+pub carries_seen : (r : Result (Unit {0}) LoopFault) (x out : OutState) (s t : Stage) → x ≡ out → CarriesOneAs r out s t → CarriesOneAs r x s t
+carries_seen r x out s t e c = subst (λ y. CarriesOneAs r y s t) (sym e) c
+
+-- room was found for what waits, or the loop ends
+spilled_one : (out : OutState) (s t : Stage) → WantsRoom out → t ≡ s → Spilled (out ∷ []) s t
+spilled_one out s t wants same = record { done = []; last = out; rest = []; are = refl; carried = same; wants = wants }
+
+err_out : (e : LoopFault) (out : OutState) (s t : Stage) → e ≡ fault.Stopped → Spilled (out ∷ []) s t → CarriesOneAs (Err e) out s t
+err_out e out s t is spilled = subst (λ z. CarriesOneAs (Err z) out s t) (sym is) spilled
+
+kept_as : (out : OutState) (s : Stage) (o : LoopState) (p : LoopState) (q : Result (Unit {0}) AllocError) (r : Result (Unit {0}) LoopFault) → WantsRoom out → ((x : LoopState) → x ≡ p → Carries out s (record s { own = x }))
+    → OnOk q (o ≡ p) → OnErr q (o ≡ s.own) → OnOk r (OnErr q ⊥) → OnErr r (OnOk q ⊥) → IfErr r (λ e. e ≡ fault.Stopped) → CarriesOneAs r out s (record s { own = o })
+kept_as out s o p (Ok _) (Ok _) wants carries ok err well ill is = carried_one out s (record s { own = o }) (carries o ok)
+kept_as out s o p (Err _) (Ok _) wants carries ok err well ill is = absurd well
+kept_as out s o p (Ok _) (Err e) wants carries ok err well ill is = absurd ill
+kept_as out s o p (Err _) (Err e) wants carries ok err well ill is = err_out e out s (record s { own = o }) is (spilled_one out s (record s { own = o }) wants (ap (λ (x : LoopState). record s { own = x }) err))
+
+-- an out that was carried out
+pub one_out : (x out : OutState) (s t : Stage) → x ≡ out → Carries out s t → (mid : Stage) × Carries x s mid × (t ≡ mid)
+one_out x out s t e c = (t, subst (λ y. Carries y s t) (sym e) c, refl)
+
+-- .. of which the loop's own part alone is changed
+pub own_out : (x out : OutState) (s : Stage) (p o : LoopState) → x ≡ out → Carries out s (record s { own = p }) → o ≡ p → (mid : Stage) × Carries x s mid × (record s { own = o } ≡ mid)
+own_out x out s p o e c is = (record s { own = p }, subst (λ y. Carries y s (record s { own = p })) (sym e) c, ap (λ (z : LoopState). record s { own = z }) is)
+
+stages : (s t : Stage) → t.node ≡ s.node → t.own ≡ s.own → t.wire ≡ s.wire → t.told ≡ s.told → t.synced ≡ s.synced → t ≡ s
+stages s t node own wire told synced =
+    ap (λ n. stage n t.own t.wire t.told t.synced) node ∙ (ap (λ o. stage s.node o t.wire t.told t.synced) own ∙ (ap (λ w. stage s.node s.own w t.told t.synced) wire
+    ∙ (ap (λ f. stage s.node s.own s.wire f t.synced) told ∙ ap (λ y. stage s.node s.own s.wire s.told y) synced)))
+
+pub closed_as : (x : OutState) (link : LinkId) (s t : Stage) → x ≡ close link → t.node ≡ closed_at link s.node → t.own ≡ with_connections (parted link) s.own → t.wire ≡ s.wire → t.told ≡ s.told → t.synced ≡ s.synced
+    → (mid : Stage) × Carries x s mid × (t ≡ mid)
+closed_as x link s t e node own wire told synced = one_out x (close link) s t e (stages (record s { own = with_connections (parted link) s.own; node = closed_at link s.node }) t node own wire told synced)
+
+pub appended_as : (x : OutState) (texts : List ℕ) (s : Stage) (o : LoopState) (q : Result (Unit {0}) AllocError) (r : Result (Unit {0}) LoopFault) → x ≡ append texts
+    → OnOk q (o ≡ filed texts s.own) → OnErr q (o ≡ s.own) → OnOk r (OnErr q ⊥) → OnErr r (OnOk q ⊥) → IfErr r (λ e. e ≡ fault.Stopped) → CarriesOneAs r x s (record s { own = o })
+appended_as x texts s o q r e ok err well ill is = carries_seen r x (append texts) s (record s { own = o }) e (kept_as (append texts) s o (filed texts s.own) q r tt (λ y same. ap (λ (z : LoopState). record s { own = z }) same) ok err well ill is)
+
+pub sent_as : (x : OutState) (link : LinkId) (bytes : List ℕ) (s : Stage) (o : LoopState) (q : Result (Unit {0}) AllocError) (r : Result (Unit {0}) LoopFault) → x ≡ send link bytes
+    → OnOk q (o ≡ with_connections (sent link bytes) s.own) → OnErr q (o ≡ s.own) → OnOk r (OnErr q ⊥) → OnErr r (OnOk q ⊥) → IfErr r (λ e. e ≡ fault.Stopped) → CarriesOneAs r x s (record s { own = o })
+sent_as x link bytes s o q r e ok err well ill is = carries_seen r x (send link bytes) s (record s { own = o }) e (kept_as (send link bytes) s o (with_connections (sent link bytes) s.own) q r tt (λ y same. ap (λ (z : LoopState). record s { own = z }) same) ok err well ill is)
+
+-- ---- all outs
+
+-- some were carried out, and these are left
+pub record SoFar (all rest : List OutState) (s t : Stage) : Type 0 where
+  pub done : List OutState
+  pub are : all ≡ done ++ rest
+  pub carried : Carried done s t
+
+pub none_so_far : (all rest : List OutState) (s : Stage) → rest ≡ all → SoFar all rest s s
+none_so_far all rest s e = record { done = []; are = sym e; carried = refl }
+
+carried_append : (xs ys : List OutState) (a b c : Stage) → Carried xs a b → Carried ys b c → Carried (xs ++ ys) a c
+carried_append [] ys a b c r q = subst (λ z. Carried ys z c) r q
+carried_append (x ∷ xs) ys a b c r q = (r.0, r.1, carried_append xs ys r.0 b c r.2 q)
+
+-- the first of what is left, and what is left behind it
+ahead : (all done rest later xs : List OutState) → all ≡ done ++ rest → rest ≡ xs ++ later → all ≡ (done ++ xs) ++ later
+ahead all done rest later xs are e = are ∙ (ap (λ ys. done ++ ys) e ∙ sym (append_assoc done xs later))
+
+pub one_so_far : (all rest later : List OutState) (out : OutState) (s t u : Stage) → rest ≡ out ∷ later → SoFar all rest s t → Carried (out ∷ []) t u → SoFar all later s u
+one_so_far all rest later out s t u e so c = record {
+  done = so.done ++ (out ∷ []);
+  are = ahead all so.done rest later (out ∷ []) so.are e;
+  carried = carried_append so.done (out ∷ []) s t u so.carried c;
+}
+
+pub all_so_far : (all rest : List OutState) (s t : Stage) → rest ≡ [] → SoFar all rest s t → Carried all s t
+all_so_far all rest s t e so = subst (λ outs. Carried outs s t) (sym (so.are ∙ (ap (λ ys. so.done ++ ys) e ∙ append-nil so.done))) so.carried
+
+-- .. at which something failed
+broken_at : (all done rest later xs front back : List OutState) (x : OutState) → all ≡ done ++ rest → rest ≡ xs ++ later → xs ≡ front ++ x ∷ back → all ≡ (done ++ front) ++ x ∷ (back ++ later)
+broken_at all done rest later xs front back x are e is =
+    are ∙ (ap (λ ys. done ++ ys) (e ∙ (ap (λ ys. ys ++ later) is ∙ append_assoc front (x ∷ back) later)) ∙ sym (append_assoc done front (x ∷ (back ++ later))))
+
+pub fails_so_far : (why : LoopFault) (all rest later : List OutState) (out : OutState) (s t u : Stage) → rest ≡ out ∷ later → SoFar all rest s t → CarriesOneAs (Err why) out t u → CarriesAs (Err why) all s u
+fails_so_far fault.File all rest later out s t u e so torn = record {
+  done = so.done ++ torn.done;
+  bytes = torn.bytes;
+  rest = torn.rest ++ later;
+  are = broken_at all so.done rest later (out ∷ []) torn.done torn.rest (replace torn.bytes) so.are e torn.are;
+  before = torn.before;
+  carried = carried_append so.done torn.done s t torn.before so.carried torn.carried;
+  written = torn.written;
+  own = torn.own;
+  node = torn.node;
+  wire = torn.wire;
+}
+fails_so_far fault.Stopped all rest later out s t u e so spilled = record {
+  done = so.done ++ spilled.done;
+  last = spilled.last;
+  rest = spilled.rest ++ later;
+  are = broken_at all so.done rest later (out ∷ []) spilled.done spilled.rest spilled.last so.are e spilled.are;
+  carried = carried_append so.done spilled.done s t u so.carried spilled.carried;
+  wants = spilled.wants;
+}
+fails_so_far fault.Listener all rest later out s t u e so never = absurd never
+
+-- .. as it is answered
+pub answers_so_far : (r : Result (Unit {0}) LoopFault) (why : LoopFault) (all rest later : List OutState) (out : OutState) (s t u : Stage) → r ≡ Err why → rest ≡ out ∷ later → SoFar all rest s t → CarriesOneAs (Err why) out t u → CarriesAs r all s u
+answers_so_far r why all rest later out s t u is e so c = subst (λ z. CarriesAs z all s u) (sym is) (fails_so_far why all rest later out s t u e so c)
+
+-- ---- a call of the node whose outs aren't all carried out
+
+pub not_told : {tells : Bool} {mode : SyncMode} (act : Act) (s called t : Stage) (outs : OutsState) (why : LoopFault) → Calls act s called outs → CarriesAs (Err why) (outs_of outs) called t → Broke tells mode why s t
+not_told act s called t outs fault.File calls torn = broke_one (tears act outs) refl (record { called = called; calls = calls; torn = torn })
+not_told act s called t outs fault.Stopped calls spilled = broke_one (spills act outs) refl (record { called = called; calls = calls; spilled = spilled })
+not_told act s called t outs fault.Listener calls never = absurd never
+
+-- ---- what is counted where a fresh id was taken
+
+pub taken_steps : (used : Option (List ℕ)) (turn : Turn) → (taken used turn).steps ≡ turn.steps
+taken_steps None turn = refl
+taken_steps (Some id) turn = refl
+
+pub taken_done : (used : Option (List ℕ)) (turn : Turn) → (taken used turn).done ≡ turn.done
+taken_done None turn = refl
+taken_done (Some id) turn = refl
+
+pub taken_used : (used : Option (List ℕ)) (turn : Turn) → (taken used turn).used ≡ raised (one_where used) turn.used
+taken_used None turn = refl
+taken_used (Some id) turn = refl
+
+pub taken_deaf : (used : Option (List ℕ)) (turn : Turn) → (taken used turn).deaf ≡ turn.deaf
+taken_deaf None turn = refl
+taken_deaf (Some id) turn = refl
+
+-- ---- a step
+
+-- of a link with a connection on which no more waits than may
+pub steps_at : (s : Stage) (socket link : LinkId) (given : Given) (fresh : List ℕ) (n : NodeState) (outs : OutsState) → HasLink s.own.connections socket link → IsLight s.node s.own socket link → Stepped s.node link given fresh n (Ok (step.Done outs))
+    → Calls (at_step socket link given fresh) s (record s { node = n }) outs
+steps_at s socket link given fresh n outs has light stepped = record { has = has; light = light; stepped = stepped; same = refl }
+
+-- one that used something, with its outs carried out, and what is counted of it
+pub steps_once : {tells : Bool} {mode : SyncMode} (s t : Stage) (socket link : LinkId) (given : Given) (fresh : List ℕ) (n : NodeState) (outs : OutsState) (old counting using new : Turn)
+    → Calls (at_step socket link given fresh) s (record s { node = n }) outs → Carried (outs_of outs) (record s { node = n }) t
+    → counting ≡ record old { steps = counted (old.steps + 1) } → using ≡ record counting { done = counted (counting.done + 1) } → new ≡ taken outs.used using
+    → CountsStill tells mode old new s t
+steps_once s t socket link given fresh n outs old counting using new calls carried one used took =
+    still_event (acts (at_step socket link given fresh) outs) old new refl refl (record { called = record s { node = n }; calls = calls; carried = carried })
+    (ap (λ (x : Turn). x.steps) took ∙ (taken_steps outs.used using ∙ (ap (λ (x : Turn). x.steps) used ∙ ap (λ (x : Turn). x.steps) one)))
+    (ap (λ (x : Turn). x.done) took ∙ (taken_done outs.used using ∙ (ap (λ (x : Turn). x.done) used ∙ ap (λ (x : Turn). counted (x.done + 1)) one)))
+    (ap (λ (x : Turn). x.used) took ∙ (taken_used outs.used using ∙ ap (raised (one_where outs.used)) (ap (λ (x : Turn). x.used) used ∙ ap (λ (x : Turn). x.used) one)))
+    (ap (λ (x : Turn). x.deaf) took ∙ (taken_deaf outs.used using ∙ (ap (λ (x : Turn). x.deaf) used ∙ ap (λ (x : Turn). x.deaf) one)))
+
+-- one of which only that it was made is counted
+pub counts_call : {tells : Bool} {mode : SyncMode} {s t : Stage} (e : Event) (old counting new : Turn) → fault_of e ≡ None → ticks_by e ≡ 0 → calls_by e ≡ 1 → uses_by e ≡ 0 → ids_by e ≡ 0 → deaf_by e ≡ 0
+    → Happens tells mode s e t → counting ≡ record old { steps = counted (old.steps + 1) } → new ≡ counting → CountsStill tells mode old new s t
+counts_call e old counting new goes_on no_tick call uses ids deaf h one same =
+    still_event e old new goes_on no_tick h
+    (ap (λ (x : Turn). x.steps) (same ∙ one) ∙ ap (λ k. raised k old.steps) (sym call))
+    (ap (λ (x : Turn). x.done) (same ∙ one) ∙ ap (λ k. raised k old.done) (sym uses))
+    (ap (λ (x : Turn). x.used) (same ∙ one) ∙ ap (λ k. raised k old.used) (sym ids))
+    (ap (λ (x : Turn). x.deaf) (same ∙ one) ∙ ap (λ k. raised k old.deaf) (sym deaf))
+
+-- where something is unread, a step isn't answered so
+never_at : (a b : NodeState) (l : LinkId) (u : List ℕ) (given : Given) (fresh : List ℕ) (r : Result Step NodeFault) → (ClientStep a l u given fresh b r → ⊥) → (ReplicaStep a l u b r → ⊥) → (MasterStep a l b r → ⊥)
+    → a.core.up ≡ true → (u ≡ [] → ⊥) → Agreeing a l u → Steps a l given fresh b r → ⊥
+never_at a b l u given fresh r no_client no_replica no_master up some (client agrees) row = no_client (row.at_client u (record { up = up; agrees = agrees }))
+never_at a b l u given fresh r no_client no_replica no_master up some (replica agrees) row = no_replica (row.at_replica u (record { up = up; agrees = agrees }))
+never_at a b l u given fresh r no_client no_replica no_master up some (master agrees) row = no_master (row.at_master up (ap name_of agrees.found))
+never_at a b l u given fresh r no_client no_replica no_master up some (shut is none) row = some none
+
+some_bytes : (a : NodeState) (l : LinkId) (i : HasInput a l) → i.unread.bytes ≡ [] → ⊥
+some_bytes a l i none = i.some (i.unread.counted ∙ ap length none)
+
+pub never_closed : (a b : NodeState) (l : LinkId) (given : Given) (fresh : List ℕ) → HasInput a l → Steps a l given fresh b (Ok step.Closed) → ⊥
+never_closed a b l given fresh i row = never_at a b l i.unread.bytes given fresh (Ok step.Closed) (λ x. x) (λ x. x) (λ x. x) i.unread.up (some_bytes a l i) i.unread.agree row
+
+-- what refuses a step and stops no node is that memory is lacking
+pub lacks_memory : (a b : NodeState) (l : LinkId) (given : Given) (fresh : List ℕ) (e : NodeFault) → HasInput a l → (e ≡ refusal.Stopped → ⊥) → Steps a l given fresh b (Err e) → e ≡ refusal.Memory
+lacks_memory a b l given fresh refusal.Memory i other row = refl
+lacks_memory a b l given fresh refusal.Stopped i other row = absurd (other refl)
+lacks_memory a b l given fresh refusal.NoLink i other row = absurd (never_at a b l i.unread.bytes given fresh (Err refusal.NoLink) (λ x. x) (λ x. x) (λ x. x) i.unread.up (some_bytes a l i) i.unread.agree row)
+lacks_memory a b l given fresh refusal.InputFull i other row = absurd (never_at a b l i.unread.bytes given fresh (Err refusal.InputFull) (λ x. x) (λ x. x) (λ x. x) i.unread.up (some_bytes a l i) i.unread.agree row)
+
+-- where memory is lacking, what reads at the link to the master still does
+lacks_others : (a b : NodeState) (l : LinkId) (u : List ℕ) → MasterAgrees a l u → upstream.Lacks a l b → OthersWait a l → OthersWait b l
+lacks_others a b l u m h q =
+    let same = some_is (h.listens.name, h.listens.follow) (l, m.reader) (sym h.listens.found ∙ m.found) in
+    let row = h.listens.row u (subst (λ f. FollowAgrees f u) (sym (ap (λ (z : LinkId × FollowState). z.1) same)) m.agrees) in
+    let reads : b.follow ≡ Some (h.listens.name, h.listens.next) = ap (λ (z : NodeState). z.follow) h.node ∙ ap (λ (z : CourseState). z.follow) row.is in
+    record {
+      each = λ x ne.
+          let end : end_of b x ≡ end_of a x = ap (λ (z : NodeState). end_of z x) h.node in
+          record {
+            at_client = λ v ag. (q.each x ne).at_client v (record { is = sym end ∙ ag.is });
+            at_replica = λ v ag. (q.each x ne).at_replica v (record { is = sym end ∙ ag.is });
+            at_master = λ f e. absurd (ne (ap (λ (z : LinkId × FollowState). z.0) (some_is (x, f) (h.listens.name, h.listens.next) (sym e ∙ reads)) ∙ h.named));
+          };
+    }
+
+memory_closed : ◌≡◌ {A = Result Step NodeFault} (Err refusal.Memory) (Ok step.Closed) → ⊥
+memory_closed e = cc
+
+memory_others : (a b : NodeState) (l : LinkId) (u : List ℕ) (given : Given) (fresh : List ℕ) → a.core.up ≡ true → Agreeing a l u → Steps a l given fresh b (Err refusal.Memory) → OthersWait a l → OthersWait b l
+memory_others a b l u given fresh up (client agrees) row q = others_is l (row.at_client u (record { up = up; agrees = agrees })).1 q
+memory_others a b l u given fresh up (replica agrees) row q = others_is l (row.at_replica u (record { up = up; agrees = agrees })).1 q
+memory_others a b l u given fresh up (master agrees) row q = lacks_others a b l u agrees (row.at_master up (ap name_of agrees.found)) q
+memory_others a b l u given fresh up (shut is none) row q = absurd (memory_closed (row.at_shut up is).0)
+
+-- .. and so the link that is closed for it was the last that could be stepped
+pub refused_all : (a b c : NodeState) (l : LinkId) (given : Given) (fresh : List ℕ) → HasInput a l → Steps a l given fresh b (Err refusal.Memory) → c ≡ closed_at l b → OthersWait a l → AllWait c
+refused_all a b c l given fresh i row is q = all_is is (closed_waits l b (memory_others a b l i.unread.bytes given fresh i.unread.up i.unread.agree row q))
+
+-- its link leaves less behind a step and its outs
+pub acts_less : (s t : Stage) (n : NodeState) (l : LinkId) (given : Given) (fresh : List ℕ) (outs : OutsState) → Stepped s.node l given fresh n (Ok (step.Done outs)) → Carried (outs_of outs) (record s { node = n }) t → left_at t.node l < left_at s.node l
+acts_less s t n l given fresh outs stepped carried =
+    let less = done_less s.node n l given fresh outs stepped in
+    let here : left_at n l ≤ left_at n l = omega arith in
+    let most = carried_left l (left_at n l) (outs_of outs) (record s { node = n }) t carried here in
+    omega (arith, less, most)

@@ -1,0 +1,23 @@
+-- That the values which a host borrowed stay those that it borrows.
+use Rattle.std.proofs.Common.{refl, ap, ◌∙◌}
+use Rattle.std.specs.Borrow.{MutBor}
+use Rattle.mr_aof.specs.declared.log.Log.{Log}
+use Rattle.mr_rows.specs.State.{NodeState}
+use Rattle.mr_loop.specs.declared.host.Host.{Host}
+use Rattle.mr_loop.specs.Hosts.{IsSame}
+use Rattle.mr_loop.specs.Stage.{LoopState}
+
+module _ {W F S : Type 0} where
+  pub same_here : (a : Host W F S) → IsSame a a
+  same_here a = record { node = refl; own = refl; wire = refl; log = refl; source = refl; time = refl; mode = refl }
+
+  pub same_on : (a b c : Host W F S) → IsSame a b → IsSame b c → IsSame a c
+  same_on a b c x y = record {
+    node = y.node ∙ ap (λ (r : MutBor NodeState). record r { now = c.node.now }) x.node;
+    own = y.own ∙ ap (λ (r : MutBor LoopState). record r { now = c.own.now }) x.own;
+    wire = y.wire ∙ ap (λ (r : MutBor W). record r { now = c.wire.now }) x.wire;
+    log = y.log ∙ ap (λ (r : MutBor (Log F)). record r { now = c.log.now }) x.log;
+    source = y.source ∙ ap (λ (r : MutBor S). record r { now = c.source.now }) x.source;
+    time = y.time ∙ x.time;
+    mode = y.mode ∙ x.mode;
+  }

@@ -1,0 +1,11 @@
+use Rattle.std.proofs.Common.{◌≡◌}
+use Rattle.mr_outs.specs.Outs.{outs_of}
+use Rattle.mr_loop.specs.Hosts.{IsSame, stage_in}
+use Rattle.mr_loop.proofs.Outs.{SoFar}
+use Rattle.mr_loop.proofs.host.Host.carry_out.Given as goal
+
+-- some outs are carried out, and the others are left
+abbrev pub invariant-loop-out : goal.invariant-loop-out
+invariant-loop-out g l =
+    let on = stage_in g.W.Wire.links g.F.LogFile.told g.F.LogFile.synced in
+    SoFar (outs_of l.fn.outs) l.out-iterator (on l.fn.self) (on l.self) × (l.self.moment.turn ≡ l.fn.self.moment.turn) × IsSame l.fn.self l.self

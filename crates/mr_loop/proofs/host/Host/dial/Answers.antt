@@ -1,0 +1,33 @@
+use Rattle.std.proofs.Common.{rules, ◌≡◌, refl, subst, sym}
+use Rattle.mr_loop.specs.Hosts.{stage_in}
+use Rattle.mr_loop.specs.Causes.{stays}
+use Rattle.mr_loop.specs.Rows.{misses_dial}
+use Rattle.mr_wire.specs.Wire.{Connects}
+use Rattle.mr_loop.proofs.Arrivals.{from_own}
+use Rattle.mr_loop.proofs.Runs.{still_here, still_one}
+use Rattle.mr_loop.proofs.host.Host.dial.Goals as goal
+
+pub returns-then-not-waits-clause-went : goal.returns-then-not-waits-clause-went
+returns-then-not-waits-clause-went g c = still_here _ _
+
+pub returns-then-not-may_dial-clause-went : goal.returns-then-not-may_dial-clause-went
+returns-then-not-may_dial-clause-went g c = still_here _ _
+
+pub returns-in_default-clause-went : goal.returns-in_default-clause-went
+returns-in_default-clause-went g c = still_here _ _
+
+pub returns-in-Ok-clause-went : goal.returns-in-Ok-clause-went
+returns-in-Ok-clause-went g c =
+    let s = c.args.self.now in
+    let host : c.host.result.now ≡ c.in-Some.address.now.host = search rules in
+    let port : c.port.result ≡ c.in-Some.address.now.port = search rules in
+    let before = g.W.Wire.links s.wire.now in
+    let after = g.W.Wire.links c.connect.new.self in
+    let came = subst (λ h. Connects before h c.in-Some.address.now.port c.in-Ok.socket after) host (subst (λ p. Connects before c.host.result.now p c.in-Ok.socket after) port c.in-Ok.ensures.ok) in
+    from_own g.W.Wire.tells s.log.now.mode c.dial_on.result s.moment.turn c.dial_on.new.self.moment.turn (stage_in g.W.Wire.links g.F.LogFile.told g.F.LogFile.synced s) _ c.note_dial.new.self c.note_dial.ensures
+    (c.dial_on.ensures.went before c.in-Some.address.now (sym c.in-Some.ensures) came)
+
+pub returns-in-Err-clause-went : goal.returns-in-Err-clause-went
+returns-in-Err-clause-went g c =
+    let turn = c.args.self.now.moment.turn in
+    still_one misses_dial turn turn refl refl refl refl refl refl (record { wire = c.in-Err.ensures.err; node = stays refl; own = c.note_dial.ensures; file = (refl, refl) }) refl

@@ -1,0 +1,6 @@
+use Rattle.mr_loop.specs.Going.{StaysAs}
+use Rattle.mr_loop.specs.Hosts.{IsSame}
+use Rattle.mr_loop.proofs.host.Host.gather.Given as goal
+
+abbrev pub invariant-loop : goal.invariant-loop
+invariant-loop g l = StaysAs g.W.Wire.tells g.W.Wire.links g.F.LogFile.told g.F.LogFile.synced l.fn.self l.self × IsSame l.fn.self l.self

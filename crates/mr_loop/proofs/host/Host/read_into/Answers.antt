@@ -1,0 +1,110 @@
+use Rattle.std.proofs.Common.{ap, refl, subst, sym, take}
+use Rattle.mr_aof.specs.declared.log.Log.{Log}
+use Rattle.mr_wire.specs.Wire.{behind_read}
+use Rattle.mr_wire.specs.declared.wire.Moved.TheVariants as moved
+use Rattle.mr_loop.specs.Stage.{stage}
+use Rattle.mr_loop.specs.Causes.{Touches}
+use Rattle.mr_loop.specs.Rows.{finds_none, hears_end, loses, misses, takes}
+use Rattle.mr_loop.proofs.Arrivals.{dropped_all, dropped_of, fed_none}
+use Rattle.mr_loop.proofs.Runs.{still_one}
+use Rattle.mr_loop.proofs.Waiting.{all_is, closed_all, fed_others}
+use Rattle.mr_loop.proofs.host.Host.read_into.Goals as goal
+
+pub returns-then-count-eq0-clause-went : goal.returns-then-count-eq0-clause-went
+returns-then-count-eq0-clause-went g c =
+    let turn = c.args.self.now.moment.turn in
+    still_one (finds_none c.args.socket) turn turn refl refl refl refl refl refl (record {
+      link = c.args.link;
+      read = c.requires;
+      answer = moved.Bytes c.in-Bytes.count;
+      buffer = c.read.new.into;
+      none = c.if-count-eq0.true;
+      goes_on = refl;
+      wire = record { changes = c.in-Bytes.ensures.read; absent = λ e. (c.read.ensures.absent e).1 };
+      node = refl;
+      own = refl;
+      file = (refl, refl);
+    }) refl
+
+pub returns-in-Ok-clause-went : goal.returns-in-Ok-clause-went
+returns-in-Ok-clause-went g c =
+    let turn = c.args.self.now.moment.turn in
+    still_one (takes c.args.socket (take c.in-Bytes.count c.read.new.into)) turn turn refl refl refl refl refl refl (record {
+      link = c.args.link;
+      read = c.requires;
+      count = c.in-Bytes.count;
+      buffer = c.read.new.into;
+      bytes_are = refl;
+      wire = record { changes = c.in-Bytes.ensures.read; absent = λ e. (c.read.ensures.absent e).1 };
+      node = record { up = c.in-Ok.ensures.0; there = c.in-Ok.ensures.1; feeds = c.in-Ok.ensures.2 };
+      own = c.widen.ensures;
+      file = (refl, refl);
+    }) refl
+
+pub returns-in-Ok-clause-quiet : goal.returns-in-Ok-clause-quiet
+returns-in-Ok-clause-quiet g c = λ q. fed_others c.args.self.now.node.now c.feed.new.self c.args.link (take c.in-Bytes.count c.read.new.into) (record { up = c.in-Ok.ensures.0; there = c.in-Ok.ensures.1; feeds = c.in-Ok.ensures.2 }) q
+
+pub returns-in-Err-clause-went : goal.returns-in-Err-clause-went
+returns-in-Err-clause-went g c =
+    let s = c.args.self.now in
+    let same = fed_none s.node.now c.feed.new.self c.args.link (take c.in-Bytes.count c.read.new.into) _ c.in-Err._refused c.in-Err.ensures in
+    still_one (misses c.args.socket) s.moment.turn c.drop_connection.new.self.moment.turn refl refl refl refl refl refl (record {
+      link = c.args.link;
+      read = c.requires;
+      count = c.in-Bytes.count;
+      buffer = c.read.new.into;
+      wire = g.W.Wire.links c.read.new.self;
+      touched = record { changes = c.in-Bytes.ensures.read; absent = λ e. (c.read.ensures.absent e).1 };
+      dropped = dropped_of (stage s.node.now s.own.now (g.W.Wire.links c.read.new.self) (g.F.LogFile.told s.log.now.file) (g.F.LogFile.synced s.log.now.file)) _ c.feed.new.self same c.drop_connection.ensures.dropped;
+    }) c.drop_connection.ensures.turn
+
+pub returns-in-Err-clause-quiet : goal.returns-in-Err-clause-quiet
+returns-in-Err-clause-quiet g c = λ q.
+    let same = fed_none c.args.self.now.node.now c.feed.new.self c.args.link (take c.in-Bytes.count c.read.new.into) _ c.in-Err._refused c.in-Err.ensures in
+    dropped_all c.drop_connection.ensures.dropped (all_is same q)
+
+pub returns-in-NotReady-clause-went : goal.returns-in-NotReady-clause-went
+returns-in-NotReady-clause-went g c =
+    let turn = c.args.self.now.moment.turn in
+    still_one (finds_none c.args.socket) turn turn refl refl refl refl refl refl (record {
+      link = c.args.link;
+      read = c.requires;
+      answer = moved.NotReady;
+      buffer = c.read.new.into;
+      none = refl;
+      goes_on = refl;
+      wire = record { changes = c.in-NotReady.ensures.read; absent = λ e. (c.read.ensures.absent e).1 };
+      node = refl;
+      own = refl;
+      file = (refl, refl);
+    }) refl
+
+pub returns-in-End-clause-went : goal.returns-in-End-clause-went
+returns-in-End-clause-went g c =
+    let s = c.args.self.now in
+    let touched : Touches (g.W.Wire.links s.wire.now) c.args.socket (behind_read g.W.Wire.tells moved.End c.read.new.into) (g.W.Wire.links c.read.new.self) = record { changes = c.in-End.ensures.read; absent = λ e. (c.read.ensures.absent e).1 } in
+    still_one (hears_end c.args.socket c.args.link) s.moment.turn c.part.new.self.moment.turn refl refl refl refl refl refl (record {
+      read = c.requires;
+      buffer = c.read.new.into;
+      wire = subst (Touches (g.W.Wire.links s.wire.now) c.args.socket (behind_read g.W.Wire.tells moved.End c.read.new.into)) (sym (ap g.W.Wire.links c.part.ensures.wire)) touched;
+      node = c.part.ensures.node;
+      own = c.part.ensures.own;
+      file = (ap (λ (l : Log g.row.F.Denot). g.F.LogFile.told l.file) c.part.ensures.log, ap (λ (l : Log g.row.F.Denot). g.F.LogFile.synced l.file) c.part.ensures.log);
+    }) c.part.ensures.turn
+
+pub returns-in-End-clause-quiet : goal.returns-in-End-clause-quiet
+returns-in-End-clause-quiet g c = λ q. all_is c.part.ensures.node (closed_all c.args.link c.args.self.now.node.now q)
+
+pub returns-in-Failed-clause-went : goal.returns-in-Failed-clause-went
+returns-in-Failed-clause-went g c =
+    still_one (loses c.args.socket) c.args.self.now.moment.turn c.drop_connection-in-Failed.new.self.moment.turn refl refl refl refl refl refl (record {
+      link = c.args.link;
+      read = c.requires;
+      buffer = c.read.new.into;
+      wire = g.W.Wire.links c.read.new.self;
+      touched = record { changes = c.in-Failed.ensures.read; absent = λ e. (c.read.ensures.absent e).1 };
+      dropped = c.drop_connection-in-Failed.ensures.dropped;
+    }) c.drop_connection-in-Failed.ensures.turn
+
+pub returns-in-Failed-clause-quiet : goal.returns-in-Failed-clause-quiet
+returns-in-Failed-clause-quiet g c = λ q. dropped_all c.drop_connection-in-Failed.ensures.dropped q

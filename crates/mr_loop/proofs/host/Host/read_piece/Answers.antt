@@ -1,0 +1,18 @@
+use Rattle.std.proofs.Common.{ap, refl}
+use Rattle.mr_loop.specs.Stage.{LoopState, stage}
+use Rattle.mr_loop.proofs.Runs.{stays_still, still_here}
+use Rattle.mr_loop.proofs.host.Host.read_piece.Goals as goal
+
+pub returns-in_default-clause-went : goal.returns-in_default-clause-went
+returns-in_default-clause-went g c = still_here _ _
+
+pub returns-in_default-link-clause-went : goal.returns-in_default-link-clause-went
+returns-in_default-link-clause-went g c = still_here _ _
+
+pub returns-then-is_full-clause-went : goal.returns-then-is_full-clause-went
+returns-then-is_full-clause-went g c =
+    let s = c.args.self.now in
+    stays_still s.moment.turn s.moment.turn _ _ (ap (λ (o : LoopState). stage s.node.now o (g.W.Wire.links s.wire.now) (g.F.LogFile.told s.log.now.file) (g.F.LogFile.synced s.log.now.file)) c.narrow.ensures) refl
+
+pub returns-then-room-eq0-clause-went : goal.returns-then-room-eq0-clause-went
+returns-then-room-eq0-clause-went g c = still_here _ _

@@ -1,0 +1,131 @@
+use Rattle.std.proofs.Common.{rules, ◌≡◌, Ok, Err, refl, ap, subst, ◌∙◌}
+use Rattle.mr_outs.specs.Outs.{OutsState, outs_of}
+use Rattle.mr_peer.specs.Steps.{Steps}
+use Rattle.mr_peer.specs.declared.fault.NodeFault.TheVariants as refusal
+use Rattle.mr_peer.specs.declared.step.Step.TheVariants as step
+use Rattle.mr_loop.specs.Causes.{Stepped, Stopping, at_step, has}
+use Rattle.mr_loop.specs.Causes.Stopping.{at_step as stops_at}
+use Rattle.mr_loop.specs.Carrying.{Carried, CarriesAs}
+use Rattle.mr_loop.specs.Counting.{taken}
+use Rattle.mr_loop.specs.Hosts.{stage_in}
+use Rattle.mr_loop.specs.Rows.{idles, is_refused, stops}
+use Rattle.mr_loop.proofs.Linked.{carried_linked}
+use Rattle.mr_loop.proofs.Outs.{acts_less, counts_call, lacks_memory, never_closed, not_told, refused_all, same_stepped, steps_at, steps_once}
+use Rattle.mr_loop.proofs.Same.{same_on}
+use Rattle.mr_loop.proofs.Runs.{breaks, broke_one}
+use Rattle.mr_loop.proofs.Stepped.{done_others, idle_all}
+use Rattle.mr_loop.proofs.Waiting.{carried_others}
+use Rattle.mr_loop.proofs.host.Host.step.Goals as goal
+
+pub returns-in_err-take-in-Ok-Done-clause-went : goal.returns-in_err-take-in-Ok-Done-clause-went
+returns-in_err-take-in-Ok-Done-clause-went g c =
+    let s = stage_in g.W.Wire.links g.F.LogFile.told g.F.LogFile.synced c.args.self.now in
+    let t = stage_in g.W.Wire.links g.F.LogFile.told g.F.LogFile.synced c.take.new.self in
+    let given = c.given-given.result in
+    let fresh = c.fresh-fresh.result in
+    let outs = c.in-Ok-Done.outs in
+    let row = subst (λ r. Steps s.node c.args.link given fresh c.step.new.self r) (ap Ok c.in-Ok-Done.field-0-is) c.in-Ok-Done.ensures in
+    let stepped : Stepped s.node c.args.link given fresh c.step.new.self (Ok (step.Done outs)) = record { input = c.requires.input; row = row } in
+    let why = c.in_err-take-in-Ok-Done.field-0.0 in
+    let told : c.from_residual.result ≡ Err why = search rules in
+    breaks c.args.self.now.moment.turn c.take.new.self.moment.turn c.from_residual.result why told
+    (not_told (at_step c.args.socket c.args.link given fresh) s (record s { node = c.step.new.self }) t outs why (steps_at s c.args.socket c.args.link given fresh c.step.new.self outs c.requires.has c.requires.light stepped)
+    (subst (λ (o : OutsState). CarriesAs (Err why) (outs_of o) (record s { node = c.step.new.self }) t) c.in-Ok-Done.outs-is c.in_err-take-in-Ok-Done.ensures.carried))
+
+pub returns-in_ok-take-in-Ok-Done-clause-went : goal.returns-in_ok-take-in-Ok-Done-clause-went
+returns-in_ok-take-in-Ok-Done-clause-went g c =
+    let s = stage_in g.W.Wire.links g.F.LogFile.told g.F.LogFile.synced c.args.self.now in
+    let t = stage_in g.W.Wire.links g.F.LogFile.told g.F.LogFile.synced c.take.new.self in
+    let given = c.given-given.result in
+    let fresh = c.fresh-fresh.result in
+    let outs = c.in-Ok-Done.outs in
+    let row = subst (λ r. Steps s.node c.args.link given fresh c.step.new.self r) (ap Ok c.in-Ok-Done.field-0-is) c.in-Ok-Done.ensures in
+    let stepped : Stepped s.node c.args.link given fresh c.step.new.self (Ok (step.Done outs)) = record { input = c.requires.input; row = row } in
+    steps_once s t c.args.socket c.args.link given fresh c.step.new.self outs c.args.self.now.moment.turn c.count_step.new.self.turn c.count_use.new.self.turn c.take.new.self.moment.turn
+    (steps_at s c.args.socket c.args.link given fresh c.step.new.self outs c.requires.has c.requires.light stepped)
+    (subst (λ (o : OutsState). Carried (outs_of o) (record s { node = c.step.new.self }) t) c.in-Ok-Done.outs-is c.in_ok-take-in-Ok-Done.ensures.carried) c.count_step.ensures.turn c.count_use.ensures.turn
+    (c.in_ok-take-in-Ok-Done.ensures.turn ∙ ap (λ (o : OutsState). taken o.used c.count_use.new.self.turn) c.in-Ok-Done.outs-is)
+
+pub returns-in_ok-take-in-Ok-Done-clause-quiet : goal.returns-in_ok-take-in-Ok-Done-clause-quiet
+returns-in_ok-take-in-Ok-Done-clause-quiet g c = λ q.
+    let s = stage_in g.W.Wire.links g.F.LogFile.told g.F.LogFile.synced c.args.self.now in
+    let t = stage_in g.W.Wire.links g.F.LogFile.told g.F.LogFile.synced c.take.new.self in
+    let given = c.given-given.result in
+    let fresh = c.fresh-fresh.result in
+    let outs = c.in-Ok-Done.outs in
+    let row = subst (λ r. Steps s.node c.args.link given fresh c.step.new.self r) (ap Ok c.in-Ok-Done.field-0-is) c.in-Ok-Done.ensures in
+    let stepped : Stepped s.node c.args.link given fresh c.step.new.self (Ok (step.Done outs)) = record { input = c.requires.input; row = row } in
+    carried_others c.args.link (outs_of outs) (record s { node = c.step.new.self }) t
+    (subst (λ (o : OutsState). Carried (outs_of o) (record s { node = c.step.new.self }) t) c.in-Ok-Done.outs-is c.in_ok-take-in-Ok-Done.ensures.carried) (done_others s.node c.step.new.self c.args.link given fresh outs stepped q)
+
+pub returns-in_ok-take-in-Ok-Done-clause-linked : goal.returns-in_ok-take-in-Ok-Done-clause-linked
+returns-in_ok-take-in-Ok-Done-clause-linked g c = λ used.
+    let s = stage_in g.W.Wire.links g.F.LogFile.told g.F.LogFile.synced c.args.self.now in
+    let t = stage_in g.W.Wire.links g.F.LogFile.told g.F.LogFile.synced c.take.new.self in
+    carried_linked c.args.socket c.args.link (outs_of c.in-Ok-Done.outs) (record s { node = c.step.new.self }) t
+    (subst (λ (o : OutsState). Carried (outs_of o) (record s { node = c.step.new.self }) t) c.in-Ok-Done.outs-is c.in_ok-take-in-Ok-Done.ensures.carried) (has c.requires.has)
+
+pub returns-in_ok-take-in-Ok-Done-clause-uses : goal.returns-in_ok-take-in-Ok-Done-clause-uses
+returns-in_ok-take-in-Ok-Done-clause-uses g c = λ used.
+    let s = stage_in g.W.Wire.links g.F.LogFile.told g.F.LogFile.synced c.args.self.now in
+    let t = stage_in g.W.Wire.links g.F.LogFile.told g.F.LogFile.synced c.take.new.self in
+    let given = c.given-given.result in
+    let fresh = c.fresh-fresh.result in
+    let outs = c.in-Ok-Done.outs in
+    let row = subst (λ r. Steps s.node c.args.link given fresh c.step.new.self r) (ap Ok c.in-Ok-Done.field-0-is) c.in-Ok-Done.ensures in
+    let stepped : Stepped s.node c.args.link given fresh c.step.new.self (Ok (step.Done outs)) = record { input = c.requires.input; row = row } in
+    acts_less s t c.step.new.self c.args.link given fresh outs stepped
+    (subst (λ (o : OutsState). Carried (outs_of o) (record s { node = c.step.new.self }) t) c.in-Ok-Done.outs-is c.in_ok-take-in-Ok-Done.ensures.carried)
+
+pub returns-in-Ok-Idle-clause-went : goal.returns-in-Ok-Idle-clause-went
+returns-in-Ok-Idle-clause-went g c =
+    let a = c.args.self.now.node.now in
+    let given = c.given-given.result in
+    let fresh = c.fresh-fresh.result in
+    let row = subst (λ r. Steps a c.args.link given fresh c.step.new.self r) (ap Ok c.in-Ok-Idle.field-0-is) c.in-Ok-Idle.ensures in
+    counts_call (idles c.args.socket c.args.link given fresh) c.args.self.now.moment.turn c.count_step.new.self.turn c.count_step.new.self.turn refl refl refl refl refl refl
+    (record { has = c.requires.has; node = record { input = c.requires.input; row = row }; same = refl }) c.count_step.ensures.turn refl
+
+pub returns-in-Ok-Idle-clause-quiet : goal.returns-in-Ok-Idle-clause-quiet
+returns-in-Ok-Idle-clause-quiet g c = λ q.
+    let a = c.args.self.now.node.now in
+    let given = c.given-given.result in
+    let fresh = c.fresh-fresh.result in
+    let row = subst (λ r. Steps a c.args.link given fresh c.step.new.self r) (ap Ok c.in-Ok-Idle.field-0-is) c.in-Ok-Idle.ensures in
+    idle_all a c.step.new.self c.args.link given fresh (record { input = c.requires.input; row = row }) q
+
+-- something is unread
+pub returns-in-Ok-Closed-clause-went : goal.returns-in-Ok-Closed-clause-went
+returns-in-Ok-Closed-clause-went g c =
+    let a = c.args.self.now.node.now in
+    let given = c.given-given.result in
+    let fresh = c.fresh-fresh.result in
+    let row = subst (λ r. Steps a c.args.link given fresh c.step.new.self r) (ap Ok c.in-Ok-Closed.field-0-is) c.in-Ok-Closed.ensures in
+    absurd (never_closed a c.step.new.self c.args.link given fresh c.requires.input row)
+
+pub returns-in-Err-Stopped-clause-went : goal.returns-in-Err-Stopped-clause-went
+returns-in-Err-Stopped-clause-went g c =
+    let a = c.args.self.now.node.now in
+    let given = c.given-given.result in
+    let fresh = c.fresh-fresh.result in
+    let row = subst (λ r. Steps a c.args.link given fresh c.step.new.self r) (ap Err c.in-Err-Stopped.field-0-is) c.in-Err-Stopped.ensures in
+    let why : Stopping a c.step.new.self = stops_at c.args.link given fresh (record { input = c.requires.input; row = row }) in
+    broke_one stops refl (record { why = why; own = refl; wire = refl; file = (refl, refl) })
+
+pub returns-in-Err : goal.returns-in-Err
+returns-in-Err g c =
+    let a = c.args.self.now.node.now in
+    let given = c.given-given.result in
+    let fresh = c.fresh-fresh.result in
+    let other : c.in-Err._refused ≡ refusal.Stopped → ⊥ = search rules in
+    let memory = lacks_memory a c.step.new.self c.args.link given fresh c.in-Err._refused c.requires.input other c.in-Err.ensures in
+    let row = subst (λ e. Steps a c.args.link given fresh c.step.new.self (Err e)) memory c.in-Err.ensures in
+    record {
+      went = counts_call (is_refused c.args.socket c.args.link given fresh) c.args.self.now.moment.turn c.count_step.new.self.turn c.drop_connection.new.self.moment.turn refl refl refl refl refl refl
+          (record { has = c.requires.has; node = c.step.new.self; refused = record { input = c.requires.input; row = row }; dropped = c.drop_connection.ensures.dropped }) c.count_step.ensures.turn c.drop_connection.ensures.turn;
+      same = same_on c.args.self.now _ c.drop_connection.new.self (same_stepped c.args.self.now c.step.new.self c.word.new.self c.count_step.new.self c.count_step.ensures.time) c.drop_connection.ensures.same;
+      device = λ e. cc;
+      quiet = refused_all a c.step.new.self c.drop_connection.new.self.node.now c.args.link given fresh c.requires.input row c.drop_connection.ensures.dropped.node;
+      linked = λ e. cc;
+      uses = λ e. cc;
+    }

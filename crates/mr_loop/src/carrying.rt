@@ -1,0 +1,121 @@
+// What the node gives out.
+ghost use Rattle.std.specs.Prelude.{◌≡◌, OnOk, OnErr, IfErr, IsErrOf, true};
+ghost use Rattle.mr_outs.specs.Outs.{outs_of, replace};
+ghost use Rattle.mr_rows.specs.LinkRows.{closed_at};
+ghost use Rattle.mr_connections.specs.State.{parted};
+ghost use Rattle.mr_loop.specs.Stage.{with_connections};
+ghost use Rattle.mr_outs.specs.Listing.{out_view};
+ghost use Rattle.mr_loop.specs.Carrying.{CarriesAs, CarriesOneAs};
+ghost use Rattle.mr_loop.specs.Counting.{taken};
+ghost use Rattle.mr_loop.specs.Hosts.{IsSame, stage_in};
+
+use crate::fault::LoopFault;
+use crate::host::Host;
+use mr_file::LogFile;
+use mr_links::LinkId;
+use mr_outs::{Out, Outs};
+use mr_source::Source;
+use mr_wire::Wire;
+use std::alloc::AllocError;
+
+impl<W: Wire, F: LogFile, S: Source> Host<'_, '_, W, F, S> {
+    /// What a call on the node gave out is carried out. Where the node took the fresh id, another is drawn.
+    pub(crate) fn take(&mut self, outs: Outs) -> Result<(), LoopFault>
+        ensures carried { CarriesAs result (outs_of outs) (stage_in W.links F.told F.synced self.old) (stage_in W.links F.told F.synced self.new) }
+        ensures turn { OnOk result (self.new.moment.turn ≡ taken outs.used self.old.moment.turn) }
+        ensures same { IsSame self.old self.new }
+        ensures device { IsErrOf result LoopFault.File → self.new.log.now.broken ≡ true }
+    {
+        let carried = self.carry_out(&outs);
+        let takes_id = outs.used().is_some();
+        self.node.reuse(outs);
+        carried?;
+        if takes_id {
+            let fresh = self.source.id();
+            self.moment.renew(fresh);
+        }
+        Ok(())
+    }
+
+    /// All outs are carried out, one after another.
+    fn carry_out(&mut self, outs: &Outs) -> Result<(), LoopFault>
+        ensures carried { CarriesAs result (outs_of outs.now) (stage_in W.links F.told F.synced self.old) (stage_in W.links F.told F.synced self.new) }
+        ensures turn { self.new.moment.turn ≡ self.old.moment.turn }
+        ensures same { IsSame self.old self.new }
+        ensures device { IsErrOf result LoopFault.File → self.new.log.now.broken ≡ true }
+    {
+        for out in outs.iter() {
+            self.carry(out)?;
+        }
+        Ok(())
+    }
+
+    /// One of them is carried out.
+    fn carry(&mut self, out: Out<'_>) -> Result<(), LoopFault>
+        ensures carried { CarriesOneAs result (out_view out.entry) (stage_in W.links F.told F.synced self.old) (stage_in W.links F.told F.synced self.new) }
+        ensures turn { self.new.moment.turn ≡ self.old.moment.turn }
+        ensures same { IsSame self.old self.new }
+        ensures device { IsErrOf result LoopFault.File → self.new.log.now.broken ≡ true }
+    {
+        match out {
+            Out::Grow(_) => Ok(()),
+            Out::Append(texts) => kept(self.own.file(texts)),
+            Out::Replace(bytes) => self.rewrite(bytes),
+            Out::Send(link, bytes) => kept(self.own.send(link, bytes)),
+            Out::Close(link) => {
+                self.part(link);
+                Ok(())
+            }
+            Out::Used(_) => Ok(()),
+            Out::Follow(_) => {
+                self.own.forget_dial();
+                Ok(())
+            }
+            Out::Halt => {
+                self.own.halt();
+                Ok(())
+            }
+        }
+    }
+
+    /// The node's end of a link is closed, and its connection gets nothing more.
+    pub(crate) fn part(&mut self, link: LinkId)
+        ensures node { self.new.node.now ≡ closed_at link self.old.node.now }
+        ensures own { self.new.own.now ≡ with_connections (parted link) self.old.own.now }
+        ensures wire { self.new.wire.now ≡ self.old.wire.now }
+        ensures log { self.new.log.now ≡ self.old.log.now }
+        ensures turn { self.new.moment.turn ≡ self.old.moment.turn }
+        ensures same { IsSame self.old self.new }
+    {
+        self.node.close(link);
+        self.own.part(link);
+    }
+
+    /// The file is replaced at once. The new one has all effects so far, so that nothing waits for it any more.
+    fn rewrite(&mut self, whole: &[u8]) -> Result<(), LoopFault>
+        ensures carried { CarriesOneAs result (replace whole.now) (stage_in W.links F.told F.synced self.old) (stage_in W.links F.told F.synced self.new) }
+        ensures turn { self.new.moment.turn ≡ self.old.moment.turn }
+        ensures same { IsSame self.old self.new }
+        ensures device { IsErrOf result LoopFault.File → self.new.log.now.broken ≡ true }
+    {
+        match self.log.replace(whole) {
+            Ok(()) => {
+                self.own.clear_batch();
+                Ok(())
+            }
+            Err(_fault) => Err(LoopFault::File),
+        }
+    }
+}
+
+/// Where memory ran out for what waits, the loop ends.
+fn kept(queued: Result<(), AllocError>) -> Result<(), LoopFault>
+    ensures ok { OnOk result (OnErr queued ⊥) }
+    ensures err { OnErr result (OnOk queued ⊥) }
+    ensures fault { IfErr result (λ e. e ≡ LoopFault.Stopped) }
+{
+    match queued {
+        Ok(()) => Ok(()),
+        Err(_refused) => Err(LoopFault::Stopped),
+    }
+}

@@ -1,0 +1,71 @@
+// The link to the master.
+ghost use Rattle.std.specs.Prelude.{◌≡◌, IsErrOf, None, OnOk, Some, true, false};
+ghost use Rattle.mr_links.specs.Links.{Links as LinksState};
+ghost use Rattle.mr_outs.specs.Address.{AddressState};
+ghost use Rattle.mr_wire.specs.Wire.{LinkState, Connects};
+ghost use Rattle.mr_loop.specs.Going.{GoesAs, GoesFrom};
+ghost use Rattle.mr_loop.specs.Hosts.{IsSame};
+ghost use Rattle.mr_loop.specs.Quiet.{AllWait};
+
+use crate::fault::LoopFault;
+use crate::host::Host;
+use mr_file::LogFile;
+use mr_links::LinkId;
+use mr_peer::NodeFault;
+use mr_source::Source;
+use mr_wire::Wire;
+
+impl<W: Wire, F: LogFile, S: Source> Host<'_, '_, W, F, S> {
+    /// Dials the master, where the node waits for one and it isn't too soon again.
+    pub(crate) fn dial(&mut self) -> Result<(), LoopFault>
+        ensures went { GoesAs W.tells W.links F.told F.synced result self.old self.new }
+        ensures same { IsSame self.old self.new }
+        ensures device { IsErrOf result LoopFault.File → self.new.log.now.broken ≡ true }
+        ensures quiet { AllWait self.old.node.now → OnOk result (AllWait self.new.node.now) }
+    {
+        if !self.node.waits() {
+            return Ok(());
+        }
+        let now = self.moment.time();
+        if !self.own.may_dial(now) {
+            return Ok(());
+        }
+        let Some(address) = self.node.upstream() else {
+            return Ok(());
+        };
+        self.own.note_dial(now);
+        match self.wire.connect(address.host(), address.port()) {
+            Ok(socket) => self.dial_on(socket),
+            Err(_failed) => Ok(()),
+        }
+    }
+
+    /// Dials the master on a link that the wire opened to it, or closes that.
+    fn dial_on(&mut self, socket: LinkId) -> Result<(), LoopFault>
+        requires replica { self.old.node.now.core.master ≡ false }
+        requires alone { self.old.node.now.follow ≡ None }
+        ensures went { (before : LinksState LinkState) (address : AddressState) → self.old.node.now.core.upstream ≡ Some address → Connects before address.host address.port socket (W.links self.old.wire.now) → GoesFrom W.tells W.links F.told F.synced before result self.old self.new }
+        ensures same { IsSame self.old self.new }
+        ensures device { IsErrOf result LoopFault.File → self.new.log.now.broken ≡ true }
+        ensures quiet { AllWait self.old.node.now → OnOk result (AllWait self.new.node.now) }
+    {
+        match self.node.dial(self.own.seed()) {
+            Ok((link, outs)) => match self.own.join(socket, link) {
+                Ok(()) => self.take(outs),
+                Err(_refused) => {
+                    self.node.close(link);
+                    self.wire.close(socket);
+                    Ok(())
+                }
+            },
+            Err(NodeFault::Stopped) => {
+                self.wire.close(socket);
+                Err(LoopFault::Stopped)
+            }
+            Err(_refused) => {
+                self.wire.close(socket);
+                Ok(())
+            }
+        }
+    }
+}
