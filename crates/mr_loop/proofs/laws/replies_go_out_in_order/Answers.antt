@@ -1,5 +1,0 @@
-use Rattle.mr_loop.proofs.Sending.{goes_out_in_order}
-use Rattle.mr_loop.proofs.laws.replies_go_out_in_order.Goals as goal
-
-pub returns : goal.returns
-returns c = goes_out_in_order
