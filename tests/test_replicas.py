@@ -254,6 +254,23 @@ class Promotion(Replicating):
         self.caught_up(first, second, returned)
         self.assertEqual(returned.asks("GET", "after"), first.asks("GET", "after"))
 
+    def test_a_server_says_what_role_it_has_come_to(self):
+        """On standard error: without its master's stream, in it, without it again, and a master of its own."""
+        master = self.node()
+        self.assertEqual(master.asks("SET", "k", "v"), OK)
+        node = self.node(follows=master.port)
+        found = self.caught_up(master, node)
+        self.assertEqual(master.asks("SET", "k", "w"), OK)
+        self.caught_up(master, node)
+        ended = master.kill()
+        self.comes(lambda: b"connected" not in node.asks("ROLE"))
+        new = self.promoted(node)
+        replica = b"replica of %s:%d, " % (HOST.encode(), master.port)
+        told = [replica + b"not in its stream", replica + b"in its stream at offset %d" % found.shows[1], replica + b"not in its stream"]
+        self.assertEqual(node.kill().notices[1:], told + [b"a master, at offset %d" % new.offset])
+        # who never was a replica says nothing of it
+        self.assertEqual(ended.notices[1:], [])
+
     def demoted(self, writes):
         """A master that did so many writes which no replica has is told to follow the replica that was promoted: the proxy between, and both."""
         master, replica = self.followed()
