@@ -1,0 +1,3 @@
+pub mod Histories
+pub mod Moments
+pub mod Level
