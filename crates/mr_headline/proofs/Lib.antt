@@ -1,3 +1,4 @@
 pub mod Histories
 pub mod Moments
 pub mod Level
+pub mod Starting

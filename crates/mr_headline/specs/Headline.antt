@@ -1,9 +1,14 @@
 -- What is promised of every run of Worlds.
-use Rattle.std.specs.Prelude.{◌≡◌, ◌≤◌, ℕ, List, ◌++◌}
+use Rattle.std.specs.Prelude.{◌≡◌, ◌≤◌, ℕ, List, [], ◌∷◌, ◌++◌, Bool}
+use Rattle.std.specs.FinMap.{empty}
 use Rattle.mr_entries.specs.Dataset.{Dataset}
 use Rattle.mr_history.specs.History.{Book}
 use Rattle.mr_language.specs.Minired.{minired}
+use Rattle.mr_rows.specs.State.{started}
+use Rattle.mr_rows.specs.Sound.{IsSound}
 use Rattle.mr_seen.specs.State.{Slot, WorldState}
+use Rattle.mr_seen.specs.Worlds.{no_world}
+use Rattle.mr_seen.specs.Carrying.{begun_slot, started_with}
 use Rattle.mr_seen.specs.Events.{Holds}
 use Rattle.mr_headline.specs.Showing.{Shows, Gives, HistoriesGoOn}
 use Rattle.mr_headline.specs.Runs.{Run, IsMoment, last_of, CaughtUp}
@@ -44,3 +49,9 @@ MomentsAreKnown = (moments : List WorldState) (k : ℕ) (v : WorldState) → IsM
 -- A run, and one from where it ended, are one run, which ends where the second does.
 abbrev pub RunsGoOn : Type 0
 RunsGoOn = (w : WorldState) (us vs : List WorldState) → Run w us → Run (last_of w us) vs → Run w (us ++ vs) × (last_of w (us ++ vs) ≡ last_of (last_of w us) vs)
+
+-- There are runs: where nothing has begun a node may start, and it shows offset 0 and the empty dataset.
+abbrev pub StartsAreRuns : Type 0
+StartsAreRuns = (as_replica : Bool) (port backlog : ℕ) (id file : List ℕ) → IsSound (started as_replica port backlog id empty)
+    → let v = started_with no_world (begun_slot as_replica port backlog id empty file) id in
+    IsMoment (v ∷ []) 1 v × Shows v 0 id 0 empty

@@ -6,6 +6,7 @@ ghost use Rattle.mr_headline.specs.Headline.{
   MomentsAreKnown,
   NoSilentDifference,
   RunsGoOn,
+  StartsAreRuns,
   TrueToHistory,
 };
 
@@ -39,4 +40,9 @@ pub fn moments_are_known()
 /// What goes on from the last moment of a run makes one run with it.
 pub fn runs_go_on()
     ensures { RunsGoOn }
+{}
+
+/// Laws over all runs would say nothing where there was none: a node that starts, its parts being sound, makes one.
+pub fn starts_are_runs()
+    ensures { StartsAreRuns }
 {}
