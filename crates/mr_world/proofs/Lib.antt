@@ -1,3 +1,4 @@
 pub mod Joins
 pub mod Changing
 pub mod Kept
+mod Feeding

@@ -67,6 +67,29 @@ impl Link {
         Ok(())
     }
 
+    /// Whether so many bytes more were sent to the server.
+    pub(crate) fn has_asked(&self, count: usize) -> bool
+        ensures { IsTrue result ↔ (self.now.ask.taken + count ≤ length self.now.ask.sent) }
+    {
+        self.ask.has(count)
+    }
+
+    /// The next bytes that the server is to take.
+    pub(crate) fn next_asked(&self, count: usize) -> &[u8]
+        requires { self.now.ask.taken + count ≤ length self.now.ask.sent }
+        ensures { result.now ≡ take count (drop self.now.ask.taken self.now.ask.sent) }
+    {
+        self.ask.next(count)
+    }
+
+    /// The server takes them.
+    pub(crate) fn take_asked(&mut self, count: usize)
+        requires { self.old.ask.taken + count ≤ length self.old.ask.sent }
+        ensures { self.new ≡ record self.old { ask = taken_on count self.old.ask } }
+    {
+        self.ask.take(count);
+    }
+
     /// Whether so many bytes more were sent to the caller.
     pub(crate) fn has_told(&self, count: usize) -> bool
         ensures { IsTrue result ↔ (self.now.tell.taken + count ≤ length self.now.tell.sent) }

@@ -3,6 +3,8 @@ ghost use Rattle.std.specs.Prelude.{◌≡◌};
 ghost use Rattle.mr_seen.specs.Worlds.{IsWorld, no_world};
 ghost use Rattle.mr_world.specs.Calls.{BreakCall, ClientCall, CommandCall, LeaveCall, StartCall, TakeCall};
 
+mod linking;
+
 use crate::entry::{Entry, is_spent};
 use crate::link::Link;
 use crate::refusal::Refusal;

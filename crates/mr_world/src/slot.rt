@@ -1,9 +1,12 @@
 // A node among others.
-ghost use Rattle.std.specs.Prelude.{◌≡◌, [], IfOk};
+ghost use Rattle.std.specs.Prelude.{◌≡◌, [], false, IfOk, IsTrue, length};
 ghost use Rattle.std.specs.FinMap.{empty};
-ghost use Rattle.mr_peer.specs.Calls.{OpenRow};
+ghost use Rattle.mr_peer.specs.Calls.{FeedRow, OpenRow};
+ghost use Rattle.mr_rows.specs.State.{IsTooMuch};
+ghost use Rattle.mr_rows.specs.Sound.{IsSound};
 ghost use Rattle.mr_rows.specs.LinkRows.{closed_at};
 ghost use Rattle.mr_seen.specs.Carrying.{begun_slot};
+ghost use Rattle.mr_world.specs.Linking.{FitsMore};
 
 use mr_data::Dataset;
 use mr_links::LinkId;
@@ -68,6 +71,29 @@ impl Slot {
         ensures rest { self.new ≡ record self.old { node = self.new.node } }
     {
         self.node.open()
+    }
+
+    /// Whether so many bytes more are too many for what is unread on a link.
+    pub(crate) fn is_too_much(&self, name: LinkId, count: usize) -> bool
+        ensures yes { IsTrue result → IsTooMuch self.now.node name count }
+        ensures no { (result ≡ false) → FitsMore self.now.node name count }
+    {
+        match self.node.room(name) {
+            Some(room) => count > room,
+            None => false,
+        }
+    }
+
+    /// Bytes come on a link.
+    pub(crate) fn feed(&mut self, name: LinkId, bytes: &[u8]) -> Result<(), NodeFault>
+        ensures row { FeedRow self.old.node name bytes.now (length bytes.now) self.new.node result }
+        ensures sound { IsSound self.new.node }
+        ensures rest { self.new ≡ record self.old { node = self.new.node } }
+    {
+        let fed = self.node.feed(name, bytes);
+        // its clause says what a node keeps
+        self.node.sound();
+        fed
     }
 
     /// Closes the node's end of a link.

@@ -2,6 +2,7 @@
 ghost use Rattle.std.specs.Prelude.{◌≡◌};
 ghost use Rattle.mr_seen.specs.Worlds.{no_world};
 ghost use Rattle.mr_world.specs.Calls.{BreakCall, ClientCall, CommandCall, LeaveCall, StartCall, TakeCall};
+ghost use Rattle.mr_world.specs.Linking.{DeliverCall};
 
 use crate::parts::Parts;
 use crate::refusal::Refusal;
@@ -87,5 +88,12 @@ impl World {
         ensures { BreakCall self.old l self.new result }
     {
         self.parts.break_server(l)
+    }
+
+    /// The node that serves a link takes the next bytes of those that were sent there, so many. At a stopped node nothing happens.
+    pub fn deliver_to_server(&mut self, l: usize, count: usize) -> Result<(), Refusal>
+        ensures { DeliverCall self.old l count self.new result }
+    {
+        self.parts.deliver_to_server(l, count)
     }
 }

@@ -1,0 +1,73 @@
+-- What the events between links and nodes come to: bytes that come at a node, and ends that a node closes. As in `Calls`.
+use Rattle.std.specs.Prelude.{◌≡◌, ◌≢◌, ◌≤◌, ◌+◌, ℕ, Result, Ok, Err, length, take, drop}
+use Rattle.mr_links.specs.declared.link_id.LinkId.{LinkId}
+use Rattle.mr_rows.specs.State.{NodeState, IsTooMuch}
+use Rattle.mr_rows.specs.Sound.{IsSound}
+use Rattle.mr_rows.specs.LinkRows.{Feeds}
+use Rattle.mr_seen.specs.State.{Link, Slot, WorldState}
+use Rattle.mr_seen.specs.Events.{IsServed}
+use Rattle.mr_seen.specs.Carrying.{fed_server}
+use Rattle.mr_world.specs.Calls.{IsDown, NoneServes, ServesAt}
+use Rattle.mr_world.specs.declared.refusal.Refusal.{Refusal}
+use Rattle.mr_world.specs.declared.refusal.Refusal.TheVariants as refusal
+
+-- So many bytes more, if any, aren't too many for what is unread on the link.
+abbrev pub FitsMore : NodeState → LinkId → ℕ → Type 0
+FitsMore a l count = count ≢ 0 → IsTooMuch a l count → ⊥
+
+-- So many bytes more were sent to the server's end, which is open; its node runs.
+pub record CanHear (w : WorldState) (l count : ℕ) (k : Link) (s : Slot) : Type 0 where
+  pub served : IsServed w l k s
+  pub sent : k.ask.taken + count ≤ length k.ask.sent
+
+-- the node that serves a link takes them
+pub record Hears (w : WorldState) (l count : ℕ) (v : WorldState) : Type 0 where
+  pub link : Link
+  pub slot : Slot
+  pub can : CanHear w l count link slot
+  pub node : NodeState
+  pub feeds : Feeds slot.node link.name (take count (drop link.ask.taken link.ask.sent)) node
+  pub follow : node.follow ≡ slot.node.follow
+  pub sound : IsSound node
+  pub few : FitsMore slot.node link.name count
+  pub is : v ≡ fed_server w link.to slot node l link count
+
+-- So many more weren't sent to the server's end, which is open.
+pub record WereNotAsked (w : WorldState) (l count : ℕ) : Type 0 where
+  pub link : Link
+  pub at : ServesAt w l link
+  pub fewer : link.ask.taken + count ≤ length link.ask.sent → ⊥
+
+-- They are there, and its node is stopped.
+pub record RestsUnheard (w : WorldState) (l count : ℕ) : Type 0 where
+  pub link : Link
+  pub at : ServesAt w l link
+  pub sent : link.ask.taken + count ≤ length link.ask.sent
+  pub down : IsDown w link.to
+
+-- They are there, and are too many for what is unread.
+pub record IsOverfull (w : WorldState) (l count : ℕ) : Type 0 where
+  pub link : Link
+  pub slot : Slot
+  pub can : CanHear w l count link slot
+  pub over : IsTooMuch slot.node link.name count
+
+-- They are there, some, and aren't too many.
+pub record NeedsRoom (w : WorldState) (l count : ℕ) : Type 0 where
+  pub link : Link
+  pub slot : Slot
+  pub can : CanHear w l count link slot
+  pub some : count ≢ 0
+  pub fits : FitsMore slot.node link.name count
+
+pub data Delivers (w : WorldState) (l count : ℕ) (v : WorldState) : Type 0 where
+  hears : Hears w l count v → Delivers w l count v
+  rests : RestsUnheard w l count → v ≡ w → Delivers w l count v
+
+abbrev pub DeliverCall : WorldState → ℕ → ℕ → WorldState → Result (Unit {0}) Refusal → Type 0
+DeliverCall w l count v (Ok done) = Delivers w l count v
+DeliverCall w l count v (Err refusal.Nobody) = NoneServes w l × (v ≡ w)
+DeliverCall w l count v (Err refusal.TooMuch) = WereNotAsked w l count × (v ≡ w)
+DeliverCall w l count v (Err refusal.InputFull) = IsOverfull w l count × (v ≡ w)
+DeliverCall w l count v (Err refusal.Memory) = NeedsRoom w l count × (v ≡ w)
+DeliverCall w l count v (Err refusal.Drawn) = ⊥

@@ -1,0 +1,44 @@
+// Bytes that come at a node, and ends that a node closes.
+ghost use Rattle.mr_seen.specs.Worlds.{IsWorld};
+ghost use Rattle.mr_world.specs.Linking.{DeliverCall};
+
+use crate::parts::Parts;
+use crate::refusal::Refusal;
+use mr_peer::NodeFault;
+
+impl Parts {
+    /// The node that serves a link takes bytes that were sent there.
+    pub(crate) fn deliver_to_server(&mut self, l: usize, count: usize) -> Result<(), Refusal>
+        requires { IsWorld self.old }
+        ensures { DeliverCall self.old l count self.new result }
+    {
+        if l >= self.links.len() {
+            return Err(Refusal::Nobody);
+        }
+        let link = &self.links[l];
+        if !link.serving() {
+            return Err(Refusal::Nobody);
+        }
+        if !link.has_asked(count) {
+            return Err(Refusal::TooMuch);
+        }
+        let to = link.to();
+        let name = link.name();
+        if !self.slots[to].is_up() {
+            return Ok(());
+        }
+        if self.slots[to].is_too_much(name, count) {
+            return Err(Refusal::InputFull);
+        }
+        match self.slots[to].feed(name, link.next_asked(count)) {
+            Ok(()) => {
+                self.links[l].take_asked(count);
+                Ok(())
+            }
+            Err(NodeFault::Memory) => Err(Refusal::Memory),
+            Err(NodeFault::Stopped) => unreachable!(),
+            Err(NodeFault::NoLink) => unreachable!(),
+            Err(NodeFault::InputFull) => Err(Refusal::InputFull),
+        }
+    }
+}
