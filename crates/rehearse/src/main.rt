@@ -10,7 +10,7 @@
 //! | `given NOW WORD` | `given`: the moment and the random word of the calls from here on |
 //! | `open` | `opened` |
 //! | `feed LINK BYTES` | `fed` |
-//! | `step LINK` | `idle`, `closed`, or `done OUTS REPLY EFFECTS`, and behind that the file where it is replaced: of the outs `g` for growth, `a` for what the file grows by, `r` for its replacement, `s` for what is sent and `c` for the link's closing |
+//! | `step LINK` | `idle`, `closed`, or `done OUTS REPLY EFFECTS`, and behind that the file where it is replaced: of the outs `g` for growth, `a` for what the file grows by, `r` for its replacement, `s` for what is sent, `c` for the link's closing, `u` for a fresh id that is taken, `f` for whom it follows and `h` for the program's end |
 //! | `room LINK` | `room COUNT`, or `gone` |
 //! | `close LINK` | `closed` |
 //! | `tick` | as of a step: `done OUTS - EFFECTS` |

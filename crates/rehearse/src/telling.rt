@@ -1,6 +1,8 @@
 //! What a call answered, written.
 use crate::fault::RehearsalFault;
-use mr_node::{Out, Outs};
+use mr_links::LinkId;
+use mr_outs::{Address, Out, Outs};
+use mr_repl::ReplId;
 use std::alloc::Global;
 use std::fmt::Display;
 
@@ -44,8 +46,22 @@ fn letter_of(part: Out<'_>) -> u8 {
         Out::Grow(_) => b'g',
         Out::Append(_) => b'a',
         Out::Replace(_) => b'r',
-        Out::Send(_, _) => b's',
-        Out::Close(_) => b'c',
+        Out::Send(link, _) => letter_of_link(b's', link),
+        Out::Close(link) => letter_of_link(b'c', link),
+        Out::Used(id) => letter_of_id(id),
+        Out::Follow(address) => letter_of_address(address),
         Out::Halt => b'h',
     }
+}
+
+fn letter_of_link(letter: u8, _: LinkId) -> u8 {
+    letter
+}
+
+fn letter_of_id(_: ReplId) -> u8 {
+    b'u'
+}
+
+fn letter_of_address(_: &Address) -> u8 {
+    b'f'
 }
