@@ -1,3 +1,5 @@
 pub mod Joins
 pub mod Changing
 pub mod Kept
+pub mod Undone
+pub mod Ticking

@@ -1,2 +1,4 @@
 pub mod Codes
 pub mod Calls
+pub mod Undoing
+pub mod Stepping
