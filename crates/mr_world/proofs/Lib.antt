@@ -2,3 +2,5 @@ pub mod Joins
 pub mod Changing
 pub mod Kept
 mod Feeding
+pub mod Undone
+pub mod Ticking

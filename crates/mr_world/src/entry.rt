@@ -1,11 +1,11 @@
 // What is known of an id.
-ghost use Rattle.std.specs.Prelude.{◌≡◌, [], ◌||◌, bytes_eq, is_some};
+ghost use Rattle.std.specs.Prelude.{◌≡◌, [], ◌||◌, ◌++◌, bytes_eq, is_some, take, option_copied, IfOk, OnOk, OnErr};
 ghost use Rattle.mr_repl.specs.ReplId.{zero_id};
-ghost use Rattle.mr_seen.specs.Books.{entry_of};
+ghost use Rattle.mr_seen.specs.Books.{branched, entry_of, extended};
 ghost use Rattle.mr_world.specs.Calls.{is_spent};
 
 use mr_repl::ReplId;
-use std::alloc::Global;
+use std::alloc::{AllocError, Global};
 use std::marker::Model;
 
 /// The history of an id: the commands that make the dataset that it began with, and the texts of the effects since.
@@ -43,6 +43,88 @@ impl Entry {
         ensures { result ≡ bytes_eq self.now.id id }
     {
         self.id == id
+    }
+
+    /// More texts stand behind.
+    fn lengthen(&mut self, bytes: &[u8]) -> Result<(), AllocError>
+        ensures ok { OnOk result (self.new ≡ record self.old { texts = self.old.texts ++ bytes.now }) }
+        ensures err { OnErr result (self.new ≡ self.old) }
+    {
+        self.texts.extend_from_slice(bytes)?;
+        Ok(())
+    }
+
+    /// The history of a new id, which is this one up to an offset.
+    fn cut(&self, alloc: Global, fresh: ReplId, offset: u64) -> Result<Entry, AllocError>
+        ensures { IfOk result (λ e. e ≡ record { id = fresh; start = self.now.start; texts = take offset self.now.texts }) }
+    {
+        let start = Vec::from_slice(alloc, self.start.as_slice())?;
+        let texts = Vec::from_slice(alloc, front_of(self.texts.as_slice(), offset))?;
+        Ok(Entry {
+            id: fresh,
+            start,
+            texts,
+        })
+    }
+}
+
+/// The first bytes, as many as there are of so many.
+fn front_of(bytes: &[u8], count: u64) -> &[u8]
+    ensures { result.now ≡ take count bytes.now }
+{
+    let count = count as usize;
+    if count >= bytes.len() {
+        return bytes;
+    }
+    let (front, _) = bytes.split_at(count);
+    front
+}
+
+/// The history of an id.
+fn find(book: &[Entry], id: ReplId) -> Option<&Entry>
+    ensures { option_copied result ≡ entry_of book.now id }
+{
+    for entry in book.iter() {
+        if entry.is_of(id) {
+            return Some(entry);
+        }
+    }
+    None
+}
+
+/// Puts texts behind the history of an id.
+pub(crate) fn lengthen(book: &mut [Entry], id: ReplId, bytes: &[u8]) -> Result<(), AllocError>
+    ensures ok { OnOk result (book.new ≡ extended book.old id bytes.now) }
+    ensures err { OnErr result (book.new ≡ book.old) }
+{
+    for entry in book.iter_mut() {
+        if entry.is_of(id) {
+            return entry.lengthen(bytes);
+        }
+    }
+    Ok(())
+}
+
+/// A new id, whose history is that of another up to an offset.
+pub(crate) fn branch(
+    alloc: Global,
+    book: &mut Vec<Entry>,
+    id: ReplId,
+    offset: u64,
+    fresh: ReplId,
+) -> Result<(), AllocError>
+    ensures ok { OnOk result (book.new.items ≡ branched book.old.items id offset fresh) }
+    ensures err { OnErr result (book.new.items ≡ book.old.items) }
+{
+    match find(book.as_slice(), id) {
+        Some(entry) => {
+            let cut = entry.cut(alloc, fresh, offset)?;
+            if book.push(cut).is_err() {
+                return Err(AllocError);
+            }
+            Ok(())
+        }
+        None => Ok(()),
     }
 }
 

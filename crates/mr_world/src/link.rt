@@ -1,12 +1,15 @@
 // A link to a node.
-ghost use Rattle.std.specs.Prelude.{◌≡◌, ◌+◌, ◌≤◌, ◌↔◌, true, false, length, take, drop, IsTrue, OnOk, OnErr};
+ghost use Rattle.std.specs.Prelude.{◌≡◌, ◌+◌, ◌≤◌, ◌↔◌, ◌==◌, ◌&&◌, true, false, length, take, drop, IsTrue, OnOk, OnErr};
+ghost use Rattle.mr_ends.specs.Replicas.{is_named};
 ghost use Rattle.mr_seen.specs.State.{a_client};
 ghost use Rattle.mr_seen.specs.Way.{sent_on, taken_on};
-ghost use Rattle.mr_seen.specs.Carrying.{opened_link};
+ghost use Rattle.mr_seen.specs.Carrying.{fed_if, is_at, opened_link, shut_if, told};
 ghost use Rattle.mr_world.specs.Calls.{IsAsking};
+ghost use Rattle.mr_world.specs.Undoing.{asked, unasked, unfed_if, untold};
 
 use crate::way::Way;
 use mr_links::LinkId;
+use mr_outs::Outs;
 use std::alloc::{AllocError, Global};
 use std::marker::Model;
 
@@ -140,4 +143,75 @@ impl Link {
     {
         self.serving = false;
     }
+
+    /// Whether it is a link that this node serves.
+    fn is_at(&self, n: usize) -> bool
+        ensures { result ≡ is_at n self.now }
+    {
+        self.to == n && self.serving
+    }
+
+    /// The server sends more.
+    pub(crate) fn tell(&mut self, bytes: &[u8]) -> Result<(), AllocError>
+        ensures ok { OnOk result (self.new ≡ told bytes.now self.old) }
+        ensures err { OnErr result (self.new ≡ self.old) }
+    {
+        self.tell.send(bytes)?;
+        Ok(())
+    }
+
+    /// It didn't, so many bytes.
+    pub(crate) fn untell(&mut self, count: usize)
+        ensures { self.new ≡ untold count self.old }
+    {
+        self.tell.unsend(count);
+    }
+
+    /// The caller didn't send them.
+    pub(crate) fn unask(&mut self, count: usize)
+        ensures { self.new ≡ unasked count self.old }
+    {
+        self.ask.unsend(count);
+    }
+
+    /// What the stream grew by is sent, where the outs of this node say so.
+    pub(crate) fn feed_if(&mut self, n: usize, outs: &Outs) -> Result<(), AllocError>
+        ensures ok { OnOk result (self.new ≡ fed_if (is_at n self.old && is_named outs.now.fed self.old.name) outs.now.grown self.old) }
+        ensures err { OnErr result (self.new ≡ self.old) }
+    {
+        if self.is_at(n) && is_named(outs.fed(), self.name) {
+            return self.tell(outs.grown());
+        }
+        Ok(())
+    }
+
+    /// It wasn't.
+    pub(crate) fn unfeed_if(&mut self, n: usize, outs: &Outs)
+        ensures { self.new ≡ unfed_if (is_at n self.old && is_named outs.now.fed self.old.name) (length outs.now.grown) self.old }
+    {
+        if self.is_at(n) && is_named(outs.fed(), self.name) {
+            self.untell(outs.grown().len());
+        }
+    }
+
+    /// The end closes, where the outs of this node say so.
+    pub(crate) fn shut_if(&mut self, n: usize, outs: &Outs)
+        ensures { self.new ≡ shut_if (is_at n self.old && is_named outs.now.closed self.old.name) self.old }
+    {
+        if self.is_at(n) && is_named(outs.closed(), self.name) {
+            self.shut();
+        }
+    }
+}
+
+/// Whether the name is among these.
+fn is_named(names: &[LinkId], name: LinkId) -> bool
+    ensures { result ≡ is_named names.now name }
+{
+    for other in names.iter() {
+        if *other == name {
+            return true;
+        }
+    }
+    false
 }

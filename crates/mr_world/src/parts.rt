@@ -18,9 +18,9 @@ use std::marker::Model;
 /// Nodes, links and the book, with nothing that holds of them.
 #[derive(Drop)]
 pub(crate) struct Parts {
-    slots: Vec<Slot>,
-    links: Vec<Link>,
-    book: Vec<Entry>,
+    pub(crate) slots: Vec<Slot>,
+    pub(crate) links: Vec<Link>,
+    pub(crate) book: Vec<Entry>,
 }
 
 impl Model for Parts {

@@ -1,15 +1,17 @@
 // A node among others.
-ghost use Rattle.std.specs.Prelude.{◌≡◌, [], false, IfOk, IsTrue, length};
+ghost use Rattle.std.specs.Prelude.{◌≡◌, ◌-◌, ◌++◌, [], false, length, take, IfOk, IsTrue, OnOk, OnErr};
+ghost use Rattle.std.specs.Option.{option_map};
 ghost use Rattle.std.specs.FinMap.{empty};
-ghost use Rattle.mr_peer.specs.Calls.{FeedRow, OpenRow};
-ghost use Rattle.mr_rows.specs.State.{IsTooMuch};
+ghost use Rattle.mr_peer.specs.Calls.{FeedRow, OpenRow, TickStep};
+ghost use Rattle.mr_rows.specs.State.{IsTooMuch, shown, stopped_as};
 ghost use Rattle.mr_rows.specs.Sound.{IsSound};
 ghost use Rattle.mr_rows.specs.LinkRows.{closed_at};
-ghost use Rattle.mr_seen.specs.Carrying.{begun_slot};
+ghost use Rattle.mr_seen.specs.Carrying.{begun_slot, filed_by};
 ghost use Rattle.mr_world.specs.Linking.{FitsMore};
 
-use mr_data::Dataset;
+use mr_data::{Dataset, Given};
 use mr_links::LinkId;
+use mr_outs::Outs;
 use mr_peer::{Config, Node, NodeFault};
 use mr_repl::ReplId;
 use std::alloc::{AllocError, Global};
@@ -101,5 +103,63 @@ impl Slot {
         ensures { self.new ≡ record self.old { node = closed_at name self.old.node } }
     {
         self.node.close(name);
+    }
+
+    /// The id and the offset, none where the node is stopped.
+    pub(crate) fn shows(&self) -> Option<(ReplId, u64)>
+        ensures { result ≡ shown self.now.node.core }
+    {
+        self.node.shows()
+    }
+
+    /// The link that the node dialled last.
+    pub(crate) fn dialled(&self) -> usize
+        ensures { result ≡ self.now.dialled }
+    {
+        self.dialled
+    }
+
+    /// Time passes at the node.
+    pub(crate) fn tick(&mut self, given: Given) -> Result<Outs, NodeFault>
+        ensures row { TickStep self.old.node given.now self.new.node result }
+        ensures sound { IsSound self.new.node }
+        ensures rest { self.new ≡ record self.old { node = self.new.node } }
+    {
+        let ticked = self.node.tick(given);
+        self.node.sound();
+        ticked
+    }
+
+    /// The node stops.
+    pub(crate) fn fail(&mut self)
+        ensures { self.new ≡ record self.old { node = stopped_as self.old.node } }
+    {
+        self.node.file_failed();
+    }
+
+    /// Puts bytes behind the file.
+    pub(crate) fn append(&mut self, bytes: &[u8]) -> Result<(), AllocError>
+        ensures ok { OnOk result (self.new ≡ record self.old { file = self.old.file ++ bytes.now }) }
+        ensures err { OnErr result (self.new ≡ self.old) }
+    {
+        self.file.extend_from_slice(bytes)?;
+        Ok(())
+    }
+
+    /// Takes the last bytes of the file away, so many.
+    pub(crate) fn shorten(&mut self, count: usize)
+        ensures { self.new ≡ record self.old { file = take (length self.old.file - count) self.old.file } }
+    {
+        let kept = self.file.len().saturating_sub(count);
+        self.file.truncate(kept);
+    }
+
+    /// Puts other bytes in the file's place, where there are any.
+    pub(crate) fn replace(&mut self, bytes: Option<Vec<u8>>)
+        ensures { self.new ≡ record self.old { file = filed_by (option_map (λ b. b.items) bytes) self.old.file } }
+    {
+        if let Some(bytes) = bytes {
+            self.file = bytes;
+        }
     }
 }

@@ -1,6 +1,7 @@
 // One direction of a link.
 ghost use Rattle.std.specs.Prelude.{◌≡◌, ◌+◌, ◌≤◌, ◌↔◌, length, take, drop, IsTrue, OnOk, OnErr};
-ghost use Rattle.mr_seen.specs.Way.{no_way, sent_on, taken_on};
+ghost use Rattle.mr_seen.specs.Way.{left_on, no_way, sent_on, taken_on};
+ghost use Rattle.mr_world.specs.Undoing.{unsent};
 
 use std::alloc::{AllocError, Global};
 use std::marker::Model;
@@ -14,13 +15,11 @@ pub(crate) struct Way {
 }
 
 impl Model for Way {
-    ghost use Rattle.mr_seen.specs.Way.{IsWay, WayState};
+    ghost use Rattle.mr_seen.specs.Way.{WayState};
 
     ghost Value = { WayState };
 
     ghost view = { λ w. record { sent = w.sent.items; taken = w.taken; used = w.used } };
-
-    ghost invariant = { λ w. IsWay (record { sent = w.sent.items; taken = w.taken; used = w.used }) };
 }
 
 impl Way {
@@ -44,11 +43,26 @@ impl Way {
         Ok(())
     }
 
+    /// The last bytes weren't sent, so many.
+    pub(crate) fn unsend(&mut self, count: usize)
+        ensures { self.new ≡ unsent count self.old }
+    {
+        let kept = self.sent.len().saturating_sub(count);
+        self.sent.truncate(kept);
+    }
+
+    /// So many of the bytes that were taken are left unread.
+    pub(crate) fn leave(&mut self, left: usize)
+        ensures { self.new ≡ left_on left self.old }
+    {
+        self.used = self.taken.saturating_sub(left);
+    }
+
     /// Whether so many bytes more were sent.
     pub(crate) fn has(&self, count: usize) -> bool
         ensures { IsTrue result ↔ (self.now.taken + count ≤ length self.now.sent) }
     {
-        count <= self.sent.len() - self.taken
+        self.taken <= self.sent.len() && count <= self.sent.len() - self.taken
     }
 
     /// The next bytes that are to be taken.

@@ -3,9 +3,11 @@ ghost use Rattle.std.specs.Prelude.{◌≡◌};
 ghost use Rattle.mr_seen.specs.Worlds.{no_world};
 ghost use Rattle.mr_world.specs.Calls.{BreakCall, ClientCall, CommandCall, LeaveCall, StartCall, TakeCall};
 ghost use Rattle.mr_world.specs.Linking.{DeliverCall};
+ghost use Rattle.mr_world.specs.Stepping.{TickCall};
 
 use crate::parts::Parts;
 use crate::refusal::Refusal;
+use mr_data::Given;
 use mr_peer::Config;
 use mr_repl::ReplId;
 use std::alloc::Global;
@@ -95,5 +97,12 @@ impl World {
         ensures { DeliverCall self.old l count self.new result }
     {
         self.parts.deliver_to_server(l, count)
+    }
+
+    /// Time passes at a node. At a stopped node nothing happens; where memory runs out for what the node gives out, it stops.
+    pub fn tick(&mut self, n: usize, given: Given) -> Result<(), Refusal>
+        ensures { TickCall self.old n given.now self.new result }
+    {
+        self.parts.tick(self.alloc, n, given)
     }
 }

@@ -1,0 +1,36 @@
+-- What the events come to in which a node gives something out. A refusal leaves the World as it is; where there is no memory for what a node gave out,
+-- the node stops, and nothing else changes.
+use Rattle.std.specs.Prelude.{◌≡◌, ℕ, ℤ, None, Result, Ok, Err, slice_get}
+use Rattle.mr_outs.specs.Outs.{OutsState}
+use Rattle.mr_rows.specs.Sound.{IsSound}
+use Rattle.mr_rows.specs.State.{NodeState, stopped_as}
+use Rattle.mr_rows.specs.TimeRows.{TickRow}
+use Rattle.mr_seen.specs.State.{Slot, WorldState}
+use Rattle.mr_seen.specs.Carrying.{put_node, ticked}
+use Rattle.mr_seen.specs.Events.{IsRunning}
+use Rattle.mr_world.specs.declared.refusal.Refusal.{Refusal}
+use Rattle.mr_world.specs.declared.refusal.Refusal.TheVariants as refusal
+use Rattle.mr_world.specs.Calls.{IsDown, Runs}
+
+-- A tick is a row of the node, that comes to this.
+pub record HasTicked (w : WorldState) (n : ℕ) (now : ℤ) : Type 0 where
+  pub slot : Slot
+  pub running : IsRunning w n slot
+  pub node : NodeState
+  pub outs : OutsState
+  pub row : TickRow slot.node now node outs
+  pub sound : IsSound node
+
+-- what it gave out is carried; or the node stops; or the node is stopped, and nothing happens
+pub data Ticks (w : WorldState) (n : ℕ) (now : ℤ) (v : WorldState) : Type 0 where
+  carries : (t : HasTicked w n now) → v ≡ ticked w n t.slot t.node t.outs → Ticks w n now v
+  fails : (t : HasTicked w n now) → v ≡ put_node w n t.slot (stopped_as t.node) → Ticks w n now v
+  rests : IsDown w n → v ≡ w → Ticks w n now v
+
+abbrev pub TickCall : WorldState → ℕ → ℤ → WorldState → Result (Unit {0}) Refusal → Type 0
+TickCall w n now v (Ok done) = Ticks w n now v
+TickCall w n now v (Err refusal.Nobody) = (slice_get w.slots n ≡ None) × (v ≡ w)
+TickCall w n now v (Err refusal.Memory) = Runs w n × (v ≡ w)
+TickCall w n now v (Err refusal.Drawn) = ⊥
+TickCall w n now v (Err refusal.TooMuch) = ⊥
+TickCall w n now v (Err refusal.InputFull) = ⊥
