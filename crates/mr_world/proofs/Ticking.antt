@@ -7,15 +7,14 @@ use Rattle.mr_rows.specs.State.{Core, NodeState, shown, stopped_as}
 use Rattle.mr_rows.specs.TimeRows.{TickRow}
 use Rattle.mr_seen.specs.State.{Entry, Link, Slot, WorldState}
 use Rattle.mr_seen.specs.Worlds.{IsWorld}
-use Rattle.mr_seen.specs.Carrying.{booked, booked_as, filed, put_node, reached, said_on, ticked}
-use Rattle.mr_seen.specs.Events.{IsRunning}
+use Rattle.mr_seen.specs.Carrying.{booked_as, filed, reached, said_on}
 use Rattle.mr_seen.proofs.Places.{is_within, set_here, some_is}
 use Rattle.mr_seen.proofs.Kept.{ticks_keep}
 use Rattle.mr_world.specs.declared.refusal.Refusal.{Refusal}
 use Rattle.mr_world.specs.declared.refusal.Refusal.TheVariants as refusal
-use Rattle.mr_world.specs.Calls.{IsDown, Runs}
+use Rattle.mr_world.specs.Calls.{Runs}
 use Rattle.mr_world.specs.Stepping.{HasTicked, TickCall, Ticks}
-use Rattle.mr_world.proofs.Joins.{put_same, read_twice, stands}
+use Rattle.mr_world.proofs.Joins.{put_same, stands}
 use Rattle.mr_world.proofs.Kept.{stops_world}
 use Rattle.mr_world.proofs.Undone.{set_twice}
 

@@ -1,17 +1,16 @@
 -- What was carried and is taken back is as it was.
-use Rattle.std.proofs.Common.{zero, suc, ◌≡◌, ◌-◌, ◌<◌, ◌≤◌, ℕ, List, [], ◌∷◌, ◌++◌, ◌&&◌, Bool, true, false, cond, Option, None, Some, length, length-append, map, take, drop, refl, sym, ap, ◌∙◌, arith}
+use Rattle.std.proofs.Common.{zero, suc, ◌≡◌, ◌-◌, ◌≤◌, ℕ, List, [], ◌∷◌, ◌++◌, ◌&&◌, Bool, true, false, cond, Option, None, Some, length, length-append, map, take, drop, refl, sym, ap, ◌∙◌, arith}
 use Rattle.std.specs.Prelude.{slice_get, slice_set, bytes_eq}
 use Rattle.std.specs.Option.{option_map}
 use Rattle.std.proofs.lemmas.Option.{slice_get-map}
 use Rattle.mr_links.specs.declared.link_id.LinkId.{LinkId}
 use Rattle.mr_ends.specs.Replicas.{is_named}
 use Rattle.mr_outs.specs.Outs.{OutsState}
-use Rattle.mr_seen.specs.Way.{WayState, sent_on}
 use Rattle.mr_seen.specs.State.{Entry, Link, Slot}
 use Rattle.mr_seen.specs.Books.{extended}
 use Rattle.mr_seen.specs.Carrying.{fed_if, filed, filed_by, is_at, reached, said_by, said_on, shut_if, told}
-use Rattle.mr_seen.proofs.Places.{set_here, set_same, some_is}
-use Rattle.mr_world.specs.Undoing.{asked, fed_by, shut_by, unasked, unfed_by, unfed_if, unsaid_by, unsaid_on, unsent, untold}
+use Rattle.mr_seen.proofs.Places.{set_here, set_same}
+use Rattle.mr_world.specs.Undoing.{asked, fed_by, shut_by, unasked, unfed_by, unfed_if, unsaid_by, unsaid_on, untold}
 
 pub set_twice : {A : Type 0} (xs : List A) (i : ℕ) (x y : A) → slice_set (slice_set xs i x) i y ≡ slice_set xs i y
 set_twice [] i x y = refl

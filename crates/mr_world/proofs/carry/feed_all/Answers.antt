@@ -1,4 +1,4 @@
-use Rattle.std.proofs.Common.{rules, ◌≡◌, ◌∙◌, ◌++◌, ap, map, take, drop}
+use Rattle.std.proofs.Common.{◌∙◌, ◌++◌, ap, map, take, drop}
 use Rattle.mr_world.specs.Undoing.{fed_by, unfed_by}
 use Rattle.mr_world.proofs.Undone.{undone, unfed_fed}
 use Rattle.mr_world.proofs.carry.feed_all.Goals as goal

@@ -1,5 +1,4 @@
 use Rattle.std.proofs.Common.{rules, ◌≡◌, ◌∙◌, ap, map}
-use Rattle.mr_seen.specs.Carrying.{reached}
 use Rattle.mr_world.specs.Undoing.{fed_by, unfed_by, shut_by}
 use Rattle.mr_world.proofs.Undone.{reach_all, undone_all, unfed_fed}
 use Rattle.mr_world.proofs.carry.give.Goals as goal

@@ -1,4 +1,4 @@
-use Rattle.std.proofs.Common.{rules, ◌≡◌, ◌<◌, ◌∙◌, List, Err, length, map, sym, ap, subst}
+use Rattle.std.proofs.Common.{rules, ◌≡◌, ◌<◌, ◌∙◌, Err, length, map, sym, ap, subst}
 use Rattle.std.specs.Prelude.{slice_set}
 use Rattle.mr_seen.specs.State.{Slot, WorldState}
 use Rattle.mr_seen.specs.Carrying.{booked_as, filed, reached, said_on}
