@@ -2,7 +2,7 @@
 ghost use Rattle.std.specs.Prelude.{◌≡◌};
 ghost use Rattle.mr_seen.specs.Worlds.{no_world};
 ghost use Rattle.mr_world.specs.Calls.{BreakCall, ClientCall, CommandCall, LeaveCall, StartCall, TakeCall};
-ghost use Rattle.mr_world.specs.Linking.{DeliverCall};
+ghost use Rattle.mr_world.specs.Linking.{DeliverCall, DropCall};
 
 use crate::parts::Parts;
 use crate::refusal::Refusal;
@@ -95,5 +95,12 @@ impl World {
         ensures { DeliverCall self.old l count self.new result }
     {
         self.parts.deliver_to_server(l, count)
+    }
+
+    /// The node that follows by a link closes its end. That of a client, of a node that is stopped or follows no more, isn't one.
+    pub fn break_dialler(&mut self, l: usize) -> Result<(), Refusal>
+        ensures { DropCall self.old l self.new result }
+    {
+        self.parts.break_dialler(l)
     }
 }
