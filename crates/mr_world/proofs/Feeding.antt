@@ -55,7 +55,7 @@ followed_end : (ends : Links EndState) (o : Option (LinkId × FollowState)) (x :
 followed_end ends None x h e = absurd (no_some x e)
 followed_end ends (Some f) x h e = ap (end_at ends) (sym (some_is f.0 x e)) ∙ h
 
-not_upstream : (b : Bool) (u : List ℕ) → ◌≡◌ {A = Option EndState} (Some upstream) (Some (end_for b u)) → ⊥
+pub not_upstream : (b : Bool) (u : List ℕ) → ◌≡◌ {A = Option EndState} (Some upstream) (Some (end_for b u)) → ⊥
 not_upstream true u e = cc
 not_upstream false u e = cc
 

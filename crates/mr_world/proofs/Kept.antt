@@ -212,15 +212,15 @@ leave_keeps w v l (Err refusal.Drawn) is c = absurd c
 leave_keeps w v l (Err refusal.InputFull) is c = absurd c
 
 -- ---- a server's end closes
-follow_was : (l : LinkId) (o : Option (LinkId × FollowState)) (x : LinkId × FollowState) → follow_without l o ≡ Some x → o ≡ Some x
+pub follow_was : (l : LinkId) (o : Option (LinkId × FollowState)) (x : LinkId × FollowState) → follow_without l o ≡ Some x → o ≡ Some x
 follow_was l None x e = absurd (no_some x e)
 follow_was l (Some f) x e = at_or_other f.0 l (λ b. cond b None (Some f) ≡ Some x → Some f ≡ Some x) (λ same q. absurd (no_some x q)) (λ ne q. q) e
 
-reads_without : (a : NodeState) (l : LinkId) (o : Option (LinkId × FollowState)) → IfSome o (λ f. IsReading a f.1) → IfSome (follow_without l o) (λ f. IsReading (closed_at l a) f.1)
+pub reads_without : (a : NodeState) (l : LinkId) (o : Option (LinkId × FollowState)) → IfSome o (λ f. IsReading a f.1) → IfSome (follow_without l o) (λ f. IsReading (closed_at l a) f.1)
 reads_without a l None h = tt
 reads_without a l (Some f) h = at_or_other f.0 l (λ b. IfSome (cond b None (Some f)) (λ g. IsReading (closed_at l a) g.1)) (λ same. tt) (λ ne. record { reader = h.reader; follower = h.follower; port = h.port })
 
-closed_end : (a : NodeState) (l x : LinkId) → x ≢ l → end_of (closed_at l a) x ≡ end_of a x
+pub closed_end : (a : NodeState) (l x : LinkId) → x ≢ l → end_of (closed_at l a) x ≡ end_of a x
 closed_end a l x ne = get-remove ids_total a.ends.open_links l x ∙ at_or_other x l (λ b. cond b None (get a.ends.open_links x) ≡ get a.ends.open_links x) (λ same. absurd (ne same)) (λ other. refl)
 
 breaks_world : (w : WorldState) (l : ℕ) (k : Link) (s : Slot) → IsWorld w → IsServed w l k s → IsWorld (broken w k.to s (closed_at k.name s.node) l k)

@@ -4,3 +4,4 @@ pub mod Kept
 mod Feeding
 pub mod Undone
 pub mod Ticking
+mod Dialling

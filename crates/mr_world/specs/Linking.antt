@@ -1,12 +1,13 @@
 -- What the events between links and nodes come to: bytes that come at a node, and ends that a node closes. As in `Calls`.
-use Rattle.std.specs.Prelude.{◌≡◌, ◌≢◌, ◌≤◌, ◌+◌, ℕ, Result, Ok, Err, length, take, drop}
+use Rattle.std.specs.Prelude.{◌≡◌, ◌≢◌, ◌≤◌, ◌+◌, ℕ, Result, Ok, Err, length, take, drop, true, false, Some, None}
 use Rattle.mr_links.specs.declared.link_id.LinkId.{LinkId}
+use Rattle.mr_follow.specs.State.{FollowState}
 use Rattle.mr_rows.specs.State.{NodeState, IsTooMuch}
 use Rattle.mr_rows.specs.Sound.{IsSound}
-use Rattle.mr_rows.specs.LinkRows.{Feeds}
+use Rattle.mr_rows.specs.LinkRows.{Feeds, closed_at}
 use Rattle.mr_seen.specs.State.{Link, Slot, WorldState}
-use Rattle.mr_seen.specs.Events.{IsServed}
-use Rattle.mr_seen.specs.Carrying.{fed_server}
+use Rattle.mr_seen.specs.Events.{IsFollowed, IsServed}
+use Rattle.mr_seen.specs.Carrying.{fed_server, put_node}
 use Rattle.mr_world.specs.Calls.{IsDown, NoneServes, ServesAt}
 use Rattle.mr_world.specs.declared.refusal.Refusal.{Refusal}
 use Rattle.mr_world.specs.declared.refusal.Refusal.TheVariants as refusal
@@ -71,3 +72,38 @@ DeliverCall w l count v (Err refusal.TooMuch) = WereNotAsked w l count × (v ≡
 DeliverCall w l count v (Err refusal.InputFull) = IsOverfull w l count × (v ≡ w)
 DeliverCall w l count v (Err refusal.Memory) = NeedsRoom w l count × (v ≡ w)
 DeliverCall w l count v (Err refusal.Drawn) = ⊥
+
+-- ---- the end of the node that dialled
+-- The node runs, and follows by the link that it dialled last, which is l.
+pub record IsFollowing (s : Slot) (l : ℕ) : Type 0 where
+  pub up : s.node.core.up ≡ true
+  pub dialled : s.dialled ≡ l
+  pub follows : s.node.follow ≢ None
+
+-- The node n runs, and follows by the link l.
+pub record FollowsBy (w : WorldState) (l n : ℕ) (k : Link) (s : Slot) (name : LinkId) (f : FollowState) : Type 0 where
+  pub followed : IsFollowed w n s k
+  pub follows : s.node.follow ≡ Some (name, f)
+  pub dialled : s.dialled ≡ l
+
+-- No node does so.
+abbrev pub NoneFollows : WorldState → ℕ → Type 0
+NoneFollows w l = (n : ℕ) (k : Link) (s : Slot) (name : LinkId) (f : FollowState) → FollowsBy w l n k s name f → ⊥
+
+-- the node that follows by a link closes its end
+pub record Drops (w : WorldState) (l : ℕ) (v : WorldState) : Type 0 where
+  pub number : ℕ
+  pub link : Link
+  pub slot : Slot
+  pub name : LinkId
+  pub reader : FollowState
+  pub by : FollowsBy w l number link slot name reader
+  pub is : v ≡ put_node w number slot (closed_at name slot.node)
+
+abbrev pub DropCall : WorldState → ℕ → WorldState → Result (Unit {0}) Refusal → Type 0
+DropCall w l v (Ok done) = Drops w l v
+DropCall w l v (Err refusal.Nobody) = NoneFollows w l × (v ≡ w)
+DropCall w l v (Err refusal.TooMuch) = ⊥
+DropCall w l v (Err refusal.InputFull) = ⊥
+DropCall w l v (Err refusal.Memory) = ⊥
+DropCall w l v (Err refusal.Drawn) = ⊥

@@ -1,7 +1,7 @@
 // A link to a node.
-ghost use Rattle.std.specs.Prelude.{◌≡◌, ◌+◌, ◌≤◌, ◌↔◌, ◌==◌, ◌&&◌, true, false, length, take, drop, IsTrue, OnOk, OnErr};
+ghost use Rattle.std.specs.Prelude.{◌≡◌, ◌+◌, ◌≤◌, ◌↔◌, ◌==◌, ◌&&◌, true, false, length, take, drop, IfNone, IfSome, IsTrue, OnOk, OnErr, ℕ};
 ghost use Rattle.mr_ends.specs.Replicas.{is_named};
-ghost use Rattle.mr_seen.specs.State.{a_client};
+ghost use Rattle.mr_seen.specs.State.{a_client, a_node};
 ghost use Rattle.mr_seen.specs.Way.{sent_on, taken_on};
 ghost use Rattle.mr_seen.specs.Carrying.{fed_if, is_at, opened_link, shut_if, told};
 ghost use Rattle.mr_world.specs.Calls.{IsAsking};
@@ -59,6 +59,14 @@ impl Link {
         ensures { IsTrue result ↔ IsAsking self.now }
     {
         self.peer.is_none() && self.asking
+    }
+
+    /// The node that dialled, and its name for the link; none of a client's.
+    pub(crate) fn peer(&self) -> Option<(usize, LinkId)>
+        ensures node { IfSome result (λ p. self.now.caller ≡ a_node p.0 p.1) }
+        ensures client { IfNone result ((n : ℕ) (name : LinkId) → self.now.caller ≡ a_node n name → ⊥) }
+    {
+        self.peer
     }
 
     /// The caller sends more.

@@ -7,12 +7,12 @@ ghost use Rattle.mr_rows.specs.State.{IsTooMuch, shown, stopped_as};
 ghost use Rattle.mr_rows.specs.Sound.{IsSound};
 ghost use Rattle.mr_rows.specs.LinkRows.{closed_at};
 ghost use Rattle.mr_seen.specs.Carrying.{begun_slot, filed_by};
-ghost use Rattle.mr_world.specs.Linking.{FitsMore};
+ghost use Rattle.mr_world.specs.Linking.{FitsMore, IsFollowing};
 
 use mr_data::{Dataset, Given};
 use mr_links::LinkId;
 use mr_outs::Outs;
-use mr_peer::{Config, Node, NodeFault};
+use mr_peer::{Config, Node, NodeFault, Role};
 use mr_repl::ReplId;
 use std::alloc::{AllocError, Global};
 use std::hash::RandomState;
@@ -96,6 +96,16 @@ impl Slot {
         // its clause says what a node keeps
         self.node.sound();
         fed
+    }
+
+    /// Whether the node runs and follows by the link that it dialled last, which is this.
+    pub(crate) fn follows_by(&self, l: usize) -> bool
+        ensures yes { IsTrue result → IsFollowing self.now l }
+        ensures no { (result ≡ false) → self.now.node.core.master ≡ false → IsFollowing self.now l → ⊥ }
+    {
+        self.is_up()
+            && self.dialled == l
+            && matches!(self.node.role(), Role::Sync | Role::Connected)
     }
 
     /// Closes the node's end of a link.

@@ -2,7 +2,7 @@
 ghost use Rattle.std.specs.Prelude.{◌≡◌};
 ghost use Rattle.mr_seen.specs.Worlds.{no_world};
 ghost use Rattle.mr_world.specs.Calls.{BreakCall, ClientCall, CommandCall, LeaveCall, StartCall, TakeCall};
-ghost use Rattle.mr_world.specs.Linking.{DeliverCall};
+ghost use Rattle.mr_world.specs.Linking.{DeliverCall, DropCall};
 ghost use Rattle.mr_world.specs.Stepping.{TickCall};
 
 use crate::parts::Parts;
@@ -104,5 +104,12 @@ impl World {
         ensures { TickCall self.old n given.now self.new result }
     {
         self.parts.tick(self.alloc, n, given)
+    }
+
+    /// The node that follows by a link closes its end. That of a client, of a node that is stopped or follows no more, isn't one.
+    pub fn break_dialler(&mut self, l: usize) -> Result<(), Refusal>
+        ensures { DropCall self.old l self.new result }
+    {
+        self.parts.break_dialler(l)
     }
 }

@@ -1,6 +1,6 @@
 // Bytes that come at a node, and ends that a node closes.
 ghost use Rattle.mr_seen.specs.Worlds.{IsWorld};
-ghost use Rattle.mr_world.specs.Linking.{DeliverCall};
+ghost use Rattle.mr_world.specs.Linking.{DeliverCall, DropCall};
 
 use crate::parts::Parts;
 use crate::refusal::Refusal;
@@ -40,5 +40,26 @@ impl Parts {
             Err(NodeFault::NoLink) => unreachable!(),
             Err(NodeFault::InputFull) => Err(Refusal::InputFull),
         }
+    }
+
+    /// The node that follows by a link closes its end.
+    pub(crate) fn break_dialler(&mut self, l: usize) -> Result<(), Refusal>
+        requires { IsWorld self.old }
+        ensures { DropCall self.old l self.new result }
+    {
+        if l >= self.links.len() {
+            return Err(Refusal::Nobody);
+        }
+        let Some((n, name)) = self.links[l].peer() else {
+            return Err(Refusal::Nobody);
+        };
+        if n >= self.slots.len() {
+            return Err(Refusal::Nobody);
+        }
+        if !self.slots[n].follows_by(l) {
+            return Err(Refusal::Nobody);
+        }
+        self.slots[n].close(name);
+        Ok(())
     }
 }
