@@ -1,7 +1,7 @@
 //! Lines that say what role the node has come to.
 use crate::notice::tell;
+use mr_node::{Node, Role};
 use mr_outs::Address;
-use mr_peer::{Node, Role};
 use std::fmt;
 
 /// What is told of a host that is no text.

@@ -9,7 +9,7 @@ use crate::roles::RoleNotice;
 use mr_aof::Log;
 use mr_file::LogFile;
 use mr_loop::{Links, LoopFault, turn};
-use mr_peer::Node;
+use mr_node::Node;
 use mr_source::Source;
 use mr_wire::Wire;
 

@@ -7,9 +7,9 @@ use Rattle.mr_file.specs.declared.sync_mode.SyncMode.{SyncMode}
 use Rattle.mr_outs.specs.Outs.{OutsState, outs_of}
 use Rattle.mr_rows.specs.State.{NodeState}
 use Rattle.mr_rows.specs.LinkRows.{Dials}
-use Rattle.mr_peer.specs.Calls.{FeedRow}
-use Rattle.mr_peer.specs.declared.fault.NodeFault.{NodeFault}
-use Rattle.mr_peer.specs.declared.fault.NodeFault.TheVariants as refusal
+use Rattle.mr_node.specs.Calls.{FeedRow}
+use Rattle.mr_node.specs.declared.fault.NodeFault.{NodeFault}
+use Rattle.mr_node.specs.declared.fault.NodeFault.TheVariants as refusal
 use Rattle.mr_wire.specs.Wire.{LinkState, AcceptsNone, Opens}
 use Rattle.mr_wire.proofs.Places.{one_more, put_and_removed}
 use Rattle.mr_loop.specs.declared.fault.LoopFault.{LoopFault}

@@ -31,12 +31,12 @@ use Rattle.mr_rows.specs.Served.{Served, request, nothing}
 use Rattle.mr_rows.specs.ClientRows.{ClientRow, serves, closes, halts, synchronizes, promotes, turns, demotes}
 use Rattle.mr_rows.specs.ReplicaRows.{IsExpected, ReplicaRow, acknowledgement, nothing as expects_nothing, notes, parts}
 use Rattle.mr_rows.specs.LinkRows.{closed_at, follow_without}
-use Rattle.mr_peer.specs.Calls.{Agreeing}
-use Rattle.mr_peer.specs.Calls.Agreeing.{client as of_client, replica as of_replica, master as of_master, shut as of_shut}
-use Rattle.mr_peer.specs.Steps.{Steps}
-use Rattle.mr_peer.specs.declared.fault.NodeFault.{NodeFault}
-use Rattle.mr_peer.specs.declared.step.Step.{Step}
-use Rattle.mr_peer.specs.declared.step.Step.TheVariants as step
+use Rattle.mr_node.specs.Calls.{Agreeing}
+use Rattle.mr_node.specs.Calls.Agreeing.{client as of_client, replica as of_replica, master as of_master, shut as of_shut}
+use Rattle.mr_node.specs.Steps.{Steps}
+use Rattle.mr_node.specs.declared.fault.NodeFault.{NodeFault}
+use Rattle.mr_node.specs.declared.step.Step.{Step}
+use Rattle.mr_node.specs.declared.step.Step.TheVariants as step
 use Rattle.mr_loop.specs.Stage.{Stage}
 use Rattle.mr_loop.specs.Carrying.{Carried}
 use Rattle.mr_loop.specs.Causes.{Stepped}

@@ -13,13 +13,13 @@ use Rattle.mr_rows.specs.ReplicaRows.{ReplicaRow, notes, parts}
 use Rattle.mr_rows.specs.UpstreamRows as master
 use Rattle.mr_rows.specs.TimeRows.{TickRow, deletes, rests}
 use Rattle.mr_course.specs.State.{name_of}
-use Rattle.mr_peer.specs.Calls.{Agreeing}
-use Rattle.mr_peer.specs.Calls.Agreeing.{client, replica, master as upstream, shut}
-use Rattle.mr_peer.specs.Steps.{ClientStep, MasterStep, ReplicaStep, Steps}
-use Rattle.mr_peer.specs.declared.fault.NodeFault.{NodeFault}
-use Rattle.mr_peer.specs.declared.fault.NodeFault.TheVariants as refusal
-use Rattle.mr_peer.specs.declared.step.Step.{Step}
-use Rattle.mr_peer.specs.declared.step.Step.TheVariants as step
+use Rattle.mr_node.specs.Calls.{Agreeing}
+use Rattle.mr_node.specs.Calls.Agreeing.{client, replica, master as upstream, shut}
+use Rattle.mr_node.specs.Steps.{ClientStep, MasterStep, ReplicaStep, Steps}
+use Rattle.mr_node.specs.declared.fault.NodeFault.{NodeFault}
+use Rattle.mr_node.specs.declared.fault.NodeFault.TheVariants as refusal
+use Rattle.mr_node.specs.declared.step.Step.{Step}
+use Rattle.mr_node.specs.declared.step.Step.TheVariants as step
 use Rattle.mr_loop.specs.Stage.{Stage}
 use Rattle.mr_loop.specs.Causes.{Act, Calls, Dropped, Stepped, TurnsOff, at_dial, at_step, at_tick, ended_at, dials_and_closes, opens_and_closes, stays}
 use Rattle.mr_loop.specs.Rows.{Event, fault_of, Happens, Run, Went, acts, appends, breaks, closes, fails, finds_none, hears_end, idles, is_deaf, is_refused, joins, loses, misses, misses_dial, misses_tick, settles, spills, stops, takes, tears, turns_away, writes}

@@ -11,13 +11,13 @@ use Rattle.mr_outs.specs.Outs.{OutState, OutsState, append, close, outs_of, repl
 use Rattle.mr_rows.specs.State.{MasterAgrees, NodeState, end_of}
 use Rattle.mr_rows.specs.LinkRows.{closed_at}
 use Rattle.mr_rows.specs.UpstreamRows as upstream
-use Rattle.mr_peer.specs.Calls.{Agreeing}
-use Rattle.mr_peer.specs.Calls.Agreeing.{client, replica, master, shut}
-use Rattle.mr_peer.specs.Steps.{ClientStep, MasterStep, ReplicaStep, Steps}
-use Rattle.mr_peer.specs.declared.fault.NodeFault.{NodeFault}
-use Rattle.mr_peer.specs.declared.fault.NodeFault.TheVariants as refusal
-use Rattle.mr_peer.specs.declared.step.Step.{Step}
-use Rattle.mr_peer.specs.declared.step.Step.TheVariants as step
+use Rattle.mr_node.specs.Calls.{Agreeing}
+use Rattle.mr_node.specs.Calls.Agreeing.{client, replica, master, shut}
+use Rattle.mr_node.specs.Steps.{ClientStep, MasterStep, ReplicaStep, Steps}
+use Rattle.mr_node.specs.declared.fault.NodeFault.{NodeFault}
+use Rattle.mr_node.specs.declared.fault.NodeFault.TheVariants as refusal
+use Rattle.mr_node.specs.declared.step.Step.{Step}
+use Rattle.mr_node.specs.declared.step.Step.TheVariants as step
 use Rattle.mr_loop.specs.declared.fault.LoopFault.{LoopFault}
 use Rattle.mr_loop.specs.declared.fault.LoopFault.TheVariants as fault
 use Rattle.mr_loop.specs.declared.host.Host.{Host}

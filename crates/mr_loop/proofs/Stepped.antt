@@ -24,12 +24,12 @@ use Rattle.mr_rows.specs.Requests.{Waits}
 use Rattle.mr_rows.specs.ClientRows.{ClientRow, serves, closes, halts, synchronizes, promotes, turns, demotes}
 use Rattle.mr_rows.specs.ReplicaRows.{ReplicaRow, notes, parts}
 use Rattle.mr_rows.specs.UpstreamRows as master
-use Rattle.mr_peer.specs.Calls.{Agreeing}
-use Rattle.mr_peer.specs.Calls.Agreeing.{client as of_client, replica as of_replica, master as of_master, shut as of_shut}
-use Rattle.mr_peer.specs.Steps.{Steps}
-use Rattle.mr_peer.specs.declared.fault.NodeFault.{NodeFault}
-use Rattle.mr_peer.specs.declared.step.Step.{Step}
-use Rattle.mr_peer.specs.declared.step.Step.TheVariants as step
+use Rattle.mr_node.specs.Calls.{Agreeing}
+use Rattle.mr_node.specs.Calls.Agreeing.{client as of_client, replica as of_replica, master as of_master, shut as of_shut}
+use Rattle.mr_node.specs.Steps.{Steps}
+use Rattle.mr_node.specs.declared.fault.NodeFault.{NodeFault}
+use Rattle.mr_node.specs.declared.step.Step.{Step}
+use Rattle.mr_node.specs.declared.step.Step.TheVariants as step
 use Rattle.mr_loop.specs.Causes.{Stepped}
 use Rattle.mr_loop.specs.Quiet.{AllWait, Awaits, IsStill, OthersWait}
 use Rattle.mr_loop.proofs.Waiting.{all_is, all_of, by_name, is_one, none_some, others_stay, some_is, still_none, still_shut}

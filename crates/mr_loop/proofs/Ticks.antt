@@ -18,9 +18,9 @@ use Rattle.mr_rows.specs.Growing.{grown_by, offset_limit}
 use Rattle.mr_rows.specs.State.{Core, NodeState}
 use Rattle.mr_rows.specs.TimeRows.{Beats, Deletes, TickRow, deletes, doomed, rests, room_in}
 use Rattle.mr_rows.specs.TimeRows.Beats.{alone, beats, cut, marks, waits}
-use Rattle.mr_peer.specs.Calls.{TickStep}
-use Rattle.mr_peer.specs.declared.fault.NodeFault.{NodeFault}
-use Rattle.mr_peer.specs.declared.fault.NodeFault.TheVariants as refusal
+use Rattle.mr_node.specs.Calls.{TickStep}
+use Rattle.mr_node.specs.declared.fault.NodeFault.{NodeFault}
+use Rattle.mr_node.specs.declared.fault.NodeFault.TheVariants as refusal
 use Rattle.mr_wire.specs.Wire.{LinkState}
 use Rattle.mr_loop.specs.declared.fault.LoopFault.{LoopFault}
 use Rattle.mr_loop.specs.declared.host.Host.{Host}

@@ -9,12 +9,12 @@ use Rattle.mr_outs.specs.Address.{AddressState}
 use Rattle.mr_rows.specs.State.{IsNode, NodeState, end_of}
 use Rattle.mr_rows.specs.LinkRows.{Opens, Dials, Feeds, closed_at}
 use Rattle.mr_rows.specs.TimeRows.{TickRow}
-use Rattle.mr_peer.specs.Calls.{IsClients, OpensNoMore, Unreads}
-use Rattle.mr_peer.specs.Steps.{Steps}
-use Rattle.mr_peer.specs.declared.fault.NodeFault.{NodeFault}
-use Rattle.mr_peer.specs.declared.fault.NodeFault.TheVariants as refusal
-use Rattle.mr_peer.specs.declared.step.Step.{Step}
-use Rattle.mr_peer.specs.declared.step.Step.TheVariants as step
+use Rattle.mr_node.specs.Calls.{IsClients, OpensNoMore, Unreads}
+use Rattle.mr_node.specs.Steps.{Steps}
+use Rattle.mr_node.specs.declared.fault.NodeFault.{NodeFault}
+use Rattle.mr_node.specs.declared.fault.NodeFault.TheVariants as refusal
+use Rattle.mr_node.specs.declared.step.Step.{Step}
+use Rattle.mr_node.specs.declared.step.Step.TheVariants as step
 use Rattle.mr_wire.specs.Wire.{LinkState, ChangesLink, Connects}
 use Rattle.mr_connections.specs.State.{ConnectionState, HasLink, begun, most_kept}
 use Rattle.mr_loop.specs.Carrying.{SameFile}

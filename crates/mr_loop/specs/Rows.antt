@@ -7,8 +7,8 @@ use Rattle.mr_data.specs.declared.given.Given.{Given}
 use Rattle.mr_outs.specs.Outs.{OutsState, outs_of}
 use Rattle.mr_rows.specs.State.{NodeState, stopped_as}
 use Rattle.mr_rows.specs.LinkRows.{Opens, closed_at}
-use Rattle.mr_peer.specs.declared.fault.NodeFault.TheVariants as refusal
-use Rattle.mr_peer.specs.declared.step.Step.TheVariants as step
+use Rattle.mr_node.specs.declared.fault.NodeFault.TheVariants as refusal
+use Rattle.mr_node.specs.declared.step.Step.TheVariants as step
 use Rattle.mr_file.specs.LogFile.{Appends, AppendsSome, IsSynced}
 use Rattle.mr_file.specs.declared.sync_mode.SyncMode.{SyncMode}
 use Rattle.mr_file.specs.declared.sync_mode.SyncMode.TheVariants as sync

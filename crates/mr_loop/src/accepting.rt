@@ -10,7 +10,7 @@ use crate::fault::LoopFault;
 use crate::host::Host;
 use mr_file::LogFile;
 use mr_links::LinkId;
-use mr_peer::NodeFault;
+use mr_node::NodeFault;
 use mr_source::Source;
 use mr_wire::Wire;
 

@@ -9,7 +9,7 @@ use crate::links::Links;
 use crate::turning::turn;
 use mr_aof::Log;
 use mr_file::LogFile;
-use mr_peer::Node;
+use mr_node::Node;
 use mr_source::Source;
 use mr_wire::Wire;
 

@@ -8,8 +8,8 @@ ghost use Rattle.mr_loop.specs.Quiet.{AllWait};
 use crate::fault::LoopFault;
 use crate::host::Host;
 use mr_file::LogFile;
+use mr_node::NodeFault;
 use mr_outs::Outs;
-use mr_peer::NodeFault;
 use mr_source::Source;
 use mr_wire::Wire;
 

@@ -16,7 +16,7 @@ use mr_aof::Log;
 use mr_connections::{FIRST_PIECE, PIECE};
 use mr_file::LogFile;
 use mr_links::LinkId;
-use mr_peer::Node;
+use mr_node::Node;
 use mr_source::Source;
 use mr_wire::{Failed, Wire};
 

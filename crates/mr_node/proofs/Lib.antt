@@ -1,7 +1,11 @@
-pub mod Answering
+pub mod Results
 pub mod Ends
-pub mod Nodes
-pub mod Progressing
-pub mod Quiet
-pub mod Steps
-pub mod Deletions
+pub mod Rows
+pub mod Asking
+pub mod Reading
+pub mod Roles
+pub mod Noting
+pub mod Following
+pub mod Ticking
+pub mod Linking
+pub mod Telling

@@ -1,11 +1,6 @@
-pub mod State
-pub mod Progresses
-pub mod Ending
-pub mod Outs
-pub mod Listing
-pub mod Requests
-pub mod Telling
-pub mod Served
-pub mod Rows
+pub mod Reading
+pub mod Noting
+pub mod Steps
 pub mod Parts
-pub mod Ticks
+pub mod Calls
+pub mod Ticking

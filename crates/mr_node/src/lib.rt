@@ -1,18 +1,18 @@
-//! One node: a dataset, its replication stream, and the links of its clients. One call is one step.
+//! A node that follows and is followed: its dataset, its stream, and its links. One call is one step, by its row.
 #![tactic(auto)]
 
 mod config;
-mod end;
 mod fault;
 mod node;
-mod out;
-mod outs;
+mod noted;
+mod replies;
+mod request;
+mod role;
 mod step;
 mod todo;
 
 pub use config::Config;
 pub use fault::NodeFault;
 pub use node::Node;
-pub use out::{Out, OutsIter};
-pub use outs::Outs;
+pub use role::Role;
 pub use step::Step;

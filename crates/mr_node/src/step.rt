@@ -1,12 +1,12 @@
 // What a step came to.
-use crate::outs::Outs;
+use mr_outs::Outs;
 
 /// What a step came to.
 #[derive(Drop)]
 pub enum Step {
-    /// No whole request is there.
+    /// Nothing whole is there.
     Idle,
-    /// Something was used.
+    /// Something was used, or the link closed.
     Done(Outs),
     /// The node closed this link earlier.
     Closed,

@@ -1,15 +1,23 @@
-// What is to be done about unread bytes.
-ghost use Rattle.std.specs.Prelude.{◌≡◌, IfOk};
-ghost use Rattle.mr_node.specs.Parts.{IsTodo, KeepsAlong, carry_out};
-ghost use Rattle.mr_node.specs.Progresses.{AgreesAlong};
+// What is to be done about a client's unread bytes.
+ghost use Rattle.std.specs.Prelude.{◌≡◌, ◌<◌, ◌≤◌, length, map, IsTrue, IfOk, OnErr};
+ghost use Rattle.std.specs.List.{list_all};
+ghost use Rattle.std.specs.Cow.{cow_slice_items};
+ghost use Rattle.mr_value.specs.Words.{fits};
+ghost use Rattle.mr_resp.specs.Usual.{commands};
+ghost use Rattle.mr_ends.specs.Progresses.{AgreesAlong};
+ghost use Rattle.mr_rows.specs.ClientRows.{MayLack};
+ghost use Rattle.mr_node.specs.Reading.{IsTodo, KeepsAlong, IsDone, carry_out};
 
+use crate::request::{NodeRequest, request_of};
+use mr_ask::{Ask, read};
 use mr_cmd_server::Question;
 use mr_data::{Dataset, Given, Plan};
-use mr_plan::{Answer, plan_words};
+use mr_plan::{Answer, answer_to};
 use mr_resp::{Fault, Limits, Progress, Scan, more_is_wanted, next_request_from, words_fit};
 use std::alloc::{AllocError, Global};
+use std::borrow::CowSlice;
 
-/// What is to be done about unread bytes.
+/// What is to be done about a client's unread bytes.
 #[derive(Drop)]
 pub(crate) enum Todo {
     /// Nothing yet. The reader has gone so far.
@@ -28,6 +36,8 @@ pub(crate) enum Todo {
     Halt { used: usize },
     /// A request is used, and its plan carried out.
     Run { used: usize, plan: Plan },
+    /// A request is used, which asks something of the node itself.
+    Ask { used: usize, request: NodeRequest },
 }
 
 /// Reads and plans. Nothing changes.
@@ -42,15 +52,14 @@ pub(crate) fn todo_of(
     requires { AgreesAlong progress unread.now }
     ensures todo { IfOk result (λ t. IsTodo replica unread.now given held.now t) }
     ensures along { IfOk result (λ t. KeepsAlong t unread.now) }
+    ensures lacks { OnErr result (MayLack unread.now) }
 {
     let limits = Limits::usual();
     let mut progress = progress;
-    let scan = next_request_from(alloc, &limits, &mut progress, unread)?;
-    match scan {
+    match next_request_from(alloc, &limits, &mut progress, unread)? {
         Scan::Whole { words, used } => {
             words_fit();
-            let answer = plan_words(alloc, held, replica, words.as_slice(), given)?;
-            Ok(carry_out(answer, used))
+            request_todo(alloc, held, replica, words.as_slice(), used, given)
         }
         Scan::Skip { used } => Ok(Todo::Skip { used }),
         Scan::More => {
@@ -58,6 +67,38 @@ pub(crate) fn todo_of(
             Ok(Todo::Wait(progress))
         }
         Scan::Bad(fault) => Ok(Todo::Refuse(fault)),
+    }
+}
+
+/// What is to be done about a request of these words, which so many bytes are.
+fn request_todo(
+    alloc: Global,
+    held: &Dataset,
+    replica: bool,
+    words: &[CowSlice<'_, u8>],
+    used: usize,
+    given: Given,
+) -> Result<Todo, AllocError>
+    requires some { 0 < length words.now }
+    requires fit { IsTrue (list_all fits (map cow_slice_items words.now)) }
+    requires few { length words.now ≤ commands.words }
+    ensures { IfOk result (λ t. IsDone replica (map cow_slice_items words.now) used given held.now t) }
+{
+    match read(words) {
+        Err(fault) => Ok(Todo::Run {
+            used,
+            plan: Plan {
+                reply: fault.reply(),
+                effects: Vec::new(alloc),
+            },
+        }),
+        Ok(ask) => match &ask {
+            Ask::Node(wish) => Ok(Todo::Ask {
+                used,
+                request: request_of(alloc, wish)?,
+            }),
+            _ => Ok(carry_out(answer_to(alloc, held, replica, &ask, given)?, used)),
+        },
     }
 }
 

@@ -23,12 +23,12 @@ use Rattle.mr_rows.specs.Served.{Served}
 use Rattle.mr_rows.specs.ClientRows.{ClientRow, Idles, IsAnswerToPsync}
 use Rattle.mr_rows.specs.ReplicaRows.{ReplicaRow}
 use Rattle.mr_rows.specs.LinkRows.{Feeds, Opens}
-use Rattle.mr_peer.proofs.Ends.{get_other}
-use Rattle.mr_peer.specs.Steps.{ClientStep, ReplicaStep, Steps}
-use Rattle.mr_peer.specs.declared.fault.NodeFault.{NodeFault}
-use Rattle.mr_peer.specs.declared.fault.NodeFault.TheVariants as refused
-use Rattle.mr_peer.specs.declared.step.Step.{Step}
-use Rattle.mr_peer.specs.declared.step.Step.TheVariants as step
+use Rattle.mr_node.proofs.Ends.{get_other}
+use Rattle.mr_node.specs.Steps.{ClientStep, ReplicaStep, Steps}
+use Rattle.mr_node.specs.declared.fault.NodeFault.{NodeFault}
+use Rattle.mr_node.specs.declared.fault.NodeFault.TheVariants as refused
+use Rattle.mr_node.specs.declared.step.Step.{Step}
+use Rattle.mr_node.specs.declared.step.Step.TheVariants as step
 use Rattle.mr_pipe.specs.Outside.{Outside, IsSettled}
 use Rattle.mr_pipe.specs.State.{PipeState, Stands, counted, end_as, fresh_id, most_numbered}
 use Rattle.mr_pipe.specs.Sessions.{Gives, IsLast, IsServed, TakesRole, alone, changes_of, is_last, output_of}

@@ -2,7 +2,7 @@
 ghost use Rattle.std.specs.Prelude.{◌≡◌};
 ghost use Rattle.mr_pipe.specs.Faults.{fault_of};
 
-use mr_peer::NodeFault;
+use mr_node::NodeFault;
 use thiserror::Error;
 
 /// Why a pipe ends early. What was written until then is a beginning of the replies.

@@ -6,8 +6,8 @@ ghost use Rattle.mr_pipe.specs.Piped.{begun_with};
 use crate::fault::PipeFault;
 use mr_data::Dataset;
 use mr_links::LinkId;
+use mr_node::{Config, Node};
 use mr_outs::Outs;
-use mr_peer::{Config, Node};
 use mr_repl::ReplId;
 use std::alloc::Global;
 

@@ -11,8 +11,8 @@ use crate::linked_node::LinkedNode;
 use mr_aof::Log;
 use mr_data::Given;
 use mr_file::LogFile;
+use mr_node::Step;
 use mr_outs::Outs;
-use mr_peer::Step;
 use std::io::Write;
 
 /// What one step came to.

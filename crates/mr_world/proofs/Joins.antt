@@ -6,7 +6,7 @@ use Rattle.std.proofs.lemmas.Option.{slice_get-get_or}
 use Rattle.mr_links.specs.declared.link_id.LinkId.{LinkId}
 use Rattle.mr_rows.specs.State.{NodeState, stopped_as}
 use Rattle.mr_rows.specs.LinkRows.{Opens, closed_at}
-use Rattle.mr_peer.specs.Calls.{OpensNoMore}
+use Rattle.mr_node.specs.Calls.{OpensNoMore}
 use Rattle.mr_seen.specs.Way.{sent_on, taken_on}
 use Rattle.mr_seen.specs.State.{WorldState, Slot, Link, a_client}
 use Rattle.mr_seen.specs.Carrying.{opened_link}

@@ -9,7 +9,7 @@ use crate::entry::{Entry, is_spent};
 use crate::link::Link;
 use crate::refusal::Refusal;
 use crate::slot::Slot;
-use mr_peer::{Config, NodeFault};
+use mr_node::{Config, NodeFault};
 use mr_repl::ReplId;
 use std::alloc::Global;
 use std::hash::RandomState;

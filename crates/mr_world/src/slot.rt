@@ -2,7 +2,7 @@
 ghost use Rattle.std.specs.Prelude.{◌≡◌, ◌-◌, ◌++◌, [], false, length, take, IfOk, IsTrue, OnOk, OnErr};
 ghost use Rattle.std.specs.Option.{option_map};
 ghost use Rattle.std.specs.FinMap.{empty};
-ghost use Rattle.mr_peer.specs.Calls.{FeedRow, OpenRow, TickStep};
+ghost use Rattle.mr_node.specs.Calls.{FeedRow, OpenRow, TickStep};
 ghost use Rattle.mr_rows.specs.State.{IsTooMuch, shown, stopped_as};
 ghost use Rattle.mr_rows.specs.Sound.{IsSound};
 ghost use Rattle.mr_rows.specs.LinkRows.{closed_at};
@@ -11,8 +11,8 @@ ghost use Rattle.mr_world.specs.Linking.{FitsMore, IsFollowing};
 
 use mr_data::{Dataset, Given};
 use mr_links::LinkId;
+use mr_node::{Config, Node, NodeFault, Role};
 use mr_outs::Outs;
-use mr_peer::{Config, Node, NodeFault, Role};
 use mr_repl::ReplId;
 use std::alloc::{AllocError, Global};
 use std::hash::RandomState;

@@ -6,7 +6,7 @@ use crate::carry::give_tick;
 use crate::parts::Parts;
 use crate::refusal::Refusal;
 use mr_data::Given;
-use mr_peer::NodeFault;
+use mr_node::NodeFault;
 use std::alloc::Global;
 
 impl Parts {

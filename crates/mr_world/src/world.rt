@@ -8,7 +8,7 @@ ghost use Rattle.mr_world.specs.Stepping.{TickCall};
 use crate::parts::Parts;
 use crate::refusal::Refusal;
 use mr_data::Given;
-use mr_peer::Config;
+use mr_node::Config;
 use mr_repl::ReplId;
 use std::alloc::Global;
 use std::hash::RandomState;

@@ -5,7 +5,7 @@ use crate::fault::RehearsalFault;
 use crate::host::Host;
 use crate::telling::tell;
 use mr_data::{Dataset, Given};
-use mr_peer::Config;
+use mr_node::Config;
 use std::alloc::Global;
 use std::hash::RandomState;
 use std::mem;

@@ -4,7 +4,7 @@ use crate::host::Host;
 use crate::line::{Line, bytes_of, id_of, place_of, port_of};
 use crate::telling::tell;
 use mr_data::Dataset;
-use mr_peer::Config;
+use mr_node::Config;
 use mr_repl::ReplId;
 use mr_replay::{Loaded, load};
 use std::alloc::Global;

@@ -1,71 +1,68 @@
-// What a node tells of itself, and that the program is to end.
-ghost use Rattle.std.specs.Prelude.{◌≡◌, ◌↔◌, ◌⊎◌, Some, false, IfOk, IfErr, OnOk, IsErrOf};
+// What a node tells of itself.
+ghost use Rattle.std.specs.Prelude.{◌≡◌, ◌↔◌, ◌⊎◌, ℕ, List, Some, false, IfOk, IfErr, IsErrOf, length, not, option_copied};
 ghost use Rattle.mr_resp.specs.ReplyView.{view};
-ghost use Rattle.mr_node.specs.Outs.{outs_with};
-ghost use Rattle.mr_node.specs.Parts.{HasAhead, Uses, halting_outs};
-ghost use Rattle.mr_node.specs.Telling.{answer_about, info_text, reply_about, role_reply};
+ghost use Rattle.mr_data.specs.declared.given.Given.{Given};
+ghost use Rattle.mr_info.specs.Info.{info_text};
+ghost use Rattle.mr_links.specs.declared.link_id.LinkId.{LinkId};
+ghost use Rattle.mr_ends.specs.Parts.{HasAhead};
+ghost use Rattle.mr_ends.specs.Replicas.{Lists};
+ghost use Rattle.mr_rows.specs.Telling.{link_of};
+ghost use Rattle.mr_node.specs.Reading.{Questions};
+ghost use Rattle.mr_node.specs.Steps.{ClientStep, IsAt};
+ghost use Rattle.mr_node.specs.Parts.{ListsReplicas, TellsInfo, TellsOf, role_of};
 
 use crate::fault::NodeFault;
 use crate::node::Node;
+use crate::role::Role;
 use crate::step::Step;
 use mr_cmd_server::Question;
-use mr_info::{MasterLink, info, master_role, replica_role};
+use mr_ends::End;
+use mr_follow::Phase;
+use mr_info::{MasterLink, Replica, info, master_role, replica_role};
 use mr_links::LinkId;
+use mr_outs::Address;
 use mr_resp::Reply;
 use std::alloc::AllocError;
 
 impl Node {
     /// INFO's section on replication.
     pub fn info(&self) -> Result<Vec<u8>, NodeFault>
-        ensures text { IfOk result (λ text. text.items ≡ info_text self.now.core.replica self.now.core.id self.now.core.stream) }
+        ensures text { IfOk result (λ text. TellsInfo self.now text.items) }
         ensures stopped { IsErrOf result NodeFault.Stopped ↔ (self.now.core.up ≡ false) }
         ensures no_other { IfErr result (λ e. (e ≡ NodeFault.Memory) ⊎ (e ≡ NodeFault.Stopped)) }
     {
-        if !self.up {
+        if !self.state.up() {
             return Err(NodeFault::Stopped);
         }
-        match info(self.alloc, self.replica, 0, self.id, None, &self.stream) {
+        match self.info_text() {
             Ok(text) => Ok(text),
             Err(_) => Err(NodeFault::Memory),
         }
     }
 
-    #[tactic(auto, unfolding(crate::specs::Telling::answer_about))]
-    fn answer_about(&self, question: Question) -> Result<Reply, AllocError>
-        ensures { IfOk result (λ reply. view reply ≡ answer_about question self.now.core) }
+    fn info_text(&self) -> Result<Vec<u8>, AllocError>
+        ensures { IfOk result (λ text. TellsInfo self.now text.items) }
     {
-        match question {
-            Question::Replication => match self.info() {
-                Ok(text) => Ok(Reply::Bulk(text)),
-                Err(_) => Err(AllocError),
-            },
-            Question::OtherSection => Ok(Reply::Bulk(Vec::new(self.alloc))),
-            Question::Role => self.role(),
-        }
+        let lineage = self.state.lineage();
+        info(
+            self.alloc,
+            !self.state.master(),
+            self.state.ends().replicas().len(),
+            lineage.id(),
+            lineage.second(),
+            lineage.stream(),
+        )
     }
 
-    /// ROLE's reply.
-    fn role(&self) -> Result<Reply, AllocError>
-        ensures { IfOk result (λ reply. view reply ≡ role_reply self.now.core.replica self.now.core.stream.offset) }
-    {
-        if self.replica {
-            replica_role(self.alloc, &self.stream, b"", 0, MasterLink::Connect)
-        } else {
-            master_role(self.alloc, &self.stream, &[])
-        }
-    }
-
-    /// Answers what was asked about the node.
+    /// Answers what is asked about the node.
     pub(crate) fn tell(
         &mut self,
         link: LinkId,
         used: usize,
         question: Question,
     ) -> Result<Step, NodeFault>
-        requires { HasAhead self.old link used }
-        ensures step { IfOk result (λ s. s ≡ Step.Done (outs_with (Some link) (reply_about question self.old.core))) }
-        ensures state { OnOk result (Uses self.old link used self.new) }
-        ensures err { IfErr result (λ e. (e ≡ NodeFault.Memory) × (self.new ≡ self.old)) }
+        requires { HasAhead self.old.ends link used }
+        ensures { (u : List ℕ) (given : Given) (fresh : List ℕ) → IsAt self.old link u → Questions u used question → ClientStep self.old link u given fresh self.new result }
     {
         let Ok(reply) = self.answer_about(question) else {
             return Err(NodeFault::Memory);
@@ -78,15 +75,111 @@ impl Node {
         Ok(Step::Done(outs))
     }
 
-    /// Uses a client's wish that the program end. Nothing is answered.
-    pub(crate) fn halt(&mut self, link: LinkId, used: usize) -> Step
-        requires { HasAhead self.old link used }
-        ensures step { result ≡ Step.Done (halting_outs link) }
-        ensures state { Uses self.old link used self.new }
+    fn answer_about(&self, question: Question) -> Result<Reply, AllocError>
+        ensures { IfOk result (λ reply. TellsOf question self.now (view reply)) }
     {
-        let mut outs = self.fresh_outs(Some(link));
-        outs.halt();
-        self.advance(link, used);
-        Step::Done(outs)
+        match question {
+            Question::Replication => Ok(Reply::Bulk(self.info_text()?)),
+            Question::OtherSection => {
+                // its clause lists the replicas
+                let _ = self.state.ends().replicas();
+                Ok(Reply::Bulk(Vec::new(self.alloc)))
+            }
+            Question::Role => self.role_reply(),
+        }
+    }
+
+    /// ROLE's reply.
+    fn role_reply(&self) -> Result<Reply, AllocError>
+        ensures { IfOk result (λ reply. TellsOf Question.Role self.now (view reply)) }
+    {
+        let stream = self.state.lineage().stream();
+        if self.state.master() {
+            let replicas = self.seen_replicas()?;
+            return master_role(self.alloc, stream, replicas.as_slice());
+        }
+        // its clause lists the replicas
+        let _ = self.state.ends().replicas();
+        match self.state.upstream() {
+            None => replica_role(self.alloc, stream, b"", 0, self.master_link()),
+            Some(address) => {
+                replica_role(
+                    self.alloc,
+                    stream,
+                    address.host(),
+                    address.port(),
+                    self.master_link(),
+                )
+            }
+        }
+    }
+
+    /// The node's role and, of a replica, how far it has come with the link to its master, stopped or not. It takes no memory.
+    pub fn role(&self) -> Role
+        ensures { result ≡ role_of self.now }
+    {
+        if self.state.master() {
+            return Role::Master;
+        }
+        match self.master_link() {
+            MasterLink::Connect => Role::Connect,
+            MasterLink::Sync => Role::Sync,
+            MasterLink::Connected => Role::Connected,
+        }
+    }
+
+    /// Whom the node was told to follow, since it was started or promoted, stopped or not. It takes no memory.
+    pub fn upstream(&self) -> Option<&Address>
+        ensures { option_copied result ≡ self.now.core.upstream }
+    {
+        self.state.upstream()
+    }
+
+    /// How far a replica has come with the link to its master.
+    fn master_link(&self) -> MasterLink
+        ensures { result ≡ link_of self.now.follow }
+    {
+        match self.state.phase() {
+            None => MasterLink::Connect,
+            Some(Phase::Stream) => MasterLink::Connected,
+            Some(_) => MasterLink::Sync,
+        }
+    }
+
+    /// The replicas, with what they said of themselves, in the order in which they became replicas.
+    fn seen_replicas(&self) -> Result<Vec<Replica<'_>>, AllocError>
+        ensures { IfOk result (λ replicas. ListsReplicas self.now (length replicas.items)) }
+    {
+        let ends = self.state.ends();
+        let names = ends.replicas();
+        let mut replicas = Vec::new(self.alloc);
+        for name in names {
+            replicas.push(seen(ends.get(*name)))?;
+        }
+        Ok(replicas)
+    }
+}
+
+/// A replica, as it said of itself at its end.
+fn seen(end: Option<&End>) -> Replica<'_> {
+    let Some(end) = end else {
+        return Replica {
+            address: None,
+            port: None,
+            acknowledged: None,
+        };
+    };
+    let said = end.introduction();
+    Replica {
+        address: option_slice(&said.address),
+        port: option_slice(&said.port),
+        acknowledged: Some(end.acknowledged()),
+    }
+}
+
+fn option_slice(word: &Option<Vec<u8>>) -> Option<&[u8]> {
+    match word {
+        None => None,
+        Some(word) => Some(word.as_slice()),
     }
 }

@@ -4,7 +4,7 @@ ghost use Rattle.mr_world.specs.Linking.{DeliverCall, DropCall};
 
 use crate::parts::Parts;
 use crate::refusal::Refusal;
-use mr_peer::NodeFault;
+use mr_node::NodeFault;
 
 impl Parts {
     /// The node that serves a link takes bytes that were sent there.

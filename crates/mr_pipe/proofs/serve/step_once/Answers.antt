@@ -1,7 +1,7 @@
 use Rattle.std.proofs.Common.{rules, ◌≡◌, sym, subst, ◌∙◌}
 use Rattle.std.specs.Prelude.{Ok, Err, true, false}
-use Rattle.mr_peer.specs.Steps.{Steps}
-use Rattle.mr_peer.specs.declared.step.Step.TheVariants as step
+use Rattle.mr_node.specs.Steps.{Steps}
+use Rattle.mr_node.specs.declared.step.Step.TheVariants as step
 use Rattle.mr_pipe.specs.Outside.{outside}
 use Rattle.mr_pipe.specs.State.{fresh_id}
 use Rattle.mr_pipe.specs.Sessions.{is_last, output_of}

@@ -1,5 +1,5 @@
 use Rattle.std.proofs.Common.{rules, ◌≡◌, Err, ap, refl, subst, ◌∙◌}
-use Rattle.mr_peer.specs.Calls.{DialRow}
+use Rattle.mr_node.specs.Calls.{DialRow}
 use Rattle.mr_wire.specs.Wire.{asked_link}
 use Rattle.mr_loop.specs.declared.fault.LoopFault.TheVariants as fault
 use Rattle.mr_loop.specs.Stage.{LoopState, stage}

@@ -14,8 +14,8 @@ use Rattle.mr_follow.specs.Rows as follow
 use Rattle.mr_follow.specs.declared.phase.Phase.{Phase}
 use Rattle.mr_follow.specs.declared.phase.Phase.TheVariants.{Ping, Port, Capabilities, Psync, Snapshot, Stream}
 use Rattle.mr_rows.specs.State.{Core, IsNode, NodeState, end_of, shown}
-use Rattle.mr_peer.specs.Calls.{Agreeing, Unreads}
-use Rattle.mr_peer.specs.Calls.Agreeing.{client, replica, master, shut}
+use Rattle.mr_node.specs.Calls.{Agreeing, Unreads}
+use Rattle.mr_node.specs.Calls.Agreeing.{client, replica, master, shut}
 use Rattle.mr_loop.specs.Quiet.{AllWait, Awaits, IsStill, OthersWait}
 use Rattle.mr_loop.proofs.Nothing.{line_nothing, waits_nothing}
 use Rattle.mr_loop.proofs.Stepped.{absent_still, client_still, followed_end, master_still, replica_still, shut_still}

@@ -1,5 +1,5 @@
 use Rattle.std.proofs.Common.{rules, ◌≡◌, Bool, true, Result, Ok, Err, ap, refl, subst, ◌∙◌}
-use Rattle.mr_peer.specs.Calls.{OpenRow}
+use Rattle.mr_node.specs.Calls.{OpenRow}
 use Rattle.mr_wire.specs.Wire.{new_link}
 use Rattle.mr_loop.specs.declared.fault.LoopFault.{LoopFault}
 use Rattle.mr_loop.specs.declared.fault.LoopFault.TheVariants as fault

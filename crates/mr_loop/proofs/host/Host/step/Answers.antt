@@ -1,8 +1,8 @@
 use Rattle.std.proofs.Common.{rules, ◌≡◌, Ok, Err, refl, ap, subst, ◌∙◌}
 use Rattle.mr_outs.specs.Outs.{OutsState, outs_of}
-use Rattle.mr_peer.specs.Steps.{Steps}
-use Rattle.mr_peer.specs.declared.fault.NodeFault.TheVariants as refusal
-use Rattle.mr_peer.specs.declared.step.Step.TheVariants as step
+use Rattle.mr_node.specs.Steps.{Steps}
+use Rattle.mr_node.specs.declared.fault.NodeFault.TheVariants as refusal
+use Rattle.mr_node.specs.declared.step.Step.TheVariants as step
 use Rattle.mr_loop.specs.Causes.{Stepped, Stopping, at_step, has}
 use Rattle.mr_loop.specs.Causes.Stopping.{at_step as stops_at}
 use Rattle.mr_loop.specs.Carrying.{Carried, CarriesAs}

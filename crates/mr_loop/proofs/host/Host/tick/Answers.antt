@@ -1,7 +1,7 @@
 use Rattle.std.proofs.Common.{rules, ◌≡◌, Err, refl, sym, ap, subst}
 use Rattle.mr_outs.specs.Outs.{outs_of}
-use Rattle.mr_peer.specs.Calls.{TickStep}
-use Rattle.mr_peer.specs.declared.fault.NodeFault.TheVariants as refusal
+use Rattle.mr_node.specs.Calls.{TickStep}
+use Rattle.mr_node.specs.declared.fault.NodeFault.TheVariants as refusal
 use Rattle.mr_loop.specs.Causes.{at_tick, was_down}
 use Rattle.mr_loop.specs.Counting.{IsTickDue}
 use Rattle.mr_loop.specs.Going.{TicksAs}

@@ -1,36 +1,51 @@
-use Rattle.std.proofs.Common.{rules, arith, ◌≡◌, ◌≤◌, ◌+◌, ◌++◌, ℕ, List, Some, true, length, sym, ap, subst, ◌∙◌}
-use Rattle.mr_node.specs.State.{NodeState, end_of, full, Agrees}
-use Rattle.mr_node.specs.State.EndState.{client}
-use Rattle.mr_node.specs.Ending.{is_open, IsRoom}
-use Rattle.mr_node.specs.Parts.{Hears}
-use Rattle.mr_node.proofs.Ends.{opened, put_agrees, put_others, on_ok_map}
+use Rattle.std.proofs.Common.{◌≡◌, ◌≢◌, ◌⊎◌, Option, None, Some, true, refl, ap, sym, subst, ◌∙◌, rules}
+use Rattle.mr_ends.specs.State.{EndState, put_end, serves}
+use Rattle.mr_ends.specs.Ending.{heard_of, kind_of}
+use Rattle.mr_ends.specs.Parts.{HearsAt}
+use Rattle.mr_ends.specs.declared.kind.Kind.{Kind}
+use Rattle.mr_ends.specs.declared.kind.Kind.TheVariants as kind
+use Rattle.mr_rows.specs.State.{IsNode, NodeState, end_of}
+use Rattle.mr_state.specs.Parts.{fed_as, with_ends}
+use Rattle.mr_node.proofs.Linking.{feeds_master, feeds_served, feeds_shut, kind_serves, kind_shut, kind_upstream, too_much, went}
 use Rattle.mr_node.proofs.node.Node.feed.Goals as goal
+use Rattle.mr_node.proofs.node.Node.feed.Goals.{in-Client+else-bytes-room, in-Upstream, in-Shut}
 
-pub hear-requires : goal.hear-requires
-hear-requires c =
-    let open_now : is_open c.in-Some.end.now ≡ true = search rules in
-    let o = opened c.in-Some.end.now open_now in
-    let room : c.room.result + length o.0 ≡ full = subst (IsRoom c.room.result) o.1 c.room.ensures in
-    let few : length c.args.bytes.now ≤ c.room.result = search rules in
-    record {
-      kept = o.0;
-      found = ap (λ (s : NodeState). end_of s c.args.link) (sym c.self.view_is) ∙ (sym c.in-Some.ensures ∙ ap Some o.1);
-      enough = omega (arith, room, few);
-    }
+pub returns-then-bytes-room : goal.returns-then-bytes-room
+returns-then-bytes-room c =
+    let found : end_of c.args.self.now c.args.link ≡ Some c.in-Some.end.now = search rules in
+    let up : c.args.self.now.core.up ≡ true = search rules in
+    let served : serves c.in-Some.end.now ≡ true = search rules in
+    (too_much c.args.self.now c.args.link c.in-Some.end.now c.room.result _ up found served c.room.ensures c.if-bytes-room.true, refl)
 
-pub returns-clause-ok : goal.returns-clause-ok
-returns-clause-ok c = on_ok_map c.hear.result (Hears c.args.self.now c.args.link c.args.bytes.now c.hear.new.self) ((u : List ℕ) → Agrees c.args.self.now c.args.link u → Agrees c.hear.new.self c.args.link (u ++ c.args.bytes.now)) c.hear.ensures.ok (λ p u ag. put_agrees c.args.self.now c.hear.new.self c.args.link (u ++ c.args.bytes.now) (p u ag.is))
-
-pub returns-clause-others : goal.returns-clause-others
-returns-clause-others c =
-    let open_now : is_open c.in-Some.end.now ≡ true = search rules in
-    let o = opened c.in-Some.end.now open_now in
-    let found : end_of c.args.self.now c.args.link ≡ Some (client o.0) = ap (λ (s : NodeState). end_of s c.args.link) (sym c.self.view_is) ∙ (sym c.in-Some.ensures ∙ ap Some o.1) in
-    on_ok_map c.hear.result _ _ c.hear.ensures.ok (λ (p : Hears c.args.self.now c.args.link c.args.bytes.now c.hear.new.self). put_others c.args.self.now c.hear.new.self c.args.link _ (p o.0 found))
-
-pub returns-clause-core : goal.returns-clause-core
-returns-clause-core c =
-    let open_now : is_open c.in-Some.end.now ≡ true = search rules in
-    let o = opened c.in-Some.end.now open_now in
-    let found : end_of c.args.self.now c.args.link ≡ Some (client o.0) = ap (λ (s : NodeState). end_of s c.args.link) (sym c.self.view_is) ∙ (sym c.in-Some.ensures ∙ ap Some o.1) in
-    on_ok_map c.hear.result _ _ c.hear.ensures.ok (λ (p : Hears c.args.self.now c.args.link c.args.bytes.now c.hear.new.self). ap (λ (s : NodeState). s.core) (p o.0 found))
+pub returns-in-Ok : goal.returns-in-Ok
+returns-in-Ok c =
+    let a = c.args.self.now in
+    let end = c.in-Some.end.now in
+    let up : a.core.up ≡ true = search rules in
+    let found : end_of a c.args.link ≡ Some end = search rules in
+    let there : end_of a c.args.link ≢ None = λ none. some_none end (sym found ∙ none) in
+    let node : IsNode a = subst IsNode c.self.view_is c.ends.ensures.node in
+    let was : (k : Kind) → c.kind.result ≡ k → kind_of end ≡ k = λ k is. sym c.kind.ensures ∙ is in
+    elim c.match-kind.branch [
+      | in-Client+else-bytes-room w ↦
+          let served : serves end ≡ true = kind_serves end (subst (λ (k : Kind). (k ≡ kind.Client) ⊎ (k ≡ kind.Replica)) c.kind.ensures w.in-Client.is) in
+          let heard : HearsAt c.self.inside.state.ends c.args.link c.args.bytes.now w.hear-fed.new.self.ends = went w.hear-fed.result c.in-Ok.field-0 (sym w.fed-is ∙ c.in-Ok.is) w.hear-fed.ensures.ok in
+          let first : end_of c.self.inside.state c.args.link ≡ Some end = ap (λ (z : NodeState). end_of z c.args.link) c.self.view_is ∙ found in
+          let put : w.hear-fed.new.self ≡ with_ends c.self.inside.state (put_end c.self.inside.state.ends c.args.link (heard_of c.args.bytes.now end)) = w.hear-fed.ensures.only ∙ ap (with_ends c.self.inside.state) (heard end first) in (
+            up,
+            there,
+            feeds_served a c.match-kind.self c.args.link end c.args.bytes.now node found served
+                (w.self-is ∙ (put ∙ ap (λ (z : NodeState). with_ends z (put_end z.ends c.args.link (heard_of c.args.bytes.now end))) c.self.view_is)),
+          )
+      | in-Upstream w ↦
+          let fed : w.hear_master-fed.new.self ≡ fed_as c.args.bytes.now c.self.inside.state = went w.hear_master-fed.result c.in-Ok.field-0 (sym w.fed-is ∙ c.in-Ok.is) w.hear_master-fed.ensures.ok in (
+            up,
+            there,
+            feeds_master a c.match-kind.self c.args.link c.args.bytes.now node w.fed_bytes_are_unread.ensures (found ∙ ap Some (kind_upstream end (was kind.Upstream w.in-Upstream.is)))
+                (w.self-is ∙ (fed ∙ ap (fed_as c.args.bytes.now) c.self.view_is)),
+          )
+      | in-Shut w ↦ (up, there, feeds_shut a c.match-kind.self c.args.link c.args.bytes.now node (found ∙ ap Some (kind_shut end (was kind.Shut w.in-Shut.is))) w.self-is)
+    ]
+  where
+    some_none : (e : EndState) → ◌≡◌ {A = Option EndState} (Some e) None → ⊥
+    some_none e h = cc

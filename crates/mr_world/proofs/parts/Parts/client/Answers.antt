@@ -1,5 +1,5 @@
 use Rattle.std.proofs.Common.{rules, ◌<◌, ◌++◌, ◌∷◌, [], ◌∙◌, List, length, sym, ap, subst, Err}
-use Rattle.mr_peer.specs.Calls.{OpenRow}
+use Rattle.mr_node.specs.Calls.{OpenRow}
 use Rattle.mr_seen.specs.State.{WorldState, Link}
 use Rattle.std.specs.Prelude.{slice_set}
 use Rattle.mr_world.specs.Calls.{Clients, Runs}

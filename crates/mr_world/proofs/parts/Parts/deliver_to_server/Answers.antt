@@ -1,7 +1,7 @@
 use Rattle.std.proofs.Common.{rules, ◌≡◌, ◌+◌, ◌<◌, ◌≤◌, ◌∙◌, ℕ, true, false, Err, length, refl, sym, ap, subst}
 use Rattle.std.specs.Prelude.{slice_set}
 use Rattle.mr_links.specs.declared.link_id.LinkId.{LinkId}
-use Rattle.mr_peer.specs.Calls.{FeedRow}
+use Rattle.mr_node.specs.Calls.{FeedRow}
 use Rattle.mr_rows.specs.State.{IsTooMuch}
 use Rattle.mr_seen.specs.State.{WorldState, Link, Slot}
 use Rattle.mr_seen.specs.Way.{taken_on}

@@ -1,0 +1,209 @@
+-- Links that are dialled, fed and asked about.
+use Rattle.std.proofs.Common.{◌≡◌, ◌+◌, ◌<◌, ◌++◌, ◌∷◌, ◌⊎◌, inl, inr, ℕ, List, [], true, false, Option, None, Some, codes, length, refl, sym, ap, subst, ◌∙◌, arith, lit<}
+use Rattle.std.specs.Prelude.{Result, Ok, Err, OnOk}
+use Rattle.std.specs.Result.{is_err}
+use Rattle.std.specs.Fmt.{decimal}
+use Rattle.std.proofs.lemmas.Fmt.{decimal_digit}
+use Rattle.mr_links.specs.declared.link_id.LinkId.{LinkId}
+use Rattle.mr_resp.specs.Spelling.{line_end}
+use Rattle.mr_effect.specs.Spelling.{words}
+use Rattle.mr_follow.specs.Handshake.{ping_line}
+use Rattle.mr_follow.specs.State.{FedIsUnread, heard}
+use Rattle.mr_course.specs.State.{hears_more}
+use Rattle.mr_ends.specs.State.{EndState, full, put_end, serves, unread_in}
+use Rattle.mr_ends.specs.State.EndState.{client, replica, shut, upstream}
+use Rattle.mr_ends.specs.Ending.{IsRoom, heard_of, kind_of}
+use Rattle.mr_ends.specs.declared.kind.Kind.TheVariants as kind
+use Rattle.mr_outs.specs.Outs.{OutsState, no_outs}
+use Rattle.mr_rows.specs.State.{FollowedAt, IsNode, IsTooMuch, MasterAgrees, NodeState, end_of}
+use Rattle.mr_rows.specs.LinkRows.{Dials, Feeds}
+use Rattle.mr_rows.specs.UpstreamRows.{beat}
+use Rattle.mr_state.specs.Parts.{dialled_as, fed_as, with_ends}
+use Rattle.mr_node.specs.Calls.{IsClients}
+use Rattle.mr_node.proofs.Ends.{one_end, one_replica, put_leaves}
+
+-- ---- what is true where a call succeeds, once it has
+pub went : {T E P : Type 0} (r : Result T E) (x : T) → r ≡ Ok x → OnOk r P → P
+went (Ok y) x is p = p
+went (Err y) x is p = cc
+
+-- .. where it is told that it did
+pub went_well : {T E P : Type 0} (r : Result T E) → is_err r ≡ false → OnOk r P → P
+went_well (Ok y) is p = p
+went_well (Err y) is p = cc
+
+-- ---- the line that the handshake begins with, which is the text of a heartbeat too
+abbrev pub ping : List ℕ
+ping = 42 ∷ 49 ∷ 13 ∷ 10 ∷ 36 ∷ 52 ∷ 13 ∷ 10 ∷ 80 ∷ 73 ∷ 78 ∷ 71 ∷ 13 ∷ 10 ∷ []
+
+-- its words are one, PING
+pub ping_bytes : ping ≡ ping_line
+ping_bytes =
+    let one : decimal 1 ≡ 49 ∷ [] = decimal_digit 1 (lit< tt) in
+    let four : decimal 4 ≡ 52 ∷ [] = decimal_digit 4 (lit< tt) in
+    λ i. (42 ∷ (sym one i ++ line_end)) ++ (((36 ∷ (sym four i ++ line_end)) ++ (codes "PING" ++ line_end)) ++ [])
+
+pub beat_is : ping_line ≡ beat
+unfolding words
+beat_is = refl
+
+-- ---- the master is dialled
+pub dials_row : (a m b : NodeState) (l : LinkId) (outs : OutsState) → m ≡ a → a.core.master ≡ false → a.follow ≡ None → end_of m l ≡ None → l.generation ≡ m.ends.opened → b ≡ dialled_as l m → outs ≡ record no_outs { link = Some l; reply = ping_line } → Dials a l b outs
+dials_row a m b l outs same follows alone fresh generation node outs_are = subst (λ (z : NodeState). Dials z l b outs) same
+    (record { replica = ap (λ (z : NodeState). z.core.master) same ∙ follows; alone = ap (λ (z : NodeState). z.follow) same ∙ alone; fresh = fresh; generation = generation; node = node; outs_are = outs_are })
+
+-- ---- bytes come on a link
+-- The end of a link that is followed is the master's
+followed_end : (a : NodeState) (l : LinkId) (u : List ℕ) → IsNode a → MasterAgrees a l u → end_of a l ≡ Some upstream
+followed_end a l u node at = subst (FollowedAt a.ends) at.found node.followed
+
+-- .. of a client's
+pub feeds_client : (a b : NodeState) (l : LinkId) (unread bytes : List ℕ) → IsNode a → end_of a l ≡ Some (client unread) → b ≡ with_ends a (put_end a.ends l (client (unread ++ bytes))) → Feeds a l bytes b
+feeds_client a b l unread bytes node found is =
+    let leaves = put_leaves a b l (client (unread ++ bytes)) is in
+    record {
+      at_client = λ u at. record { is = leaves.is ∙ ap (λ (z : List ℕ). Some (client (z ++ bytes))) (one_end a l unread u found at) };
+      at_replica = λ u at. absurd (other_replica u (sym found ∙ at.is));
+      at_master = λ u at. absurd (other_upstream (sym found ∙ followed_end a l u node at));
+      at_shut = λ at. absurd (other_shut (sym found ∙ at.is));
+      others = leaves.others;
+      core = ap (λ (z : NodeState). z.core) is;
+      follow = λ other. ap (λ (z : NodeState). z.follow) is;
+    }
+  where
+    other_replica : (u : List ℕ) → ◌≡◌ {A = Option EndState} (Some (client unread)) (Some (replica u)) → ⊥
+    other_replica u e = cc
+
+    other_upstream : ◌≡◌ {A = Option EndState} (Some (client unread)) (Some upstream) → ⊥
+    other_upstream e = cc
+
+    other_shut : ◌≡◌ {A = Option EndState} (Some (client unread)) (Some shut) → ⊥
+    other_shut e = cc
+
+-- .. of a replica's
+pub feeds_replica : (a b : NodeState) (l : LinkId) (unread bytes : List ℕ) → IsNode a → end_of a l ≡ Some (replica unread) → b ≡ with_ends a (put_end a.ends l (replica (unread ++ bytes))) → Feeds a l bytes b
+feeds_replica a b l unread bytes node found is =
+    let leaves = put_leaves a b l (replica (unread ++ bytes)) is in
+    record {
+      at_client = λ u at. absurd (other_client u (sym found ∙ at.is));
+      at_replica = λ u at. record { is = leaves.is ∙ ap (λ (z : List ℕ). Some (replica (z ++ bytes))) (one_replica a l unread u found at) };
+      at_master = λ u at. absurd (other_upstream (sym found ∙ followed_end a l u node at));
+      at_shut = λ at. absurd (other_shut (sym found ∙ at.is));
+      others = leaves.others;
+      core = ap (λ (z : NodeState). z.core) is;
+      follow = λ other. ap (λ (z : NodeState). z.follow) is;
+    }
+  where
+    other_client : (u : List ℕ) → ◌≡◌ {A = Option EndState} (Some (replica unread)) (Some (client u)) → ⊥
+    other_client u e = cc
+
+    other_upstream : ◌≡◌ {A = Option EndState} (Some (replica unread)) (Some upstream) → ⊥
+    other_upstream e = cc
+
+    other_shut : ◌≡◌ {A = Option EndState} (Some (replica unread)) (Some shut) → ⊥
+    other_shut e = cc
+
+-- .. of either
+pub feeds_served : (a b : NodeState) (l : LinkId) (end : EndState) (bytes : List ℕ) → IsNode a → end_of a l ≡ Some end → serves end ≡ true → b ≡ with_ends a (put_end a.ends l (heard_of bytes end)) → Feeds a l bytes b
+feeds_served a b l (client unread) bytes node found served is = feeds_client a b l unread bytes node found is
+feeds_served a b l (replica unread) bytes node found served is = feeds_replica a b l unread bytes node found is
+feeds_served a b l upstream bytes node found served is = absurd (no_true served)
+  where
+    no_true : false ≡ true → ⊥
+    no_true e = cc
+feeds_served a b l shut bytes node found served is = absurd (no_true served)
+  where
+    no_true : false ≡ true → ⊥
+    no_true e = cc
+
+-- .. of the one to the master
+pub feeds_master : (a b : NodeState) (l : LinkId) (bytes : List ℕ) → IsNode a → FedIsUnread → end_of a l ≡ Some upstream → b ≡ fed_as bytes a → Feeds a l bytes b
+feeds_master a b l bytes node fed found is = record {
+  at_client = λ u at. absurd (other_client u (sym found ∙ at.is));
+  at_replica = λ u at. absurd (other_replica u (sym found ∙ at.is));
+  at_master = λ u at. record { reader = heard at.reader bytes; found = ap (λ (z : NodeState). z.follow) is ∙ ap (hears_more bytes) at.found; agrees = fed at.reader u bytes at.agrees };
+  at_shut = λ at. absurd (other_shut (sym found ∙ at.is));
+  others = record { stay = λ x ne. ap (λ (z : NodeState). end_of z x) is; opened = ap (λ (z : NodeState). z.ends.opened) is };
+  core = ap (λ (z : NodeState). z.core) is;
+  follow = λ other. absurd (other (node.only l found));
+}
+  where
+    other_client : (u : List ℕ) → ◌≡◌ {A = Option EndState} (Some upstream) (Some (client u)) → ⊥
+    other_client u e = cc
+
+    other_replica : (u : List ℕ) → ◌≡◌ {A = Option EndState} (Some upstream) (Some (replica u)) → ⊥
+    other_replica u e = cc
+
+    other_shut : ◌≡◌ {A = Option EndState} (Some upstream) (Some shut) → ⊥
+    other_shut e = cc
+
+-- .. of one that the node closed: they are dropped
+pub feeds_shut : (a b : NodeState) (l : LinkId) (bytes : List ℕ) → IsNode a → end_of a l ≡ Some shut → b ≡ a → Feeds a l bytes b
+feeds_shut a b l bytes node found is = record {
+  at_client = λ u at. absurd (other_client u (sym found ∙ at.is));
+  at_replica = λ u at. absurd (other_replica u (sym found ∙ at.is));
+  at_master = λ u at. absurd (other_upstream (sym found ∙ followed_end a l u node at));
+  at_shut = λ at. is;
+  others = record { stay = λ x ne. ap (λ (z : NodeState). end_of z x) is; opened = ap (λ (z : NodeState). z.ends.opened) is };
+  core = ap (λ (z : NodeState). z.core) is;
+  follow = λ other. ap (λ (z : NodeState). z.follow) is;
+}
+  where
+    other_client : (u : List ℕ) → ◌≡◌ {A = Option EndState} (Some shut) (Some (client u)) → ⊥
+    other_client u e = cc
+
+    other_replica : (u : List ℕ) → ◌≡◌ {A = Option EndState} (Some shut) (Some (replica u)) → ⊥
+    other_replica u e = cc
+
+    other_upstream : ◌≡◌ {A = Option EndState} (Some shut) (Some upstream) → ⊥
+    other_upstream e = cc
+
+-- ---- the kind of an end
+pub kind_serves : (end : EndState) → (kind_of end ≡ kind.Client) ⊎ (kind_of end ≡ kind.Replica) → serves end ≡ true
+kind_serves (client unread) k = refl
+kind_serves (replica unread) k = refl
+kind_serves upstream (inl e) = absurd (no_client e)
+  where
+    no_client : kind.Upstream ≡ kind.Client → ⊥
+    no_client e = cc
+kind_serves upstream (inr e) = absurd (no_replica e)
+  where
+    no_replica : kind.Upstream ≡ kind.Replica → ⊥
+    no_replica e = cc
+kind_serves shut (inl e) = absurd (no_client e)
+  where
+    no_client : kind.Shut ≡ kind.Client → ⊥
+    no_client e = cc
+kind_serves shut (inr e) = absurd (no_replica e)
+  where
+    no_replica : kind.Shut ≡ kind.Replica → ⊥
+    no_replica e = cc
+
+pub kind_upstream : (end : EndState) → kind_of end ≡ kind.Upstream → end ≡ upstream
+kind_upstream (client unread) k = cc
+kind_upstream (replica unread) k = cc
+kind_upstream upstream k = refl
+kind_upstream shut k = cc
+
+pub kind_shut : (end : EndState) → kind_of end ≡ kind.Shut → end ≡ shut
+kind_shut (client unread) k = cc
+kind_shut (replica unread) k = cc
+kind_shut upstream k = cc
+kind_shut shut k = refl
+
+-- more than there is room for is too much
+over_room : (end : EndState) (room count : ℕ) → serves end ≡ true → IsRoom room end → room < count → full < length (unread_in end) + count
+over_room (client unread) room count served is more = omega (arith, is, more)
+over_room (replica unread) room count served is more = omega (arith, is, more)
+over_room upstream room count served is more = absurd is
+over_room shut room count served is more = absurd is
+
+pub too_much : (a : NodeState) (l : LinkId) (end : EndState) (room count : ℕ) → a.core.up ≡ true → end_of a l ≡ Some end → serves end ≡ true → IsRoom room end → room < count → IsTooMuch a l count
+too_much a l end room count up found served is more = record { up = up; end = end; found = found; served = served; over = over_room end room count served is more }
+
+-- ---- a client's end
+pub client_end : (a : NodeState) (l : LinkId) (end : EndState) → end_of a l ≡ Some end → kind_of end ≡ kind.Client → IsClients a l
+client_end a l (client unread) found k = record { unread = unread; agrees = record { is = found } }
+client_end a l (replica unread) found k = absurd (cc)
+client_end a l upstream found k = absurd (cc)
+client_end a l shut found k = absurd (cc)

@@ -1,0 +1,112 @@
+-- What is to be done about a request, from its words.
+use Rattle.std.proofs.Common.{◌≡◌, ◌≤◌, ℕ, List, [], ◌∷◌, append-nil, Bool, true, length, take, drop, refl, sym, ap, subst, ◌∙◌, All, IsTrue}
+use Rattle.std.specs.Prelude.{Some, Result, Ok, Err, IfOk, OnErr}
+use Rattle.std.specs.List.{list_all, AllByRecursion}
+use Rattle.std.specs.Cmp.Derive.{both_true}
+use Rattle.std.proofs.lemmas.Bool.{le-leb}
+use Rattle.std.proofs.lemmas.List.{take-append-drop}
+use Rattle.std.proofs.lemmas.List.Elements.{recursion_from_All}
+use Rattle.mr_value.specs.Words.{fits}
+use Rattle.mr_resp.specs.ReplyView.{view}
+use Rattle.mr_resp.specs.Request.{IsRequest}
+use Rattle.mr_resp.specs.Resumed.{Agrees}
+use Rattle.mr_resp.specs.Scans.{BeginsWithRequest}
+use Rattle.mr_resp.specs.Scans as scans
+use Rattle.mr_resp.specs.Usual.{usual}
+use Rattle.mr_resp.specs.declared.limits.Limits.{Limits}
+use Rattle.mr_resp.specs.declared.progress.Progress.{Progress}
+use Rattle.mr_resp.specs.declared.request.Scan.{Scan}
+use Rattle.mr_entries.specs.Dataset.{Dataset}
+use Rattle.mr_data.specs.declared.given.Given.{Given}
+use Rattle.mr_cmd_node.specs.declared.node_ask.NodeAsk.{NodeAsk}
+use Rattle.mr_ask.specs.Asks.{asked}
+use Rattle.mr_ask.specs.declared.ask.Ask.{Ask}
+use Rattle.mr_ask.specs.declared.ask.Ask.TheVariants as ask
+use Rattle.mr_words.specs.declared.fault.AskFault.{AskFault}
+use Rattle.mr_plan.specs.Requests.{HasTexts, IsAnswerTo, IsPlannedAs, Leads, halting_by, closes, left_by, question_by, rewriting_by}
+use Rattle.mr_plan.specs.declared.requests.Answer.{Answer}
+use Rattle.mr_plan.specs.declared.requests.Answer.TheVariants as answer
+use Rattle.mr_ends.specs.Progresses.{AgreesAlong}
+use Rattle.mr_rows.specs.ClientRows.{MayLack}
+use Rattle.mr_rows.specs.Requests.{Asks}
+use Rattle.mr_node.specs.Reading.{KeepsAlong, IsDone, IsTodo, Reads, carry_out}
+use Rattle.mr_node.specs.declared.todo.Todo.{Todo}
+use Rattle.mr_node.specs.declared.todo.Todo.TheVariants as todo
+
+-- ---- the progress, and words within the limit
+pub agrees_now : (p : Progress) (u : List ℕ) → AgreesAlong p u → Agrees usual p u
+agrees_now p u a = subst (λ z. Agrees usual p z) (append-nil u) (a.along [])
+
+within_by_recursion : (ws : List (List ℕ)) → AllByRecursion (λ (w : List ℕ). length w ≤ 16777216) ws → list_all fits ws ≡ true
+within_by_recursion [] h = refl
+within_by_recursion (w ∷ ws) h = both_true (le-leb (length w) 16777216 h.0) (within_by_recursion ws h.1)
+
+-- words within the limit, by the test
+pub all_fit : (ws : List (List ℕ)) → All (λ (w : List ℕ). length w ≤ 16777216) ws → IsTrue (list_all fits ws)
+all_fit ws a = within_by_recursion ws (recursion_from_All (λ (w : List ℕ). length w ≤ 16777216) ws a)
+
+-- ---- what was read, within a server's limits
+pub read_as : {limits : Limits} {scan : Scan} (u : List ℕ) (what : Scan) → limits ≡ usual → scan ≡ what → scans.Reads limits u scan → scans.Reads usual u what
+read_as {limits} {scan} u what usually is r = subst (λ (z : Limits). scans.Reads z u what) usually (subst (λ (z : Scan). scans.Reads limits u z) is r)
+
+pub asked_at : (u : List ℕ) (n : ℕ) (words : List (List ℕ)) → IsRequest usual (take n u) words → Asks u words (drop n u)
+asked_at u n words r = record { text = take n u; begins = sym (take-append-drop n u); request = r }
+
+-- .. for whose words memory was lacking
+pub may_lack : (u : List ℕ) → BeginsWithRequest usual u → MayLack u
+may_lack u b = MayLack.asks b.words (drop b.used u) (asked_at u b.used b.words b.request)
+
+pub in_any_case : {A E : Type 0} (r : Result A E) (P : Type 0) → P → OnErr r P
+in_any_case (Ok x) P h = tt
+in_any_case (Err e) P h = h
+
+-- ---- an answer to a command
+ok_is : (a b : Ask) → ◌≡◌ {A = Result Ask AskFault} (Ok a) (Ok b) → a ≡ b
+ok_is a b e = cc
+
+pub answer_done : (replica : Bool) (words : List (List ℕ)) (given : Given) (m : Dataset) (a : Ask) (x : Answer) (n : ℕ) → asked words ≡ Ok a → ((wish : NodeAsk) → a ≡ ask.Node wish → ⊥)
+    → IsAnswerTo replica a given m x → Leads x m (left_by (Ok a) replica given m) → HasTexts x → IsDone replica words n given m (carry_out x n)
+answer_done replica words given m a (answer.Run plan) n is other answers leads sent = (
+  refl,
+  record {
+    keeps_file = ap rewriting_by is ∙ answers.1;
+    runs_on = ap halting_by is ∙ answers.2;
+    asks_data = ap question_by is ∙ answers.3;
+    asks_no_node = λ wish asks. other wish (ok_is a (ask.Node wish) (sym is ∙ asks));
+  },
+  record {
+    goes_on = ap closes is ∙ answers.0;
+    planned = record { planned = subst (λ r. IsPlannedAs r replica given m (view plan.reply) plan.effects.items) (sym is) answers.4 };
+    leads = leads ∙ ap (λ r. Some (left_by r replica given m)) (sym is);
+    texts = sent.texts;
+    short = sent.short;
+  },
+)
+answer_done replica words given m a answer.Quit n is other answers leads sent = ap closes is ∙ answers
+answer_done replica words given m a answer.Rewrite n is other answers leads sent = (refl, ap rewriting_by is ∙ answers)
+answer_done replica words given m a (answer.Tell question) n is other answers leads sent = (refl, ap question_by is ∙ answers)
+answer_done replica words given m a answer.Halt n is other answers leads sent = (refl, ap halting_by is ∙ answers)
+
+-- .. from words to unread bytes
+reads_at : (words : List (List ℕ)) (u : List ℕ) (n used : ℕ) → used ≡ n → n ≤ length u → Asks u words (drop n u) → Reads u used words
+reads_at words u n used same enough asks = subst (λ z. Reads u z words) (sym same) (record { enough = enough; asks = asks })
+
+pub done_todo : (replica : Bool) (words : List (List ℕ)) (u : List ℕ) (n : ℕ) (given : Given) (m : Dataset) (t : Todo) → n ≤ length u → Asks u words (drop n u) → IsDone replica words n given m t → IsTodo replica u given m t
+done_todo replica words u n given m (todo.Wait progress) enough asks d = absurd d
+done_todo replica words u n given m (todo.Skip used) enough asks d = absurd d
+done_todo replica words u n given m (todo.Refuse fault) enough asks d = absurd d
+done_todo replica words u n given m todo.Quit enough asks d = record { words = words; rest = drop n u; asks = asks; quit = d }
+done_todo replica words u n given m (todo.Rewrite used) enough asks d = record { words = words; reads = reads_at words u n used (d.0) enough asks; rewriting = d.1 }
+done_todo replica words u n given m (todo.Tell used question) enough asks d = record { words = words; reads = reads_at words u n used (d.0) enough asks; asked = d.1 }
+done_todo replica words u n given m (todo.Halt used) enough asks d = record { words = words; reads = reads_at words u n used (d.0) enough asks; halting = d.1 }
+done_todo replica words u n given m (todo.Run used plan) enough asks d = record { words = words; reads = reads_at words u n used (d.0) enough asks; plain = d.1; plan = d.2 }
+done_todo replica words u n given m (todo.Ask used request) enough asks d = (d.1, record { words = words; reads = reads_at words u n used (d.0) enough asks; asks = d.2 }, d.3)
+
+-- .. where memory wasn't lacking
+pub done_all : {E : Type 0} (r : Result Todo E) (replica : Bool) (words : List (List ℕ)) (u : List ℕ) (n : ℕ) (given : Given) (m : Dataset) → n ≤ length u → Asks u words (drop n u) → IfOk r (λ t. IsDone replica words n given m t) → IfOk r (λ t. IsTodo replica u given m t)
+done_all (Ok t) replica words u n given m enough asks d = done_todo replica words u n given m t enough asks d
+done_all (Err e) replica words u n given m enough asks d = tt
+
+-- what is to be done, once it is known which it is
+pub found_as : (replica : Bool) (u : List ℕ) (given : Given) (m : Dataset) (t s : Todo) → t ≡ s → IsTodo replica u given m t × KeepsAlong t u → IsTodo replica u given m s × KeepsAlong s u
+found_as replica u given m t s is h = subst (λ z. IsTodo replica u given m z × KeepsAlong z u) is h

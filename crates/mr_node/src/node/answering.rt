@@ -1,0 +1,181 @@
+// What a client's request is answered, where it asks nothing of the node itself.
+ghost use Rattle.std.specs.Prelude.{◌≡◌, ◌≤◌, ℕ, List, [], true, not, length, IfOk, OnOk, Some, Ok, false};
+ghost use Rattle.mr_resp.specs.ReplyView.{view};
+ghost use Rattle.mr_resp.specs.Replies.{error, reply_text};
+ghost use Rattle.mr_resp.specs.Faults.{fault_text};
+ghost use Rattle.mr_effect.specs.Spelling.{texts};
+ghost use Rattle.mr_data.specs.declared.given.Given.{Given};
+ghost use Rattle.mr_planning.specs.Answered.{done};
+ghost use Rattle.mr_ends.specs.State.{EndState, serves};
+ghost use Rattle.mr_ends.specs.Parts.{HasAhead};
+ghost use Rattle.mr_outs.specs.Outs.{growth, outs_with, no_output};
+ghost use Rattle.mr_rows.specs.State.{Agrees, end_of};
+ghost use Rattle.mr_rows.specs.ClientRows.{Ends, MayLack};
+ghost use Rattle.mr_rows.specs.Growing.{offset_behind, offset_limit};
+ghost use Rattle.mr_rows.specs.Served.{rewritten_as};
+ghost use Rattle.mr_node.specs.Reading.{HaltsAt, Passes, Quits, Rewrites, Runs};
+ghost use Rattle.mr_rows.specs.Requests.{IsDoomedBy};
+ghost use Rattle.mr_node.specs.Steps.{ClientStep, IsAt};
+ghost use Rattle.mr_node.specs.Parts.{AreEmpty, FeedsAll, Leads, Tells};
+
+use crate::fault::NodeFault;
+use crate::node::Node;
+use crate::replies::{done, past_the_limit, rewriting};
+use crate::step::Step;
+use mr_data::Plan;
+use mr_links::LinkId;
+use mr_outs::Outs;
+use mr_resp::{Fault, Reply};
+use std::alloc::AllocError;
+
+/// No offset is greater.
+pub(crate) const LIMIT: u64 = 0x4000_0000_0000_0000;
+
+// Requests without effects.
+impl Node {
+    /// Uses an empty request.
+    pub(crate) fn skip(&mut self, link: LinkId, used: usize) -> Step
+        requires { HasAhead self.old.ends link used }
+        ensures { (u : List ℕ) (given : Given) (fresh : List ℕ) → IsAt self.old link u → Passes u used → ClientStep self.old link u given fresh self.new (Ok result) }
+    {
+        let outs = self.fresh_outs(Some(link));
+        self.advance(link, used);
+        Step::Done(outs)
+    }
+
+    /// Uses a client's wish that the program end. Nothing is answered.
+    pub(crate) fn halt(&mut self, link: LinkId, used: usize) -> Step
+        requires { HasAhead self.old.ends link used }
+        ensures { (u : List ℕ) (given : Given) (fresh : List ℕ) → IsAt self.old link u → HaltsAt u used → ClientStep self.old link u given fresh self.new (Ok result) }
+    {
+        let mut outs = self.fresh_outs(Some(link));
+        outs.halt();
+        self.advance(link, used);
+        Step::Done(outs)
+    }
+
+    /// Sends the text of a fault, and closes the link.
+    pub(crate) fn refuse(&mut self, link: LinkId, fault: Fault) -> Result<Step, NodeFault>
+        requires { (end : EndState) × (end_of self.old link ≡ Some end) × (serves end ≡ true) }
+        ensures { (u : List ℕ) (given : Given) (fresh : List ℕ) → IsAt self.old link u → IsDoomedBy u fault → ClientStep self.old link u given fresh self.new result }
+    {
+        let Ok(reply) = fault.reply(self.alloc) else {
+            return Err(NodeFault::Memory);
+        };
+        self.dismiss(link, &reply)
+    }
+
+    /// Answers OK, and closes the link.
+    pub(crate) fn quit(&mut self, link: LinkId) -> Result<Step, NodeFault>
+        requires { (end : EndState) × (end_of self.old link ≡ Some end) × (serves end ≡ true) }
+        ensures { (u : List ℕ) (given : Given) (fresh : List ℕ) → IsAt self.old link u → Quits u → ClientStep self.old link u given fresh self.new result }
+    {
+        self.dismiss(link, &done())
+    }
+
+    /// Sends a last reply, and closes the link.
+    fn dismiss(&mut self, link: LinkId, reply: &Reply) -> Result<Step, NodeFault>
+        requires { (end : EndState) × (end_of self.old link ≡ Some end) × (serves end ≡ true) }
+        ensures { (u : List ℕ) (given : Given) (fresh : List ℕ) → IsAt self.old link u → MayLack u → Ends u (reply_text (view reply.now)) → ClientStep self.old link u given fresh self.new result }
+    {
+        let mut outs = self.fresh_outs(Some(link));
+        if outs.say(reply).is_err() {
+            return Err(NodeFault::Memory);
+        }
+        outs.close();
+        self.state.shut(link);
+        Ok(Step::Done(outs))
+    }
+
+    /// The append-only file is written anew, and the client is told so.
+    pub(crate) fn rewrite(&mut self, link: LinkId, used: usize) -> Result<Step, NodeFault>
+        requires { HasAhead self.old.ends link used }
+        ensures { (u : List ℕ) (given : Given) (fresh : List ℕ) → IsAt self.old link u → Rewrites u used → ClientStep self.old link u given fresh self.new result }
+    {
+        let mut outs = self.fresh_outs(Some(link));
+        if outs.say(&rewriting()).is_err() {
+            return Err(NodeFault::Memory);
+        }
+        let Ok(texts) = self.state.held().rebuild(self.alloc) else {
+            return Err(NodeFault::Memory);
+        };
+        outs.replace(texts);
+        self.advance(link, used);
+        Ok(Step::Done(outs))
+    }
+}
+
+// Requests with a plan.
+impl Node {
+    /// Carries out a plan.
+    pub(crate) fn run(&mut self, link: LinkId, used: usize, plan: Plan) -> Result<Step, NodeFault>
+        requires ahead { HasAhead self.old.ends link used }
+        requires leads { Leads plan.effects.items self.old.core.held }
+        requires silent { self.old.core.master ≡ false → plan.effects.items ≡ [] }
+        ensures { (u : List ℕ) (given : Given) (fresh : List ℕ) → IsAt self.old link u → Runs (not self.old.core.master) u given self.old.core.held used plan → ClientStep self.old link u given fresh self.new result }
+    {
+        let mut outs = self.fresh_outs(Some(link));
+        match self.put_answer(&plan, &mut outs) {
+            Err(_) => Err(NodeFault::Memory),
+            Ok(false) => {
+                self.advance(link, used);
+                Ok(Step::Done(outs))
+            }
+            Ok(true) => self.commit(link, used, plan, outs),
+        }
+    }
+
+    /// Writes the texts of the effects and the reply. False where the effects would carry the offset past its limit: then what is
+    /// written says so, and no effect.
+    fn put_answer(&self, plan: &Plan, outs: &mut Outs) -> Result<bool, AllocError>
+        requires { AreEmpty outs.old }
+        ensures { IfOk result (λ fits. Tells self.now.core (view plan.now.reply) plan.now.effects.items outs.old fits outs.new) }
+    {
+        outs.grow(plan.effects.as_slice())?;
+        if outs.grown().len() as u64 > LIMIT - self.state.lineage().stream().end() {
+            outs.drop_grown();
+            outs.say(&past_the_limit())?;
+            return Ok(false);
+        }
+        outs.say(&plan.reply)?;
+        Ok(true)
+    }
+
+    /// What the stream grows by goes to all replicas. Where it grows by nothing, nothing is sent.
+    pub(crate) fn feed_replicas(&self, outs: &mut Outs) -> Result<(), AllocError>
+        requires { outs.old.fed ≡ [] }
+        ensures { OnOk result (FeedsAll self.now outs.old outs.new) }
+    {
+        if outs.grown().is_empty() {
+            return Ok(());
+        }
+        outs.feed(self.state.ends().replicas())
+    }
+
+    /// Applies the effects, puts their texts behind the stream, and sends them to all replicas.
+    fn commit(
+        &mut self,
+        link: LinkId,
+        used: usize,
+        plan: Plan,
+        outs: Outs,
+    ) -> Result<Step, NodeFault>
+        requires ahead { HasAhead self.old.ends link used }
+        requires leads { Leads plan.effects.items self.old.core.held }
+        requires silent { self.old.core.master ≡ false → plan.effects.items ≡ [] }
+        requires outs { outs ≡ outs_with (Some link) (record (growth (texts plan.effects.items)) { said = reply_text (view plan.reply) }) }
+        requires within { offset_behind plan.effects.items self.old.core ≤ offset_limit }
+        ensures { (u : List ℕ) (given : Given) (fresh : List ℕ) → IsAt self.old link u → Runs (not self.old.core.master) u given self.old.core.held used plan → ClientStep self.old link u given fresh self.new result }
+    {
+        let mut outs = outs;
+        if self.feed_replicas(&mut outs).is_err() {
+            return Err(NodeFault::Memory);
+        }
+        let Plan { reply: _, effects } = plan;
+        if self.state.commit(effects, outs.grown()).is_err() {
+            return Err(NodeFault::Stopped);
+        }
+        self.advance(link, used);
+        Ok(Step::Done(outs))
+    }
+}

@@ -1,0 +1,128 @@
+// What a client's request asks of the node itself.
+ghost use Rattle.std.specs.Prelude.{◌≡◌, ◌↔◌, ℕ, List, true, IsTrue, Some, Ok};
+ghost use Rattle.mr_resp.specs.ReplyView.{view};
+ghost use Rattle.mr_planning.specs.Answered.{done};
+ghost use Rattle.mr_data.specs.declared.given.Given.{Given};
+ghost use Rattle.mr_cmd_node.specs.declared.node_ask.NodeAsk.{NodeAsk};
+ghost use Rattle.mr_cmd_node.specs.declared.node_ask.NodeAsk.TheVariants as node;
+ghost use Rattle.mr_ends.specs.Parts.{HasAhead, IsClient};
+ghost use Rattle.mr_outs.specs.Outs.{no_output};
+ghost use Rattle.mr_rows.specs.Served.{says};
+ghost use Rattle.mr_node.specs.Reading.{IsWish, Wishes};
+ghost use Rattle.mr_node.specs.Steps.{ClientStep, IsAt};
+ghost use Rattle.mr_node.specs.Parts.{Keeps};
+
+use crate::fault::NodeFault;
+use crate::node::Node;
+use crate::replies::{done, not_chained};
+use crate::request::NodeRequest;
+use crate::step::Step;
+use mr_ends::Introduction;
+use mr_links::LinkId;
+use mr_outs::Address;
+use mr_repl::ReplId;
+use mr_resp::Reply;
+
+impl Node {
+    /// Does what is asked of the node, by its role.
+    pub(crate) fn ask(
+        &mut self,
+        link: LinkId,
+        used: usize,
+        request: NodeRequest,
+        fresh: ReplId,
+    ) -> Result<Step, NodeFault>
+        requires { IsClient self.old.ends link used }
+        ensures { (u : List ℕ) (given : Given) (wish : NodeAsk) → IsAt self.old link u → Wishes u used wish → IsWish wish request → ClientStep self.old link u given fresh self.new result }
+    {
+        match request {
+            NodeRequest::Stream(wish) => {
+                if self.state.master() {
+                    self.synchronize(link, used, &wish)
+                } else {
+                    self.say(link, used, &not_chained())
+                }
+            }
+            NodeRequest::Introduction(introduction) => self.introduce(link, used, introduction),
+            NodeRequest::Acknowledgement(offset) => Ok(self.acknowledge(link, used, offset)),
+            NodeRequest::Follow(address) => self.follow_another(link, used, address),
+            NodeRequest::Lead => {
+                if self.state.master() {
+                    self.say(link, used, &done())
+                } else {
+                    self.promote(link, used, fresh)
+                }
+            }
+        }
+    }
+
+    /// Follows another, by the node's role: whom a replica follows already it goes on to follow.
+    fn follow_another(
+        &mut self,
+        link: LinkId,
+        used: usize,
+        address: Address,
+    ) -> Result<Step, NodeFault>
+        requires { IsClient self.old.ends link used }
+        ensures { (u : List ℕ) (given : Given) (fresh : List ℕ) → IsAt self.old link u → Wishes u used (node.ReplicaOf address.host address.port) → ClientStep self.old link u given fresh self.new result }
+    {
+        if self.state.master() {
+            return self.demote(link, used, address);
+        }
+        if self.is_followed(&address) {
+            return self.say(link, used, &done());
+        }
+        self.turn(link, used, address)
+    }
+
+    /// Whether the node was told to follow this one.
+    fn is_followed(&self, address: &Address) -> bool
+        ensures { IsTrue result ↔ (self.now.core.upstream ≡ Some address.now) }
+    {
+        match self.state.upstream() {
+            None => false,
+            Some(upstream) => upstream.is(address.host(), address.port()),
+        }
+    }
+
+    /// Answers, and nothing changes.
+    fn say(&mut self, link: LinkId, used: usize, reply: &Reply) -> Result<Step, NodeFault>
+        requires { HasAhead self.old.ends link used }
+        ensures { (u : List ℕ) (given : Given) (fresh : List ℕ) → IsAt self.old link u → Keeps self.old.core u used (says (view reply.now)) → ClientStep self.old link u given fresh self.new result }
+    {
+        let mut outs = self.fresh_outs(Some(link));
+        if outs.say(reply).is_err() {
+            return Err(NodeFault::Memory);
+        }
+        self.advance(link, used);
+        Ok(Step::Done(outs))
+    }
+
+    /// Answers OK to what a replica says of itself, and keeps it.
+    fn introduce(
+        &mut self,
+        link: LinkId,
+        used: usize,
+        introduction: Introduction,
+    ) -> Result<Step, NodeFault>
+        requires { HasAhead self.old.ends link used }
+        ensures { (u : List ℕ) (given : Given) (fresh : List ℕ) → IsAt self.old link u → Keeps self.old.core u used (says done) → ClientStep self.old link u given fresh self.new result }
+    {
+        let answered = self.say(link, used, &done());
+        if answered.is_ok() {
+            self.state.introduce(link, introduction);
+        }
+        answered
+    }
+
+    /// Keeps the offset that is acknowledged. Nothing is answered.
+    fn acknowledge(&mut self, link: LinkId, used: usize, offset: i64) -> Step
+        requires { HasAhead self.old.ends link used }
+        ensures { (u : List ℕ) (given : Given) (fresh : List ℕ) → IsAt self.old link u → Keeps self.old.core u used no_output → ClientStep self.old link u given fresh self.new (Ok result) }
+    {
+        let outs = self.fresh_outs(Some(link));
+        self.state.acknowledge(link, offset);
+        self.advance(link, used);
+        Step::Done(outs)
+    }
+}

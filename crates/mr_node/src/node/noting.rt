@@ -1,0 +1,53 @@
+// A step at a replica's end.
+ghost use Rattle.std.specs.Prelude.{ℕ, List};
+ghost use Rattle.mr_rows.specs.State.{ReplicaAgrees};
+ghost use Rattle.mr_node.specs.Steps.{IsAtReplica, ReplicaStep};
+ghost use Rattle.mr_node.specs.Noting.{NotedAt};
+
+use crate::fault::NodeFault;
+use crate::node::Node;
+use crate::noted::{Noted, noted_of};
+use crate::step::Step;
+use mr_links::LinkId;
+use std::alloc::AllocError;
+
+impl Node {
+    /// Makes a step at a replica's end: an acknowledgement is noted, and anything else but an empty request closes the link.
+    pub(crate) fn note(&mut self, link: LinkId) -> Result<Step, NodeFault>
+        requires { (u : List ℕ) × IsAtReplica self.old link u }
+        ensures { (u : List ℕ) → IsAtReplica self.old link u → ReplicaStep self.old link u self.new result }
+    {
+        let Ok(noted) = self.noted(link) else {
+            return Err(NodeFault::Memory);
+        };
+        if let Noted::Wait(progress) = noted {
+            self.state.keep(link, progress);
+            return Ok(Step::Idle);
+        }
+        let mut outs = self.fresh_outs(Some(link));
+        match noted {
+            Noted::Wait(_) => unreachable!(),
+            Noted::Skip { used } => self.advance(link, used),
+            Noted::Acknowledgement { used, offset } => {
+                self.state.acknowledge(link, offset);
+                self.advance(link, used);
+            }
+            Noted::Part => {
+                outs.close();
+                self.state.shut(link);
+            }
+        }
+        Ok(Step::Done(outs))
+    }
+
+    /// What is to be done about a replica's unread bytes.
+    fn noted(&self, link: LinkId) -> Result<Noted, AllocError>
+        requires { (u : List ℕ) × ReplicaAgrees self.now link u }
+        ensures { (u : List ℕ) → ReplicaAgrees self.now link u → NotedAt u result }
+    {
+        let Some(end) = self.state.ends().get(link) else {
+            unreachable!()
+        };
+        noted_of(self.alloc, end.unread(), end.progress())
+    }
+}

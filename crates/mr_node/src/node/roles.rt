@@ -1,0 +1,122 @@
+// A change of roles.
+ghost use Rattle.std.specs.Prelude.{◌≡◌, ◌≢◌, ◌<◌, ℕ, List, [], true, false, Some, OnOk};
+ghost use Rattle.mr_resp.specs.Replies.{reply_text};
+ghost use Rattle.mr_planning.specs.Answered.{done};
+ghost use Rattle.mr_data.specs.declared.given.Given.{Given};
+ghost use Rattle.mr_cmd_node.specs.declared.node_ask.NodeAsk.TheVariants as node;
+ghost use Rattle.mr_links.specs.declared.link_id.LinkId.{LinkId};
+ghost use Rattle.mr_ends.specs.Parts.{HasAhead};
+ghost use Rattle.mr_ends.specs.Replicas.{Lists};
+ghost use Rattle.mr_outs.specs.Outs.{no_outs};
+ghost use Rattle.mr_rows.specs.Ends.{names_of};
+ghost use Rattle.mr_rows.specs.Sound.{ports};
+ghost use Rattle.mr_course.specs.State.{name_of};
+ghost use Rattle.mr_node.specs.Reading.{Wishes};
+ghost use Rattle.mr_node.specs.Steps.{ClientStep, IsAt};
+
+use crate::fault::NodeFault;
+use crate::node::Node;
+use crate::step::Step;
+use mr_links::LinkId;
+use mr_outs::{Address, Outs};
+use mr_repl::ReplId;
+use std::alloc::AllocError;
+
+impl Node {
+    /// A replica is a master from now on, and its stream goes on under the fresh id.
+    pub(crate) fn promote(
+        &mut self,
+        link: LinkId,
+        used: usize,
+        fresh: ReplId,
+    ) -> Result<Step, NodeFault>
+        requires ahead { HasAhead self.old.ends link used }
+        requires replica { self.old.core.master ≡ false }
+        ensures { (u : List ℕ) (given : Given) → IsAt self.old link u → Wishes u used node.NoOne → ClientStep self.old link u given fresh self.new result }
+    {
+        let mut outs = self.fresh_outs(Some(link));
+        if self.put_leaving(&mut outs).is_err() {
+            return Err(NodeFault::Memory);
+        }
+        outs.take_id(fresh);
+        self.advance(link, used);
+        self.state.promote(fresh);
+        Ok(Step::Done(outs))
+    }
+
+    /// A replica is to follow another.
+    pub(crate) fn turn(
+        &mut self,
+        link: LinkId,
+        used: usize,
+        address: Address,
+    ) -> Result<Step, NodeFault>
+        requires ahead { HasAhead self.old.ends link used }
+        requires replica { self.old.core.master ≡ false }
+        requires another { self.old.core.upstream ≢ Some address }
+        ensures { (u : List ℕ) (given : Given) (fresh : List ℕ) → IsAt self.old link u → Wishes u used (node.ReplicaOf address.host address.port) → ClientStep self.old link u given fresh self.new result }
+    {
+        let mut outs = self.fresh_outs(Some(link));
+        if self.put_leaving(&mut outs).is_err()
+            || self.put_following(&address, &mut outs).is_err()
+        {
+            return Err(NodeFault::Memory);
+        }
+        self.advance(link, used);
+        self.state.turn(address);
+        Ok(Step::Done(outs))
+    }
+
+    /// A master becomes a replica, and closes its replicas' links.
+    pub(crate) fn demote(
+        &mut self,
+        link: LinkId,
+        used: usize,
+        address: Address,
+    ) -> Result<Step, NodeFault>
+        requires ahead { HasAhead self.old.ends link used }
+        requires master { self.old.core.master ≡ true }
+        ensures { (u : List ℕ) (given : Given) (fresh : List ℕ) → IsAt self.old link u → Wishes u used (node.ReplicaOf address.host address.port) → ClientStep self.old link u given fresh self.new result }
+    {
+        let mut outs = self.fresh_outs(Some(link));
+        if self.put_dismissal(&mut outs).is_err()
+            || self.put_following(&address, &mut outs).is_err()
+        {
+            return Err(NodeFault::Memory);
+        }
+        self.advance(link, used);
+        self.state.obey(address);
+        Ok(Step::Done(outs))
+    }
+
+    /// OK, and the link to the master is closed.
+    fn put_leaving(&self, outs: &mut Outs) -> Result<(), AllocError>
+        requires { (outs.old.reply ≡ []) × (outs.old.closed ≡ []) }
+        ensures { OnOk result (outs.new ≡ record outs.old { reply = reply_text done; closed = names_of (name_of self.now.follow) }) }
+    {
+        outs.say_bytes(b"+OK\r\n")?;
+        match self.state.followed() {
+            None => Ok(()),
+            Some(link) => outs.close_all(&[link]),
+        }
+    }
+
+    /// OK, and the replicas' links are closed.
+    fn put_dismissal(&self, outs: &mut Outs) -> Result<(), AllocError>
+        requires { (outs.old.reply ≡ []) × (outs.old.closed ≡ []) }
+        ensures { OnOk result ((names : List LinkId) × Lists names self.now.ends.open_links × (outs.new ≡ record outs.old { reply = reply_text done; closed = names })) }
+    {
+        outs.say_bytes(b"+OK\r\n")?;
+        outs.close_all(self.state.ends().replicas())
+    }
+
+    /// Whom the node follows from now on.
+    fn put_following(&self, address: &Address, outs: &mut Outs) -> Result<(), AllocError>
+        ensures told { OnOk result (outs.new ≡ record outs.old { follows = Some address.now }) }
+        ensures port { address.now.port < ports }
+    {
+        let told = Address::copied(self.alloc, address.host(), address.port())?;
+        outs.follow(told);
+        Ok(())
+    }
+}

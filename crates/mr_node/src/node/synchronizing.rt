@@ -1,0 +1,98 @@
+// PSYNC, on a master.
+ghost use Rattle.std.specs.Prelude.{◌≡◌, ◌≤◌, ◌+◌, ◌++◌, ℕ, ℤ, pos, List, [], true, OnOk, length};
+ghost use Rattle.mr_data.specs.declared.given.Given.{Given};
+ghost use Rattle.mr_cmd_node.specs.declared.node_ask.NodeAsk.TheVariants as node;
+ghost use Rattle.mr_ends.specs.Parts.{IsClient};
+ghost use Rattle.mr_repl.specs.Backlog.{first_of, bytes_from};
+ghost use Rattle.mr_lines.specs.Lines.{most_counted};
+ghost use Rattle.mr_lines.specs.Written.{reply_line, length_line};
+ghost use Rattle.mr_lines.specs.declared.psync.PsyncReply.TheVariants.{FullResync, Continue};
+ghost use Rattle.mr_rows.specs.Growing.{Remakes, rebuilt};
+ghost use Rattle.mr_data.specs.Rebuilding.{rebuilding};
+ghost use Rattle.mr_node.specs.Reading.{Wishes};
+ghost use Rattle.mr_node.specs.Steps.{ClientStep, IsAt};
+ghost use Rattle.mr_node.specs.Parts.{Offers};
+
+use crate::fault::NodeFault;
+use crate::node::Node;
+use crate::node::answering::LIMIT;
+use crate::request::StreamWish;
+use crate::step::Step;
+use mr_lines::{write_continue, write_full, write_length};
+use mr_links::LinkId;
+use mr_outs::Outs;
+use mr_repl::{Answer, decide};
+use std::alloc::AllocError;
+
+impl Node {
+    /// Answers PSYNC on a master: all that stands ready is sent at once, and the link is a replica's from then on.
+    pub(crate) fn synchronize(
+        &mut self,
+        link: LinkId,
+        used: usize,
+        wish: &StreamWish,
+    ) -> Result<Step, NodeFault>
+        requires client { IsClient self.old.ends link used }
+        requires master { self.old.core.master ≡ true }
+        ensures { (u : List ℕ) (given : Given) (fresh : List ℕ) → IsAt self.old link u → Wishes u used (node.Psync wish.now.id.items wish.now.wanted) → ClientStep self.old link u given fresh self.new result }
+    {
+        let mut outs = self.fresh_outs(Some(link));
+        if self
+            .put_stream(wish.id.as_slice(), wish.wanted(), &mut outs)
+            .is_err()
+        {
+            return Err(NodeFault::Memory);
+        }
+        if self.state.stream_to(link, used).is_err() {
+            return Err(NodeFault::Memory);
+        }
+        Ok(Step::Done(outs))
+    }
+
+    /// The answer to PSYNC: the stream from the byte that is wanted, where it may be continued there, and else the whole dataset.
+    fn put_stream(&self, id: &[u8], wanted: i64, outs: &mut Outs) -> Result<(), AllocError>
+        requires { outs.old.reply ≡ [] }
+        ensures { OnOk result (Offers self.now.core.lineage self.now.core.held id.now wanted outs.old outs.new) }
+    {
+        match decide(id, wanted, &self.state.lineage().standing()) {
+            Answer::Continue(from) => self.put_tail(from, outs),
+            Answer::Full => self.put_dataset(outs),
+        }
+    }
+
+    /// The line that says so, and the stream from this byte on.
+    fn put_tail(&self, from: u64, outs: &mut Outs) -> Result<(), AllocError>
+        requires empty { outs.old.reply ≡ [] }
+        requires held { first_of self.now.core.lineage.stream ≤ from }
+        requires within { from ≤ self.now.core.lineage.stream.offset + 1 }
+        ensures { OnOk result (outs.new ≡ record outs.old { reply = reply_line (Continue self.now.core.lineage.id) ++ bytes_from self.now.core.lineage.stream from }) }
+    {
+        let lineage = self.state.lineage();
+        let mut line = Vec::new(self.alloc);
+        write_continue(lineage.id(), &mut line)?;
+        outs.say_bytes(line.as_slice())?;
+        let tail = lineage.stream().tail(self.alloc, from)?;
+        outs.say_bytes(tail.as_slice())
+    }
+
+    /// The line that says so, and what rebuilds the dataset behind its length.
+    fn put_dataset(&self, outs: &mut Outs) -> Result<(), AllocError>
+        requires { outs.old.reply ≡ [] }
+        ensures remakes { OnOk result (Remakes (rebuilding self.now.core.held) self.now.core.held) }
+        ensures counted { OnOk result (length (rebuilt self.now.core.held) ≤ most_counted) }
+        ensures text { OnOk result (outs.new ≡ record outs.old {
+          reply = reply_line (FullResync self.now.core.lineage.id self.now.core.lineage.stream.offset) ++ (length_line (length (rebuilt self.now.core.held)) ++ rebuilt self.now.core.held);
+        }) }
+    {
+        let lineage = self.state.lineage();
+        let texts = self.state.held().rebuild(self.alloc)?;
+        if texts.len() as u64 > LIMIT {
+            return Err(AllocError);
+        }
+        let mut lines = Vec::new(self.alloc);
+        write_full(lineage.id(), lineage.stream().end(), &mut lines)?;
+        write_length(texts.len() as u64, &mut lines)?;
+        outs.say_bytes(lines.as_slice())?;
+        outs.say_bytes(texts.as_slice())
+    }
+}
