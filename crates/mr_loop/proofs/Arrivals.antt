@@ -44,7 +44,7 @@ ok_no_err x why e = cc
 
 -- Where the bytes were refused, the node stays.
 pub fed_none : (a b : NodeState) (l : LinkId) (bytes : List ℕ) (count : ℕ) (why : NodeFault) → FeedRow a l bytes count b (Err why) → b ≡ a
-fed_none a b l bytes count refusal.Memory row = row.4
+fed_none a b l bytes count refusal.Memory row = row.5
 fed_none a b l bytes count refusal.Stopped row = row.1
 fed_none a b l bytes count refusal.NoLink row = row.2
 fed_none a b l bytes count refusal.InputFull row = row.1

@@ -1,5 +1,5 @@
 -- Links that are dialled, fed and asked about.
-use Rattle.std.proofs.Common.{◌≡◌, ◌+◌, ◌<◌, ◌++◌, ◌∷◌, ◌⊎◌, inl, inr, ℕ, List, [], true, false, Option, None, Some, codes, length, refl, sym, ap, subst, ◌∙◌, arith, lit<}
+use Rattle.std.proofs.Common.{◌≡◌, ◌+◌, ◌<◌, ◌≤◌, ◌++◌, ◌∷◌, ◌⊎◌, inl, inr, ℕ, List, [], true, false, Option, None, Some, codes, length, refl, sym, ap, subst, ◌∙◌, arith, lit<}
 use Rattle.std.specs.Prelude.{Result, Ok, Err, OnOk}
 use Rattle.std.specs.Result.{is_err}
 use Rattle.std.specs.Fmt.{decimal}
@@ -8,7 +8,7 @@ use Rattle.mr_links.specs.declared.link_id.LinkId.{LinkId}
 use Rattle.mr_resp.specs.Spelling.{line_end}
 use Rattle.mr_effect.specs.Spelling.{words}
 use Rattle.mr_follow.specs.Handshake.{ping_line}
-use Rattle.mr_follow.specs.State.{FedIsUnread, heard}
+use Rattle.mr_follow.specs.State.{FedIsUnread, FollowState, heard}
 use Rattle.mr_course.specs.State.{hears_more}
 use Rattle.mr_ends.specs.State.{EndState, full, put_end, serves, unread_in}
 use Rattle.mr_ends.specs.State.EndState.{client, replica, shut, upstream}
@@ -19,8 +19,8 @@ use Rattle.mr_rows.specs.State.{FollowedAt, IsNode, IsTooMuch, MasterAgrees, Nod
 use Rattle.mr_rows.specs.LinkRows.{Dials, Feeds}
 use Rattle.mr_rows.specs.UpstreamRows.{beat}
 use Rattle.mr_state.specs.Parts.{dialled_as, fed_as, with_ends}
-use Rattle.mr_node.specs.Calls.{IsClients}
-use Rattle.mr_node.proofs.Ends.{one_end, one_replica, put_leaves}
+use Rattle.mr_node.specs.Calls.{FitsMore, IsClients}
+use Rattle.mr_node.proofs.Ends.{one_end, one_replica, put_leaves, some_is}
 
 -- ---- what is true where a call succeeds, once it has
 pub went : {T E P : Type 0} (r : Result T E) (x : T) → r ≡ Ok x → OnOk r P → P
@@ -54,8 +54,11 @@ dials_row a m b l outs same follows alone fresh generation node outs_are = subst
 
 -- ---- bytes come on a link
 -- The end of a link that is followed is the master's
+followed_at : (a : NodeState) (l : LinkId) (f : FollowState) → IsNode a → a.follow ≡ Some (l, f) → end_of a l ≡ Some upstream
+followed_at a l f node at = subst (FollowedAt a.ends) at node.followed
+
 followed_end : (a : NodeState) (l : LinkId) (u : List ℕ) → IsNode a → MasterAgrees a l u → end_of a l ≡ Some upstream
-followed_end a l u node at = subst (FollowedAt a.ends) at.found node.followed
+followed_end a l u node at = followed_at a l at.reader node at.found
 
 -- .. of a client's
 pub feeds_client : (a b : NodeState) (l : LinkId) (unread bytes : List ℕ) → IsNode a → end_of a l ≡ Some (client unread) → b ≡ with_ends a (put_end a.ends l (client (unread ++ bytes))) → Feeds a l bytes b
@@ -69,6 +72,7 @@ feeds_client a b l unread bytes node found is =
       others = leaves.others;
       core = ap (λ (z : NodeState). z.core) is;
       follow = λ other. ap (λ (z : NodeState). z.follow) is;
+      heard = λ f at. absurd (other_upstream (sym found ∙ followed_at a l f node at));
     }
   where
     other_replica : (u : List ℕ) → ◌≡◌ {A = Option EndState} (Some (client unread)) (Some (replica u)) → ⊥
@@ -92,6 +96,7 @@ feeds_replica a b l unread bytes node found is =
       others = leaves.others;
       core = ap (λ (z : NodeState). z.core) is;
       follow = λ other. ap (λ (z : NodeState). z.follow) is;
+      heard = λ f at. absurd (other_upstream (sym found ∙ followed_at a l f node at));
     }
   where
     other_client : (u : List ℕ) → ◌≡◌ {A = Option EndState} (Some (replica unread)) (Some (client u)) → ⊥
@@ -126,6 +131,7 @@ feeds_master a b l bytes node fed found is = record {
   others = record { stay = λ x ne. ap (λ (z : NodeState). end_of z x) is; opened = ap (λ (z : NodeState). z.ends.opened) is };
   core = ap (λ (z : NodeState). z.core) is;
   follow = λ other. absurd (other (node.only l found));
+  heard = λ f at. ap (λ (z : NodeState). z.follow) is ∙ ap (hears_more bytes) at;
 }
   where
     other_client : (u : List ℕ) → ◌≡◌ {A = Option EndState} (Some upstream) (Some (client u)) → ⊥
@@ -147,6 +153,7 @@ feeds_shut a b l bytes node found is = record {
   others = record { stay = λ x ne. ap (λ (z : NodeState). end_of z x) is; opened = ap (λ (z : NodeState). z.ends.opened) is };
   core = ap (λ (z : NodeState). z.core) is;
   follow = λ other. ap (λ (z : NodeState). z.follow) is;
+  heard = λ f at. absurd (other_upstream (sym found ∙ followed_at a l f node at));
 }
   where
     other_client : (u : List ℕ) → ◌≡◌ {A = Option EndState} (Some shut) (Some (client u)) → ⊥
@@ -200,6 +207,28 @@ over_room shut room count served is more = absurd is
 
 pub too_much : (a : NodeState) (l : LinkId) (end : EndState) (room count : ℕ) → a.core.up ≡ true → end_of a l ≡ Some end → serves end ≡ true → IsRoom room end → room < count → IsTooMuch a l count
 too_much a l end room count up found served is more = record { up = up; end = end; found = found; served = served; over = over_room end room count served is more }
+
+-- no more than there is room for isn't
+fits_room : (end : EndState) (room count : ℕ) → IsRoom room end → count ≤ room → full < length (unread_in end) + count → ⊥
+fits_room (client unread) room count is few over = omega (arith, is, few, over)
+fits_room (replica unread) room count is few over = omega (arith, is, few, over)
+fits_room upstream room count is few over = absurd is
+fits_room shut room count is few over = absurd is
+
+pub fits_there : (a : NodeState) (l : LinkId) (end : EndState) (room count : ℕ) → end_of a l ≡ Some end → IsRoom room end → count ≤ room → FitsMore a l count
+fits_there a l end room count found is few some much =
+    fits_room end room count is few (subst (λ (e : EndState). full < length (unread_in e) + count) (some_is much.end end (sym much.found ∙ found)) much.over)
+
+-- .. nor is anything for an end that the node doesn't serve
+pub fits_unserved : (a : NodeState) (l : LinkId) (end : EndState) (count : ℕ) → end_of a l ≡ Some end → serves end ≡ false → FitsMore a l count
+fits_unserved a l end count found unserved some much = no_true (sym unserved ∙ (ap serves (some_is end much.end (sym found ∙ much.found)) ∙ much.served))
+  where
+    no_true : false ≡ true → ⊥
+    no_true e = cc
+
+-- .. nor are no bytes
+pub fits_none : (a : NodeState) (l : LinkId) (bytes : List ℕ) → bytes ≡ [] → FitsMore a l (length bytes)
+fits_none a l bytes none some much = some (ap length none)
 
 -- ---- a client's end
 pub client_end : (a : NodeState) (l : LinkId) (end : EndState) → end_of a l ≡ Some end → kind_of end ≡ kind.Client → IsClients a l

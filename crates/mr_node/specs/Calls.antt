@@ -30,10 +30,14 @@ DialRow a b (Err fault.Stopped) = OpensNoMore a b
 DialRow a b (Err fault.NoLink) = ⊥
 DialRow a b (Err fault.InputFull) = ⊥
 
+-- So many bytes more, if any, aren't too many for what is unread on the link.
+abbrev pub FitsMore : NodeState → LinkId → ℕ → Type 0
+FitsMore a l count = count ≢ 0 → IsTooMuch a l count → ⊥
+
 -- bytes come on a link
 abbrev pub FeedRow : NodeState → LinkId → List ℕ → ℕ → NodeState → Result (Unit {0}) NodeFault → Type 0
-FeedRow a l bytes count b (Ok done) = (a.core.up ≡ true) × (end_of a l ≢ None) × Feeds a l bytes b
-FeedRow a l bytes count b (Err fault.Memory) = (a.core.up ≡ true) × (end_of a l ≢ None) × (end_of a l ≢ Some closed) × (bytes ≢ []) × (b ≡ a)
+FeedRow a l bytes count b (Ok done) = (a.core.up ≡ true) × (end_of a l ≢ None) × FitsMore a l count × Feeds a l bytes b
+FeedRow a l bytes count b (Err fault.Memory) = (a.core.up ≡ true) × (end_of a l ≢ None) × (end_of a l ≢ Some closed) × (bytes ≢ []) × FitsMore a l count × (b ≡ a)
 FeedRow a l bytes count b (Err fault.Stopped) = (a.core.up ≡ false) × (b ≡ a)
 FeedRow a l bytes count b (Err fault.NoLink) = (a.core.up ≡ true) × (end_of a l ≡ None) × (b ≡ a)
 FeedRow a l bytes count b (Err fault.InputFull) = IsTooMuch a l count × (b ≡ a)

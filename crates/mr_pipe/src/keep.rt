@@ -71,7 +71,7 @@ fn write_some<W: Write>(output: &mut W, bytes: &[u8]) -> Result<usize, PipeFault
 }
 
 /// Writes all bytes, in as many writes as it takes. After a fault a beginning of them is written.
-pub(crate) fn write_out<W: Write>(output: &mut W, bytes: &[u8]) -> Result<(), PipeFault>
+pub fn write_out<W: Write>(output: &mut W, bytes: &[u8]) -> Result<(), PipeFault>
     ensures written { OnOk result (known.Appends (W.contents output.old) (W.contents output.new) bytes.now) }
     ensures begun { OnErr result (IsBegun (W.contents output.old) (W.contents output.new) bytes.now) }
     ensures fault { IfErr result (λ e. e ≡ PipeFault.Write) }

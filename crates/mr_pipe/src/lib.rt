@@ -11,5 +11,6 @@ mod serve;
 
 pub use config::PipeConfig;
 pub use fault::PipeFault;
+pub use keep::write_out;
 pub use laws::{files_fold, files_stay_synced, replica_links_are_silent, replicas_only_rewrite};
-pub use relay::{pipe, pipe_with};
+pub use relay::{pipe, pipe_with, read_piece};

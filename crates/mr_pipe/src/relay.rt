@@ -33,7 +33,7 @@ pub(crate) enum Round {
 }
 
 /// Reads once; None where the read was interrupted.
-fn read_piece<R: Read>(input: &mut R, buffer: &mut [u8]) -> Result<Option<usize>, PipeFault>
+pub fn read_piece<R: Read>(input: &mut R, buffer: &mut [u8]) -> Result<Option<usize>, PipeFault>
     requires { 0 < length buffer.old }
     ensures read { IfOk result (λ count. IsRead (R.remaining input.old) (R.remaining input.new) buffer.new count) }
     ensures failed { OnErr result (Keeps (R.remaining input.old) (R.remaining input.new)) }

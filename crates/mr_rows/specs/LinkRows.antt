@@ -4,7 +4,7 @@ use Rattle.std.specs.Ordering.{eq_by_cmp}
 use Rattle.std.specs.FinMap as map
 use Rattle.mr_links.specs.LinkId.{id_cmp}
 use Rattle.mr_links.specs.declared.link_id.LinkId.{LinkId}
-use Rattle.mr_follow.specs.State.{FollowState, started}
+use Rattle.mr_follow.specs.State.{FollowState, heard, started}
 use Rattle.mr_follow.specs.Handshake.{ping_line}
 use Rattle.mr_course.specs.State.{name_of, offer_of}
 use Rattle.mr_ends.specs.State.{EndState, opened_as, without}
@@ -38,7 +38,8 @@ follow_without l (Some f) = if eq_by_cmp id_cmp f.0 l then None else Some f
 abbrev pub closed_at : LinkId → NodeState → NodeState
 closed_at l a = record a { ends = without a.ends l; follow = follow_without l a.follow }
 
--- Bytes come behind the unread ones of an open link; on one that the node closed they are dropped. Nothing else changes.
+-- Bytes come behind the unread ones of an open link; on one that the node closed they are dropped. Nothing else changes: what reads at the link to
+-- the master has these bytes more to read, and is the same otherwise.
 pub record Feeds (a : NodeState) (l : LinkId) (bytes : List ℕ) (b : NodeState) : Type 0 where
   pub at_client : (u : List ℕ) → Agrees a l u → Agrees b l (u ++ bytes)
   pub at_replica : (u : List ℕ) → ReplicaAgrees a l u → ReplicaAgrees b l (u ++ bytes)
@@ -47,3 +48,4 @@ pub record Feeds (a : NodeState) (l : LinkId) (bytes : List ℕ) (b : NodeState)
   pub others : OthersStay a b l
   pub core : b.core ≡ a.core
   pub follow : name_of a.follow ≢ Some l → b.follow ≡ a.follow
+  pub heard : (f : FollowState) → a.follow ≡ Some (l, f) → b.follow ≡ Some (l, heard f bytes)

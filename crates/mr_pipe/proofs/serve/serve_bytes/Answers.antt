@@ -21,6 +21,6 @@ returns g c = λ s u x w.
     let out = outside g.W.Write.contents g.F.LogFile.told g.F.LogFile.synced g.F.LogFile.failures in
     let p = c.args.linked.now in
     let y = out c.args.output.now c.args.log.now in let z = out c.drain.new.output c.drain.new.log in
-    let fed : Feeds p.node p.link c.args.bytes.now c.feed.new.self = c.in_ok-feed.ensures.2 in
+    let fed : Feeds p.node p.link c.args.bytes.now c.feed.new.self = c.in_ok-feed.ensures.3 in
     let stands : Stands (record p { node = c.feed.new.self }) w.at (w.done.rest ++ c.args.bytes.now) = hears p w.at w.done.rest c.args.bytes.now c.feed.new.self w.stands fed in
     drained_join c.args.given s u x c.args.bytes.now w.at y c.drain.new.linked z w.done c.drain.result (c.drain.ensures w.at (w.done.rest ++ c.args.bytes.now) stands)

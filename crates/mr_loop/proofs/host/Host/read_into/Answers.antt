@@ -36,13 +36,13 @@ returns-in-Ok-clause-went g c =
       buffer = c.read.new.into;
       bytes_are = refl;
       wire = record { changes = c.in-Bytes.ensures.read; absent = λ e. (c.read.ensures.absent e).1 };
-      node = record { up = c.in-Ok.ensures.0; there = c.in-Ok.ensures.1; feeds = c.in-Ok.ensures.2 };
+      node = record { up = c.in-Ok.ensures.0; there = c.in-Ok.ensures.1; feeds = c.in-Ok.ensures.3 };
       own = c.widen.ensures;
       file = (refl, refl);
     }) refl
 
 pub returns-in-Ok-clause-quiet : goal.returns-in-Ok-clause-quiet
-returns-in-Ok-clause-quiet g c = λ q. fed_others c.args.self.now.node.now c.feed.new.self c.args.link (take c.in-Bytes.count c.read.new.into) (record { up = c.in-Ok.ensures.0; there = c.in-Ok.ensures.1; feeds = c.in-Ok.ensures.2 }) q
+returns-in-Ok-clause-quiet g c = λ q. fed_others c.args.self.now.node.now c.feed.new.self c.args.link (take c.in-Bytes.count c.read.new.into) (record { up = c.in-Ok.ensures.0; there = c.in-Ok.ensures.1; feeds = c.in-Ok.ensures.3 }) q
 
 pub returns-in-Err-clause-went : goal.returns-in-Err-clause-went
 returns-in-Err-clause-went g c =

@@ -1,4 +1,4 @@
-use Rattle.std.proofs.Common.{◌≡◌, ◌≢◌, ◌⊎◌, Option, None, Some, true, refl, ap, sym, subst, ◌∙◌, rules}
+use Rattle.std.proofs.Common.{◌≡◌, ◌≢◌, ◌⊎◌, Option, None, Some, true, length, refl, ap, sym, subst, ◌∙◌, rules}
 use Rattle.mr_ends.specs.State.{EndState, put_end, serves}
 use Rattle.mr_ends.specs.Ending.{heard_of, kind_of}
 use Rattle.mr_ends.specs.Parts.{HearsAt}
@@ -6,7 +6,7 @@ use Rattle.mr_ends.specs.declared.kind.Kind.{Kind}
 use Rattle.mr_ends.specs.declared.kind.Kind.TheVariants as kind
 use Rattle.mr_rows.specs.State.{IsNode, NodeState, end_of}
 use Rattle.mr_state.specs.Parts.{fed_as, with_ends}
-use Rattle.mr_node.proofs.Linking.{feeds_master, feeds_served, feeds_shut, kind_serves, kind_shut, kind_upstream, too_much, went}
+use Rattle.mr_node.proofs.Linking.{feeds_master, feeds_served, feeds_shut, fits_there, fits_unserved, kind_serves, kind_shut, kind_upstream, too_much, went}
 use Rattle.mr_node.proofs.node.Node.feed.Goals as goal
 use Rattle.mr_node.proofs.node.Node.feed.Goals.{in-Client+else-bytes-room, in-Upstream, in-Shut}
 
@@ -34,6 +34,7 @@ returns-in-Ok c =
           let put : w.hear-fed.new.self ≡ with_ends c.self.inside.state (put_end c.self.inside.state.ends c.args.link (heard_of c.args.bytes.now end)) = w.hear-fed.ensures.only ∙ ap (with_ends c.self.inside.state) (heard end first) in (
             up,
             there,
+            fits_there a c.args.link end w.room.result (length c.args.bytes.now) found w.room.ensures w.if-bytes-room.false,
             feeds_served a c.match-kind.self c.args.link end c.args.bytes.now node found served
                 (w.self-is ∙ (put ∙ ap (λ (z : NodeState). with_ends z (put_end z.ends c.args.link (heard_of c.args.bytes.now end))) c.self.view_is)),
           )
@@ -41,10 +42,11 @@ returns-in-Ok c =
           let fed : w.hear_master-fed.new.self ≡ fed_as c.args.bytes.now c.self.inside.state = went w.hear_master-fed.result c.in-Ok.field-0 (sym w.fed-is ∙ c.in-Ok.is) w.hear_master-fed.ensures.ok in (
             up,
             there,
+            fits_unserved a c.args.link end (length c.args.bytes.now) found (ap serves (kind_upstream end (was kind.Upstream w.in-Upstream.is))),
             feeds_master a c.match-kind.self c.args.link c.args.bytes.now node w.fed_bytes_are_unread.ensures (found ∙ ap Some (kind_upstream end (was kind.Upstream w.in-Upstream.is)))
                 (w.self-is ∙ (fed ∙ ap (fed_as c.args.bytes.now) c.self.view_is)),
           )
-      | in-Shut w ↦ (up, there, feeds_shut a c.match-kind.self c.args.link c.args.bytes.now node (found ∙ ap Some (kind_shut end (was kind.Shut w.in-Shut.is))) w.self-is)
+      | in-Shut w ↦ (up, there, fits_unserved a c.args.link end (length c.args.bytes.now) found (ap serves (kind_shut end (was kind.Shut w.in-Shut.is))), feeds_shut a c.match-kind.self c.args.link c.args.bytes.now node (found ∙ ap Some (kind_shut end (was kind.Shut w.in-Shut.is))) w.self-is)
     ]
   where
     some_none : (e : EndState) → ◌≡◌ {A = Option EndState} (Some e) None → ⊥
