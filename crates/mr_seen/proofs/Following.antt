@@ -169,7 +169,7 @@ ends_stay a outcome.Applied l q streams v up e = e
 ends_stay a outcome.Left l q streams v up e = gone a l q streams v up e
 ends_stay a outcome.Spoiled l q streams v up e = gone a l q streams v up e
 
-pair_is : (x y : LinkId) (g h : FollowState) → ◌≡◌ {A = Option (LinkId × FollowState)} (Some (x, g)) (Some (y, h)) → (y ≡ x) × (h ≡ g)
+pub pair_is : (x y : LinkId) (g h : FollowState) → ◌≡◌ {A = Option (LinkId × FollowState)} (Some (x, g)) (Some (y, h)) → (y ≡ x) × (h ≡ g)
 pair_is x y g h e = let p = both_are (x, g) (y, h) e in (sym (ap (λ (z : LinkId × FollowState). z.0) p), sym (ap (λ (z : LinkId × FollowState). z.1) p))
   where
     both_are : (p q : LinkId × FollowState) → ◌≡◌ {A = Option (LinkId × FollowState)} (Some p) (Some q) → p ≡ q

@@ -14,8 +14,10 @@ pub mod Hearing
 pub mod Leaving
 pub mod Masters
 pub mod Linking
+pub mod ClientEnds
 pub mod Times
 pub mod Beginning
 pub mod Kept
 pub mod Turning
 pub mod Following
+pub mod Waiting

@@ -1,11 +1,12 @@
 -- Links that come, are fed and go, as histories see them.
-use Rattle.std.proofs.Common.{◌≡◌, ◌+◌, ◌≤◌, inl, ℕ, List, Bool, true, false, cond, Option, None, Some, length, refl, sym, ap, subst, ◌∙◌, arith}
+use Rattle.std.proofs.Common.{◌≡◌, ◌≢◌, ◌+◌, ◌≤◌, inl, ℕ, List, Bool, true, false, cond, Option, None, Some, length, refl, sym, ap, subst, ◌∙◌, arith}
 use Rattle.std.specs.Prelude.{slice_get, slice_set}
 use Rattle.std.specs.Option.{option_map}
 use Rattle.std.proofs.lemmas.List.{length-drop}
 use Rattle.mr_links.specs.declared.link_id.LinkId.{LinkId}
-use Rattle.mr_follow.specs.State.{FollowState}
+use Rattle.mr_follow.specs.State.{FollowState, heard}
 use Rattle.mr_follow.specs.Handshake.{ping_line}
+use Rattle.mr_course.specs.State.{name_of}
 use Rattle.mr_ends.specs.State.EndState.{upstream}
 use Rattle.mr_ends.proofs.Naming.{at_or_other}
 use Rattle.mr_outs.specs.Outs.{OutsState}
@@ -20,6 +21,7 @@ use Rattle.mr_seen.specs.Seeing.{seen_way, seen_node, seen_link, seen_follow, se
 use Rattle.mr_seen.specs.Worlds.{end_for}
 use Rattle.mr_seen.specs.Carrying.{opened_link, dialled_link}
 use Rattle.mr_seen.specs.Events.{OpensAreRows, OpenStopsAreRows, DialsAreRows, ServerFeedsAreRows, MasterFeedsAreRows, ServerBreaksAreRows, MasterBreaksAreRows}
+use Rattle.mr_seen.proofs.Places.{some_is}
 use Rattle.mr_seen.proofs.Seen.{put_at, push_at, none_at_end, taken_seen}
 use Rattle.mr_seen.proofs.Reading.{set_as, still_at}
 use Rattle.mr_seen.proofs.Others.{served_end}
@@ -85,13 +87,25 @@ dials w book n m s t name at b c outs holds runs o there up r =
       };
     }
 
+-- ---- the end that a link's server has is none of the link to its master
+served_apart : (streams : Bool) (u : List ℕ) → Some upstream ≡ Some (end_for streams u) → ⊥
+served_apart true u e = absurd (cc)
+served_apart false u e = absurd (cc)
+
+-- by which the node follows nobody
+follows_no_client : (a : NodeState) (l : LinkId) (streams : Bool) (u : List ℕ) (o : Option (LinkId × FollowState)) → FollowedAt a.ends o → end_of a l ≡ Some (end_for streams u) → name_of o ≢ Some l
+follows_no_client a l streams u None h e same = absurd (cc)
+follows_no_client a l streams u (Some f) h e same = served_apart streams u (sym h ∙ (ap (end_of a) (some_is f.0 l same) ∙ e))
+
 -- ---- links that are fed
-more_left : (way : WayState) (count : ℕ) → IsWay way → way.taken + count ≤ length way.sent → (seen_way way).taken + count ≤ length (seen_way way).left
+pub more_left : (way : WayState) (count : ℕ) → IsWay way → way.taken + count ≤ length way.sent → (seen_way way).taken + count ≤ length (seen_way way).left
 more_left way count is few = let d = length-drop way.used way.sent in let u = is.used_within in omega (arith, few, d, u)
 
 pub server_feeds : ServerFeedsAreRows
-server_feeds w book l k s count bytes b holds served few r follow =
+server_feeds w book l k s count bytes b holds served few r =
     let way = holds.world.asks l k served.found in
+    let here = served_end w holds.world k.to s served.at served.up l k served.found refl served.serving in
+    let follow : b.follow ≡ s.node.follow = r.follow (follows_no_client s.node k.name k.streams (unread k.ask) s.node.follow (holds.world.nodes k.to s served.at served.up).node.followed here) in
     record {
       new_book = book;
       kept = holds.kept;
@@ -109,8 +123,9 @@ server_feeds w book l k s count bytes b holds served few r follow =
     }
 
 pub master_feeds : MasterFeedsAreRows
-master_feeds w book n s k name f count bytes b holds is following few r follow =
+master_feeds w book n s k name f count bytes b holds is following few r =
     let way = holds.world.tells s.dialled k is.found in
+    let follow : b.follow ≡ Some (name, heard f bytes) = r.heard f following in
     record {
       new_book = book;
       kept = holds.kept;
@@ -129,11 +144,6 @@ master_feeds w book n s k name f count bytes b holds is following few r follow =
     }
 
 -- ---- links that go
--- the end that a link's server has is none of the link to its master
-served_apart : (streams : Bool) (u : List ℕ) → Some upstream ≡ Some (end_for streams u) → ⊥
-served_apart true u e = absurd (cc)
-served_apart false u e = absurd (cc)
-
 -- who is followed stays where another link is closed
 follow_stays : (a : NodeState) (d : ℕ) (l : LinkId) (streams : Bool) (u : List ℕ) (o : Option (LinkId × FollowState)) → FollowedAt a.ends o → end_of a l ≡ Some (end_for streams u) → seen_follow d (follow_without l o) ≡ seen_follow d o
 follow_stays a d l streams u None h e = refl

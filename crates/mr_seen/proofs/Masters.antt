@@ -50,7 +50,7 @@ use Rattle.mr_seen.specs.State.{Link, Slot, WorldState}
 use Rattle.mr_seen.specs.Seeing.{seen, seen_way, seen_node, seen_link, seen_follow, seen_phase}
 use Rattle.mr_seen.specs.Books.{IsBook}
 use Rattle.mr_seen.specs.Carrying.{behind, followed, heard_as, unread_count, count_by, put_node}
-use Rattle.mr_seen.specs.Events.{IsEvent, Holds, IsFollowed, MasterStepsAreRows, WaitsAreRows, LacksAreUnseen, SpendsAreRows}
+use Rattle.mr_seen.specs.Events.{IsEvent, Holds, IsFollowed, MasterStepsAreRows, WaitsAreRows, LacksAreUnseen, SpendsAreRows, MasterStopsAreRows}
 use Rattle.mr_seen.proofs.Places.{some_is}
 use Rattle.mr_seen.proofs.Seen.{put_at, sent_seen}
 use Rattle.mr_seen.proofs.Unread.{left_used}
@@ -427,3 +427,6 @@ master_lacks w book n s k name b holds is r = let h = r.listens in
 
 pub master_spends : SpendsAreRows
 master_spends w book n s k name given fresh b holds is r = let h = r.listens in stops w book n s k h.name h.follow b no_outs holds is h.found given fresh r.down
+
+pub master_stops : MasterStopsAreRows
+master_stops w book n s k name f given fresh b holds is found down = stops w book n s k name f b no_outs holds is found given fresh down

@@ -31,7 +31,7 @@ use Rattle.mr_seen.specs.State.{Link, Slot, WorldState}
 use Rattle.mr_seen.specs.Seeing.{seen, seen_node, seen_link, seen_follow, seen_phase}
 use Rattle.mr_seen.specs.Books.{IsBook}
 use Rattle.mr_seen.specs.Carrying.{behind, filed, reached, booked_as, said_on, said_by, ticked}
-use Rattle.mr_seen.specs.Events.{IsEvent, Holds, IsRunning, TicksAreRows}
+use Rattle.mr_seen.specs.Events.{IsEvent, Holds, IsRunning, TickStopsAreRows, TicksAreRows}
 use Rattle.mr_seen.proofs.Seen.{put_at, sent_seen}
 use Rattle.mr_seen.proofs.Keeping.{fold_is, with_history, extended_kept, extends}
 use Rattle.mr_seen.proofs.Reading.{node_is, set_as, still_at}
@@ -193,3 +193,19 @@ module _ (w : WorldState) (book : Book minired) (n : ℕ) (s : Slot) (given : Gi
 
 pub ticks : TicksAreRows
 ticks w book n s given b outs holds runs r = tick_row w book n s given b outs holds runs r
+
+pub tick_stops : TickStopsAreRows
+tick_stops w book n s given b holds runs down = record {
+  new_book = book;
+  kept = holds.kept;
+  row = record {
+    node = seen_node s;
+    found = ap (option_map seen_node) runs.at;
+    does = acts runs.up (Ticks.stops (record {
+      wreck = seen_node (record s { node = b });
+      down = down;
+      role = refl;
+      becomes = record { nodes = put_at seen_node w.slots n (record s { node = b }) s runs.at; links = λ j. refl; book = λ i. refl };
+    }));
+  };
+}

@@ -4,7 +4,7 @@ use Rattle.std.specs.FinMap.{empty}
 use Rattle.mr_entries.specs.Dataset.{Dataset}
 use Rattle.mr_data.specs.declared.given.Given.{Given}
 use Rattle.mr_links.specs.declared.link_id.LinkId.{LinkId}
-use Rattle.mr_follow.specs.State.{FollowState, heard}
+use Rattle.mr_follow.specs.State.{FollowState}
 use Rattle.mr_course.specs.declared.upstream.UpstreamStep.{UpstreamStep}
 use Rattle.mr_outs.specs.Outs.{OutsState, no_outs}
 use Rattle.mr_replay.specs.Effects.{Makes}
@@ -107,6 +107,13 @@ SpendsAreRows = (w : WorldState) (book : Book minired) (n : ℕ) (s : Slot) (k :
     → master.Spends s.node name b
     → IsEvent w book (events.Event.Step s.dialled Dialler given fresh) (put_node w n s b)
 
+-- .. or there is no memory for what it gave out
+abbrev pub MasterStopsAreRows : Type 0
+MasterStopsAreRows = (w : WorldState) (book : Book minired) (n : ℕ) (s : Slot) (k : Link) (name : LinkId) (f : FollowState) (given : Given) (fresh : List ℕ) (b : NodeState)
+    → Holds w book → IsFollowed w n s k → s.node.follow ≡ Some (name, f)
+    → b.core.up ≡ false
+    → IsEvent w book (events.Event.Step s.dialled Dialler given fresh) (put_node w n s b)
+
 -- ---- time, and links that come and go
 -- The node n has the slot s, and runs.
 pub record IsRunning (w : WorldState) (n : ℕ) (s : Slot) : Type 0 where
@@ -118,6 +125,13 @@ TicksAreRows = (w : WorldState) (book : Book minired) (n : ℕ) (s : Slot) (give
     → Holds w book → IsRunning w n s
     → TickRow s.node given.now b outs
     → IsEvent w book (events.Event.Tick n given) (ticked w n s b outs)
+
+-- Where there is no memory for what it gave out the node stops.
+abbrev pub TickStopsAreRows : Type 0
+TickStopsAreRows = (w : WorldState) (book : Book minired) (n : ℕ) (s : Slot) (given : Given) (b : NodeState)
+    → Holds w book → IsRunning w n s
+    → b.core.up ≡ false
+    → IsEvent w book (events.Event.Tick n given) (put_node w n s b)
 
 abbrev pub OpensAreRows : Type 0
 OpensAreRows = (w : WorldState) (book : Book minired) (n : ℕ) (s : Slot) (name : LinkId) (b : NodeState)
@@ -140,18 +154,18 @@ DialsAreRows = (w : WorldState) (book : Book minired) (n m : ℕ) (s t : Slot) (
     → Dials s.node name b outs
     → IsEvent w book (events.Event.Dial n m) (connected w n s b name outs m t c at)
 
--- Bytes are fed at the server's end, of those that were sent there, where whom the node follows stays.
+-- Bytes are fed at the server's end, of those that were sent there.
 abbrev pub ServerFeedsAreRows : Type 0
 ServerFeedsAreRows = (w : WorldState) (book : Book minired) (l : ℕ) (k : Link) (s : Slot) (count : ℕ) (bytes : List ℕ) (b : NodeState)
     → Holds w book → IsServed w l k s → k.ask.taken + count ≤ length k.ask.sent
-    → Feeds s.node k.name bytes b → b.follow ≡ s.node.follow
+    → Feeds s.node k.name bytes b
     → IsEvent w book (events.Event.Deliver l Server count) (fed_server w k.to s b l k count)
 
--- .. at the link to the master. What waits there has these bytes more, and is the same otherwise: the row leaves that open.
+-- .. at the link to the master
 abbrev pub MasterFeedsAreRows : Type 0
 MasterFeedsAreRows = (w : WorldState) (book : Book minired) (n : ℕ) (s : Slot) (k : Link) (name : LinkId) (f : FollowState) (count : ℕ) (bytes : List ℕ) (b : NodeState)
     → Holds w book → IsFollowed w n s k → s.node.follow ≡ Some (name, f) → k.tell.taken + count ≤ length k.tell.sent
-    → Feeds s.node name bytes b → b.follow ≡ Some (name, heard f bytes)
+    → Feeds s.node name bytes b
     → IsEvent w book (events.Event.Deliver s.dialled Dialler count) (fed_caller w n s b s.dialled k count)
 
 -- A link is closed at its server.
@@ -216,6 +230,33 @@ MasterStepsKeepWorlds = (w : WorldState) (n : ℕ) (s : Slot) (k : Link) (name :
     → IsWorld w → IsFollowed w n s k → IsSound b
     → master.Hears s.node name step b outs
     → IsWorld (followed w n s k b outs)
+
+-- .. where nothing whole is there
+abbrev pub WaitsKeepWorlds : Type 0
+WaitsKeepWorlds = (w : WorldState) (n : ℕ) (s : Slot) (k : Link) (name : LinkId) (b : NodeState)
+    → IsWorld w → IsFollowed w n s k → IsSound b
+    → master.Waits s.node name b
+    → IsWorld (followed w n s k b no_outs)
+
+-- .. and where memory is lacking
+abbrev pub LacksKeepWorlds : Type 0
+LacksKeepWorlds = (w : WorldState) (n : ℕ) (s : Slot) (k : Link) (name : LinkId) (b : NodeState)
+    → IsWorld w → IsFollowed w n s k → IsSound b
+    → master.Lacks s.node name b
+    → IsWorld (followed w n s k b no_outs)
+
+-- In both nothing but the node may be another: its file, its links and the book are what they were.
+abbrev pub WaitsChangeNodes : Type 0
+WaitsChangeNodes = (w : WorldState) (n : ℕ) (s : Slot) (k : Link) (name : LinkId) (b : NodeState)
+    → IsWorld w → IsFollowed w n s k
+    → master.Waits s.node name b
+    → followed w n s k b no_outs ≡ put_node w n s b
+
+abbrev pub LacksChangeNodes : Type 0
+LacksChangeNodes = (w : WorldState) (n : ℕ) (s : Slot) (k : Link) (name : LinkId) (b : NodeState)
+    → IsWorld w → IsFollowed w n s k
+    → master.Lacks s.node name b
+    → followed w n s k b no_outs ≡ put_node w n s b
 
 -- .. and behind a tick
 abbrev pub TicksKeepWorlds : Type 0

@@ -5,3 +5,4 @@ pub mod Books
 pub mod Worlds
 pub mod Carrying
 pub mod Events
+pub mod OwnEnds

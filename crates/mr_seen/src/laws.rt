@@ -1,5 +1,6 @@
 //! That what each call on a node of a World does is a row of histories. No function here does anything: each is the law that it ensures.
-ghost use Rattle.mr_seen.specs.Events.{ClientStepsAreRows, ClientStepsKeepWorlds, DialsAreRows, EventsKeepHistories, IdleStepsAreRows, LacksAreUnseen, MasterBreaksAreRows, MasterFeedsAreRows, MasterStepsAreRows, MasterStepsKeepWorlds, OpenStopsAreRows, OpensAreRows, ReplicaStepsAreRows, ReplicaStepsKeepWorlds, RestartsAreRows, ServerBreaksAreRows, ServerFeedsAreRows, SpendsAreRows, StartsAreRows, StopsAreRows, StopsKeepWorlds, TicksAreRows, TicksKeepWorlds, WaitsAreRows, WorldsBegin};
+ghost use Rattle.mr_seen.specs.Events.{ClientStepsAreRows, ClientStepsKeepWorlds, DialsAreRows, EventsKeepHistories, IdleStepsAreRows, LacksAreUnseen, LacksChangeNodes, LacksKeepWorlds, MasterBreaksAreRows, MasterFeedsAreRows, MasterStepsAreRows, MasterStepsKeepWorlds, MasterStopsAreRows, OpenStopsAreRows, OpensAreRows, ReplicaStepsAreRows, ReplicaStepsKeepWorlds, RestartsAreRows, ServerBreaksAreRows, ServerFeedsAreRows, SpendsAreRows, StartsAreRows, StopsAreRows, StopsKeepWorlds, TickStopsAreRows, TicksAreRows, TicksKeepWorlds, WaitsAreRows, WaitsChangeNodes, WaitsKeepWorlds, WorldsBegin};
+ghost use Rattle.mr_seen.specs.OwnEnds.{ClientBreaksAreRows, ClientFeedsAreRows, CommandsAreRows};
 
 /// A step at a client's end by its exact row, with what it gives out carried, is a step by a row of histories, of the World that is seen.
 pub fn client_steps_are_rows()
@@ -41,9 +42,19 @@ pub fn spends_are_rows()
     ensures { SpendsAreRows }
 {}
 
+/// One in which it stops for want of memory for what it gave out is one too.
+pub fn master_stops_are_rows()
+    ensures { MasterStopsAreRows }
+{}
+
 /// A tick by its exact row is a tick by a row of histories.
 pub fn ticks_are_rows()
     ensures { TicksAreRows }
+{}
+
+/// One in which the node stops for want of memory for what it gave out is one too.
+pub fn tick_stops_are_rows()
+    ensures { TickStopsAreRows }
 {}
 
 /// A link that is opened is one of histories, or the node stops there too.
@@ -69,6 +80,13 @@ pub fn breaks_are_rows()
     ensures master { MasterBreaksAreRows }
 {}
 
+/// What a client sends, takes and closes at its own end it does in histories.
+pub fn clients_ends_are_rows()
+    ensures sends { CommandsAreRows }
+    ensures takes { ClientFeedsAreRows }
+    ensures leaves { ClientBreaksAreRows }
+{}
+
 /// A node that starts, and one that starts anew, does so in histories.
 pub fn starts_are_rows()
     ensures starts { StartsAreRows }
@@ -90,6 +108,18 @@ pub fn steps_keep_worlds()
 /// It stays behind a step at the link to the master.
 pub fn master_steps_keep_worlds()
     ensures { MasterStepsKeepWorlds }
+{}
+
+/// It stays where nothing whole is there, and where memory is lacking.
+pub fn waits_keep_worlds()
+    ensures waits { WaitsKeepWorlds }
+    ensures lacks { LacksKeepWorlds }
+{}
+
+/// In both nothing changes but the node.
+pub fn waits_change_nodes()
+    ensures waits { WaitsChangeNodes }
+    ensures lacks { LacksChangeNodes }
 {}
 
 /// It stays behind a tick.

@@ -1,5 +1,4 @@
-//! What a node, a link and a World are to histories, and that what each call on a node does is a row there. Definitions and laws; no World
-//! stands yet.
+//! What a node, a link and a World are to histories, and that what each call on a node does is a row there. Definitions and laws.
 #![tactic(auto)]
 
 pub mod laws;

@@ -1,0 +1,63 @@
+-- What a client does at its own end, as histories see it.
+use Rattle.std.proofs.Common.{◌≡◌, inr, ℕ, ◌++◌, false, Some, refl, ap}
+use Rattle.std.specs.Prelude.{slice_get, slice_set}
+use Rattle.std.specs.Option.{option_map}
+use Rattle.mr_history.specs.World as history
+use Rattle.mr_history.specs.World.Caller.{Client}
+use Rattle.mr_history.specs.Changing.{LinkBecomes}
+use Rattle.mr_history.specs.History.{Book}
+use Rattle.mr_history.specs.Rows as rows
+use Rattle.mr_language.specs.Minired.{minired}
+use Rattle.mr_seen.specs.Way.{sent_on, taken_on}
+use Rattle.mr_seen.specs.State.{a_client, Link, WorldState}
+use Rattle.mr_seen.specs.Seeing.{seen, seen_caller, seen_link, seen_way}
+use Rattle.mr_seen.specs.OwnEnds.{CommandsAreRows, ClientFeedsAreRows, ClientBreaksAreRows}
+use Rattle.mr_seen.proofs.Seen.{put_at, sent_seen, taken_seen}
+use Rattle.mr_seen.proofs.Reading.{set_as}
+use Rattle.mr_seen.proofs.Linking.{more_left}
+
+-- a link that changes alone
+link_becomes : (w : WorldState) (book : Book minired) (l : ℕ) (k m : Link) (x : history.Link) → slice_get w.links l ≡ Some k → seen_link m ≡ x
+    → LinkBecomes (seen w book) (seen (record w { links = slice_set w.links l m }) book) l x
+link_becomes w book l k m x found is = record {
+  nodes = λ n. refl;
+  links = set_as (λ j. option_map seen_link (slice_get w.links j)) (λ j. option_map seen_link (slice_get (slice_set w.links l m) j)) l (seen_link m) x (put_at seen_link w.links l m k found) is;
+  book = λ i. refl;
+}
+
+pub commands : CommandsAreRows
+commands w book l k bytes holds at = record {
+  new_book = book;
+  kept = holds.kept;
+  row = record {
+    link = seen_link k;
+    found = ap (option_map seen_link) at.found;
+    client = ap seen_caller at.asking;
+    becomes = link_becomes w book l k (record k { ask = sent_on bytes k.ask }) (record (seen_link k) { ask = record (seen_way k.ask) { left = (seen_way k.ask).left ++ bytes } }) at.found
+        (ap (λ z. record (seen_link k) { ask = z }) (sent_seen k.ask bytes (holds.world.asks l k at.found)));
+  };
+}
+
+pub client_feeds : ClientFeedsAreRows
+client_feeds w book l k count holds at few =
+    let way = holds.world.tells l k at.found in
+    record {
+      new_book = book;
+      kept = holds.kept;
+      row = inr (record {
+        at = record { link = seen_link k; found = ap (option_map seen_link) at.found; client = ap seen_caller at.asking };
+        sent = more_left k.tell count way few;
+        becomes = link_becomes w book l k (record k { tell = taken_on count k.tell }) (record (seen_link k) { tell = rows.more count (seen_way k.tell) }) at.found
+            (ap (λ z. record (seen_link k) { tell = z }) (taken_seen k.tell count way));
+      });
+    }
+
+pub client_breaks : ClientBreaksAreRows
+client_breaks w book l k holds at = record {
+  new_book = book;
+  kept = holds.kept;
+  row = inr (record {
+    at = record { link = seen_link k; found = ap (option_map seen_link) at.found; client = ap seen_caller at.asking };
+    becomes = link_becomes w book l k (record k { caller = a_client false }) (record (seen_link k) { caller = Client false }) at.found refl;
+  });
+}
