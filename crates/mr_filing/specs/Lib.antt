@@ -1,0 +1,3 @@
+pub mod Filing
+pub mod Steps
+pub mod Worlds
