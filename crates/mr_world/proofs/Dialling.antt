@@ -1,16 +1,15 @@
 -- The end of the node that dialled closes.
-use Rattle.std.proofs.Common.{◌≡◌, ◌≢◌, ◌<◌, ◌≤◌, ℕ, List, true, false, Bool, Option, None, Some, Result, Ok, Err, length, get_or, refl, sym, ap, subst, ◌∙◌, arith}
+use Rattle.std.proofs.Common.{◌≡◌, ◌≢◌, ◌<◌, ◌≤◌, ℕ, true, false, Bool, Option, None, Some, Result, Ok, Err, length, get_or, refl, sym, ap, subst, ◌∙◌, arith}
 use Rattle.std.specs.Prelude.{slice_get, slice_set}
 use Rattle.mr_links.specs.declared.link_id.LinkId.{LinkId}
 use Rattle.mr_follow.specs.State.{FollowState}
-use Rattle.mr_ends.specs.State.{EndState, end_at}
 use Rattle.mr_ends.specs.State.EndState.{upstream}
 use Rattle.mr_rows.specs.State.{FollowedAt, end_of}
 use Rattle.mr_rows.specs.LinkRows.{closed_at}
 use Rattle.mr_state.proofs.Nodes.{closed_node}
 use Rattle.mr_seen.specs.Way.{unread}
 use Rattle.mr_seen.specs.State.{Caller, a_client, a_node, Link, Slot, WorldState}
-use Rattle.mr_seen.specs.Worlds.{IsWorld, end_for}
+use Rattle.mr_seen.specs.Worlds.{IsWorld}
 use Rattle.mr_seen.specs.Carrying.{put_node}
 use Rattle.mr_seen.proofs.Places.{is_within, some_is}
 use Rattle.mr_seen.proofs.Others.{served_end}
@@ -58,7 +57,7 @@ abbrev name_or : LinkId → Caller → LinkId
 name_or other (a_client b) = other
 name_or other (a_node n name) = name
 
-abbrev some_follow : (o : Option (LinkId × FollowState)) → o ≢ None → (x : LinkId × FollowState) × (o ≡ Some x)
+abbrev pub some_follow : (o : Option (LinkId × FollowState)) → o ≢ None → (x : LinkId × FollowState) × (o ≡ Some x)
 some_follow None h = absurd (h refl)
 some_follow (Some x) h = (x, refl)
 
@@ -92,8 +91,9 @@ module _ (w : WorldState) (l : ℕ) (x : Link) (is : IsWorld w) (within : l < le
           no_follow : (z : LinkId × FollowState) → ◌≡◌ {A = Option (LinkId × FollowState)} None (Some z) → ⊥
           no_follow z e = cc
 
-      pub drops_here : (t : Slot) → IsFollowing y l → t ≡ record y { node = closed_at at y.node } → Drops w l (record w { slots = slice_set w.slots m t })
-      drops_here t i e =
+      -- the node follows by it, under the name that it has for it
+      pub follows_here : IsFollowing y l → (f : FollowState) × FollowsBy w l m x y at f
+      follows_here i =
           let o = some_follow y.node.follow i.follows in
           let by : FollowsBy w l m x y o.0.0 o.0.1 = record {
             followed = record { at = stands w.slots m y there slot; found = ap (slice_get w.links) i.dialled ∙ stands w.links l x within link; up = i.up };
@@ -101,12 +101,8 @@ module _ (w : WorldState) (l : ℕ) (x : Link) (is : IsWorld w) (within : l < le
             dialled = i.dialled;
           } in
           let named : at ≡ o.0.0 = ap (name_or at) (sym caller ∙ caller_is m x y o.0.0 o.0.1 by) in
-          record {
-            number = m;
-            link = x;
-            slot = y;
-            name = o.0.0;
-            reader = o.0.1;
-            by = by;
-            is = ap (λ (z : Slot). record w { slots = slice_set w.slots m z }) (e ∙ ap (λ (z : LinkId). record y { node = closed_at z y.node }) named);
-          }
+          (o.0.1, subst (λ (z : LinkId). FollowsBy w l m x y z o.0.1) (sym named) by)
+
+      pub drops_here : (t : Slot) → IsFollowing y l → t ≡ record y { node = closed_at at y.node } → Drops w l (record w { slots = slice_set w.slots m t })
+      drops_here t i e = let v = follows_here i in
+          record { number = m; link = x; slot = y; name = at; reader = v.0; by = v.1; is = ap (λ (z : Slot). record w { slots = slice_set w.slots m z }) e }

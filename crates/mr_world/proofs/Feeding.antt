@@ -11,6 +11,7 @@ use Rattle.mr_ends.specs.State.EndState.{client, replica, upstream, shut}
 use Rattle.mr_rows.specs.State.{NodeState, FollowedAt, IsTooMuch, end_of, room_at, room_of}
 use Rattle.mr_rows.specs.Sound.{IsSound}
 use Rattle.mr_rows.specs.LinkRows.{Feeds}
+use Rattle.mr_node.specs.Calls.{FitsMore}
 use Rattle.mr_seen.specs.Way.{taken_on, unread}
 use Rattle.mr_seen.specs.State.{Link, Slot, WorldState}
 use Rattle.mr_seen.specs.Worlds.{IsWorld, end_for}
@@ -21,7 +22,7 @@ use Rattle.mr_seen.proofs.Unread.{taken_way, unread_taken}
 use Rattle.mr_seen.proofs.Others.{served_end}
 use Rattle.mr_world.specs.declared.refusal.Refusal.{Refusal}
 use Rattle.mr_world.specs.declared.refusal.Refusal.TheVariants as refusal
-use Rattle.mr_world.specs.Linking.{CanHear, DeliverCall, Delivers, FitsMore, IsOverfull, NeedsRoom}
+use Rattle.mr_world.specs.Linking.{CanHear, DeliverCall, Delivers, IsOverfull, NeedsRoom}
 use Rattle.mr_world.proofs.Changing.{link_world, master_set}
 use Rattle.mr_world.proofs.Joins.{stands}
 
@@ -71,9 +72,9 @@ fed_end : (a b : NodeState) (l : LinkId) (streams : Bool) (u bytes : List ℕ) �
 fed_end a b l true u bytes f e = (f.at_replica u (record { is = e })).is
 fed_end a b l false u bytes f e = (f.at_client u (record { is = e })).is
 
-hears_world : (w : WorldState) (l count : ℕ) (k : Link) (s : Slot) (b : NodeState) → IsWorld w → CanHear w l count k s → Feeds s.node k.name (take count (drop k.ask.taken k.ask.sent)) b → IsSound b → b.follow ≡ s.node.follow
+hears_world : (w : WorldState) (l count : ℕ) (k : Link) (s : Slot) (b : NodeState) → IsWorld w → CanHear w l count k s → Feeds s.node k.name (take count (drop k.ask.taken k.ask.sent)) b → IsSound b
     → IsWorld (fed_server w k.to s b l k count)
-hears_world w l count k s b is can f sound follow = link_world w k.to s (record s { node = b }) l k (record k { ask = taken_on count k.ask }) is can.served.at can.served.found (record {
+hears_world w l count k s b is can f sound = link_world w k.to s (record s { node = b }) l k (record k { ask = taken_on count k.ask }) is can.served.at can.served.found (record {
   to = refl;
   name = refl;
   serving = λ q. q;
@@ -84,14 +85,14 @@ hears_world w l count k s b is can f sound follow = link_world w k.to s (record 
   others = λ j y ne e to up q. f.others.stay y.name (λ same. ne (is.names j l y k e can.served.found q can.served.serving to same)) ∙ served_end w is k.to s can.served.at can.served.up j y e to q;
   there = λ ne q. absurd (ne refl);
   sound = λ up. sound;
-  own = λ name g up e. let h = is.followers k.to s name g can.served.at can.served.up (sym follow ∙ e) in
+  own = λ name g up e. let h = is.followers k.to s name g can.served.at can.served.up (sym (f.follow (unfollowed w l k s is can.served)) ∙ e) in
       master_set w l k (record k { ask = taken_on count k.ask }) k.to (record s { node = b }) name g can.served.found (λ c a. (c, a)) (record { link = h.link; found = h.found; caller = h.caller; agrees = h.agrees });
   onward = λ i name g ne c a. (c, a);
 })
 
 pub deliver_keeps : (w v : WorldState) (l count : ℕ) (r : Result (Unit {0}) Refusal) → IsWorld w → DeliverCall w l count v r → IsWorld v
 deliver_keeps w v l count (Ok done) is c = elim c [
-  | Delivers.hears d ↦ subst (λ (z : WorldState). IsWorld z) (sym d.is) (hears_world w l count d.link d.slot d.node is d.can d.feeds d.sound d.follow)
+  | Delivers.hears d ↦ subst (λ (z : WorldState). IsWorld z) (sym d.is) (hears_world w l count d.link d.slot d.node is d.can d.feeds d.sound)
   | Delivers.rests d e ↦ subst (λ (z : WorldState). IsWorld z) (sym e) is
 ]
 deliver_keeps w v l count (Err refusal.Nobody) is c = subst (λ (z : WorldState). IsWorld z) (sym c.1) is
@@ -137,7 +138,6 @@ module _ (w : WorldState) (l to count : ℕ) (k : Link) (within : l < length w.l
         can = can_hear up;
         node = t.node;
         feeds = feeds;
-        follow = feeds.follow (unfollowed w l k x is (can_hear up).served);
         sound = sound;
         few = fits;
         is = ap (λ (z : Link). record w { slots = slice_set w.slots to t; links = slice_set w.links l z }) e

@@ -77,7 +77,7 @@ stops_world w n s b is at down = node_world w n s (record s { node = b }) is at 
     runs up = let wrong : false ≡ true = sym down ∙ up in cc
 
 -- what reads at the link to the master doesn't depend on other ends
-reads_on : (a : NodeState) (ends : Links EndState) (o : Option (LinkId × FollowState)) → IfSome o (λ f. IsReading a f.1) → IfSome o (λ f. IsReading (record a { ends = ends }) f.1)
+pub reads_on : (a : NodeState) (ends : Links EndState) (o : Option (LinkId × FollowState)) → IfSome o (λ f. IsReading a f.1) → IfSome o (λ f. IsReading (record a { ends = ends }) f.1)
 reads_on a ends None h = tt
 reads_on a ends (Some f) h = record { reader = h.reader; follower = h.follower; port = h.port }
 
@@ -92,13 +92,13 @@ module _ (w : WorldState) (n : ℕ) (s : Slot) (name : LinkId) (b : NodeState) (
   other_end x ne = ap (λ (z : NodeState). end_of z x) o.node ∙ (get-insert ids_total s.node.ends.open_links name (client []) x
       ∙ at_or_other x name (λ v. cond v (Some (client [])) (get s.node.ends.open_links x) ≡ get s.node.ends.open_links x) (λ same. absurd (ne same)) (λ other. refl))
 
-  apart : (j : ℕ) (y : Link) → slice_get w.links j ≡ Some y → y.serving ≡ true → y.to ≡ n → y.name ≡ name → ⊥
+  pub apart : (j : ℕ) (y : Link) → slice_get w.links j ≡ Some y → y.serving ≡ true → y.to ≡ n → y.name ≡ name → ⊥
   apart j y e q to same = no_some (end_for y.streams (unread y.ask)) (sym o.fresh ∙ (ap (end_of s.node) (sym same) ∙ served_end w is n s at up j y e to q))
 
   sound_is : IsSound b
   sound_is = subst IsSound (sym o.node) (let i = is.nodes n s at up in record { node = opened_node s.node name [] i.node o.fresh; window = i.window; id = i.id; second = i.second; upstream = i.upstream; reading = reads_on s.node (opened_as s.node.ends name (client [])) s.node.follow i.reading })
 
-  between : IsWorld (put_node w n s b)
+  pub between : IsWorld (put_node w n s b)
   between = node_world w n s (record s { node = b }) is at (record {
     here = λ j y e to u q. other_end y.name (λ same. apart j y e q to same) ∙ served_end w is n s at up j y e to q;
     sound = λ u. sound_is;

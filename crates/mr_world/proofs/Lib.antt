@@ -5,3 +5,21 @@ mod Feeding
 pub mod Undone
 pub mod Ticking
 mod Dialling
+pub mod Filed
+mod FiledSteps
+mod DialFiles
+mod FilesPassing
+pub mod Happened
+mod Unchanged
+mod Passing
+mod Taken
+mod Telling
+pub mod Served
+pub mod Servings
+pub mod ServedEvents
+mod Restarts
+pub mod Heard
+pub mod Happening
+pub mod Connects
+mod Meeting
+mod Connected

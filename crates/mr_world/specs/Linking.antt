@@ -1,20 +1,17 @@
 -- What the events between links and nodes come to: bytes that come at a node, and ends that a node closes. As in `Calls`.
-use Rattle.std.specs.Prelude.{◌≡◌, ◌≢◌, ◌≤◌, ◌+◌, ℕ, Result, Ok, Err, length, take, drop, true, false, Some, None}
+use Rattle.std.specs.Prelude.{◌≡◌, ◌≢◌, ◌≤◌, ◌+◌, ℕ, Result, Ok, Err, length, take, drop, true, Some, None}
 use Rattle.mr_links.specs.declared.link_id.LinkId.{LinkId}
 use Rattle.mr_follow.specs.State.{FollowState}
 use Rattle.mr_rows.specs.State.{NodeState, IsTooMuch}
 use Rattle.mr_rows.specs.Sound.{IsSound}
 use Rattle.mr_rows.specs.LinkRows.{Feeds, closed_at}
+use Rattle.mr_node.specs.Calls.{FitsMore}
 use Rattle.mr_seen.specs.State.{Link, Slot, WorldState}
 use Rattle.mr_seen.specs.Events.{IsFollowed, IsServed}
 use Rattle.mr_seen.specs.Carrying.{fed_server, put_node}
 use Rattle.mr_world.specs.Calls.{IsDown, NoneServes, ServesAt}
 use Rattle.mr_world.specs.declared.refusal.Refusal.{Refusal}
 use Rattle.mr_world.specs.declared.refusal.Refusal.TheVariants as refusal
-
--- So many bytes more, if any, aren't too many for what is unread on the link.
-abbrev pub FitsMore : NodeState → LinkId → ℕ → Type 0
-FitsMore a l count = count ≢ 0 → IsTooMuch a l count → ⊥
 
 -- So many bytes more were sent to the server's end, which is open; its node runs.
 pub record CanHear (w : WorldState) (l count : ℕ) (k : Link) (s : Slot) : Type 0 where
@@ -28,7 +25,6 @@ pub record Hears (w : WorldState) (l count : ℕ) (v : WorldState) : Type 0 wher
   pub can : CanHear w l count link slot
   pub node : NodeState
   pub feeds : Feeds slot.node link.name (take count (drop link.ask.taken link.ask.sent)) node
-  pub follow : node.follow ≡ slot.node.follow
   pub sound : IsSound node
   pub few : FitsMore slot.node link.name count
   pub is : v ≡ fed_server w link.to slot node l link count

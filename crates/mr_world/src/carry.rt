@@ -1,7 +1,10 @@
 // What a call on a node gives out goes to the file, to the links and to the book: all of it, or nothing.
-ghost use Rattle.std.specs.Prelude.{◌≡◌, ◌≤◌, ◌++◌, length, map, take, drop, IfOk, OnOk, OnErr};
+ghost use Rattle.std.specs.Prelude.{◌≡◌, ◌≤◌, ◌<◌, ◌++◌, Some, length, map, take, drop, slice_get, IfOk, OnOk, OnErr};
 ghost use Rattle.std.specs.Option.{option_map};
-ghost use Rattle.mr_seen.specs.Carrying.{booked_as, filed, reached, said_on};
+ghost use Rattle.mr_rows.specs.State.{end_of};
+ghost use Rattle.mr_seen.specs.State.{Link as LinkState};
+ghost use Rattle.mr_seen.specs.Carrying.{booked_as, filed, reached, said_on, settled};
+ghost use Rattle.mr_world.specs.Answering.{IsBehind, answered_links};
 ghost use Rattle.mr_world.specs.Undoing.{fed_by, unfed_by, shut_by, unsaid_on};
 
 use crate::entry::{Entry, branch, lengthen};
@@ -104,7 +107,7 @@ fn write_book(
 }
 
 /// A copy of what the file is replaced by, where it is.
-fn copied(alloc: Global, outs: &Outs) -> Result<Option<Vec<u8>>, AllocError>
+pub(crate) fn copied(alloc: Global, outs: &Outs) -> Result<Option<Vec<u8>>, AllocError>
     ensures { IfOk result (λ copy. option_map (λ b. b.items) copy ≡ outs.now.replaced) }
 {
     match outs.replaced() {
@@ -222,5 +225,53 @@ pub(crate) fn give_tick(
         unsay_in(links, l, outs);
         return Err(AllocError);
     }
+    Ok(())
+}
+
+/// The server's end is as its node has it behind a step with these outs: closed, or open, with what is left unread.
+fn settle(link: &mut Link, slot: &Slot, outs: &Outs)
+    requires { IsBehind slot.now.node link.old.name outs.now }
+    ensures { link.new ≡ settled (end_of slot.now.node link.old.name) link.old }
+{
+    if outs.closes() {
+        link.shut();
+        return;
+    }
+    let name = link.name();
+    let Some(left) = slot.unread(name) else {
+        unreachable!()
+    };
+    link.stay(!slot.is_client(name), left);
+}
+
+/// What a step at a server's end gave out goes to the file, the links and the book. The id and the offset are those of before the step.
+pub(crate) fn give_step(
+    alloc: Global,
+    slot: &mut Slot,
+    links: &mut Vec<Link>,
+    book: &mut Vec<Entry>,
+    n: usize,
+    l: usize,
+    id: ReplId,
+    offset: u64,
+    outs: &Outs,
+) -> Result<(), AllocError>
+    requires link { l < length links.old.items }
+    requires behind { (k : LinkState) → slice_get links.old.items l ≡ Some k → IsBehind slot.old.node k.name outs.now }
+    ensures file { OnOk result (slot.new ≡ record slot.old { file = filed outs.now slot.old.file }) }
+    ensures links { OnOk result ((k : LinkState) → slice_get links.old.items l ≡ Some k → links.new.items ≡ answered_links n l k slot.old.node outs.now links.old.items) }
+    ensures book { OnOk result (book.new.items ≡ booked_as outs.now.used book.old.items id offset outs.now.grown) }
+    ensures no_file { OnErr result (slot.new ≡ slot.old) }
+    ensures no_links { OnErr result (links.new.items ≡ links.old.items) }
+    ensures no_book { OnErr result (book.new.items ≡ book.old.items) }
+{
+    if links[l].tell(outs.reply()).is_err() {
+        return Err(AllocError);
+    }
+    if give(alloc, slot, links, book, n, id, offset, outs).is_err() {
+        links[l].untell(outs.reply().len());
+        return Err(AllocError);
+    }
+    settle(&mut links[l], slot, outs);
     Ok(())
 }

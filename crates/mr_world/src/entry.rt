@@ -39,6 +39,18 @@ impl Entry {
         }
     }
 
+    /// An id that begins with the dataset that these commands make.
+    pub(crate) fn begun_with(alloc: Global, id: ReplId, start: &[u8]) -> Result<Entry, AllocError>
+        ensures { IfOk result (λ e. e ≡ record { id = id; start = start.now; texts = [] }) }
+    {
+        let start = Vec::from_slice(alloc, start)?;
+        Ok(Entry {
+            id,
+            start,
+            texts: Vec::new(alloc),
+        })
+    }
+
     fn is_of(&self, id: ReplId) -> bool
         ensures { result ≡ bytes_eq self.now.id id }
     {
@@ -69,7 +81,7 @@ impl Entry {
 }
 
 /// The first bytes, as many as there are of so many.
-fn front_of(bytes: &[u8], count: u64) -> &[u8]
+pub(crate) fn front_of(bytes: &[u8], count: u64) -> &[u8]
     ensures { result.now ≡ take count bytes.now }
 {
     let count = count as usize;

@@ -2,11 +2,16 @@
 ghost use Rattle.std.specs.Prelude.{◌≡◌, ◌+◌, ◌≤◌, ◌↔◌, ◌==◌, ◌&&◌, true, false, length, take, drop, IfNone, IfSome, IsTrue, OnOk, OnErr, ℕ};
 ghost use Rattle.mr_ends.specs.Replicas.{is_named};
 ghost use Rattle.mr_seen.specs.State.{a_client, a_node};
-ghost use Rattle.mr_seen.specs.Way.{sent_on, taken_on};
+ghost use Rattle.mr_seen.specs.Way.{left_on, no_way, sent_on, taken_on};
 ghost use Rattle.mr_seen.specs.Carrying.{fed_if, is_at, opened_link, shut_if, told};
 ghost use Rattle.mr_world.specs.Calls.{IsAsking};
+ghost use Rattle.mr_world.specs.Running.{by_node};
+ghost use Rattle.mr_world.specs.Restarting.{shut_at};
+ghost use Rattle.mr_world.specs.Following.{heard_by};
+ghost use Rattle.mr_world.specs.Lending.{took_at};
 ghost use Rattle.mr_world.specs.Undoing.{asked, unasked, unfed_if, untold};
 
+use crate::event::Side;
 use crate::way::Way;
 use mr_links::LinkId;
 use mr_outs::Outs;
@@ -54,6 +59,29 @@ impl Link {
         }
     }
 
+    /// The link of a node, which knows it by a name of its own, to a node that knows it by another; this is what was sent on it.
+    pub(crate) fn of_node(
+        alloc: Global,
+        n: usize,
+        name: LinkId,
+        to: usize,
+        at: LinkId,
+        ask: Way,
+    ) -> Link
+        ensures { result ≡ record { caller = a_node n name; to = to; name = at; serving = true; streams = false; ask = ask; tell = no_way } }
+    {
+        Link {
+            peer: Some((n, name)),
+            asking: false,
+            to,
+            name: at,
+            serving: true,
+            streams: false,
+            ask,
+            tell: Way::new(alloc),
+        }
+    }
+
     /// Whether it is a client's, whose end is open.
     pub(crate) fn is_asking(&self) -> bool
         ensures { IsTrue result ↔ IsAsking self.now }
@@ -67,6 +95,23 @@ impl Link {
         ensures client { IfNone result ((n : ℕ) (name : LinkId) → self.now.caller ≡ a_node n name → ⊥) }
     {
         self.peer
+    }
+
+    /// Whether a node asked for it.
+    pub(crate) fn is_of_node(&self) -> bool
+        ensures { result ≡ by_node self.now.caller }
+    {
+        self.peer.is_some()
+    }
+
+    /// All bytes that the end at this side took.
+    pub(crate) fn took(&self, side: Side) -> &[u8]
+        ensures { result.now ≡ took_at side self.now }
+    {
+        match side {
+            Side::Opener => self.tell.taken(),
+            Side::Server => self.ask.taken(),
+        }
     }
 
     /// The caller sends more.
@@ -106,6 +151,14 @@ impl Link {
         ensures { IsTrue result ↔ (self.now.tell.taken + count ≤ length self.now.tell.sent) }
     {
         self.tell.has(count)
+    }
+
+    /// The next bytes that the caller is to take.
+    pub(crate) fn next_told(&self, count: usize) -> &[u8]
+        requires { self.now.tell.taken + count ≤ length self.now.tell.sent }
+        ensures { result.now ≡ take count (drop self.now.tell.taken self.now.tell.sent) }
+    {
+        self.tell.next(count)
     }
 
     /// The caller takes them.
@@ -152,6 +205,23 @@ impl Link {
         self.serving = false;
     }
 
+    /// The server's end is open, of a replica or of a client, with so many bytes unread.
+    pub(crate) fn stay(&mut self, streams: bool, left: usize)
+        ensures { self.new ≡ record self.old { streams = streams; ask = left_on left self.old.ask } }
+    {
+        self.streams = streams;
+        self.ask.leave(left);
+    }
+
+    /// The server's end closes, where this node serves
+    pub(crate) fn shut_at(&mut self, n: usize)
+        ensures { self.new ≡ shut_at n self.old }
+    {
+        if self.to == n {
+            self.shut();
+        }
+    }
+
     /// Whether it is a link that this node serves.
     fn is_at(&self, n: usize) -> bool
         ensures { result ≡ is_at n self.now }
@@ -180,6 +250,21 @@ impl Link {
         ensures { self.new ≡ unasked count self.old }
     {
         self.ask.unsend(count);
+    }
+
+    /// The caller sends more, and leaves so many bytes unread of those that it took; nothing where it is there no more.
+    pub(crate) fn hear(&mut self, reply: &[u8], left: Option<usize>) -> Result<(), AllocError>
+        ensures ok { OnOk result (self.new ≡ heard_by left reply.now self.old) }
+        ensures err { OnErr result (self.new ≡ self.old) }
+    {
+        match left {
+            Some(left) => {
+                self.ask.send(reply)?;
+                self.tell.leave(left);
+                Ok(())
+            }
+            None => Ok(()),
+        }
     }
 
     /// What the stream grew by is sent, where the outs of this node say so.

@@ -1,9 +1,15 @@
 // Nodes, links and the book, with nothing that holds of them.
-ghost use Rattle.std.specs.Prelude.{◌≡◌};
+ghost use Rattle.std.specs.Prelude.{◌≡◌, slice_get};
 ghost use Rattle.mr_seen.specs.Worlds.{IsWorld, no_world};
 ghost use Rattle.mr_world.specs.Calls.{BreakCall, ClientCall, CommandCall, LeaveCall, StartCall, TakeCall};
+ghost use Rattle.mr_world.specs.Running.{is_between_nodes};
 
+mod connecting;
+mod following;
+mod hearing;
 mod linking;
+mod restarting;
+mod serving;
 
 use crate::entry::{Entry, is_spent};
 use crate::link::Link;
@@ -72,6 +78,16 @@ impl Parts {
             unreachable!()
         };
         Ok(())
+    }
+
+    /// Whether a node asked for the link.
+    pub(crate) fn is_between_nodes(&self, l: usize) -> bool
+        ensures { result ≡ is_between_nodes (slice_get self.now.links l) }
+    {
+        match self.links.get(l) {
+            Some(link) => link.is_of_node(),
+            None => false,
+        }
     }
 
     /// A client's link to a node.

@@ -1,19 +1,24 @@
 // A node among others.
-ghost use Rattle.std.specs.Prelude.{◌≡◌, ◌-◌, ◌++◌, [], false, length, take, IfOk, IsTrue, OnOk, OnErr};
+ghost use Rattle.std.specs.Prelude.{◌≡◌, ◌↔◌, ◌-◌, ◌++◌, [], None, false, length, not, take, IfOk, IsTrue, OnOk, OnErr};
 ghost use Rattle.std.specs.Option.{option_map};
 ghost use Rattle.std.specs.FinMap.{empty};
-ghost use Rattle.mr_node.specs.Calls.{FeedRow, OpenRow, TickStep};
+ghost use Rattle.mr_node.specs.Calls.{FeedRow, FitsMore, IsClients, IsUnread, OpenRow, TickStep};
+ghost use Rattle.mr_node.specs.Steps.{Steps};
 ghost use Rattle.mr_rows.specs.State.{IsTooMuch, shown, stopped_as};
 ghost use Rattle.mr_rows.specs.Sound.{IsSound};
 ghost use Rattle.mr_rows.specs.LinkRows.{closed_at};
 ghost use Rattle.mr_seen.specs.Carrying.{begun_slot, filed_by};
-ghost use Rattle.mr_world.specs.Linking.{FitsMore, IsFollowing};
+ghost use Rattle.mr_world.specs.Connecting.{DialsBy};
+ghost use Rattle.mr_world.specs.Linking.{IsFollowing};
+ghost use Rattle.mr_world.specs.Restarting.{IsLoaded};
 
+use crate::entry::front_of;
 use mr_data::{Dataset, Given};
 use mr_links::LinkId;
-use mr_node::{Config, Node, NodeFault, Role};
+use mr_node::{Config, Node, NodeFault, Role, Step};
 use mr_outs::Outs;
 use mr_repl::ReplId;
+use mr_replay::{Loaded, load};
 use std::alloc::{AllocError, Global};
 use std::hash::RandomState;
 use std::marker::Model;
@@ -60,6 +65,53 @@ impl Slot {
         })
     }
 
+    /// A node that begins with what a file holds, as far as that makes a dataset, and with so much of the file.
+    pub(crate) fn load(
+        alloc: Global,
+        seed: RandomState,
+        kept: &[u8],
+        as_master: bool,
+        id: ReplId,
+        config: Config,
+    ) -> Result<Slot, AllocError>
+        ensures { IfOk result (λ s. IsLoaded kept.now (not as_master) config.port config.backlog id s) }
+    {
+        let Loaded { dataset, used } = load(alloc, seed, kept)?;
+        let file = Vec::from_slice(alloc, front_of(kept, used))?;
+        let mut anew = config;
+        anew.replica = !as_master;
+        let Ok(node) = Node::start(alloc, id, dataset, anew) else {
+            return Err(AllocError);
+        };
+        Ok(Slot {
+            node,
+            file,
+            as_master: !anew.replica,
+            dialled: 0,
+        })
+    }
+
+    /// Whether it started as a master.
+    pub(crate) fn as_master(&self) -> bool
+        ensures { result ≡ self.now.as_master }
+    {
+        self.as_master
+    }
+
+    /// Its file.
+    pub(crate) fn file(&self) -> &[u8]
+        ensures { result.now ≡ self.now.file }
+    {
+        self.file.as_slice()
+    }
+
+    /// The node.
+    pub(crate) fn node(&self) -> &Node
+        ensures { result.now ≡ self.now.node }
+    {
+        &self.node
+    }
+
     /// Whether the node runs.
     pub(crate) fn is_up(&self) -> bool
         ensures { result ≡ self.now.node.core.up }
@@ -73,6 +125,34 @@ impl Slot {
         ensures rest { self.new ≡ record self.old { node = self.new.node } }
     {
         self.node.open()
+    }
+
+    /// Whether the node is a replica that follows nobody, stopped or not.
+    pub(crate) fn waits(&self) -> bool
+        ensures { IsTrue result ↔ ((self.now.node.core.master ≡ false) × (self.now.node.follow ≡ None)) }
+    {
+        self.node.waits()
+    }
+
+    /// Opens the node's own end of a link, which has this number, and dials its master by it.
+    pub(crate) fn dial(&mut self, seed: RandomState, l: usize) -> Result<LinkId, NodeFault>
+        requires replica { self.old.node.core.master ≡ false }
+        requires alone { self.old.node.follow ≡ None }
+        ensures row { DialsBy self.old.node self.new.node result }
+        ensures sound { IsSound self.new.node }
+        ensures ok { OnOk result (self.new ≡ record self.old { node = self.new.node; dialled = l }) }
+        ensures err { OnErr result (self.new ≡ record self.old { node = self.new.node }) }
+    {
+        let dialled = self.node.dial(seed);
+        self.node.sound();
+        match dialled {
+            Ok((name, outs)) => {
+                self.node.reuse(outs);
+                self.dialled = l;
+                Ok(name)
+            }
+            Err(fault) => Err(fault),
+        }
     }
 
     /// Whether so many bytes more are too many for what is unread on a link.
@@ -138,6 +218,36 @@ impl Slot {
         let ticked = self.node.tick(given);
         self.node.sound();
         ticked
+    }
+
+    /// The node makes a step on a link.
+    pub(crate) fn step(
+        &mut self,
+        name: LinkId,
+        given: Given,
+        fresh: ReplId,
+    ) -> Result<Step, NodeFault>
+        ensures row { Steps self.old.node name given fresh self.new.node result }
+        ensures sound { IsSound self.new.node }
+        ensures rest { self.new ≡ record self.old { node = self.new.node } }
+    {
+        let stepped = self.node.step(name, given, fresh);
+        self.node.sound();
+        stepped
+    }
+
+    /// Whether the link is a client's, and open.
+    pub(crate) fn is_client(&self, name: LinkId) -> bool
+        ensures { IsTrue result ↔ IsClients self.now.node name }
+    {
+        self.node.is_client(name)
+    }
+
+    /// How many bytes are unread on a link.
+    pub(crate) fn unread(&self, name: LinkId) -> Option<usize>
+        ensures { IsUnread self.now.node name result }
+    {
+        self.node.unread(name)
     }
 
     /// The node stops.

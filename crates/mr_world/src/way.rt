@@ -1,8 +1,10 @@
 // One direction of a link.
-ghost use Rattle.std.specs.Prelude.{◌≡◌, ◌+◌, ◌≤◌, ◌↔◌, length, take, drop, IsTrue, OnOk, OnErr};
+ghost use Rattle.std.specs.Prelude.{◌≡◌, ◌+◌, ◌≤◌, ◌↔◌, length, take, drop, IfOk, IsTrue, OnOk, OnErr};
 ghost use Rattle.mr_seen.specs.Way.{left_on, no_way, sent_on, taken_on};
+ghost use Rattle.mr_world.specs.Lending.{taken_in};
 ghost use Rattle.mr_world.specs.Undoing.{unsent};
 
+use crate::entry::front_of;
 use std::alloc::{AllocError, Global};
 use std::marker::Model;
 
@@ -32,6 +34,15 @@ impl Way {
             taken: 0,
             used: 0,
         }
+    }
+
+    /// A direction in which this was sent.
+    pub(crate) fn begun(alloc: Global, bytes: &[u8]) -> Result<Way, AllocError>
+        ensures { IfOk result (λ w. w ≡ sent_on bytes.now no_way) }
+    {
+        let mut way = Way::new(alloc);
+        way.send(bytes)?;
+        Ok(way)
     }
 
     /// More is sent.
@@ -71,6 +82,13 @@ impl Way {
         ensures { result.now ≡ take count (drop self.now.taken self.now.sent) }
     {
         next_of(self.sent.as_slice(), self.taken, count)
+    }
+
+    /// All bytes that were taken.
+    pub(crate) fn taken(&self) -> &[u8]
+        ensures { result.now ≡ taken_in self.now }
+    {
+        front_of(self.sent.as_slice(), self.taken as u64)
     }
 
     /// They are taken.

@@ -1,9 +1,15 @@
 // A World.
-ghost use Rattle.std.specs.Prelude.{◌≡◌};
-ghost use Rattle.mr_seen.specs.Worlds.{no_world};
+ghost use Rattle.std.specs.Prelude.{◌≡◌, slice_get};
+ghost use Rattle.mr_seen.specs.Worlds.{no_world, IsWorld};
 ghost use Rattle.mr_world.specs.Calls.{BreakCall, ClientCall, CommandCall, LeaveCall, StartCall, TakeCall};
+ghost use Rattle.mr_world.specs.Connecting.{DialCall};
 ghost use Rattle.mr_world.specs.Linking.{DeliverCall, DropCall};
+ghost use Rattle.mr_world.specs.Running.{is_between_nodes};
+ghost use Rattle.mr_world.specs.Hearing.{ListenCall};
+ghost use Rattle.mr_world.specs.Restarting.{RestartCall};
 ghost use Rattle.mr_world.specs.Stepping.{TickCall};
+ghost use Rattle.mr_world.specs.Serving.{StepCall};
+ghost use Rattle.mr_world.specs.Following.{FollowCall};
 
 use crate::parts::Parts;
 use crate::refusal::Refusal;
@@ -19,7 +25,7 @@ use std::marker::Model;
 pub struct World {
     alloc: Global,
     seed: RandomState,
-    parts: Parts,
+    pub(crate) parts: Parts,
 }
 
 impl Model for World {
@@ -99,6 +105,14 @@ impl World {
         self.parts.deliver_to_server(l, count)
     }
 
+    /// The node that follows by a link takes the next bytes of those that the server sent it, so many. A client takes its own by
+    /// `deliver_to_client`; at a node that is stopped or follows no more nothing is taken.
+    pub fn deliver_to_dialler(&mut self, l: usize, count: usize) -> Result<(), Refusal>
+        ensures { ListenCall self.old l count self.new result }
+    {
+        self.parts.deliver_to_dialler(l, count)
+    }
+
     /// Time passes at a node. At a stopped node nothing happens; where memory runs out for what the node gives out, it stops.
     pub fn tick(&mut self, n: usize, given: Given) -> Result<(), Refusal>
         ensures { TickCall self.old n given.now self.new result }
@@ -106,10 +120,66 @@ impl World {
         self.parts.tick(self.alloc, n, given)
     }
 
+    /// Its clause says what each World keeps.
+    pub(crate) fn sound(&self)
+        ensures { IsWorld self.now }
+    {
+        let _ = &self.parts;
+    }
+
+    /// Whether a node asked for the link, and not a client.
+    pub fn is_between_nodes(&self, l: usize) -> bool
+        ensures { result ≡ is_between_nodes (slice_get self.now.links l) }
+    {
+        self.parts.is_between_nodes(l)
+    }
+
+    /// The node that serves a link makes a step there: it uses what stands at the front of its unread bytes. The id is for a promotion, and must
+    /// be fresh. At a stopped node nothing happens; where memory runs out for what the node gives out, it stops.
+    pub fn step_server(&mut self, l: usize, given: Given, fresh: ReplId) -> Result<(), Refusal>
+        ensures { StepCall self.old l given fresh self.new result }
+    {
+        self.parts.step_server(self.alloc, l, given, fresh)
+    }
+
     /// The node that follows by a link closes its end. That of a client, of a node that is stopped or follows no more, isn't one.
     pub fn break_dialler(&mut self, l: usize) -> Result<(), Refusal>
         ensures { DropCall self.old l self.new result }
     {
         self.parts.break_dialler(l)
+    }
+
+    /// A node, stopped or not, begins anew under an id that was never drawn, in the role in which it started, with as much of these bytes
+    /// as makes a dataset. Its ends are closed. Of the config its port and its backlog are taken.
+    pub fn restart(
+        &mut self,
+        n: usize,
+        kept: &[u8],
+        id: ReplId,
+        config: Config,
+    ) -> Result<(), Refusal>
+        ensures { RestartCall self.old n kept.now id config.port config.backlog self.new result }
+    {
+        // its clause says that it is an id
+        let _ = id.bytes();
+        self.parts
+            .restart(self.alloc, self.seed, n, kept, id, config)
+    }
+
+    /// The node that follows by a link makes a step there, with a fresh id that was never drawn. Where memory runs out for what the node
+    /// gives out, it stops. Where the node itself lacks memory, it may have taken what is there of a snapshot: what it shows, its file, its
+    /// links and the book stay.
+    pub fn step_dialler(&mut self, l: usize, given: Given, fresh: ReplId) -> Result<(), Refusal>
+        ensures { FollowCall self.old l fresh self.new result }
+    {
+        self.parts.step_dialler(self.alloc, l, given, fresh)
+    }
+
+    /// A replica that follows nobody dials a node, whichever it was told to follow. Where either is stopped nothing happens. Where memory is lacking
+    /// for the second end nothing is left but that the node that was dialled has counted a link more.
+    pub fn dial(&mut self, n: usize, m: usize) -> Result<(), Refusal>
+        ensures { DialCall self.old n m self.new result }
+    {
+        self.parts.dial(self.alloc, self.seed, n, m)
     }
 }

@@ -1,8 +1,7 @@
-use Rattle.std.proofs.Common.{rules, ◌≡◌, ◌<◌, ◌≤◌, ◌∙◌, ℕ, length, refl, sym, ap, subst}
+use Rattle.std.proofs.Common.{rules, ◌≡◌, ◌<◌, ◌≤◌, ℕ, length, refl, sym, subst}
 use Rattle.std.specs.Prelude.{slice_set}
 use Rattle.mr_links.specs.declared.link_id.LinkId.{LinkId}
-use Rattle.mr_rows.specs.LinkRows.{closed_at}
-use Rattle.mr_seen.specs.State.{WorldState, Link, Slot, a_node}
+use Rattle.mr_seen.specs.State.{WorldState, Slot, a_node}
 use Rattle.mr_seen.specs.Worlds.{IsWorld}
 use Rattle.mr_world.specs.Linking.{Drops, IsFollowing, NoneFollows}
 use Rattle.mr_world.proofs.Joins.{read_twice}

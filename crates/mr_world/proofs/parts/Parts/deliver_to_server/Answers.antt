@@ -1,12 +1,12 @@
 use Rattle.std.proofs.Common.{rules, ◌≡◌, ◌+◌, ◌<◌, ◌≤◌, ◌∙◌, ℕ, true, false, Err, length, refl, sym, ap, subst}
 use Rattle.std.specs.Prelude.{slice_set}
 use Rattle.mr_links.specs.declared.link_id.LinkId.{LinkId}
-use Rattle.mr_node.specs.Calls.{FeedRow}
+use Rattle.mr_node.specs.Calls.{FeedRow, FitsMore}
 use Rattle.mr_rows.specs.State.{IsTooMuch}
 use Rattle.mr_seen.specs.State.{WorldState, Link, Slot}
 use Rattle.mr_seen.specs.Way.{taken_on}
 use Rattle.mr_seen.specs.Worlds.{IsWorld}
-use Rattle.mr_world.specs.Linking.{Delivers, FitsMore, IsOverfull, NeedsRoom}
+use Rattle.mr_world.specs.Linking.{Delivers, IsOverfull, NeedsRoom}
 use Rattle.mr_world.proofs.Joins.{read_twice, same_slots, server_there}
 use Rattle.mr_world.proofs.Feeding.{counted, has_end, hears_here, needs_room, overfull, rests_unheard}
 use Rattle.mr_world.proofs.parts.Parts.deliver_to_server.Goals as goal
@@ -95,7 +95,7 @@ returns-in-Err-Memory c =
     let row = subst (λ r. FeedRow c.index_mut.result.now.node c.name-name.result c.next_asked.result.now (length c.next_asked.result.now) c.feed.new.self.node r) (c.in-Err-Memory.is ∙ ap Err c.in-Err-Memory.field-0-is) c.feed.ensures.row in (
       subst (λ (z : WorldState). NeedsRoom z c.args.l c.args.count) c.self.view_is
           (needs_room w c.args.l c.to-to.result c.args.count c.index-link.result.now within c.index-link.ensures c.to-to.ensures serving sent c.index_mut.result.now there c.index_mut.ensures.value row.0 c.next_asked.result.now c.next_asked.ensures row.3 fits),
-      same_slots w c.to-to.result c.index_mut.result.now there c.index_mut.ensures.value c.feed.new.self c.self.inside.links.items row.4 c.feed.ensures.rest refl ∙ c.self.view_is,
+      same_slots w c.to-to.result c.index_mut.result.now there c.index_mut.ensures.value c.feed.new.self c.self.inside.links.items row.5 c.feed.ensures.rest refl ∙ c.self.view_is,
     )
 
 pub returns-in-Err-InputFull : goal.returns-in-Err-InputFull
@@ -129,4 +129,4 @@ returns-in-Ok c =
     let link : c.index-link.result.now ≡ c.index_mut-in-Ok.result.now = read_twice c.self.inside.links.items c.args.l c.index-link.result.now c.index_mut-in-Ok.result.now within c.index-link.ensures c.index_mut-in-Ok.ensures.value in
     subst (λ (z : WorldState). Delivers z c.args.l c.args.count (record w { slots = slice_set w.slots c.to-to.result c.feed.new.self; links = slice_set w.links c.args.l c.take_asked.new.self })) c.self.view_is
     (hears_here w c.args.l c.to-to.result c.args.count c.index-link.result.now within c.index-link.ensures c.to-to.ensures serving sent c.index_mut.result.now there c.index_mut.ensures.value world c.feed.new.self c.take_asked.new.self c.name-name.result c.next_asked.result.now
-    up c.name-name.ensures c.next_asked.ensures c.in-Ok.ensures.row.2 c.feed.ensures.sound fits c.feed.ensures.rest (c.take_asked.ensures ∙ ap (λ (z : Link). record z { ask = taken_on c.args.count z.ask }) (sym link)))
+    up c.name-name.ensures c.next_asked.ensures c.in-Ok.ensures.row.3 c.feed.ensures.sound fits c.feed.ensures.rest (c.take_asked.ensures ∙ ap (λ (z : Link). record z { ask = taken_on c.args.count z.ask }) (sym link)))

@@ -1,0 +1,133 @@
+-- A node that dials another is an event of histories; and of what a dial leaves that lacked memory they see nothing.
+use Rattle.std.proofs.Common.{◌≡◌, ℕ, Bool, false, true, Some, refl, sym, ap, subst, ◌∙◌}
+use Rattle.std.specs.Prelude.{slice_get}
+use Rattle.std.specs.Option.{option_map}
+use Rattle.mr_history.specs.History.{Book}
+use Rattle.mr_history.specs.Event as events
+use Rattle.mr_history.specs.Changing.{Still}
+use Rattle.mr_history.specs.Changing.Unless.{acts, stopped}
+use Rattle.mr_history.specs.Node as history_node
+use Rattle.mr_history.specs.Rows as rows
+use Rattle.mr_language.specs.Minired.{minired}
+use Rattle.mr_rows.specs.State.{stopped_as}
+use Rattle.mr_seen.specs.State.{Slot, WorldState}
+use Rattle.mr_seen.specs.Seeing.{seen, seen_follow, seen_node}
+use Rattle.mr_seen.specs.Carrying.{put_node}
+use Rattle.mr_seen.specs.Events.{Holds, IsEvent}
+use Rattle.mr_seen.proofs.Linking.{dials}
+use Rattle.mr_seen.proofs.Places.{some_is}
+use Rattle.mr_seen.proofs.Reading.{still_at}
+use Rattle.mr_seen.proofs.Seen.{put_at}
+use Rattle.mr_world.specs.Calls.{IsDown}
+use Rattle.mr_world.specs.Connecting.{BothRun, CanDial, Counts, Dialled, DiallerStops, ServerStops, counted_on}
+
+-- ---- a link more that a node has counted
+counted_still : (w : WorldState) (m : ℕ) (t : Slot) → slice_get w.slots m ≡ Some t
+    → (j : ℕ) → option_map seen_node (slice_get (put_node w m t (counted_on t.node)).slots j) ≡ option_map seen_node (slice_get w.slots j)
+counted_still w m t at = still_at seen_node w.slots m (record t { node = counted_on t.node }) t at refl
+
+pub counts_unseen : (w : WorldState) (book : Book minired) (m : ℕ) (v : WorldState) → Counts w m v → Still (seen w book) (seen v book)
+counts_unseen w book m v c = subst (λ (z : WorldState). Still (seen w book) (seen z book)) (sym c.is) (record { nodes = counted_still w m c.server c.running.at; links = λ l. refl; book = λ i. refl })
+
+-- .. and the book is the same
+pub counts_book : (w : WorldState) (m : ℕ) (v : WorldState) → Counts w m v → v.book ≡ w.book
+counts_book w m v c = ap (λ (z : WorldState). z.book) c.is
+
+module _ (w : WorldState) (book : Book minired) (n m : ℕ) (holds : Holds w book) where
+  abbrev Happens : WorldState → Type 0
+  Happens z = IsEvent w book (events.Event.Dial n m) z
+
+  -- neither stopped
+  server_stops : (b : BothRun w n m) (v : WorldState) → ServerStops w m v → Happens v
+  server_stops b v d = subst Happens (sym d.is) (record {
+    new_book = book;
+    kept = holds.kept;
+    row = record {
+      node = seen_node b.can.dialler;
+      found = ap (option_map seen_node) b.can.at;
+      replica = b.can.replica;
+      waiting = ap (seen_follow b.can.dialler.dialled) b.can.alone;
+      server = seen_node d.server;
+      server_found = ap (option_map seen_node) d.running.at;
+      does = acts b.dialler_up (acts d.running.up (rows.Dials.server_stops (record {
+        wreck = seen_node (record d.server { node = stopped_as d.server.node });
+        down = refl;
+        role = refl;
+        becomes = record { nodes = put_at seen_node w.slots m (record d.server { node = stopped_as d.server.node }) d.server d.running.at; links = λ l. refl; book = λ i. refl };
+      })));
+    };
+  })
+
+  dialler_stops_behind : (b : BothRun w n m) (t s : Slot) → slice_get w.slots m ≡ Some t → slice_get (put_node w m t (counted_on t.node)).slots n ≡ Some s
+      → Happens (put_node (put_node w m t (counted_on t.node)) n s (stopped_as s.node))
+  dialler_stops_behind b t s at found =
+      let still = counted_still w m t at in
+      let same : seen_node s ≡ seen_node b.can.dialler = some_is (seen_node s) (seen_node b.can.dialler) (sym (ap (option_map seen_node) found) ∙ (still n ∙ ap (option_map seen_node) b.can.at)) in
+      let put = put_at seen_node (put_node w m t (counted_on t.node)).slots n (record s { node = stopped_as s.node }) s found in
+      record {
+        new_book = book;
+        kept = holds.kept;
+        row = record {
+          node = seen_node b.can.dialler;
+          found = ap (option_map seen_node) b.can.at;
+          replica = b.can.replica;
+          waiting = ap (seen_follow b.can.dialler.dialled) b.can.alone;
+          server = seen_node b.can.server;
+          server_found = ap (option_map seen_node) b.can.found;
+          does = acts b.dialler_up (acts b.server_up (rows.Dials.stops (record {
+            wreck = seen_node (record s { node = stopped_as s.node });
+            down = refl;
+            role = ap (λ (z : history_node.Node minired). z.starts_as_master) same;
+            becomes = record { nodes = (put.0, λ j ne. put.1 j ne ∙ still j); links = λ l. refl; book = λ i. refl };
+          })));
+        };
+      }
+
+  dialler_stops : (b : BothRun w n m) (v : WorldState) → DiallerStops w n m v → Happens v
+  dialler_stops b v d =
+      let k = d.counts in
+      let found : slice_get (put_node w m k.server (counted_on k.server.node)).slots n ≡ Some d.dialler = ap (λ (z : WorldState). slice_get z.slots n) (sym k.is) ∙ d.running.at in
+      subst Happens (sym (d.is ∙ ap (λ (z : WorldState). put_node z n d.dialler (stopped_as d.dialler.node)) k.is)) (dialler_stops_behind b k.server d.dialler k.running.at found)
+
+  -- either stopped
+  dialler_rests : (c : CanDial w n m) → IsDown w n → Happens w
+  dialler_rests c d = record {
+    new_book = book;
+    kept = holds.kept;
+    row = record {
+      node = seen_node c.dialler;
+      found = ap (option_map seen_node) c.at;
+      replica = c.replica;
+      waiting = ap (seen_follow c.dialler.dialled) c.alone;
+      server = seen_node c.server;
+      server_found = ap (option_map seen_node) c.found;
+      does = stopped (ap (λ (z : Slot). z.node.core.up) (some_is c.dialler d.slot (sym c.at ∙ d.at)) ∙ d.down) (record { nodes = λ j. refl; links = λ l. refl; book = λ i. refl });
+    };
+  }
+
+  -- the node that dials may be stopped too
+  server_rests : (c : CanDial w n m) → c.dialler.node.core.up ≡ true → IsDown w m → Happens w
+  server_rests c up d = record {
+    new_book = book;
+    kept = holds.kept;
+    row = record {
+      node = seen_node c.dialler;
+      found = ap (option_map seen_node) c.at;
+      replica = c.replica;
+      waiting = ap (seen_follow c.dialler.dialled) c.alone;
+      server = seen_node c.server;
+      server_found = ap (option_map seen_node) c.found;
+      does = acts up (stopped (ap (λ (z : Slot). z.node.core.up) (some_is c.server d.slot (sym c.found ∙ d.at)) ∙ d.down) (record { nodes = λ j. refl; links = λ l. refl; book = λ i. refl }));
+    };
+  }
+
+  pub dialled_is_event : (v : WorldState) → CanDial w n m → Dialled w n m v → Happens v
+  dialled_is_event v c (Dialled.connects d) = subst Happens (sym d.is) (dials w book n m d.dialler d.server d.name d.at d.node d.served d.outs holds d.running d.opens d.found d.up d.dials)
+  dialled_is_event v c (Dialled.server_stops b d) = server_stops b v d
+  dialled_is_event v c (Dialled.dialler_stops b d) = dialler_stops b v d
+  dialled_is_event v c (Dialled.dialler_rests d e) = subst Happens (sym e) (dialler_rests c d)
+  dialled_is_event v c (Dialled.server_rests d e) = subst Happens (sym e) (either c.dialler.node.core.up refl)
+    where
+      either : (u : Bool) → c.dialler.node.core.up ≡ u → Happens w
+      either true up = server_rests c up d
+      either false down = dialler_rests c (record { slot = c.dialler; at = c.at; down = down })

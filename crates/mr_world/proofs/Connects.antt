@@ -1,0 +1,118 @@
+-- A node that dials another, or itself: that what is true of each World stays.
+use Rattle.std.proofs.Common.{◌≡◌, ◌≢◌, ◌+◌, ◌++◌, ◌∷◌, [], ℕ, cond, Option, None, Some, Result, Ok, Err, length, refl, sym, ap, subst, ◌∙◌, arith}
+use Rattle.std.specs.Prelude.{slice_get, slice_set}
+use Rattle.std.specs.FinMap.{FinMap, get, insert, remove, get-insert, get-remove, same_map}
+use Rattle.mr_links.specs.Links.{Links}
+use Rattle.mr_links.specs.LinkId.{id_cmp}
+use Rattle.mr_links.specs.declared.link_id.LinkId.{LinkId}
+use Rattle.mr_links.proofs.LinkRows.{ids_total, exact_ids}
+use Rattle.mr_follow.specs.State.{FollowState}
+use Rattle.mr_ends.specs.State.{EndState, end_at, opened_as}
+use Rattle.mr_ends.specs.State.EndState.{client, upstream}
+use Rattle.mr_ends.proofs.Naming.{at_or_other}
+use Rattle.mr_rows.specs.State.{NodeState, FollowedAt, end_of, stopped_as}
+use Rattle.mr_rows.specs.LinkRows.{Opens, closed_at, follow_without}
+use Rattle.mr_seen.specs.Way.{IsWay, no_way, unread}
+use Rattle.mr_seen.specs.State.{Link, Slot, WorldState}
+use Rattle.mr_seen.specs.Worlds.{IsWorld, HasMaster, end_for}
+use Rattle.mr_seen.specs.Carrying.{connected, dialled_link, put_node}
+use Rattle.mr_seen.proofs.Places.{push_here, set_here, some_is}
+use Rattle.mr_seen.proofs.Others.{served_end}
+use Rattle.mr_world.specs.declared.refusal.Refusal.{Refusal}
+use Rattle.mr_world.specs.declared.refusal.Refusal.TheVariants as refusal
+use Rattle.mr_world.specs.Connecting.{Connects, DialCall, Dialled, Lacks, counted_on}
+use Rattle.mr_world.proofs.Changing.{node_world, link_comes}
+use Rattle.mr_world.proofs.Kept.{apart, between, reads_on, stops_world}
+
+no_some : {A : Type 0} (x : A) → ◌≡◌ {A = Option A} None (Some x) → ⊥
+no_some x e = cc
+
+-- ---- an end that was opened and closed again
+removed : (m : FinMap id_cmp EndState) (l : LinkId) (e : EndState) → get m l ≡ None → remove (insert m l e) l ≡ m
+removed m l e fresh = same_map ids_total exact_ids (remove (insert m l e) l) m (λ x.
+    get-remove ids_total (insert m l e) l x
+    ∙ at_or_other x l (λ b. cond b None (get (insert m l e) x) ≡ get m x) (λ same. sym fresh ∙ ap (get m) (sym same))
+    (λ ne. get-insert ids_total m l e x ∙ at_or_other x l (λ b. cond b (Some e) (get m x) ≡ get m x) (λ same. absurd (ne same)) (λ other. refl)))
+
+follows_on : (ends : Links EndState) (l : LinkId) (o : Option (LinkId × FollowState)) → FollowedAt ends o → end_at ends l ≡ None → follow_without l o ≡ o
+follows_on ends l None h fresh = refl
+follows_on ends l (Some f) h fresh = at_or_other f.0 l (λ b. cond b None (Some f) ≡ Some f) (λ same. absurd (no_some upstream (sym fresh ∙ (ap (end_at ends) (sym same) ∙ h)))) (λ ne. refl)
+
+pub closed_again : (a b : NodeState) (l : LinkId) → FollowedAt a.ends a.follow → Opens a l b → closed_at l b ≡ counted_on a
+closed_again a b l h o =
+    ap (closed_at l) o.node
+    ∙ (ap (λ z. record a { ends = record { open_links = z; opened = a.ends.opened + 1 }; follow = follow_without l a.follow }) (removed a.ends.open_links l (client []) o.fresh)
+    ∙ ap (λ z. record a { ends = record a.ends { opened = a.ends.opened + 1 }; follow = z }) (follows_on a.ends l a.follow h o.fresh))
+
+other_end : (ends : Links EndState) (l x : LinkId) (e : EndState) → x ≢ l → end_at (opened_as ends l e) x ≡ end_at ends x
+other_end ends l x e ne = get-insert ids_total ends.open_links l e x ∙ at_or_other x l (λ b. cond b (Some e) (get ends.open_links x) ≡ get ends.open_links x) (λ same. absurd (ne same)) (λ other. refl)
+
+-- ---- a node that counts a link more
+pub counts_world : (w : WorldState) (m : ℕ) (t : Slot) → IsWorld w → slice_get w.slots m ≡ Some t → IsWorld (put_node w m t (counted_on t.node))
+counts_world w m t is at = node_world w m t (record t { node = counted_on t.node }) is at (record {
+  here = λ j y e to up q. served_end w is m t at up j y e to q;
+  sound = λ up. let i = is.nodes m t at up in record {
+    node = record { followed = i.node.followed; only = i.node.only; sends = i.node.sends; nobody = i.node.nobody };
+    window = i.window;
+    id = i.id;
+    second = i.second;
+    upstream = i.upstream;
+    reading = reads_on t.node (record t.node.ends { opened = t.node.ends.opened + 1 }) t.node.follow i.reading;
+  };
+  own = λ name f up e. let h = is.followers m t name f at up e in record { link = h.link; found = h.found; caller = h.caller; agrees = h.agrees };
+})
+
+-- ---- both ends are there
+module _ (w : WorldState) (n m : ℕ) (v : WorldState) (is : IsWorld w) (d : Connects w n m v) where
+  abbrev link : Link
+  link = dialled_link n d.name m d.at d.outs.reply
+
+  abbrev anew : Slot
+  anew = record d.dialler { node = d.node; dialled = length w.links }
+
+  opened_world : IsWorld (put_node w m d.server d.served)
+  opened_world = between w m d.server d.at d.served is d.running.at d.running.up d.opens
+
+  no_ways : IsWay no_way
+  no_ways = record { used_within = omega arith; taken_within = omega arith }
+
+  linked_world : IsWorld (record w { slots = slice_set w.slots m (record d.server { node = d.served }); links = w.links ++ link ∷ [] })
+  linked_world = link_comes (put_node w m d.server d.served) link opened_world (record { used_within = omega arith; taken_within = omega arith }) no_ways
+      (record { slot = record d.server { node = d.served }; found = set_here w.slots m (record d.server { node = d.served }) d.server d.running.at; agrees = λ u q. d.opens.agrees.is })
+      (apart w m d.server d.at d.served is d.running.at d.running.up d.opens)
+
+  own_link : (name : LinkId) (f : FollowState) → d.node.follow ≡ Some (name, f) → HasMaster (w.links ++ link ∷ []) n anew name f
+  own_link name f e =
+      let one = some_is _ (name, f) (sym (ap (λ (z : NodeState). z.follow) d.dials.node) ∙ e) in
+      subst (λ (z : LinkId × FollowState). HasMaster (w.links ++ link ∷ []) n anew z.0 z.1) one
+      (record { link = link; found = push_here w.links link; caller = refl; agrees = record { by = refl } })
+
+  pub connects_world : IsWorld (connected w n d.dialler d.node d.name d.outs m d.server d.served d.at)
+  connects_world = node_world (record w { slots = slice_set w.slots m (record d.server { node = d.served }); links = w.links ++ link ∷ [] }) n d.dialler anew linked_world d.found (record {
+    here = λ j y e to up q.
+        let served = served_end (record w { slots = slice_set w.slots m (record d.server { node = d.served }); links = w.links ++ link ∷ [] }) linked_world n d.dialler d.found d.up j y e to q in
+        ap (λ (z : NodeState). end_of z y.name) d.dials.node
+        ∙ (other_end d.dialler.node.ends d.name y.name upstream (λ same. no_some (end_for y.streams (unread y.ask)) (sym d.dials.fresh ∙ (ap (end_of d.dialler.node) (sym same) ∙ served))) ∙ served);
+    sound = λ up. d.sound;
+    own = λ name f up e. own_link name f e;
+  })
+
+pub dial_keeps : (w v : WorldState) (n m : ℕ) (r : Result (Unit {0}) Refusal) → IsWorld w → DialCall w n m v r → IsWorld v
+dial_keeps w v n m (Ok done) is c = elim c.1 [
+  | Dialled.connects d ↦ subst (λ (z : WorldState). IsWorld z) (sym d.is) (connects_world w n m v is d)
+  | Dialled.server_stops b d ↦ subst (λ (z : WorldState). IsWorld z) (sym d.is) (stops_world w m d.server (stopped_as d.server.node) is d.running.at refl)
+  | Dialled.dialler_stops b d ↦
+      (let k = d.counts in
+      let world = subst (λ (z : WorldState). IsWorld z) (sym k.is) (counts_world w m k.server is k.running.at) in
+      subst (λ (z : WorldState). IsWorld z) (sym d.is) (stops_world d.between n d.dialler (stopped_as d.dialler.node) world d.running.at refl))
+  | Dialled.dialler_rests d e ↦ subst (λ (z : WorldState). IsWorld z) (sym e) is
+  | Dialled.server_rests d e ↦ subst (λ (z : WorldState). IsWorld z) (sym e) is
+]
+dial_keeps w v n m (Err refusal.Memory) is c = elim c.1 [
+  | Lacks.same e ↦ subst (λ (z : WorldState). IsWorld z) (sym e) is
+  | Lacks.counts k ↦ subst (λ (z : WorldState). IsWorld z) (sym k.is) (counts_world w m k.server is k.running.at)
+]
+dial_keeps w v n m (Err refusal.Nobody) is c = subst (λ (z : WorldState). IsWorld z) (sym c.1) is
+dial_keeps w v n m (Err refusal.Drawn) is c = absurd c
+dial_keeps w v n m (Err refusal.TooMuch) is c = absurd c
+dial_keeps w v n m (Err refusal.InputFull) is c = absurd c

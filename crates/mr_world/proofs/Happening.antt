@@ -1,0 +1,38 @@
+-- A step of the node that follows by a link is an event of histories.
+use Rattle.std.proofs.Common.{ℕ, List, refl, sym, subst}
+use Rattle.mr_data.specs.declared.given.Given.{Given}
+use Rattle.mr_history.specs.History.{Book}
+use Rattle.mr_history.specs.Changing.{Still}
+use Rattle.mr_history.specs.Event as events
+use Rattle.mr_history.specs.Event.Side.{Dialler}
+use Rattle.mr_language.specs.Minired.{minired}
+use Rattle.mr_rows.specs.State.{stopped_as}
+use Rattle.mr_seen.specs.State.{WorldState}
+use Rattle.mr_seen.specs.Seeing.{seen}
+use Rattle.mr_seen.specs.Carrying.{followed, put_node}
+use Rattle.mr_seen.specs.Events.{Holds, IsEvent}
+use Rattle.mr_seen.proofs.Masters.{master_lacks, master_spends, master_steps, master_stops, master_waits}
+use Rattle.mr_world.specs.Following.{Follows}
+use Rattle.mr_world.specs.Happening.{FollowsAreEvents, LackedIsUnseen}
+
+module _ (w : WorldState) (book : Book minired) (l : ℕ) (given : Given) (fresh : List ℕ) (v : WorldState) (holds : Holds w book) where
+  abbrev Happens : WorldState → ℕ → Type 0
+  Happens z i = IsEvent w book (events.Event.Step i Dialler given fresh) z
+
+  happens : Follows w l v → IsEvent w book (events.Event.Step l Dialler given fresh) v
+  happens (Follows.carries h e) =
+      subst (λ (z : WorldState). Happens z l) (sym e) (subst (λ (i : ℕ). Happens (followed w h.number h.who.slot h.who.link h.node h.outs) i) h.who.by.dialled
+      (master_steps w book h.number h.who.slot h.who.link h.name h.came given fresh h.node h.outs holds h.who.by.followed h.row))
+  happens (Follows.fails h e) =
+      subst (λ (z : WorldState). Happens z l) (sym e) (subst (λ (i : ℕ). Happens (put_node w h.number h.who.slot (stopped_as h.node)) i) h.who.by.dialled
+      (master_stops w book h.number h.who.slot h.who.link h.name h.who.reader given fresh (stopped_as h.node) holds h.who.by.followed h.who.by.follows refl))
+  happens (Follows.waits h) = subst (λ (i : ℕ). Happens v i) h.who.by.dialled
+      (subst (λ (z : WorldState). Happens z h.who.slot.dialled) (sym h.carried) (master_waits w book h.number h.who.slot h.who.link h.name given fresh h.node holds h.who.by.followed h.row))
+  happens (Follows.spends h) = subst (λ (i : ℕ). Happens v i) h.who.by.dialled
+      (subst (λ (z : WorldState). Happens z h.who.slot.dialled) (sym h.is) (master_spends w book h.number h.who.slot h.who.link h.name given fresh h.node holds h.who.by.followed h.row))
+
+pub follows_happen : FollowsAreEvents
+follows_happen w book l given fresh v holds f = happens w book l given fresh v holds f
+
+pub lacks_unseen : LackedIsUnseen
+lacks_unseen w book l v holds h = subst (λ (z : WorldState). Still (seen w book) (seen z book)) (sym h.carried) (master_lacks w book h.number h.who.slot h.who.link h.name h.node holds h.who.by.followed h.row)

@@ -1,0 +1,55 @@
+-- A step at a server's end is an event of histories, whatever it came to.
+use Rattle.std.proofs.Common.{◌≡◌, ℕ, List, Bool, true, false, ◌||◌, Option, None, Some, refl, sym, ap, subst}
+use Rattle.std.specs.Prelude.{bytes_eq, is_some}
+use Rattle.std.specs.Option.{option_map}
+use Rattle.mr_data.specs.declared.given.Given.{Given}
+use Rattle.mr_repl.specs.ReplId.{zero_id}
+use Rattle.mr_rows.specs.State.{NodeState, stopped_as}
+use Rattle.mr_history.specs.History.{Book}
+use Rattle.mr_history.specs.Event as events
+use Rattle.mr_history.specs.Event.Side.{Server}
+use Rattle.mr_history.specs.Changing.Unless.{stopped}
+use Rattle.mr_language.specs.Minired.{minired}
+use Rattle.mr_seen.specs.State.{Entry, Link, WorldState}
+use Rattle.mr_seen.specs.Seeing.{seen_link, seen_node}
+use Rattle.mr_seen.specs.Books.{entry_of}
+use Rattle.mr_seen.specs.Carrying.{stepped}
+use Rattle.mr_seen.specs.Events.{Holds, IsEvent}
+use Rattle.mr_seen.proofs.Replicas.{idle_steps, replica_steps, stopped_steps}
+use Rattle.mr_seen.proofs.Roles.{client_steps}
+use Rattle.mr_world.specs.Calls.{IsDown, ServesAt, is_spent}
+use Rattle.mr_world.specs.Serving.{HasServed, ServedRow, Serves}
+
+-- an id that may be drawn has no entry
+no_entry : (p : Bool) (o : Option Entry) → (p || is_some o) ≡ false → o ≡ None
+no_entry true o e = absurd (cc)
+no_entry false None e = refl
+no_entry false (Some x) e = absurd (cc)
+
+module _ (w : WorldState) (book : Book minired) (l : ℕ) (given : Given) (fresh : List ℕ) (holds : Holds w book) where
+  abbrev Event : WorldState → Type 0
+  Event v = IsEvent w book (events.Event.Step l Server given fresh) v
+
+  served_event : (unspent : is_spent w.book fresh ≡ false) (t : HasServed w l given fresh) → Event (stepped w t.link.to t.slot l t.link t.node t.outs)
+  served_event unspent t = elim t.row [
+    | ServedRow.client q r ↦ client_steps w book l t.link t.slot given fresh t.node t.outs holds t.served q (no_entry (bytes_eq fresh zero_id) (entry_of w.book fresh) unspent) r
+    | ServedRow.replica q r ↦ replica_steps w book l t.link t.slot given fresh t.node t.outs holds t.served q r
+  ]
+
+  -- at a node that is stopped nothing happens
+  rests_event : (k : Link) → ServesAt w l k → IsDown w k.to → Event w
+  rests_event k at down = record {
+    new_book = book;
+    kept = holds.kept;
+    row = record {
+      at = record { link = seen_link k; found = ap (option_map seen_link) at.found; serving = at.serving; node = seen_node down.slot; node_found = ap (option_map seen_node) down.at };
+      does = stopped down.down (record { nodes = λ i. refl; links = λ j. refl; book = λ i. refl });
+    };
+  }
+
+  pub step_is_event : (v : WorldState) → is_spent w.book fresh ≡ false → Serves w l given fresh v → Event v
+  step_is_event v unspent (Serves.carries t e) = subst Event (sym e) (served_event unspent t)
+  step_is_event v unspent (Serves.fails t e) = subst Event (sym e) (stopped_steps w book l t.link t.slot given fresh (stopped_as t.node) holds t.served refl)
+  step_is_event v unspent (Serves.idles t e) = subst Event (sym e) (idle_steps w book l t.link t.slot given fresh t.node holds t.served t.idles)
+  step_is_event v unspent (Serves.spends t e) = subst Event (sym e) (stopped_steps w book l t.link t.slot given fresh t.node holds t.served (ap (λ (z : NodeState). z.core.up) t.stops.spent))
+  step_is_event v unspent (Serves.rests k at down e) = subst Event (sym e) (rests_event k at down)

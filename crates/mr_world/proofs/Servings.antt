@@ -1,0 +1,234 @@
+-- How the parts of a step at a server's end make it, and that what is true of each World stays.
+use Rattle.std.proofs.Common.{◌≡◌, ◌<◌, ◌⊎◌, inl, inr, ◌∙◌, ℕ, List, Bool, true, false, Some, Result, Ok, Err, length, map, get_or, refl, sym, ap, subst}
+use Rattle.std.specs.Prelude.{slice_get, slice_set}
+use Rattle.std.specs.Option.{option_map}
+use Rattle.std.proofs.lemmas.Option.{slice_get-map}
+use Rattle.mr_links.specs.declared.link_id.LinkId.{LinkId}
+use Rattle.mr_data.specs.declared.given.Given.{Given}
+use Rattle.mr_outs.specs.Outs.{OutsState}
+use Rattle.mr_rows.specs.State.{NodeState, end_of, shown, stopped_as}
+use Rattle.mr_rows.specs.Sound.{IsSound}
+use Rattle.mr_node.specs.Steps.{ClientStep, ReplicaStep, Steps}
+use Rattle.mr_node.specs.declared.fault.NodeFault.{NodeFault}
+use Rattle.mr_node.specs.declared.fault.NodeFault.TheVariants as fault
+use Rattle.mr_node.specs.declared.step.Step.{Step}
+use Rattle.mr_node.specs.declared.step.Step.TheVariants as step
+use Rattle.mr_seen.specs.Way.{unread}
+use Rattle.mr_seen.specs.State.{Entry, Link, Slot, WorldState}
+use Rattle.mr_seen.specs.Worlds.{IsWorld, end_for}
+use Rattle.mr_seen.specs.Carrying.{behind, booked_as, filed, put_node, reached, settled, stepped, told}
+use Rattle.mr_seen.proofs.Places.{is_within, set_here, set_same, some_is}
+use Rattle.mr_seen.proofs.Turning.{clients_keep, replicas_keep}
+use Rattle.mr_world.specs.declared.refusal.Refusal.{Refusal}
+use Rattle.mr_world.specs.declared.refusal.Refusal.TheVariants as refusal
+use Rattle.mr_world.specs.Serving.{HasServed, MayLackAt, NeedsMemory, ServedRow, Serves, StepCall}
+use Rattle.mr_world.specs.Undoing.{untold}
+use Rattle.mr_world.specs.Answering.{Carries, IsBehind, IsServing, answered_links, carried_as}
+use Rattle.mr_world.proofs.Feeding.{its_end}
+use Rattle.mr_world.proofs.Joins.{stands}
+use Rattle.mr_world.proofs.Kept.{stops_world}
+use Rattle.mr_world.proofs.Served.{client_behind, replica_behind, unreached}
+use Rattle.mr_world.proofs.Ticking.{shown_id, shown_offset}
+use Rattle.mr_world.proofs.Undone.{map_set, set_twice, untold_told}
+
+-- ---- what is true of each World stays
+served_keeps : (w : WorldState) (l : ℕ) (given : Given) (fresh : List ℕ) → IsWorld w → (t : HasServed w l given fresh) → IsWorld (stepped w t.link.to t.slot l t.link t.node t.outs)
+served_keeps w l given fresh is t = elim t.row [
+  | ServedRow.client q r ↦ clients_keep w l t.link t.slot given fresh t.node t.outs is t.served t.sound r
+  | ServedRow.replica q r ↦ replicas_keep w l t.link t.slot t.node t.outs is t.served t.sound r
+]
+
+pub step_keeps : (w v : WorldState) (l : ℕ) (given : Given) (fresh : List ℕ) (r : Result (Unit {0}) Refusal) → IsWorld w → StepCall w l given fresh v r → IsWorld v
+step_keeps w v l given fresh (Ok done) is c = elim c.1 [
+  | Serves.carries t e ↦ subst (λ (z : WorldState). IsWorld z) (sym e) (served_keeps w l given fresh is t)
+  | Serves.fails t e ↦ subst (λ (z : WorldState). IsWorld z) (sym e) (stops_world w t.link.to t.slot (stopped_as t.node) is t.served.at refl)
+  | Serves.idles t e ↦ subst (λ (z : WorldState). IsWorld z)
+      (sym (e ∙ (ap (put_node w t.link.to t.slot) t.idles.same ∙ ap (λ (z : List Slot). record w { slots = z }) (set_same w.slots t.link.to t.slot t.served.at)))) is
+  | Serves.spends t e ↦ subst (λ (z : WorldState). IsWorld z) (sym e) (stops_world w t.link.to t.slot t.node is t.served.at (ap (λ (z : NodeState). z.core.up) t.stops.spent))
+  | Serves.rests k at down e ↦ subst (λ (z : WorldState). IsWorld z) (sym e) is
+]
+step_keeps w v l given fresh (Err refusal.Drawn) is c = subst (λ (z : WorldState). IsWorld z) (sym c.1) is
+step_keeps w v l given fresh (Err refusal.Nobody) is c = subst (λ (z : WorldState). IsWorld z) (sym c.2) is
+step_keeps w v l given fresh (Err refusal.Memory) is c = subst (λ (z : WorldState). IsWorld z) (sym c.2) is
+step_keeps w v l given fresh (Err refusal.TooMuch) is c = absurd c
+step_keeps w v l given fresh (Err refusal.InputFull) is c = absurd c
+
+-- ---- what goes to the links
+read_here : (links : List Link) (l : ℕ) (k m : Link) → slice_get links l ≡ Some k → m ≡ get_or links l m → m ≡ k
+read_here links l k m found again = some_is m k (sym (stands links l m (is_within links l k found) again) ∙ found)
+
+module _ (n l : ℕ) (outs : OutsState) (links there : List Link) (k t m : Link) (within : l < length links) (link : k ≡ get_or links l k) (said : t ≡ told outs.reply k) (again : m ≡ get_or there l m) where
+  found_link : slice_get links l ≡ Some k
+  found_link = stands links l k within link
+
+  -- it is taken back
+  pub untold_there : (count : ℕ) (u : Link) → there ≡ slice_set links l t → count ≡ length outs.reply → u ≡ untold count m → slice_set there l u ≡ links
+  untold_there count u gave counted back =
+      let one : m ≡ t = read_here there l t m (ap (λ z. slice_get z l) gave ∙ set_here links l t k found_link) again in
+      let was : u ≡ k = back ∙ (ap (untold count) (one ∙ said) ∙ (ap (λ i. untold i (told outs.reply k)) counted ∙ untold_told k outs.reply)) in
+      ap (λ z. slice_set z l u) gave ∙ (set_twice links l t u ∙ (ap (slice_set links l) was ∙ set_same links l k found_link))
+
+  -- what goes to replicas went to the others
+  module _ (b : NodeState) (h : (q : Link) → slice_get links l ≡ Some q → IsBehind b q.name outs) (gave : there ≡ map (reached n outs) (slice_set links l t)) where
+    all_reached : there ≡ slice_set (map (reached n outs) links) l (told outs.reply k)
+    all_reached = gave ∙ (ap (λ z. map (reached n outs) (slice_set links l z)) said
+        ∙ (map_set (reached n outs) links l (told outs.reply k) ∙ ap (slice_set (map (reached n outs) links) l) (unreached b k.name outs (h k found_link) k n outs.reply refl)))
+
+    told_there : m ≡ told outs.reply k
+    told_there = read_here there l (told outs.reply k) m
+        (ap (λ z. slice_get z l) all_reached ∙ set_here (map (reached n outs) links) l (told outs.reply k) (reached n outs k) (slice_get-map (reached n outs) links l ∙ ap (option_map (reached n outs)) found_link)) again
+
+    pub behind_told : (a : NodeState) → a ≡ b → IsBehind a m.name outs
+    behind_told a same = subst (λ (z : Link). IsBehind a z.name outs) (sym told_there) (subst (λ (z : NodeState). IsBehind z k.name outs) (sym same) (h k found_link))
+
+    pub answered_there : (a : NodeState) (f : Link) → a ≡ b → f ≡ settled (end_of a m.name) m → (q : Link) → slice_get links l ≡ Some q → slice_set there l f ≡ answered_links n l q b outs links
+    answered_there a f same settles q found =
+        let now : f ≡ settled (end_of b k.name) (told outs.reply k) = settles ∙ (ap (λ (z : Link). settled (end_of a z.name) z) told_there ∙ ap (λ (z : NodeState). settled (end_of z k.name) (told outs.reply k)) same) in
+        ap (λ z. slice_set z l f) all_reached ∙ (set_twice (map (reached n outs) links) l (told outs.reply k) f
+        ∙ (ap (slice_set (map (reached n outs) links) l) now ∙ ap (λ (z : Link). answered_links n l z b outs links) (some_is k q (sym found_link ∙ found))))
+
+-- ---- it is carried, or the node stops
+module _ (w : WorldState) (n l : ℕ) (s x : Slot) (k : Link) (within : n < length w.slots) (slot : x ≡ get_or w.slots n x) (at : slice_get w.slots n ≡ Some s) (found : slice_get w.links l ≡ Some k) where
+  one : x ≡ s
+  one = some_is x s (sym (stands w.slots n x within slot) ∙ at)
+
+  pub carries_here : (id : List ℕ) (offset : ℕ) (outs : OutsState) (g : Slot) (links : List Link) (book : List Entry) → g ≡ record x { file = filed outs x.file }
+      → ((q : Link) → slice_get w.links l ≡ Some q → links ≡ answered_links n l q x.node outs w.links) → book ≡ booked_as outs.used w.book id offset outs.grown
+      → ◌≡◌ {A = WorldState} (record { slots = slice_set w.slots n g; links = links; book = book }) (carried_as w n s l k id offset outs)
+  carries_here id offset outs g links book f ls bs =
+      ap (λ (z : List Link). record { slots = slice_set w.slots n g; links = z; book = book }) (ls k found ∙ ap (λ (z : Slot). answered_links n l k z.node outs w.links) one)
+      ∙ (ap (λ (z : List Entry). record { slots = slice_set w.slots n g; links = answered_links n l k s.node outs w.links; book = z }) bs
+      ∙ ap (λ (z : Slot). record { slots = slice_set w.slots n z; links = answered_links n l k s.node outs w.links; book = booked_as outs.used w.book id offset outs.grown })
+      (f ∙ ap (λ (z : Slot). record z { file = filed outs z.file }) one))
+
+  pub stops_here : (g y f : Slot) (links : List Link) (book : List Entry) → g ≡ x → y ≡ get_or (slice_set w.slots n g) n y → f ≡ record y { node = stopped_as y.node } → links ≡ w.links → book ≡ w.book
+      → ◌≡◌ {A = WorldState} (record { slots = slice_set (slice_set w.slots n g) n f; links = links; book = book }) (put_node w n s (stopped_as s.node))
+  stops_here g y f links book same again stops ls bs =
+      let placed : slice_get (slice_set w.slots n g) n ≡ Some g = set_here w.slots n g s at in
+      let two : y ≡ g = some_is y g (sym (stands (slice_set w.slots n g) n y (is_within (slice_set w.slots n g) n g placed) again) ∙ placed) in
+      ap (λ (z : List Link). record { slots = slice_set (slice_set w.slots n g) n f; links = z; book = book }) ls
+      ∙ (ap (λ (z : List Entry). record { slots = slice_set (slice_set w.slots n g) n f; links = w.links; book = z }) bs
+      ∙ ap (λ (z : List Slot). record { slots = z; links = w.links; book = w.book })
+      (set_twice w.slots n g f ∙ ap (slice_set w.slots n) (stops ∙ ap (λ (z : Slot). record z { node = stopped_as z.node }) (two ∙ (same ∙ one)))))
+
+-- ---- the step
+-- by the kind of the end
+abbrev pub AtServer : Link → NodeState → Given → List ℕ → NodeState → Result Step NodeFault → Type 0
+AtServer k a given fresh b r = ((k.streams ≡ false) × ClientStep a k.name (unread k.ask) given fresh b r) ⊎ ((k.streams ≡ true) × ReplicaStep a k.name (unread k.ask) b r)
+
+at_server : (k : Link) (a b : NodeState) (given : Given) (fresh : List ℕ) (r : Result Step NodeFault) → a.core.up ≡ true → end_of a k.name ≡ Some (end_for k.streams (unread k.ask))
+    → Steps a k.name given fresh b r → AtServer k a given fresh b r
+at_server k a b given fresh r up at row = go k.streams refl
+  where
+    go : (c : Bool) → k.streams ≡ c → AtServer k a given fresh b r
+    go false q = inl (q, row.at_client (unread k.ask) (record { up = up; agrees = record { is = at ∙ ap (λ c. Some (end_for c (unread k.ask))) q } }))
+    go true q = inr (q, row.at_replica (unread k.ask) (record { up = up; agrees = record { is = at ∙ ap (λ c. Some (end_for c (unread k.ask))) q } }))
+
+module _ (w : WorldState) (l n : ℕ) (name : LinkId) (given : Given) (fresh : List ℕ) (is : IsWorld w) (v : IsServing w l n name) where
+  placed : slice_get w.slots n ≡ Some v.slot
+  placed = ap (slice_get w.slots) v.number ∙ v.served.at
+
+  node_there : n < length w.slots
+  node_there = is_within w.slots n v.slot placed
+
+  module _ (x : Slot) (slot : x ≡ get_or w.slots n x) where
+    first : x ≡ v.slot
+    first = some_is x v.slot (sym (stands w.slots n x node_there slot) ∙ placed)
+
+    module _ (t : Slot) (r : Result Step NodeFault) (row : Steps x.node name given fresh t.node r) (rest : t ≡ record x { node = t.node }) where
+      came : AtServer v.link v.slot.node given fresh t.node r
+      came = at_server v.link v.slot.node t.node given fresh r v.served.up (its_end w l v.link v.slot is v.served)
+          (subst (λ (z : Slot). Steps z.node v.link.name given fresh t.node r) first (subst (λ (z : LinkId). Steps x.node z given fresh t.node r) v.named row))
+
+      whole : t ≡ record v.slot { node = t.node }
+      whole = rest ∙ ap (λ (z : Slot). record z { node = t.node }) first
+
+      put : ◌≡◌ {A = WorldState} (record w { slots = slice_set w.slots n t }) (put_node w v.link.to v.slot t.node)
+      put = ap (λ i. record w { slots = slice_set w.slots i t }) v.number ∙ ap (λ (z : Slot). record w { slots = slice_set w.slots v.link.to z }) whole
+
+      pub never_closed : r ≡ Ok step.Closed → ⊥
+      never_closed e = elim (subst (λ z. AtServer v.link v.slot.node given fresh t.node z) e came) [ inl p ↦ p.1 | inr p ↦ p.1 ]
+
+      pub never_absent : r ≡ Err fault.NoLink → ⊥
+      never_absent e = elim (subst (λ z. AtServer v.link v.slot.node given fresh t.node z) e came) [ inl p ↦ p.1 | inr p ↦ p.1 ]
+
+      pub never_full : r ≡ Err fault.InputFull → ⊥
+      never_full e = elim (subst (λ z. AtServer v.link v.slot.node given fresh t.node z) e came) [ inl p ↦ p.1 | inr p ↦ p.1 ]
+
+      pub idles_there : r ≡ Ok step.Idle → Serves w l given fresh (record w { slots = slice_set w.slots n t })
+      idles_there e = Serves.idles (record {
+        link = v.link;
+        slot = v.slot;
+        served = v.served;
+        node = t.node;
+        idles = elim (subst (λ z. AtServer v.link v.slot.node given fresh t.node z) e came) [ inl p ↦ p.1 | inr p ↦ p.1 ];
+      }) put
+
+      pub spends_there : r ≡ Err fault.Stopped → Serves w l given fresh (record w { slots = slice_set w.slots n t })
+      spends_there e = elim (subst (λ z. AtServer v.link v.slot.node given fresh t.node z) e came) [
+        | inl p ↦ Serves.spends (record { link = v.link; slot = v.slot; served = v.served; client = p.0; node = t.node; stops = p.1 }) put
+        | inr p ↦ absurd p.1
+      ]
+
+      pub lacks_there : r ≡ Err fault.Memory → NeedsMemory w l × (◌≡◌ {A = WorldState} (record w { slots = slice_set w.slots n t }) w)
+      lacks_there e = elim (subst (λ z. AtServer v.link v.slot.node given fresh t.node z) e came) [
+        | inl p ↦ (record { link = v.link; slot = v.slot; served = v.served; may_lack = subst (λ z. MayLackAt z (unread v.link.ask)) (sym p.0) p.1.0 }, same p.1.1)
+        | inr p ↦ (record { link = v.link; slot = v.slot; served = v.served; may_lack = subst (λ z. MayLackAt z (unread v.link.ask)) (sym p.0) p.1.0 }, same p.1.1)
+      ]
+        where
+          same : t.node ≡ v.slot.node → ◌≡◌ {A = WorldState} (record w { slots = slice_set w.slots n t }) w
+          same q = put ∙ (ap (put_node w v.link.to v.slot) q ∙ ap (λ (z : List Slot). record w { slots = z }) (set_same w.slots v.link.to v.slot v.served.at))
+
+      module _ (outs : OutsState) (e : r ≡ Ok (step.Done outs)) where
+        row_there : ServedRow v.link v.slot.node given fresh t.node outs
+        row_there = elim (subst (λ z. AtServer v.link v.slot.node given fresh t.node z) e came) [ inl p ↦ ServedRow.client p.0 p.1 | inr p ↦ ServedRow.replica p.0 p.1 ]
+
+        its_behind : IsBehind t.node v.link.name outs
+        its_behind = elim row_there [
+          | ServedRow.client q c ↦ client_behind v.slot.node t.node v.link.name (unread v.link.ask) outs (its_end w l v.link v.slot is v.served ∙ ap (λ z. Some (end_for z (unread v.link.ask))) q)
+              (is.nodes v.link.to v.slot v.served.at v.served.up).node.followed given fresh c
+          | ServedRow.replica q c ↦ replica_behind v.slot.node t.node v.link.name (unread v.link.ask) outs c
+        ]
+
+        pub behind_there : (s : Slot) (k : Link) → slice_get (slice_set w.slots n t) n ≡ Some s → slice_get w.links l ≡ Some k → IsBehind s.node k.name outs
+        behind_there s k at found =
+            subst (λ (z : Slot). IsBehind z.node k.name outs) (some_is t s (sym (set_here w.slots n t v.slot placed) ∙ at))
+            (subst (λ (z : Link). IsBehind t.node z.name outs) (some_is v.link k (sym v.served.found ∙ found)) its_behind)
+
+        pub carries_there : (sound : IsSound t.node) (id : List ℕ) (offset : ℕ) (y : Slot) (u : WorldState) → y ≡ get_or w.slots n y → shown y.node.core ≡ Some (id, offset)
+            → Carries (record w { slots = slice_set w.slots n t }) n l id offset outs u → Serves w l given fresh u
+        carries_there sound id offset y u early shows c = elim (c t v.link (set_here w.slots n t v.slot placed) v.served.found) [ inl q ↦ Serves.carries had (q ∙ all) | inr q ↦ Serves.fails had (q ∙ stop) ]
+          where
+            had : HasServed w l given fresh
+            had = record { link = v.link; slot = v.slot; served = v.served; node = t.node; outs = outs; row = row_there; sound = sound }
+
+            then : y ≡ v.slot
+            then = some_is y v.slot (sym (stands w.slots n y node_there early) ∙ placed)
+
+            all : carried_as (record w { slots = slice_set w.slots n t }) n t l v.link id offset outs ≡ stepped w v.link.to v.slot l v.link t.node outs
+            all =
+                ap (λ (z : List Slot). record { slots = z; links = answered_links n l v.link t.node outs w.links; book = booked_as outs.used w.book id offset outs.grown })
+                (set_twice w.slots n t (record t { file = filed outs t.file }) ∙ ap (λ (z : Slot). slice_set w.slots n (record z { file = filed outs z.file })) whole)
+                ∙ (ap (λ i. record { slots = slice_set w.slots i (behind v.slot t.node outs); links = answered_links i l v.link t.node outs w.links; book = booked_as outs.used w.book id offset outs.grown }) v.number
+                ∙ (ap (λ i. record { slots = slice_set w.slots v.link.to (behind v.slot t.node outs); links = answered_links v.link.to l v.link t.node outs w.links; book = booked_as outs.used w.book i offset outs.grown })
+                (shown_id y.node.core (id, offset) shows ∙ ap (λ (z : Slot). z.node.core.lineage.id) then)
+                ∙ ap (λ i. record { slots = slice_set w.slots v.link.to (behind v.slot t.node outs); links = answered_links v.link.to l v.link t.node outs w.links; book = booked_as outs.used w.book v.slot.node.core.lineage.id i outs.grown })
+                (shown_offset y.node.core (id, offset) shows ∙ ap (λ (z : Slot). z.node.core.lineage.stream.offset) then)))
+
+            stop : put_node (record w { slots = slice_set w.slots n t }) n t (stopped_as t.node) ≡ put_node w v.link.to v.slot (stopped_as t.node)
+            stop = ap (λ (z : List Slot). record w { slots = z }) (set_twice w.slots n t (record t { node = stopped_as t.node }) ∙ (ap (λ (z : Slot). slice_set w.slots n (record z { node = stopped_as t.node })) whole
+                ∙ ap (λ i. slice_set w.slots i (record v.slot { node = stopped_as t.node })) v.number))
+
+-- ---- which end it is
+module _ (w : WorldState) (l to : ℕ) (k : Link) (within : l < length w.links) (link : k ≡ get_or w.links l k) (at : to ≡ k.to) (serving : k.serving ≡ true) (x : Slot) (there : to < length w.slots) (slot : x ≡ get_or w.slots to x) where
+  the_link : slice_get w.links l ≡ Some k
+  the_link = stands w.links l k within link
+
+  the_slot : slice_get w.slots k.to ≡ Some x
+  the_slot = ap (slice_get w.slots) (sym at) ∙ stands w.slots to x there slot
+
+  pub rests_there : (given : Given) (fresh : List ℕ) → x.node.core.up ≡ false → Serves w l given fresh w
+  rests_there given fresh down = Serves.rests k (record { found = the_link; serving = serving }) (record { slot = x; at = the_slot; down = down }) refl
+
+  pub serving_there : (name : LinkId) → name ≡ k.name → x.node.core.up ≡ true → IsServing w l to name
+  serving_there name named up = record { link = k; slot = x; served = record { found = the_link; serving = serving; at = the_slot; up = up }; number = at; named = named }

@@ -1,0 +1,121 @@
+-- Bytes that come at the node that dialled.
+use Rattle.std.proofs.Common.{◌≡◌, ◌≢◌, ◌+◌, ◌<◌, ◌≤◌, ℕ, List, [], true, false, Bool, Option, None, Some, Result, Ok, Err, length, get_or, take, drop, refl, sym, ap, subst, ◌∙◌}
+use Rattle.std.specs.Prelude.{slice_get, slice_set}
+use Rattle.mr_links.specs.declared.link_id.LinkId.{LinkId}
+use Rattle.mr_follow.specs.State.{FollowState, Agrees}
+use Rattle.mr_ends.specs.State.{EndState, serves}
+use Rattle.mr_ends.specs.State.EndState.{upstream}
+use Rattle.mr_rows.specs.State.{NodeState, IsTooMuch, end_of}
+use Rattle.mr_rows.specs.Sound.{IsSound}
+use Rattle.mr_rows.specs.LinkRows.{Feeds}
+use Rattle.mr_seen.specs.Way.{taken_on, unread}
+use Rattle.mr_seen.specs.State.{a_node, Link, Slot, WorldState}
+use Rattle.mr_seen.specs.Worlds.{IsWorld, HasMaster, end_for}
+use Rattle.mr_seen.specs.Carrying.{fed_caller}
+use Rattle.mr_seen.proofs.Places.{set_here, some_is}
+use Rattle.mr_seen.proofs.Unread.{taken_way, unread_taken}
+use Rattle.mr_seen.proofs.Others.{served_end}
+use Rattle.mr_world.specs.declared.refusal.Refusal.{Refusal}
+use Rattle.mr_world.specs.declared.refusal.Refusal.TheVariants as refusal
+use Rattle.mr_world.specs.Linking.{FollowsBy, IsFollowing}
+use Rattle.mr_world.specs.Hearing.{IsTold, KeepsTold, ListenCall, Listens, WereNotTold}
+use Rattle.mr_world.proofs.Changing.{link_world}
+use Rattle.mr_world.proofs.Dialling.{follows_here, its_caller, up_end}
+use Rattle.mr_world.proofs.Feeding.{not_upstream}
+
+same_number : (i n : ℕ) (a b : LinkId) → a_node i a ≡ a_node n b → i ≡ n
+same_number i n a b e = cc
+
+module _ (w : WorldState) (l n : ℕ) (k : Link) (s : Slot) (name : LinkId) (f : FollowState) (count : ℕ) (b : NodeState) (is : IsWorld w) (t : IsTold w l count n k s name f)
+    (feeds : Feeds s.node name (take count (drop k.tell.taken k.tell.sent)) b) (sound : IsSound b) where
+  found : slice_get w.links l ≡ Some k
+  found = ap (slice_get w.links) (sym t.by.dialled) ∙ t.by.followed.found
+
+  -- the ends of the links that the node serves stay
+  serves_still : (j : ℕ) (y : Link) → slice_get w.links j ≡ Some y → y.to ≡ n → y.serving ≡ true → end_of b y.name ≡ Some (end_for y.streams (unread y.ask))
+  serves_still j y e to q =
+      let here = served_end w is n s t.by.followed.at t.by.followed.up j y e to q in
+      feeds.others.stay y.name (λ same. not_upstream y.streams (unread y.ask) (sym (up_end w l n k s name f is t.by) ∙ (ap (end_of s.node) (sym same) ∙ here))) ∙ here
+
+  -- what reads at the link to the master agrees with what is unread there now
+  reads_on : (m : LinkId) (g : FollowState) → b.follow ≡ Some (m, g) → HasMaster (slice_set w.links l (record k { tell = taken_on count k.tell })) n (record s { node = b }) m g
+  reads_on m g e =
+      let h = is.followers n s name f t.by.followed.at t.by.followed.up t.by.follows in
+      let one : h.link ≡ k = some_is h.link k (sym h.found ∙ t.by.followed.found) in
+      let more = feeds.at_master (unread k.tell) (record { reader = f; found = t.by.follows; agrees = subst (λ (z : Link). Agrees f (unread z.tell)) one h.agrees }) in
+      let same = some_is (name, more.reader) (m, g) (sym more.found ∙ e) in
+      record {
+        link = record k { tell = taken_on count k.tell };
+        found = ap (slice_get (slice_set w.links l (record k { tell = taken_on count k.tell }))) t.by.dialled ∙ set_here w.links l (record k { tell = taken_on count k.tell }) k found;
+        caller = its_caller w l n k s name f is t.by ∙ ap (λ (p : LinkId × FollowState). a_node n p.0) same;
+        agrees = subst (λ (p : LinkId × FollowState). Agrees p.1 (unread (taken_on count k.tell))) same (subst (Agrees more.reader) (sym (unread_taken k.tell count (is.tells l k found))) more.agrees);
+      }
+
+  pub listens_world : IsWorld (fed_caller w n s b l k count)
+  listens_world = link_world w n s (record s { node = b }) l k (record k { tell = taken_on count k.tell }) is t.by.followed.at found (record {
+    to = refl;
+    name = refl;
+    serving = λ q. q;
+    ask = is.asks l k found;
+    tell = taken_way k.tell count (is.tells l k found) t.sent;
+    here = λ to up q. serves_still l k found to q;
+    others = λ j y ne e to up q. serves_still j y e to q;
+    there = λ ne q. refl;
+    sound = λ up. sound;
+    own = λ m g up e. reads_on m g e;
+    onward = λ i m g ne c a. absurd (ne (same_number i n m name (sym c ∙ its_caller w l n k s name f is t.by)));
+  })
+
+pub listen_keeps : (w v : WorldState) (l count : ℕ) (r : Result (Unit {0}) Refusal) → IsWorld w → ListenCall w l count v r → IsWorld v
+listen_keeps w v l count (Ok done) is c = subst (λ (z : WorldState). IsWorld z) (sym c.is) (listens_world w l c.number c.link c.slot c.name c.reader count c.node is c.told c.feeds c.sound)
+listen_keeps w v l count (Err refusal.Nobody) is c = subst (λ (z : WorldState). IsWorld z) (sym c.1) is
+listen_keeps w v l count (Err refusal.TooMuch) is c = subst (λ (z : WorldState). IsWorld z) (sym c.1) is
+listen_keeps w v l count (Err refusal.Memory) is c = subst (λ (z : WorldState). IsWorld z) (sym c.1) is
+listen_keeps w v l count (Err refusal.InputFull) is c = absurd c
+listen_keeps w v l count (Err refusal.Drawn) is c = absurd c
+
+-- ---- how the parts of it make it
+no_end : (e : EndState) → ◌≡◌ {A = Option EndState} None (Some e) → ⊥
+no_end e h = cc
+
+-- of the end of the link to the master no number of bytes is too much
+never_full : (end : EndState) → ◌≡◌ {A = Option EndState} (Some upstream) (Some end) → serves end ≡ true → ⊥
+never_full end e h = let one : upstream ≡ end = some_is upstream end e in let wrong : false ≡ true = ap serves one ∙ h in cc
+
+module _ (w : WorldState) (l : ℕ) (x : Link) (is : IsWorld w) (within : l < length w.links) (link : x ≡ get_or w.links l x) (m : ℕ) (at : LinkId) (caller : x.caller ≡ a_node m at)
+    (y : Slot) (there : m < length w.slots) (slot : y ≡ get_or w.slots m y) (i : IsFollowing y l) (count : ℕ) where
+  by : (f : FollowState) × FollowsBy w l m x y at f
+  by = follows_here w l x is within link m at caller y there slot i
+
+  pub its_end : end_of y.node at ≡ Some upstream
+  its_end = let v = by in up_end w l m x y at v.0 is v.1
+
+  pub not_told : (b : Bool) → b ≡ false → (x.tell.taken + count ≤ length x.tell.sent → b ≡ true) → WereNotTold w l count
+  not_told b is_not if_so = let v = by in record { number = m; link = x; slot = y; name = at; reader = v.0; by = v.1; fewer = λ h. let wrong : false ≡ true = sym is_not ∙ if_so h in cc }
+
+  pub has_end : (name : LinkId) → name ≡ at → end_of y.node name ≡ None → ⊥
+  has_end name same e = no_end upstream (sym e ∙ (ap (end_of y.node) same ∙ its_end))
+
+  pub not_full : (size : ℕ) → IsTooMuch y.node at size → ⊥
+  not_full size h = never_full h.end (sym its_end ∙ h.found) h.served
+
+  module _ (sent : x.tell.taken + count ≤ length x.tell.sent) (bytes : List ℕ) (taken : bytes ≡ take count (drop x.tell.taken x.tell.sent)) where
+    pub keeps_told : bytes ≢ [] → KeepsTold w l count
+    keeps_told some = let v = by in
+        record { number = m; link = x; slot = y; name = at; reader = v.0; told = record { by = v.1; sent = sent }; some = λ z. some (taken ∙ (ap (λ c. take c (drop x.tell.taken x.tell.sent)) z ∙ refl)) }
+
+    pub listens_here : (t : Slot) (k : Link) → Feeds y.node at bytes t.node → IsSound t.node → t ≡ record y { node = t.node } → k ≡ record x { tell = taken_on count x.tell }
+        → Listens w l count (record w { slots = slice_set w.slots m t; links = slice_set w.links l k })
+    listens_here t k feeds sound rest e = let v = by in record {
+      number = m;
+      link = x;
+      slot = y;
+      name = at;
+      reader = v.0;
+      told = record { by = v.1; sent = sent };
+      node = t.node;
+      feeds = subst (λ z. Feeds y.node at z t.node) taken feeds;
+      sound = sound;
+      is = ap (λ (z : Link). record w { slots = slice_set w.slots m t; links = slice_set w.links l z }) e
+          ∙ ap (λ (z : Slot). record w { slots = slice_set w.slots m z; links = slice_set w.links l (record x { tell = taken_on count x.tell }) }) rest;
+    }

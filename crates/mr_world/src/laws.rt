@@ -1,0 +1,37 @@
+//! What holds whatever happens to a World. No function here does anything: each is the law that it ensures.
+ghost use Rattle.mr_world.specs.Promises.{BookGrows, FilesAreDatasets, NodesAreTrue, NodesNeverDiffer, ReplicasAreLevel};
+ghost use Rattle.mr_world.specs.Happening.{FollowsAreEvents, LackedIsUnseen};
+
+/// **The headline.** After any lists of events, one run after another, whatever was refused: any two nodes that ever showed the same
+/// replication id and offset held the same dataset then.
+pub fn nodes_never_differ()
+    ensures { NodesNeverDiffer }
+{}
+
+/// .. namely that of the id's history up to that offset.
+pub fn nodes_are_true()
+    ensures { NodesAreTrue }
+{}
+
+/// The history of each id only grows, at its end.
+pub fn book_grows()
+    ensures { BookGrows }
+{}
+
+/// A replica whose link is caught up shows its master's id and offset, and holds its dataset.
+pub fn replicas_are_level()
+    ensures { ReplicasAreLevel }
+{}
+
+/// The file of each node that isn't stopped makes the node's dataset; and since it was last written anew, or the node started, it has grown by
+/// the texts of the effects that were applied, but for heartbeats.
+pub fn files_are_datasets()
+    ensures { FilesAreDatasets }
+{}
+
+/// A step of the node that follows by a link, as it is taken, is an event of histories. Where that node lacks memory they see nothing of
+/// it.
+pub fn follows_are_events()
+    ensures taken { FollowsAreEvents }
+    ensures lacked { LackedIsUnseen }
+{}

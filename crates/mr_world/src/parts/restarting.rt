@@ -1,0 +1,64 @@
+// A node that begins anew with what a file holds.
+ghost use Rattle.std.specs.Prelude.{◌≡◌, map};
+ghost use Rattle.mr_world.specs.Restarting.{RestartCall, shut_at};
+
+use crate::entry::{Entry, is_spent};
+use crate::link::Link;
+use crate::parts::Parts;
+use crate::refusal::Refusal;
+use crate::slot::Slot;
+use mr_node::Config;
+use mr_repl::ReplId;
+use std::alloc::Global;
+use std::hash::RandomState;
+
+/// Closes the ends of all links that this node serves.
+fn shut_ends(links: &mut [Link], n: usize)
+    ensures { links.new ≡ map (shut_at n) links.old }
+{
+    for k in links.iter_mut() {
+        k.shut_at(n);
+    }
+}
+
+/// The same, of a vector.
+fn shut_ends_in(links: &mut Vec<Link>, n: usize)
+    ensures { links.new.items ≡ map (shut_at n) links.old.items }
+{
+    shut_ends(links.as_mut_slice(), n);
+}
+
+impl Parts {
+    /// A node begins anew under a fresh id.
+    pub(crate) fn restart(
+        &mut self,
+        alloc: Global,
+        seed: RandomState,
+        n: usize,
+        kept: &[u8],
+        id: ReplId,
+        config: Config,
+    ) -> Result<(), Refusal>
+        ensures { RestartCall self.old n kept.now id config.port config.backlog self.new result }
+    {
+        if is_spent(self.book.as_slice(), id) {
+            return Err(Refusal::Drawn);
+        }
+        if n >= self.slots.len() {
+            return Err(Refusal::Nobody);
+        }
+        let as_master = self.slots[n].as_master();
+        let Ok(slot) = Slot::load(alloc, seed, kept, as_master, id, config) else {
+            return Err(Refusal::Memory);
+        };
+        let Ok(entry) = Entry::begun_with(alloc, id, slot.file()) else {
+            return Err(Refusal::Memory);
+        };
+        if self.book.push(entry).is_err() {
+            return Err(Refusal::Memory);
+        }
+        self.slots[n] = slot;
+        shut_ends_in(&mut self.links, n);
+        Ok(())
+    }
+}

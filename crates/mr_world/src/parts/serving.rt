@@ -1,0 +1,113 @@
+// Steps of a node at a link that it serves.
+ghost use Rattle.std.specs.Prelude.{◌≡◌, ◌<◌, Some, false, length, slice_get};
+ghost use Rattle.mr_seen.specs.State.{Link as LinkState, Slot as SlotState};
+ghost use Rattle.mr_seen.specs.Worlds.{IsWorld};
+ghost use Rattle.mr_world.specs.Calls.{is_spent};
+ghost use Rattle.mr_world.specs.Serving.{StepCall};
+ghost use Rattle.mr_world.specs.Answering.{Carries, IsBehind, IsServing};
+
+use crate::carry::give_step;
+use crate::entry::is_spent;
+use crate::parts::Parts;
+use crate::refusal::Refusal;
+use mr_data::Given;
+use mr_links::LinkId;
+use mr_node::{NodeFault, Step};
+use mr_outs::Outs;
+use mr_repl::ReplId;
+use std::alloc::Global;
+
+impl Parts {
+    /// The node that serves a link makes a step there, under a fresh id.
+    pub(crate) fn step_server(
+        &mut self,
+        alloc: Global,
+        l: usize,
+        given: Given,
+        fresh: ReplId,
+    ) -> Result<(), Refusal>
+        requires { IsWorld self.old }
+        ensures { StepCall self.old l given fresh self.new result }
+    {
+        if is_spent(self.book.as_slice(), fresh) {
+            return Err(Refusal::Drawn);
+        }
+        if l >= self.links.len() {
+            return Err(Refusal::Nobody);
+        }
+        let link = &self.links[l];
+        if !link.serving() {
+            return Err(Refusal::Nobody);
+        }
+        let to = link.to();
+        let name = link.name();
+        if !self.slots[to].is_up() {
+            return Ok(());
+        }
+        self.step_at(alloc, l, to, name, given, fresh)
+    }
+
+    /// A node that runs makes a step at a link that it serves, whose end is open.
+    fn step_at(
+        &mut self,
+        alloc: Global,
+        l: usize,
+        n: usize,
+        name: LinkId,
+        given: Given,
+        fresh: ReplId,
+    ) -> Result<(), Refusal>
+        requires world { IsWorld self.old }
+        requires serving { IsServing self.old l n name }
+        requires unspent { is_spent self.old.book fresh ≡ false }
+        ensures { StepCall self.old l given fresh self.new result }
+    {
+        let Some((id, offset)) = self.slots[n].shows() else {
+            unreachable!()
+        };
+        match self.slots[n].step(name, given, fresh) {
+            Ok(Step::Done(outs)) => {
+                self.carry_step(alloc, n, l, id, offset, &outs);
+                Ok(())
+            }
+            Ok(Step::Idle) => Ok(()),
+            Ok(Step::Closed) => unreachable!(),
+            Err(NodeFault::Memory) => Err(Refusal::Memory),
+            Err(NodeFault::Stopped) => Ok(()),
+            Err(NodeFault::NoLink) => unreachable!(),
+            Err(NodeFault::InputFull) => unreachable!(),
+        }
+    }
+
+    /// What a step gave out is carried. Where memory runs out for that the node stops.
+    fn carry_step(
+        &mut self,
+        alloc: Global,
+        n: usize,
+        l: usize,
+        id: ReplId,
+        offset: u64,
+        outs: &Outs,
+    )
+        requires node { n < length self.old.slots }
+        requires link { l < length self.old.links }
+        requires behind { (s : SlotState) (k : LinkState) → slice_get self.old.slots n ≡ Some s → slice_get self.old.links l ≡ Some k → IsBehind s.node k.name outs.now }
+        ensures { Carries self.old n l id offset outs.now self.new }
+    {
+        let carried = give_step(
+            alloc,
+            &mut self.slots[n],
+            &mut self.links,
+            &mut self.book,
+            n,
+            l,
+            id,
+            offset,
+            outs,
+        );
+        if carried.is_ok() {
+            return;
+        }
+        self.slots[n].fail();
+    }
+}
