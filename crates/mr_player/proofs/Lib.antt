@@ -1,0 +1,4 @@
+pub mod Moments
+pub mod Going
+pub mod Rounds
+pub mod Told

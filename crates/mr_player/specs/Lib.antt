@@ -1,0 +1,5 @@
+pub mod Asking
+pub mod Telling
+pub mod Playing
+pub mod Scripts
+pub mod Staging

@@ -1,0 +1,5 @@
+pub mod Said
+pub mod Words
+pub mod Reading
+pub mod Lines
+pub mod Answers
