@@ -1,0 +1,8 @@
+use Rattle.mr_console.proofs.EndsTold.{second_cut, all_ends}
+use Rattle.mr_console.proofs.playing.tell_ends.Goals as goal
+
+pub returns-in-Err-tell_end : goal.returns-in-Err-tell_end
+returns-in-Err-tell_end g c = second_cut _ _ _ c.in-Err-tell_end.fault c.in-Ok.ensures c.in-Err-tell_end.ensures
+
+pub returns : goal.returns
+returns g c = all_ends _ _ _ _ c.tell_end-3.result c.in-Ok.ensures c.in-Ok-tell_end.ensures c.tell_end-3.ensures

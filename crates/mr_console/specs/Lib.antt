@@ -1,0 +1,10 @@
+pub mod Asking
+pub mod Faults
+pub mod Inputs
+pub mod Lines
+pub mod Naming
+pub mod Outputs
+pub mod Places
+pub mod Scripts
+pub mod Shown
+pub mod Telling

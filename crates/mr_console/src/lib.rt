@@ -1,0 +1,22 @@
+//! Scripts that ask three nodes: what each line says, who is asked, and what is written in answer.
+#![tactic(auto)]
+
+mod asking;
+mod ending;
+mod fault;
+mod line;
+mod naming;
+mod nodes;
+mod place;
+mod playing;
+mod showing;
+mod taking;
+mod telling;
+mod writing;
+
+pub use ending::Ending;
+pub use fault::TrioFault;
+pub use naming::{HOST, node_named, with_address};
+pub use nodes::Nodes;
+pub use place::Place;
+pub use playing::play;

@@ -1,0 +1,26 @@
+// What failed below, as a trio's fault.
+ghost use Rattle.std.specs.Prelude.{◌≡◌};
+ghost use Rattle.mr_trio.specs.Faults.{of_client, of_loop};
+
+use mr_client::ClientFault;
+use mr_console::TrioFault;
+use mr_loop::LoopFault;
+
+/// A node without a file whose file failed was stopped.
+pub(crate) fn of_loop(fault: LoopFault) -> TrioFault
+    ensures { result ≡ of_loop fault }
+{
+    match fault {
+        LoopFault::Listener => TrioFault::Socket,
+        LoopFault::File | LoopFault::Stopped => TrioFault::Stopped,
+    }
+}
+
+pub(crate) fn of_client(fault: ClientFault) -> TrioFault
+    ensures { result ≡ of_client fault }
+{
+    match fault {
+        ClientFault::Link => TrioFault::Socket,
+        ClientFault::Memory => TrioFault::Stopped,
+    }
+}

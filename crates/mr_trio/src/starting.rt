@@ -1,0 +1,25 @@
+// A trio, from its start to its end.
+ghost use Rattle.mr_console.specs.Scripts.{PlaysScript};
+
+use crate::three::Three;
+use mr_console::{TrioFault, play};
+use std::alloc::Global;
+use std::hash::RandomState;
+use std::io::{BufRead, Write};
+
+/// Starts three nodes and a client in one loop, and plays a script: each line is a request to one of the nodes, which is answered the
+/// bytes of the reply, once it is whole and each replica has what its master has. At the end it tells what the nodes are.
+pub fn trio<R: BufRead, W: Write>(
+    rt: &HostRuntime,
+    alloc: Global,
+    seed: RandomState,
+    input: &mut R,
+    output: &mut W,
+) -> Result<(), TrioFault>
+    ensures { PlaysScript (R.remaining input.old) (R.remaining input.new) (W.contents output.old) (W.contents output.new) result }
+{
+    match Three::start(rt, alloc, seed) {
+        Ok(mut three) => play(alloc, &mut three, input, output),
+        Err(fault) => Err(fault),
+    }
+}
