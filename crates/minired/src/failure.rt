@@ -3,6 +3,7 @@ use mr_file::OpenFault;
 use mr_loop::LoopFault;
 use mr_options::UsageFault;
 use mr_pipe::PipeFault;
+use mr_trio::TrioFault;
 use std::io;
 use thiserror::Error;
 
@@ -29,6 +30,8 @@ pub enum Failure {
     Pipe(PipeFault),
     #[error("{0}")]
     Loop(LoopFault),
+    #[error("{0}")]
+    Trio(TrioFault),
     /// This port can't be listened on.
     #[error("socket failed\nport {0}: {1}")]
     Listen(u16, io::Error),
@@ -56,9 +59,26 @@ impl Failure {
             Failure::Usage(UsageFault::BadValue) | Failure::Usage(UsageFault::BadMode) => 1,
             Failure::Usage(UsageFault::BadMaster) | Failure::Usage(UsageFault::BadAddress) => 1,
             Failure::Loop(LoopFault::Listener) | Failure::Listen(_, _) => 2,
+            Failure::Trio(TrioFault::Socket) | Failure::Trio(TrioFault::Late) => 2,
             Failure::Loop(LoopFault::File) | Failure::Loop(LoopFault::Stopped) => 3,
             Failure::Usage(UsageFault::Memory) | Failure::Pipe(_) | Failure::Memory => 3,
+            Failure::Trio(TrioFault::Stream) | Failure::Trio(TrioFault::Stopped) => 3,
             Failure::File(_, _) | Failure::Random(_) => 3,
+        }
+    }
+}
+
+impl Failure {
+    ghost use Rattle.std.specs.Prelude.{◌≡◌};
+    ghost use Rattle.minired.specs.Ending.{is_told};
+
+    /// Whether it is told on standard error. What came late was told on standard output.
+    pub fn is_told(&self) -> bool
+        ensures { result ≡ is_told self.now }
+    {
+        match self {
+            Failure::Trio(TrioFault::Late) => false,
+            _ => true,
         }
     }
 }
@@ -72,5 +92,11 @@ impl From<UsageFault> for Failure {
 impl From<PipeFault> for Failure {
     fn from(fault: PipeFault) -> Failure {
         Failure::Pipe(fault)
+    }
+}
+
+impl From<TrioFault> for Failure {
+    fn from(fault: TrioFault) -> Failure {
+        Failure::Trio(fault)
     }
 }

@@ -11,6 +11,8 @@ minired: an in-memory data structure server in the manner of Redis
 usage: minired serve --port P [--aof PATH] [--sync always|no] [--turns N]
                      [--backlog N] [--replicaof HOST:PORT] [--bind A]
        minired pipe [--aof PATH] [--id H] [--now N] [--word N]
+       minired trio
+       minired world [--backlog N]
        minired --help | --version
 
 minired serve  answers clients over RESP2, until one says SHUTDOWN
@@ -28,6 +30,13 @@ minired pipe   answers one client on standard input and output, until the input 
   --id H       the name of the stream, 40 lower-case hexadecimal digits; usually 40 times a
   --now N      the time that all commands see, in milliseconds from 0 to 2305843009213693952; usually 0
   --word N     the number that stands for chance, from 0 to 18446744073709551615; usually 0
+
+minired trio   three nodes that may follow one another, and a client: it asks what the lines of standard input say, as
+               `2 REPLICAOF node 1`, and tells the bytes of each reply, and at the end what each node is
+
+minired world  nodes and the links between them, of which all that happens stands on standard input, an event a line, as
+               `deliver 0 b 27`; each is answered by a line, and none goes over a network
+  --backlog N  so many bytes of its stream each node keeps for its replicas, from 1 to 1073741824; usually 1048576
 ";
 
 /// Answers a question about the program on standard output. It answers whether that could be written.

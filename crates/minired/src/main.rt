@@ -2,6 +2,7 @@
 #![tactic(auto)]
 
 ghost use Rattle.mr_data.specs.Given.{IsMoment};
+ghost use Rattle.mr_player.specs.Asking.{IsBacklog};
 
 mod failure;
 mod help;
@@ -20,10 +21,12 @@ use kept::run_kept;
 use mr_data::Given;
 use mr_options::{Options, PipeOptions, UsageFault, asked, options};
 use mr_pipe::{PipeConfig, PipeFault, pipe};
+use mr_player::world;
+use mr_trio::trio;
 use served::run_server;
 use std::env;
 use std::hash::RandomState;
-use std::io::{BufWriter, ErrorKind, IsTerminal};
+use std::io::{BufReader, BufWriter, ErrorKind, IsTerminal};
 use std::process::ExitCode;
 
 /// How many bytes of replies are kept until they are written together.
@@ -84,6 +87,28 @@ fn run_pipe(rt: &HostRuntime, options: &PipeOptions<'_>) -> Result<(), Failure>
     Ok(())
 }
 
+/// Three nodes and a client, asked by the script on standard input. What it is answered goes to standard output.
+fn run_trio(rt: &HostRuntime) -> Result<(), Failure> {
+    let seed = seed_of(rt)?;
+    let Ok(mut input) = BufReader::new(rt.alloc(), rt.stdin()) else {
+        return Err(Failure::Memory);
+    };
+    trio(rt, rt.alloc(), seed, &mut input, &mut rt.stdout())?;
+    Ok(())
+}
+
+/// Nodes and the links between them, asked by the script on standard input. What it is answered goes to standard output.
+fn run_world(rt: &HostRuntime, backlog: usize) -> Result<(), Failure>
+    requires { IsBacklog backlog }
+{
+    let seed = seed_of(rt)?;
+    let Ok(mut output) = BufWriter::with_capacity(rt.alloc(), REPLIES, rt.stdout()) else {
+        return Err(Failure::Memory);
+    };
+    world(rt.alloc(), seed, backlog, &mut rt.stdin(), &mut output)?;
+    Ok(())
+}
+
 fn run(rt: &HostRuntime) -> Result<(), Failure> {
     let words = words(rt)?;
     if let Some(question) = asked(words.as_slice()) {
@@ -96,6 +121,8 @@ fn run(rt: &HostRuntime) -> Result<(), Failure> {
     match options(rt.alloc(), words.as_slice())? {
         Options::Pipe(options) => run_pipe(rt, &options),
         Options::Serve(options) => run_server(rt, &options, seed_of(rt)?),
+        Options::Trio => run_trio(rt),
+        Options::World(options) => run_world(rt, options.backlog),
     }
 }
 
@@ -103,7 +130,9 @@ fn main(rt: HostRuntime) -> ExitCode {
     match run(&rt) {
         Ok(()) => ExitCode::SUCCESS,
         Err(failure) => {
-            let _ = eprintln!(rt; "minired: {failure}");
+            if failure.is_told() {
+                let _ = eprintln!(rt; "minired: {failure}");
+            }
             ExitCode::from(failure.status())
         }
     }

@@ -13,9 +13,9 @@ use Rattle.clap.specs.Takes.{is_given}
 use Rattle.clap.specs.Walk.{answers_to, has_row, nothing_held, settled, stop_after, walk, walk_from, with_default}
 use Rattle.clap.specs.declared.builder.value_parser.ValueParser.TheVariants as vp
 use Rattle.clap.specs.declared.error.kind.ErrorKind.TheVariants.{MissingRequiredArgument}
-use Rattle.mr_options.specs.Lines.{line, pipe_line, serve_line}
-use Rattle.mr_options.specs.Outcomes.{IsLineOf, IsPipeLine, IsServeLine}
-use Rattle.mr_options.specs.Values.{PipeNumbersPass, ServeNumbersPass, usual_backlog, usual_turns}
+use Rattle.mr_options.specs.Lines.{line, pipe_line, serve_line, trio_line, world_line}
+use Rattle.mr_options.specs.Outcomes.{IsLineOf, IsPipeLine, IsServeLine, IsWorldLine}
+use Rattle.mr_options.specs.Values.{PipeNumbersPass, ServeNumbersPass, WorldNumbersPass, usual_backlog, usual_turns}
 use Rattle.mr_options.proofs.Ranges.{number_given, number_there}
 use Rattle.mr_options.proofs.Rows.{AreOptions, Each, IsKnown, RowsFine, first_none, one_valued, option_known, second_none, settled_fine, some_of}
 
@@ -65,7 +65,7 @@ entered_one (s ∷ ss) word words p e is =
       | false ↦ λ e is. inr (entered_one ss word words p e is)
     ] e is
 
--- ---- the two subcommands
+-- ---- the subcommands
 
 abbrev pipe_rules : List Rule
 pipe_rules =
@@ -95,17 +95,34 @@ are_serve = record {
   no_index = λ i. refl;
 }
 
-abbrev EitherPasses : Text × List Row → Type 0
-EitherPasses p = Passes pipe_shape p.0 p.1 ⊎ Passes serve_shape p.0 p.1
+abbrev trio_shape : Shape
+trio_shape = built_leaf (inherited (built line).top trio_line.top)
 
-either_of : (words : List Text) (p : Text × List Row) → OneOf (Entered words p) (pipe_shape ∷ serve_shape ∷ []) → EitherPasses p
+are_none : AreOptions []
+are_none = record { all = tt; no_short = λ x. refl; no_index = λ i. refl }
+
+abbrev world_rules : List Rule
+world_rules = one_valued (codes "backlog") (vp.Unsigned 1 (2 ^ 30)) false ∷ []
+
+abbrev world_shape : Shape
+world_shape = built_leaf (inherited (built line).top world_line.top)
+
+are_world : AreOptions world_rules
+are_world = record { all = (option_known refl, tt); no_short = λ x. refl; no_index = λ i. refl }
+
+abbrev EitherPasses : Text × List Row → Type 0
+EitherPasses p = Passes pipe_shape p.0 p.1 ⊎ (Passes serve_shape p.0 p.1 ⊎ (Passes trio_shape p.0 p.1 ⊎ Passes world_shape p.0 p.1))
+
+either_of : (words : List Text) (p : Text × List Row) → OneOf (Entered words p) (pipe_shape ∷ serve_shape ∷ trio_shape ∷ world_shape ∷ []) → EitherPasses p
 either_of words p (inl h) = inl (level_passes pipe_shape are_pipe refl words p h)
-either_of words p (inr (inl h)) = inr (level_passes serve_shape are_serve refl words p h)
-either_of words p (inr (inr h)) = absurd h
+either_of words p (inr (inl h)) = inr (inl (level_passes serve_shape are_serve refl words p h))
+either_of words p (inr (inr (inl h))) = inr (inr (inl (level_passes trio_shape are_none refl words p h)))
+either_of words p (inr (inr (inr (inl h)))) = inr (inr (inr (level_passes world_shape are_world refl words p h)))
+either_of words p (inr (inr (inr (inr h)))) = absurd h
 
 stop_passes : (stop : Option (Text × List Text)) (p : Text × List Row) → entered_fault (built line) stop ≡ [] → entered (built line) stop ≡ Some p → EitherPasses p
 stop_passes None p e is = absurd (let wrong : ◌≡◌ {A = Option (Text × List Row)} None (Some p) = is in cc)
-stop_passes (Some q) p e is = either_of q.1 p (entered_one (pipe_shape ∷ serve_shape ∷ []) q.0 q.1 p e is)
+stop_passes (Some q) p e is = either_of q.1 p (entered_one (pipe_shape ∷ serve_shape ∷ trio_shape ∷ world_shape ∷ []) q.0 q.1 p e is)
 
 line_passes : (name : Text) (words : List Text) (rows : List Row) → IsLineOf name words rows → EitherPasses (name, rows)
 line_passes name words rows h =
@@ -118,6 +135,21 @@ line_passes name words rows h =
 apart : codes "serve" ≢ codes "pipe"
 apart e = let wrong : false ≡ true = ap (λ (t : Text). bytes_eq t (codes "pipe")) e in cc
 
+trio_apart : codes "trio" ≢ codes "pipe"
+trio_apart e = let wrong : false ≡ true = ap (λ (t : Text). bytes_eq t (codes "pipe")) e in cc
+
+trio_is_no_server : codes "trio" ≢ codes "serve"
+trio_is_no_server e = let wrong : false ≡ true = ap (λ (t : Text). bytes_eq t (codes "serve")) e in cc
+
+world_apart : codes "world" ≢ codes "pipe"
+world_apart e = let wrong : false ≡ true = ap (λ (t : Text). bytes_eq t (codes "pipe")) e in cc
+
+world_is_no_server : codes "world" ≢ codes "serve"
+world_is_no_server e = let wrong : false ≡ true = ap (λ (t : Text). bytes_eq t (codes "serve")) e in cc
+
+world_is_no_trio : codes "world" ≢ codes "trio"
+world_is_no_trio e = let wrong : false ≡ true = ap (λ (t : Text). bytes_eq t (codes "trio")) e in cc
+
 -- ---- their numbers
 
 pub pipe_numbers : (words : List Text) (rows : List Row) → IsPipeLine words rows → PipeNumbersPass rows
@@ -126,7 +158,9 @@ pipe_numbers words rows h = elim (line_passes (codes "pipe") words rows h) [
       let now = number_there pipe_rules (codes "now") 0 (2 ^ 61) false rows refl passed.fine 0 (omega arith) (omega arith) in
       let word = number_there pipe_rules (codes "word") 0 (2 ^ 64 - 1) false rows refl passed.fine 0 (omega arith) (omega arith) in
       record { now = (now.0, (now.1.1, now.1.2)); word = (word.0, word.1.2) }
-  | inr passed ↦ absurd (apart passed.named)
+  | inr (inl passed) ↦ absurd (apart passed.named)
+  | inr (inr (inl passed)) ↦ absurd (trio_apart passed.named)
+  | inr (inr (inr passed)) ↦ absurd (world_apart passed.named)
 ]
 
 port_given : (rows : List Row) → check_fault serve_shape rows false ≡ [] → is_given (codes "port") rows ≡ true
@@ -142,11 +176,21 @@ port_given rows e =
 pub serve_numbers : (words : List Text) (rows : List Row) → IsServeLine words rows → ServeNumbersPass rows
 serve_numbers words rows h = elim (line_passes (codes "serve") words rows h) [
   | inl passed ↦ absurd (apart (sym passed.named))
-  | inr passed ↦
+  | inr (inr (inl passed)) ↦ absurd (trio_is_no_server passed.named)
+  | inr (inr (inr passed)) ↦ absurd (world_is_no_server passed.named)
+  | inr (inl passed) ↦
       let turns = number_there serve_rules (codes "turns") 0 (2 ^ 64 - 1) false rows refl passed.fine usual_turns (omega arith) (omega arith) in
       record {
         port = number_given serve_rules (codes "port") 1 65535 true rows refl passed.fine (port_given rows passed.checked);
         turns = (turns.0, turns.1.2);
         backlog = number_there serve_rules (codes "backlog") 1 (2 ^ 30) false rows refl passed.fine usual_backlog (omega arith) (omega arith);
       }
+]
+
+pub world_numbers : (words : List Text) (rows : List Row) → IsWorldLine words rows → WorldNumbersPass rows
+world_numbers words rows h = elim (line_passes (codes "world") words rows h) [
+  | inl passed ↦ absurd (world_apart (sym passed.named))
+  | inr (inl passed) ↦ absurd (world_is_no_server (sym passed.named))
+  | inr (inr (inl passed)) ↦ absurd (world_is_no_trio (sym passed.named))
+  | inr (inr (inr passed)) ↦ number_there world_rules (codes "backlog") 1 (2 ^ 30) false rows refl passed.fine usual_backlog (omega arith) (omega arith)
 ]

@@ -39,6 +39,14 @@ serve_line =
     (text_rule (codes "replicaof")))
     (text_rule (codes "bind"))
 
+-- `trio`, which has no options
+abbrev pub trio_line : App
+trio_line = new_app (codes "trio")
+
+-- `world [--backlog N]`
+abbrev pub world_line : App
+world_line = with_rule (new_app (codes "world")) (number_rule (codes "backlog") 1 (2 ^ 30))
+
 -- the program: one of its subcommands is named, and nothing answers with a help text
 abbrev pub bare : App
 bare = record (new_app (codes "minired")) {
@@ -52,4 +60,4 @@ bare = record (new_app (codes "minired")) {
 
 -- the program's words, its name left out
 abbrev pub line : App
-line = with_subcommand (with_subcommand bare pipe_line.top) serve_line.top
+line = with_subcommand (with_subcommand (with_subcommand (with_subcommand bare pipe_line.top) serve_line.top) trio_line.top) world_line.top

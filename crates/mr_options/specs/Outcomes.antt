@@ -6,9 +6,9 @@ use Rattle.clap.specs.Words.{Row, Text, fault_of, kind_of, subcommand_of}
 use Rattle.clap.specs.declared.error.Error.{Error}
 use Rattle.clap.specs.declared.error.kind.ErrorKind.TheVariants.{OutOfMemory}
 use Rattle.mr_options.specs.Lines.{line}
-use Rattle.mr_options.specs.Values.{ArePipeOf, AreServeOf, NamesNoAddress, NamesNoId, NamesNoMaster, NamesNoMode, usual_pipe}
+use Rattle.mr_options.specs.Values.{ArePipeOf, AreServeOf, AreWorldOf, NamesNoAddress, NamesNoId, NamesNoMaster, NamesNoMode, usual_pipe}
 use Rattle.mr_options.specs.declared.line.Options.{Options}
-use Rattle.mr_options.specs.declared.line.Options.TheVariants.{Pipe, Serve}
+use Rattle.mr_options.specs.declared.line.Options.TheVariants.{Pipe, Serve, Trio, World}
 use Rattle.mr_options.specs.declared.fault.UsageFault.{UsageFault}
 use Rattle.mr_options.specs.declared.fault.UsageFault.TheVariants.{Line, BadValue, BadMode, BadMaster, BadAddress, Memory}
 
@@ -22,11 +22,19 @@ IsPipeLine words rows = IsLineOf (codes "pipe") words rows
 abbrev pub IsServeLine : List Text → List Row → Type 0
 IsServeLine words rows = IsLineOf (codes "serve") words rows
 
+abbrev pub IsTrioLine : List Text → List Row → Type 0
+IsTrioLine words rows = IsLineOf (codes "trio") words rows
+
+abbrev pub IsWorldLine : List Text → List Row → Type 0
+IsWorldLine words rows = IsLineOf (codes "world") words rows
+
 -- a line that is not empty says these options: its subcommand, and for each option the line's value
 -- or the usual one
 abbrev pub SaysOptions : List Text → Options → Type 0
 SaysOptions words (Pipe options) = (rows : List Row) × (IsPipeLine words rows × ArePipeOf rows options)
 SaysOptions words (Serve options) = (rows : List Row) × (IsServeLine words rows × AreServeOf rows options)
+SaysOptions words Trio = (rows : List Row) × IsTrioLine words rows
+SaysOptions words (World options) = (rows : List Row) × (IsWorldLine words rows × AreWorldOf rows options)
 
 -- the options of a line
 abbrev pub AreOptionsOf : List Text → Options → Type 0

@@ -11,9 +11,10 @@ use Rattle.mr_file.specs.declared.sync_mode.SyncMode.{SyncMode}
 use Rattle.mr_file.specs.declared.sync_mode.SyncMode.TheVariants.{Always, No}
 use Rattle.mr_options.specs.declared.line.Master.{Master}
 use Rattle.mr_options.specs.declared.line.Options.{Options}
-use Rattle.mr_options.specs.declared.line.Options.TheVariants.{Pipe, Serve}
+use Rattle.mr_options.specs.declared.line.Options.TheVariants.{Pipe, Serve, Trio, World}
 use Rattle.mr_options.specs.declared.line.PipeOptions.{PipeOptions}
 use Rattle.mr_options.specs.declared.line.ServeOptions.{ServeOptions}
+use Rattle.mr_options.specs.declared.line.WorldOptions.{WorldOptions}
 
 -- `pipe` with its usual values: the id of forty digits a, time 0, word 0, no file
 abbrev pub usual_pipe : PipeOptions
@@ -115,6 +116,10 @@ pub record AreServeOf (rows : List Row) (options : ServeOptions) : Type 0 where
   pub master : HasMaster rows options.master
   pub bind : HasAddress rows options.bind
 
+-- the value of the option of `world`, which the line names, or else the usual one
+abbrev pub AreWorldOf : List Row → WorldOptions → Type 0
+AreWorldOf rows options = HasNumber rows (codes "backlog") usual_backlog options.backlog
+
 -- the parser lets through a number of `pipe` that is within its range, or none
 pub record PipeNumbersPass (rows : List Row) : Type 0 where
   pub now : (n : ℕ) × ((n ≤ 2 ^ 61) × HasNumber rows (codes "now") 0 n)
@@ -127,12 +132,18 @@ pub record ServeNumbersPass (rows : List Row) : Type 0 where
   pub turns : (n : ℕ) × HasNumber rows (codes "turns") usual_turns n
   pub backlog : (n : ℕ) × ((1 ≤ n) × (n ≤ 2 ^ 30) × HasNumber rows (codes "backlog") usual_backlog n)
 
+-- the parser lets through a backlog within its range, or none
+abbrev pub WorldNumbersPass : List Row → Type 0
+WorldNumbersPass rows = (n : ℕ) × ((1 ≤ n) × (n ≤ 2 ^ 30) × HasNumber rows (codes "backlog") usual_backlog n)
+
 -- each number is within its range
 abbrev pub IsInRange : Options → Type 0
 IsInRange (Pipe options) = (pos 0 ≤ℤ options.now) × (options.now ≤ℤ pos (2 ^ 61)) × (options.word < 2 ^ 64)
 IsInRange (Serve options) =
     (1 ≤ options.port) × (options.port ≤ 65535) × (options.turns < 2 ^ 64) × (1 ≤ options.backlog) × (options.backlog ≤ 2 ^ 30)
     × IfSome options.master (λ master. IsPort master.port)
+IsInRange Trio = Unit {0}
+IsInRange (World options) = (1 ≤ options.backlog) × (options.backlog ≤ 2 ^ 30)
 
 -- the line names an id, which is none
 abbrev pub NamesNoId : List Row → Type 0

@@ -2,7 +2,7 @@
 ghost use Rattle.std.specs.Prelude.{◌≡◌, IfOk, false};
 ghost use Rattle.clap.specs.declared.builder.command.Command.TheViews.{out-Command};
 ghost use Rattle.clap.specs.Words.{app_of, rule_of, with_rule, with_subcommand};
-ghost use Rattle.mr_options.specs.Lines.{bare, line, needed, number_rule, pipe_line, serve_line, text_rule};
+ghost use Rattle.mr_options.specs.Lines.{bare, line, needed, number_rule, pipe_line, serve_line, text_rule, trio_line, world_line};
 
 use clap::builder::ValueParser;
 use clap::{Arg, Command};
@@ -93,6 +93,19 @@ fn serve_command<'a>(alloc: Global) -> Result<Command<'a>, AllocError>
     with_text(led, alloc, "bind")
 }
 
+fn world_command<'a>(alloc: Global) -> Result<Command<'a>, AllocError>
+    ensures shape { IfOk result (λ c. app_of c ≡ world_line) }
+    ensures local { IfOk result (λ c. (out-Command c).has_globals ≡ false) }
+{
+    with_number(
+        Command::new(alloc, "world"),
+        alloc,
+        "backlog",
+        1,
+        MOST_BACKLOG,
+    )
+}
+
 /// The program with its subcommand `pipe` alone.
 fn with_pipe<'a>(alloc: Global) -> Result<Command<'a>, AllocError>
     ensures shape { IfOk result (λ c. app_of c ≡ with_subcommand bare pipe_line.top) }
@@ -106,9 +119,24 @@ fn with_pipe<'a>(alloc: Global) -> Result<Command<'a>, AllocError>
         .subcommand(pipe)
 }
 
-pub(crate) fn whole_command<'a>(alloc: Global) -> Result<Command<'a>, AllocError>
-    ensures { IfOk result (λ c. app_of c ≡ line) }
+/// .. and with `serve`.
+fn with_serve<'a>(alloc: Global) -> Result<Command<'a>, AllocError>
+    ensures shape { IfOk result (λ c. app_of c ≡ with_subcommand (with_subcommand bare pipe_line.top) serve_line.top) }
 {
     let serve = serve_command(alloc)?;
     with_pipe(alloc)?.subcommand(serve)
+}
+
+/// .. and with `trio`.
+fn with_trio<'a>(alloc: Global) -> Result<Command<'a>, AllocError>
+    ensures shape { IfOk result (λ c. app_of c ≡ with_subcommand (with_subcommand (with_subcommand bare pipe_line.top) serve_line.top) trio_line.top) }
+{
+    with_serve(alloc)?.subcommand(Command::new(alloc, "trio"))
+}
+
+pub(crate) fn whole_command<'a>(alloc: Global) -> Result<Command<'a>, AllocError>
+    ensures { IfOk result (λ c. app_of c ≡ line) }
+{
+    let world = world_command(alloc)?;
+    with_trio(alloc)?.subcommand(world)
 }

@@ -10,6 +10,7 @@ use crate::command::whole_command;
 use crate::explain::fault_from;
 use crate::pipe_values::pipe_of;
 use crate::serve_values::serve_of;
+use crate::world_values::world_of;
 use clap::ArgMatches;
 use std::alloc::Global;
 
@@ -22,10 +23,11 @@ mod named_master;
 mod pipe_values;
 mod serve_values;
 mod values;
+mod world_values;
 
 pub use asking::{Question, asked};
 pub use fault::UsageFault;
-pub use line::{Master, Options, PipeOptions, ServeOptions};
+pub use line::{Master, Options, PipeOptions, ServeOptions, WorldOptions};
 
 /// The options of the subcommand `name`, or the fault where a value is none.
 fn options_of<'a>(name: &str, matches: &ArgMatches<'a>) -> Result<Options<'a>, UsageFault>
@@ -43,6 +45,8 @@ fn options_of<'a>(name: &str, matches: &ArgMatches<'a>) -> Result<Options<'a>, U
             Ok(options) => Ok(Options::Serve(options)),
             Err(fault) => Err(fault),
         },
+        "trio" => Ok(Options::Trio),
+        "world" => Ok(Options::World(world_of(matches))),
         _ => unreachable!(),
     }
 }

@@ -61,9 +61,19 @@ pub struct ServeOptions<'a> {
     pub bind: Ipv4Addr,
 }
 
+/// The options of `world`: nodes and the links between them, asked by a script on standard input.
+#[derive(Clone, Copy, Debug, PartialEq, Eq)]
+pub struct WorldOptions {
+    /// So many bytes of its stream each node keeps for its replicas, from 1 to 2^30.
+    pub backlog: usize,
+}
+
 /// A subcommand with the values of its options.
 #[derive(Clone, Copy, Debug, PartialEq, Eq)]
 pub enum Options<'a> {
     Pipe(PipeOptions<'a>),
     Serve(ServeOptions<'a>),
+    /// Three nodes and a client in one process, asked by a script on standard input.
+    Trio,
+    World(WorldOptions),
 }

@@ -16,8 +16,8 @@ use std::net::Ipv4Addr;
 /// After so many turns `serve` ends, where the line doesn't say.
 const USUAL_TURNS: u64 = 1_000_000_000_000;
 
-/// So many bytes the node keeps for its replicas, where the line doesn't say.
-const USUAL_BACKLOG: u64 = 1_048_576;
+/// So many bytes a node keeps for its replicas, where the line doesn't say.
+pub(crate) const USUAL_BACKLOG: u64 = 1_048_576;
 
 /// Whether each append is synced.
 fn mode_of(matches: &ArgMatches<'_>) -> Result<SyncMode, UsageFault>
