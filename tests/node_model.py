@@ -135,6 +135,8 @@ class End:
     def __init__(self, kind):
         self.kind, self.unread, self.is_closed = kind, b"", False
         self.said, self.acknowledged = {}, 0
+        # of a replica's: how many became one before it
+        self.turn = 0
         # of a link to a master: of which line the answer is awaited, or else "snapshot" or "stream"; and what FULLRESYNC said
         self.phase, self.announced = "ping", None
 
@@ -149,6 +151,8 @@ class Node:
         self.host, self.host_port = b"", 0
         # by the names of the ends, in the order in which they were opened
         self.ends, self.opened = {}, 0
+        # how many of them became a replica's
+        self.turns = 0
 
     # ---- what it shows
 
@@ -211,8 +215,8 @@ class Node:
         if self.is_replica:
             return array_of(bulk("slave"), bulk(self.host), number(self.host_port), bulk(self.role()), number(self.offset))
         told = []
-        for link in self.replica_ends():
-            end = self.ends[link]
+        # in the order in which they became replicas
+        for end in sorted((self.ends[link] for link in self.replica_ends()), key=lambda it: it.turn):
             words = end.said.get(b"IP-ADDRESS", b""), end.said.get(b"LISTENING-PORT", b"0"), b"%d" % end.acknowledged
             told.append(array_of(*map(bulk, words)))
         return array_of(bulk("master"), number(self.offset), array_of(*told))
@@ -409,7 +413,8 @@ class Node:
             raise AskFault(INTEGER)
         if self.is_replica:
             return [Send(link, CHAINED)]
-        self.ends[link].kind = REPLICA
+        self.ends[link].kind, self.ends[link].turn = REPLICA, self.turns
+        self.turns += 1
         if self.continues(words[1], wanted):
             return [Send(link, b"+CONTINUE %s\r\n" % self.id + self.ring[wanted - self.first() :])]
         snapshot = rebuild(self.held)

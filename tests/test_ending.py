@@ -128,11 +128,11 @@ class Options(unittest.TestCase):
 
 class Questions(unittest.TestCase):
     def test_the_help_names_all_words_and_their_usual_values(self):
-        for words in (["--help"], ["-h"], ["serve", "--help"], ["pipe", "-h"], ["serve", "--port", "1", "--help"], ["--version", "--help"], ["nothing", "-h"]):
+        for words in (["--help"], ["-h"], ["serve", "--help"], ["pipe", "-h"], ["trio", "-h"], ["serve", "--port", "1", "--help"], ["--version", "--help"], ["nothing", "-h"]):
             with self.subTest(words=words):
                 ran = run(PING, *words)
                 self.assertEqual((ran.returncode, ran.stderr), (0, b""))
-                words_of_it = ("serve", "pipe", "--port", "--aof", "--sync", "--turns", "--backlog", "--replicaof", "--bind", "--id", "--now", "--word")
+                words_of_it = ("serve", "pipe", "trio", "--port", "--aof", "--sync", "--turns", "--backlog", "--replicaof", "--bind", "--id", "--now", "--word")
                 for word in (*words_of_it, "--help", "--version"):
                     self.assertRegex(ran.stdout, rb"(?m)(^|[\s|\[])" + re.escape(word.encode()) + rb"\b")
                 for usual in ("always", "1000000000000", "1048576", "127.0.0.1", "40 times a", "usually 0"):

@@ -74,7 +74,9 @@ LOOKED_AT = ["given 5 0", "due", asking("PTTL", "a"), asking("DBSIZE"), "rebuild
 TICKED = ["master", "given 5 0", "tick", "tick", "tick"]
 
 
-class Memory(unittest.TestCase):
+class Refusing(unittest.TestCase):
+    """Runs programs to which an allocation is refused."""
+
     def setUp(self):
         self.room = tempfile.TemporaryDirectory()
         self.addCleanup(self.room.cleanup)
@@ -101,6 +103,8 @@ class Memory(unittest.TestCase):
                 return call - 1
         self.fail("each of 100,000 runs was refused an allocation")
 
+
+class Memory(Refusing):
     def beginnings(self, data, wanted, *words):
         """Whichever allocation is refused, the replies are a beginning of these."""
         self.assertEqual(run(data, "pipe", *words).stdout, wanted)
