@@ -69,7 +69,7 @@ impl Connection {
         ensures { IsTrue result ↔ (self.now.link ≡ Some link) }
     {
         match self.link {
-            Some(own) => own == link,
+            Some(name) => name == link,
             None => false,
         }
     }
