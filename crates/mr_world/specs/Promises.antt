@@ -1,5 +1,5 @@
 -- What is promised of all that happens to one World, over any runs of it.
-use Rattle.std.specs.Prelude.{◌≡◌, ℕ, List, [], ◌∷◌, Result, Some, true, length, slice_get}
+use Rattle.std.specs.Prelude.{◌≡◌, ℕ, List, [], ◌∷◌, Result, Some, true, length, take, drop, slice_get}
 use Rattle.mr_entries.specs.Dataset.{Dataset}
 use Rattle.mr_replay.specs.Effects.{Makes}
 use Rattle.mr_seen.specs.State.{Slot, WorldState}
@@ -10,13 +10,18 @@ use Rattle.mr_headline.specs.Runs.{CaughtUp, last_of}
 use Rattle.mr_headline.specs.Headline.{IsLevel}
 use Rattle.mr_world.specs.declared.event.Event.{Event}
 use Rattle.mr_world.specs.declared.refusal.Refusal.{Refusal}
-use Rattle.mr_world.specs.Running.{RunCall}
+use Rattle.mr_world.specs.Running.{RunCall, TookAll}
 
 -- These lists of events were handed to the World, one after another, each whatever came of it. A moment within a run is the end of one of
 -- fewer events.
 abbrev pub Ran : WorldState → List (List Event) → WorldState → Type 0
 Ran w [] v = v ≡ w
 Ran w (es ∷ more) v = (u : WorldState) × (result : Result (Unit {0}) (ℕ × Refusal)) × RunCall w es u result × Ran u more v
+
+-- So it is: at a moment of a run the first events were taken, and from there the others are.
+abbrev pub MomentsAreRuns : Type 0
+MomentsAreRuns = (w : WorldState) (es : List Event) (v : WorldState) (t : TookAll w es v) (k : ℕ) (u : WorldState) → slice_get (w ∷ t.moments) k ≡ Some u
+    → TookAll w (take k es) u × TookAll u (drop k es) v
 
 -- At any two moments, nodes that show one id and offset hold one dataset.
 abbrev pub NodesNeverDiffer : Type 0

@@ -1,5 +1,5 @@
 //! What holds whatever happens to a World. No function here does anything: each is the law that it ensures.
-ghost use Rattle.mr_world.specs.Promises.{BookGrows, FilesAreDatasets, NodesAreTrue, NodesNeverDiffer, ReplicasAreLevel};
+ghost use Rattle.mr_world.specs.Promises.{BookGrows, FilesAreDatasets, MomentsAreRuns, NodesAreTrue, NodesNeverDiffer, ReplicasAreLevel};
 ghost use Rattle.mr_world.specs.Happening.{FollowsAreEvents, LackedIsUnseen};
 
 /// **The headline.** After any lists of events, one run after another, whatever was refused: any two nodes that ever showed the same
@@ -11,6 +11,11 @@ pub fn nodes_never_differ()
 /// .. namely that of the id's history up to that offset.
 pub fn nodes_are_true()
     ensures { NodesAreTrue }
+{}
+
+/// A moment within a run is the end of a run of its first events, from which the others lead on: so the laws here speak of it too.
+pub fn moments_are_runs()
+    ensures { MomentsAreRuns }
 {}
 
 /// The history of each id only grows, at its end.
