@@ -42,7 +42,7 @@ REPLICA = array_of(bulk("slave"), EMPTY, number(0), bulk("connect"), number(0))
 
 
 class TellingOfReplicas(Playing):
-    """What a node tells that has replicas, or follows a master: no node has either yet."""
+    """What a node tells that has replicas, or follows a master, by parts of the text that are handed in."""
 
     A, C = "a" * 40, "c" * 40
 

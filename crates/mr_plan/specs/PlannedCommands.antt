@@ -19,7 +19,7 @@ use Rattle.mr_cmd_list.specs.Commands as lists
 use Rattle.mr_cmd_set.specs.SetCommands as sets
 use Rattle.mr_cmd_zset.specs.Commands as scores
 
--- A command to the node is answered as one that isn't there: no node has replicas yet, or follows another.
+-- A command to the node is for the node itself, which asks no dataset for it. A dataset that is asked knows no such command.
 abbrev pub to_node : NodeAsk → Command
 to_node command = on_none (answered (error (fault_text Unknown)))
 

@@ -38,7 +38,7 @@ pub fn plan(
     }
 }
 
-// What a command to the node is answered: that there is none such, since no node has replicas yet, or follows another.
+/// What a command to the node is answered where a dataset is asked for it, which a node doesn't do: that there is none such.
 fn to_node(alloc: Global, _held: &Dataset, _ask: &NodeAsk<'_, '_>, _given: Given) -> Plan
     ensures plan { IsPlan (to_node _ask.now) _given.now _held.now (view result.reply) result.effects.items }
     ensures faithful { IsFaithful (to_node _ask.now) _given.now _held.now }
