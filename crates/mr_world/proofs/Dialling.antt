@@ -1,5 +1,5 @@
 -- The end of the node that dialled closes.
-use Rattle.std.proofs.Common.{◌≡◌, ◌≢◌, ◌<◌, ◌≤◌, ℕ, true, false, Bool, Option, None, Some, Result, Ok, Err, length, get_or, refl, sym, ap, subst, ◌∙◌, arith}
+use Rattle.std.proofs.Common.{◌≡◌, ◌≢◌, ◌<◌, ◌≤◌, ℕ, true, false, Option, None, Some, Result, Ok, Err, length, get_or, refl, sym, ap, subst, ◌∙◌, arith}
 use Rattle.std.specs.Prelude.{slice_get, slice_set}
 use Rattle.mr_links.specs.declared.link_id.LinkId.{LinkId}
 use Rattle.mr_follow.specs.State.{FollowState}
@@ -15,7 +15,7 @@ use Rattle.mr_seen.proofs.Places.{is_within, some_is}
 use Rattle.mr_seen.proofs.Others.{served_end}
 use Rattle.mr_world.specs.declared.refusal.Refusal.{Refusal}
 use Rattle.mr_world.specs.declared.refusal.Refusal.TheVariants as refusal
-use Rattle.mr_world.specs.Linking.{DropCall, Drops, FollowsBy, IsFollowing, NoneFollows}
+use Rattle.mr_world.specs.Linking.{BreaksOff, DropCall, Drops, FollowerRests, FollowsAt, FollowsBy, IsDialler, IsFollowing, NoneFollows}
 use Rattle.mr_world.proofs.Changing.{node_world}
 use Rattle.mr_world.proofs.Kept.{closed_end, follow_was, reads_without}
 use Rattle.mr_world.proofs.Feeding.{not_upstream}
@@ -41,14 +41,15 @@ module _ (w : WorldState) (l n : ℕ) (k : Link) (s : Slot) (name : LinkId) (f :
   })
 
 pub drop_keeps : (w v : WorldState) (l : ℕ) (r : Result (Unit {0}) Refusal) → IsWorld w → DropCall w l v r → IsWorld v
-drop_keeps w v l (Ok done) is c = subst (λ (z : WorldState). IsWorld z) (sym c.is) (drops_world w l c.number c.link c.slot c.name c.reader is c.by)
+drop_keeps w v l (Ok done) is (BreaksOff.drops c) = subst (λ (z : WorldState). IsWorld z) (sym c.is) (drops_world w l c.number c.link c.slot c.name c.reader is c.by)
+drop_keeps w v l (Ok done) is (BreaksOff.rests r same) = subst (λ (z : WorldState). IsWorld z) (sym same) is
 drop_keeps w v l (Err refusal.Nobody) is c = subst (λ (z : WorldState). IsWorld z) (sym c.1) is
 drop_keeps w v l (Err refusal.TooMuch) is c = absurd c
 drop_keeps w v l (Err refusal.InputFull) is c = absurd c
 drop_keeps w v l (Err refusal.Memory) is c = absurd c
 drop_keeps w v l (Err refusal.Drawn) is c = absurd c
 
--- ---- how the parts of it make it
+-- ---- whose end it is
 abbrev number_of : Caller → ℕ
 number_of (a_client b) = 0
 number_of (a_node n name) = n
@@ -61,48 +62,75 @@ abbrev pub some_follow : (o : Option (LinkId × FollowState)) → o ≢ None →
 some_follow None h = absurd (h refl)
 some_follow (Some x) h = (x, refl)
 
-not_both : (b : Bool) → (b ≡ true → ⊥) → b ≡ false
-not_both true h = absurd (h refl)
-not_both false h = refl
-
-module _ (w : WorldState) (l : ℕ) (x : Link) (is : IsWorld w) (within : l < length w.links) (link : x ≡ get_or w.links l x) where
-  caller_is : (n : ℕ) (k : Link) (s : Slot) (name : LinkId) (f : FollowState) → FollowsBy w l n k s name f → x.caller ≡ a_node n name
-  caller_is n k s name f v =
-      ap (λ (z : Link). z.caller) (some_is x k (sym (stands w.links l x within link) ∙ (ap (slice_get w.links) (sym v.dialled) ∙ v.followed.found))) ∙ its_caller w l n k s name f is v
+module _ (w : WorldState) (l : ℕ) (x : Link) (within : l < length w.links) (link : x ≡ get_or w.links l x) where
+  caller_is : (n : ℕ) (name : LinkId) (k : Link) (s : Slot) → FollowsAt w l n name k s → x.caller ≡ a_node n name
+  caller_is n name k s v = ap (λ (z : Link). z.caller) (some_is x k (sym (stands w.links l x within link) ∙ v.found)) ∙ v.caller
 
   pub none_of_client : ((n : ℕ) (name : LinkId) → x.caller ≡ a_node n name → ⊥) → NoneFollows w l
-  none_of_client h n k s name f v = h n name (caller_is n k s name f v)
+  none_of_client h n name k s v = h n name (caller_is n name k s v)
 
   module _ (m : ℕ) (at : LinkId) (caller : x.caller ≡ a_node m at) where
+    its_number : (n : ℕ) (name : LinkId) (k : Link) (s : Slot) → FollowsAt w l n name k s → m ≡ n
+    its_number n name k s v = ap number_of (sym caller ∙ caller_is n name k s v)
+
     pub none_there : length w.slots ≤ m → NoneFollows w l
-    none_there far n k s name f v =
-        let same : m ≡ n = ap number_of (sym caller ∙ caller_is n k s name f v) in
-        let near = is_within w.slots n s v.followed.at in omega (arith, far, same, near)
+    none_there far n name k s v =
+        let same : m ≡ n = its_number n name k s v in
+        let near = is_within w.slots n s v.at in omega (arith, far, same, near)
 
     module _ (y : Slot) (there : m < length w.slots) (slot : y ≡ get_or w.slots m y) where
-      pub none_follows : (y.node.core.master ≡ false → IsFollowing y l → ⊥) → NoneFollows w l
-      none_follows h n k s name f v =
-          let same : m ≡ n = ap number_of (sym caller ∙ caller_is n k s name f v) in
-          let one : s ≡ y = some_is s y (sym v.followed.at ∙ (ap (slice_get w.slots) (sym same) ∙ stands w.slots m y there slot)) in
-          let some : s.node.follow ≢ None = λ e. no_follow (name, f) (sym e ∙ v.follows) in
-          let replica : s.node.core.master ≡ false = not_both s.node.core.master (λ q. some ((is.nodes n s v.followed.at v.followed.up).node.nobody q)) in
-          subst (λ (z : Slot). z.node.core.master ≡ false → IsFollowing z l → ⊥) (sym one) h replica (record { up = v.followed.up; dialled = v.dialled; follows = some })
-        where
-          no_follow : (z : LinkId × FollowState) → ◌≡◌ {A = Option (LinkId × FollowState)} None (Some z) → ⊥
-          no_follow z e = cc
+      pub none_follows : (IsFollowing y l → ⊥) → NoneFollows w l
+      none_follows h n name k s v =
+          let one : s ≡ y = some_is s y (sym v.at ∙ (ap (slice_get w.slots) (sym (its_number n name k s v)) ∙ stands w.slots m y there slot)) in
+          h (subst (λ (z : Slot). IsFollowing z l) one v.following)
 
-      -- the node follows by it, under the name that it has for it
-      pub follows_here : IsFollowing y l → (f : FollowState) × FollowsBy w l m x y at f
-      follows_here i =
-          let o = some_follow y.node.follow i.follows in
-          let by : FollowsBy w l m x y o.0.0 o.0.1 = record {
-            followed = record { at = stands w.slots m y there slot; found = ap (slice_get w.links) i.dialled ∙ stands w.links l x within link; up = i.up };
-            follows = o.1;
-            dialled = i.dialled;
-          } in
-          let named : at ≡ o.0.0 = ap (name_or at) (sym caller ∙ caller_is m x y o.0.0 o.0.1 by) in
-          (o.0.1, subst (λ (z : LinkId). FollowsBy w l m x y z o.0.1) (sym named) by)
+      pub dialler_here : IsFollowing y l → IsDialler w l m at
+      dialler_here i = record { link = x; slot = y; at = record { found = stands w.links l x within link; caller = caller; at = stands w.slots m y there slot; following = i } }
 
-      pub drops_here : (t : Slot) → IsFollowing y l → t ≡ record y { node = closed_at at y.node } → Drops w l (record w { slots = slice_set w.slots m t })
-      drops_here t i e = let v = follows_here i in
-          record { number = m; link = x; slot = y; name = at; reader = v.0; by = v.1; is = ap (λ (z : Slot). record w { slots = slice_set w.slots m z }) e }
+module _ (w : WorldState) (l n : ℕ) (name : LinkId) (who : IsDialler w l n name) where
+  pub slot_within : n < length w.slots
+  slot_within = is_within w.slots n who.slot who.at.at
+
+  pub link_within : l < length w.links
+  link_within = is_within w.links l who.link who.at.found
+
+  pub slot_is : (y : Slot) → y ≡ get_or w.slots n y → y ≡ who.slot
+  slot_is y r = some_is y who.slot (sym (stands w.slots n y slot_within r) ∙ who.at.at)
+
+  pub link_is : (x : Link) → x ≡ get_or w.links l x → x ≡ who.link
+  link_is x r = some_is x who.link (sym (stands w.links l x link_within r) ∙ who.at.found)
+
+  module _ (y : Slot) (slot : y ≡ get_or w.slots n y) where
+    pub down_here : y.node.core.up ≡ false → who.slot.node.core.up ≡ false
+    down_here down = ap (λ (z : Slot). z.node.core.up) (sym (slot_is y slot)) ∙ down
+
+    pub rests_here : y.node.core.up ≡ false → FollowerRests w l
+    rests_here down = record { number = n; name = name; who = who; down = down_here down }
+
+    -- it runs, and follows by the link under the name that the link has for it
+    pub follows_here : IsWorld w → y.node.core.up ≡ true → (f : FollowState) × FollowsBy w l n who.link who.slot name f
+    follows_here is up =
+        let o = some_follow who.slot.node.follow who.at.following.follows in
+        let by : FollowsBy w l n who.link who.slot o.0.0 o.0.1 = record {
+          followed = record {
+            at = who.at.at;
+            found = ap (slice_get w.links) who.at.following.dialled ∙ who.at.found;
+            up = ap (λ (z : Slot). z.node.core.up) (sym (slot_is y slot)) ∙ up;
+          };
+          follows = o.1;
+          dialled = who.at.following.dialled;
+        } in
+        let named : name ≡ o.0.0 = ap (name_or name) (sym who.at.caller ∙ its_caller w l n who.link who.slot o.0.0 o.0.1 is by) in
+        (o.0.1, subst (λ (z : LinkId). FollowsBy w l n who.link who.slot z o.0.1) (sym named) by)
+
+    pub drops_here : IsWorld w → y.node.core.up ≡ true → (x t : Slot) → x ≡ get_or w.slots n x → t ≡ record x { node = closed_at name x.node } → Drops w l (record w { slots = slice_set w.slots n t })
+    drops_here is up x t again e =
+        let v = follows_here is up in record {
+          number = n;
+          link = who.link;
+          slot = who.slot;
+          name = name;
+          reader = v.0;
+          by = v.1;
+          is = ap (λ (z : Slot). record w { slots = slice_set w.slots n z }) (e ∙ ap (λ (z : Slot). record z { node = closed_at name z.node }) (slot_is x again));
+        }

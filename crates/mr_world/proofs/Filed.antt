@@ -6,8 +6,8 @@ use Rattle.mr_seen.specs.State.{WorldState}
 use Rattle.mr_filing.specs.Worlds.{FilesGoOn}
 use Rattle.mr_filing.proofs.Worlds as files
 use Rattle.mr_world.specs.Calls.{StartCall, ClientCall, Clients, CommandCall, TakeCall, LeaveCall, BreakCall, Breaks}
-use Rattle.mr_world.specs.Linking.{DeliverCall, Delivers, DropCall}
-use Rattle.mr_world.specs.Hearing.{ListenCall}
+use Rattle.mr_world.specs.Linking.{BreaksOff, DeliverCall, Delivers, DropCall}
+use Rattle.mr_world.specs.Hearing.{ListenCall, Tells}
 use Rattle.mr_world.specs.Stepping.{TickCall, Ticks}
 
 module _ (w v : WorldState) where
@@ -45,10 +45,12 @@ module _ (w v : WorldState) where
   deliver_files l count (Delivers.rests r is) = no_file w is refl
 
   pub listen_files : (l count : ℕ) → ListenCall w l count v (Ok tt) → FilesGoOn w v
-  listen_files l count c = is_as _ c.is (files.feeds w c.number l c.link c.slot c.name count _ c.node c.told.by.followed.at c.told.by.followed.up c.feeds).1
+  listen_files l count (Tells.listens c) = is_as _ c.is (files.feeds w c.number l c.link c.slot c.name count _ c.node c.told.by.followed.at c.told.by.followed.up c.feeds).1
+  listen_files l count (Tells.rests r is) = no_file w is refl
 
   pub drop_files : (l : ℕ) → DropCall w l v (Ok tt) → FilesGoOn w v
-  drop_files l c = is_as _ c.is (files.breaks w c.number l c.link c.slot c.name c.by.followed.at c.by.followed.up).1
+  drop_files l (BreaksOff.drops c) = is_as _ c.is (files.breaks w c.number l c.link c.slot c.name c.by.followed.at c.by.followed.up).1
+  drop_files l (BreaksOff.rests r is) = no_file w is refl
 
   pub tick_files : (n : ℕ) (now : ℤ) → TickCall w n now v (Ok tt) → FilesGoOn w v
   tick_files n now (Ticks.carries t is) = is_as _ is (files.ticks w n t.slot now t.node t.outs t.running.at t.running.up t.row)

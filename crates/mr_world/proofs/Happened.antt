@@ -21,8 +21,8 @@ use Rattle.mr_seen.proofs.ClientEnds.{commands, client_feeds, client_breaks}
 use Rattle.mr_seen.proofs.Times.{ticks, tick_stops}
 use Rattle.mr_headline.specs.Runs.{Happens, an_event, nothing_seen}
 use Rattle.mr_world.specs.Calls.{is_spent, AsksAt, BreakCall, Breaks, ClientCall, Clients, CommandCall, LeaveCall, StartCall, TakeCall}
-use Rattle.mr_world.specs.Linking.{DeliverCall, Delivers, DropCall}
-use Rattle.mr_world.specs.Hearing.{ListenCall}
+use Rattle.mr_world.specs.Linking.{BreaksOff, DeliverCall, Delivers, DropCall}
+use Rattle.mr_world.specs.Hearing.{ListenCall, Tells}
 use Rattle.mr_world.specs.Stepping.{TickCall, Ticks}
 use Rattle.mr_world.specs.Serving.{StepCall}
 use Rattle.mr_world.specs.Restarting.{RestartCall}
@@ -85,11 +85,13 @@ module _ (w v : WorldState) where
   heard l count done (Delivers.rests r is) = nothing is
 
   pub listened : (l count : ℕ) (done : Unit {0}) → ListenCall w l count v (Ok done) → Happens w v
-  listened l count done c = an (events.Event.Deliver c.slot.dialled Dialler count) _ (c.is ∙ ap (λ z. fed_caller w c.number c.slot c.node z c.link count) (sym c.told.by.dialled))
+  listened l count done (Tells.listens c) = an (events.Event.Deliver c.slot.dialled Dialler count) _ (c.is ∙ ap (λ z. fed_caller w c.number c.slot c.node z c.link count) (sym c.told.by.dialled))
       (λ book holds. master_feeds w book c.number c.slot c.link c.name c.reader count _ c.node holds c.told.by.followed c.told.by.follows c.told.sent c.feeds)
+  listened l count done (Tells.rests r is) = nothing is
 
   pub dropped : (l : ℕ) (done : Unit {0}) → DropCall w l v (Ok done) → Happens w v
-  dropped l done c = an (events.Event.Break c.slot.dialled Dialler) _ c.is (λ book holds. master_breaks w book c.number c.slot c.link c.name c.reader _ holds c.by.followed c.by.follows refl)
+  dropped l done (BreaksOff.drops c) = an (events.Event.Break c.slot.dialled Dialler) _ c.is (λ book holds. master_breaks w book c.number c.slot c.link c.name c.reader _ holds c.by.followed c.by.follows refl)
+  dropped l done (BreaksOff.rests r is) = nothing is
 
   pub ticked : (n : ℕ) (given : Given) (done : Unit {0}) → TickCall w n given.now v (Ok done) → Happens w v
   ticked n given done (Ticks.carries t is) = an (events.Event.Tick n given) _ is (λ book holds. ticks w book n t.slot given t.node t.outs holds t.running t.row)

@@ -22,7 +22,7 @@ use Rattle.mr_node.specs.Steps.{MasterStep, Steps}
 use Rattle.mr_node.specs.declared.fault.NodeFault.{NodeFault}
 use Rattle.mr_node.specs.declared.step.Step.{Step}
 use Rattle.mr_seen.specs.Way.{unread}
-use Rattle.mr_seen.specs.State.{a_node, Link, Slot, WorldState}
+use Rattle.mr_seen.specs.State.{Link, Slot, WorldState}
 use Rattle.mr_seen.specs.Worlds.{IsWorld}
 use Rattle.mr_seen.specs.Carrying.{behind, filed, heard_as, put_node, unread_count}
 use Rattle.mr_seen.proofs.Places.{is_within, set_here, some_is}
@@ -31,31 +31,19 @@ use Rattle.mr_seen.proofs.Following.{masters_keep, reads_by}
 use Rattle.mr_seen.proofs.Waiting.{agreed, lacks_alone, lacks_keep, waits_alone, waits_keep}
 use Rattle.mr_world.specs.declared.refusal.Refusal.{Refusal}
 use Rattle.mr_world.specs.declared.refusal.Refusal.TheVariants as refusal
-use Rattle.mr_world.specs.Linking.{FollowsBy, IsFollowing}
+use Rattle.mr_world.specs.Linking.{IsDialler}
 use Rattle.mr_world.specs.Following.{FollowCall, Follows, HasHeard, HasLacked, HasSpent, HasWaited, IsFollower, heard_by}
 use Rattle.mr_world.proofs.Kept.{stops_world}
 use Rattle.mr_world.proofs.Joins.{stands}
-use Rattle.mr_world.proofs.Dialling.{its_caller, some_follow, up_end}
+use Rattle.mr_world.proofs.Dialling.{follows_here, up_end}
 use Rattle.mr_world.proofs.Undone.{set_twice}
 
 no_some : {A : Type 0} (x : A) → ◌≡◌ {A = Option A} None (Some x) → ⊥
 no_some x e = cc
 
-one_name : (m n : ℕ) (x y : LinkId) → a_node m x ≡ a_node n y → x ≡ y
-one_name m n x y e = cc
-
 -- ---- who follows
-pub follower_here : (w : WorldState) (l n : ℕ) (name : LinkId) (k : Link) (s : Slot) → IsWorld w → l < length w.links → k ≡ get_or w.links l k → n < length w.slots → s ≡ get_or w.slots n s
-    → k.caller ≡ a_node n name → IsFollowing s l → IsFollower w l n name
-follower_here w l n name k s is near link there slot caller i =
-    let o = some_follow s.node.follow i.follows in
-    let by : FollowsBy w l n k s o.0.0 o.0.1 = record {
-      followed = record { at = stands w.slots n s there slot; found = ap (slice_get w.links) i.dialled ∙ stands w.links l k near link; up = i.up };
-      follows = o.1;
-      dialled = i.dialled;
-    } in
-    let named : o.0.0 ≡ name = one_name n n o.0.0 name (sym (its_caller w l n k s o.0.0 o.0.1 is by) ∙ caller) in
-    record { link = k; slot = s; reader = o.0.1; by = record { followed = by.followed; follows = o.1 ∙ ap (λ (z : LinkId). Some (z, o.0.1)) named; dialled = by.dialled } }
+pub follower_here : (w : WorldState) (l n : ℕ) (name : LinkId) → IsWorld w → IsDialler w l n name → (y : Slot) → y ≡ get_or w.slots n y → y.node.core.up ≡ true → IsFollower w l n name
+follower_here w l n name is who y slot up = let v = follows_here w l n name who y slot is up in record { link = who.link; slot = who.slot; reader = v.0; by = v.1 }
 
 -- ---- what is left unread at the link to the master
 -- the end there stays, or is gone
@@ -146,8 +134,16 @@ module _ (w : WorldState) (l n : ℕ) (name : LinkId) (is : IsWorld w) (who : Is
       is = put;
     }
 
-    pub spends_here : master.Spends who.slot.node name t.node → HasSpent w l changed
-    spends_here row = record { number = n; name = name; who = who; node = t.node; row = row; is = put }
+    pub spends_here : IsSound t.node → master.Spends who.slot.node name t.node → HasSpent w l changed
+    spends_here sound row = record {
+      number = n;
+      name = name;
+      who = who;
+      node = t.node;
+      row = row;
+      still = λ none. no_some name (sym (ap name_of none) ∙ sound.node.only name (ap (λ (z : Links EndState). end_at z name) row.ends ∙ up_end w l n who.link who.slot name who.reader is who.by));
+      is = put;
+    }
 
     read : (y : Slot) → y ≡ get_or (slice_set w.slots n t) n y → y ≡ t
     read y again = go (slice_set w.slots n t) (set_here w.slots n t who.slot who.by.followed.at) again
@@ -186,6 +182,7 @@ follows_keep w v l is (Follows.carries h e) = subst (λ (z : WorldState). IsWorl
 follows_keep w v l is (Follows.fails h e) = subst (λ (z : WorldState). IsWorld z) (sym e) (stops_world w h.number h.who.slot (stopped_as h.node) is h.who.by.followed.at refl)
 follows_keep w v l is (Follows.waits h) = subst (λ (z : WorldState). IsWorld z) (sym h.carried) (waits_keep w h.number h.who.slot h.who.link h.name h.node is h.who.by.followed h.sound h.row)
 follows_keep w v l is (Follows.spends h) = subst (λ (z : WorldState). IsWorld z) (sym h.is) (stops_world w h.number h.who.slot h.node is h.who.by.followed.at h.row.down)
+follows_keep w v l is (Follows.rests r same) = subst (λ (z : WorldState). IsWorld z) (sym same) is
 
 pub follow_keeps : (w v : WorldState) (l : ℕ) (fresh : List ℕ) (r : Result (Unit {0}) Refusal) → IsWorld w → FollowCall w l fresh v r → IsWorld v
 follow_keeps w v l fresh (Ok done) is c = follows_keep w v l is c.1

@@ -1,5 +1,5 @@
 -- Bytes that come at the node that dialled.
-use Rattle.std.proofs.Common.{◌≡◌, ◌≢◌, ◌+◌, ◌<◌, ◌≤◌, ℕ, List, [], true, false, Bool, Option, None, Some, Result, Ok, Err, length, get_or, take, drop, refl, sym, ap, subst, ◌∙◌}
+use Rattle.std.proofs.Common.{◌≡◌, ◌≢◌, ◌+◌, ◌≤◌, ℕ, List, [], true, false, Bool, Option, None, Some, Result, Ok, Err, length, get_or, take, drop, refl, sym, ap, subst, ◌∙◌}
 use Rattle.std.specs.Prelude.{slice_get, slice_set}
 use Rattle.mr_links.specs.declared.link_id.LinkId.{LinkId}
 use Rattle.mr_follow.specs.State.{FollowState, Agrees}
@@ -17,10 +17,10 @@ use Rattle.mr_seen.proofs.Unread.{taken_way, unread_taken}
 use Rattle.mr_seen.proofs.Others.{served_end}
 use Rattle.mr_world.specs.declared.refusal.Refusal.{Refusal}
 use Rattle.mr_world.specs.declared.refusal.Refusal.TheVariants as refusal
-use Rattle.mr_world.specs.Linking.{FollowsBy, IsFollowing}
-use Rattle.mr_world.specs.Hearing.{IsTold, KeepsTold, ListenCall, Listens, WereNotTold}
+use Rattle.mr_world.specs.Linking.{FollowsBy, IsDialler}
+use Rattle.mr_world.specs.Hearing.{IsTold, KeepsTold, ListenCall, Tells, WereNotTold}
 use Rattle.mr_world.proofs.Changing.{link_world}
-use Rattle.mr_world.proofs.Dialling.{follows_here, its_caller, up_end}
+use Rattle.mr_world.proofs.Dialling.{follows_here, its_caller, link_is, down_here, slot_is, up_end}
 use Rattle.mr_world.proofs.Feeding.{not_upstream}
 
 same_number : (i n : ℕ) (a b : LinkId) → a_node i a ≡ a_node n b → i ≡ n
@@ -67,7 +67,8 @@ module _ (w : WorldState) (l n : ℕ) (k : Link) (s : Slot) (name : LinkId) (f :
   })
 
 pub listen_keeps : (w v : WorldState) (l count : ℕ) (r : Result (Unit {0}) Refusal) → IsWorld w → ListenCall w l count v r → IsWorld v
-listen_keeps w v l count (Ok done) is c = subst (λ (z : WorldState). IsWorld z) (sym c.is) (listens_world w l c.number c.link c.slot c.name c.reader count c.node is c.told c.feeds c.sound)
+listen_keeps w v l count (Ok done) is (Tells.listens c) = subst (λ (z : WorldState). IsWorld z) (sym c.is) (listens_world w l c.number c.link c.slot c.name c.reader count c.node is c.told c.feeds c.sound)
+listen_keeps w v l count (Ok done) is (Tells.rests r same) = subst (λ (z : WorldState). IsWorld z) (sym same) is
 listen_keeps w v l count (Err refusal.Nobody) is c = subst (λ (z : WorldState). IsWorld z) (sym c.1) is
 listen_keeps w v l count (Err refusal.TooMuch) is c = subst (λ (z : WorldState). IsWorld z) (sym c.1) is
 listen_keeps w v l count (Err refusal.Memory) is c = subst (λ (z : WorldState). IsWorld z) (sym c.1) is
@@ -82,40 +83,74 @@ no_end e h = cc
 never_full : (end : EndState) → ◌≡◌ {A = Option EndState} (Some upstream) (Some end) → serves end ≡ true → ⊥
 never_full end e h = let one : upstream ≡ end = some_is upstream end e in let wrong : false ≡ true = ap serves one ∙ h in cc
 
-module _ (w : WorldState) (l : ℕ) (x : Link) (is : IsWorld w) (within : l < length w.links) (link : x ≡ get_or w.links l x) (m : ℕ) (at : LinkId) (caller : x.caller ≡ a_node m at)
-    (y : Slot) (there : m < length w.slots) (slot : y ≡ get_or w.slots m y) (i : IsFollowing y l) (count : ℕ) where
-  by : (f : FollowState) × FollowsBy w l m x y at f
-  by = follows_here w l x is within link m at caller y there slot i
+module _ (w : WorldState) (l n : ℕ) (name : LinkId) (who : IsDialler w l n name) (k : Link) (link : k ≡ get_or w.links l k) (count : ℕ) where
+  one_link : k ≡ who.link
+  one_link = link_is w l n name who k link
 
-  pub its_end : end_of y.node at ≡ Some upstream
-  its_end = let v = by in up_end w l m x y at v.0 is v.1
+  were_told : k.tell.taken + count ≤ length k.tell.sent → who.link.tell.taken + count ≤ length who.link.tell.sent
+  were_told = subst (λ (z : Link). k.tell.taken + count ≤ length k.tell.sent → z.tell.taken + count ≤ length z.tell.sent) one_link (λ h. h)
 
-  pub not_told : (b : Bool) → b ≡ false → (x.tell.taken + count ≤ length x.tell.sent → b ≡ true) → WereNotTold w l count
-  not_told b is_not if_so = let v = by in record { number = m; link = x; slot = y; name = at; reader = v.0; by = v.1; fewer = λ h. let wrong : false ≡ true = sym is_not ∙ if_so h in cc }
+  pub not_told : (b : Bool) → b ≡ false → (k.tell.taken + count ≤ length k.tell.sent → b ≡ true) → WereNotTold w l count
+  not_told b is_not if_so = record {
+    number = n;
+    name = name;
+    who = who;
+    fewer = subst (λ (z : Link). z.tell.taken + count ≤ length z.tell.sent → ⊥) one_link (λ h. let wrong : false ≡ true = sym is_not ∙ if_so h in cc);
+  }
 
-  pub has_end : (name : LinkId) → name ≡ at → end_of y.node name ≡ None → ⊥
-  has_end name same e = no_end upstream (sym e ∙ (ap (end_of y.node) same ∙ its_end))
+  module _ (y : Slot) (slot : y ≡ get_or w.slots n y) (sent : k.tell.taken + count ≤ length k.tell.sent) where
+    pub untold_here : y.node.core.up ≡ false → Tells w l count w
+    untold_here down = Tells.rests (record { rests = record { number = n; name = name; who = who; down = down_here w l n name who y slot down }; sent = were_told sent }) refl
 
-  pub not_full : (size : ℕ) → IsTooMuch y.node at size → ⊥
-  not_full size h = never_full h.end (sym its_end ∙ h.found) h.served
+    module _ (is : IsWorld w) (up : y.node.core.up ≡ true) (x : Slot) (again : x ≡ get_or w.slots n x) where
+      by : (f : FollowState) × FollowsBy w l n who.link who.slot name f
+      by = follows_here w l n name who y slot is up
 
-  module _ (sent : x.tell.taken + count ≤ length x.tell.sent) (bytes : List ℕ) (taken : bytes ≡ take count (drop x.tell.taken x.tell.sent)) where
-    pub keeps_told : bytes ≢ [] → KeepsTold w l count
-    keeps_told some = let v = by in
-        record { number = m; link = x; slot = y; name = at; reader = v.0; told = record { by = v.1; sent = sent }; some = λ z. some (taken ∙ (ap (λ c. take c (drop x.tell.taken x.tell.sent)) z ∙ refl)) }
+      one_slot : x ≡ who.slot
+      one_slot = slot_is w l n name who x again
 
-    pub listens_here : (t : Slot) (k : Link) → Feeds y.node at bytes t.node → IsSound t.node → t ≡ record y { node = t.node } → k ≡ record x { tell = taken_on count x.tell }
-        → Listens w l count (record w { slots = slice_set w.slots m t; links = slice_set w.links l k })
-    listens_here t k feeds sound rest e = let v = by in record {
-      number = m;
-      link = x;
-      slot = y;
-      name = at;
-      reader = v.0;
-      told = record { by = v.1; sent = sent };
-      node = t.node;
-      feeds = subst (λ z. Feeds y.node at z t.node) taken feeds;
-      sound = sound;
-      is = ap (λ (z : Link). record w { slots = slice_set w.slots m t; links = slice_set w.links l z }) e
-          ∙ ap (λ (z : Slot). record w { slots = slice_set w.slots m z; links = slice_set w.links l (record x { tell = taken_on count x.tell }) }) rest;
-    }
+      runs : x.node.core.up ≡ true
+      runs = ap (λ (z : Slot). z.node.core.up) one_slot ∙ by.1.followed.up
+
+      pub runs_still : x.node.core.up ≡ false → ⊥
+      runs_still down = let wrong : false ≡ true = sym down ∙ runs in cc
+
+      its_end : end_of x.node name ≡ Some upstream
+      its_end = ap (λ (z : Slot). end_of z.node name) one_slot ∙ up_end w l n who.link who.slot name by.0 is by.1
+
+      pub has_end : end_of x.node name ≡ None → ⊥
+      has_end e = no_end upstream (sym e ∙ its_end)
+
+      pub not_full : (size : ℕ) → IsTooMuch x.node name size → ⊥
+      not_full size h = never_full h.end (sym its_end ∙ h.found) h.served
+
+      module _ (bytes : List ℕ) (taken : bytes ≡ take count (drop k.tell.taken k.tell.sent)) where
+        from_link : bytes ≡ take count (drop who.link.tell.taken who.link.tell.sent)
+        from_link = taken ∙ ap (λ (z : Link). take count (drop z.tell.taken z.tell.sent)) one_link
+
+        pub keeps_told : bytes ≢ [] → KeepsTold w l count
+        keeps_told some = record {
+          number = n;
+          link = who.link;
+          slot = who.slot;
+          name = name;
+          reader = by.0;
+          told = record { by = by.1; sent = were_told sent };
+          some = λ z. some (from_link ∙ (ap (λ c. take c (drop who.link.tell.taken who.link.tell.sent)) z ∙ refl));
+        }
+
+        pub listens_here : (t : Slot) (m : Link) → Feeds x.node name bytes t.node → IsSound t.node → t ≡ record x { node = t.node } → m ≡ record k { tell = taken_on count k.tell }
+            → Tells w l count (record w { slots = slice_set w.slots n t; links = slice_set w.links l m })
+        listens_here t m feeds sound rest e = Tells.listens (record {
+          number = n;
+          link = who.link;
+          slot = who.slot;
+          name = name;
+          reader = by.0;
+          told = record { by = by.1; sent = were_told sent };
+          node = t.node;
+          feeds = subst (λ z. Feeds who.slot.node name z t.node) from_link (subst (λ (z : Slot). Feeds z.node name bytes t.node) one_slot feeds);
+          sound = sound;
+          is = ap (λ (z : Link). record w { slots = slice_set w.slots n t; links = slice_set w.links l z }) (e ∙ ap (λ (z : Link). record z { tell = taken_on count z.tell }) one_link)
+              ∙ ap (λ (z : Slot). record w { slots = slice_set w.slots n z; links = slice_set w.links l (record who.link { tell = taken_on count who.link.tell }) }) (rest ∙ ap (λ (z : Slot). record z { node = t.node }) one_slot);
+        })

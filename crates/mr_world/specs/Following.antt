@@ -15,7 +15,7 @@ use Rattle.mr_seen.specs.Carrying.{followed, put_node}
 use Rattle.mr_world.specs.declared.refusal.Refusal.{Refusal}
 use Rattle.mr_world.specs.declared.refusal.Refusal.TheVariants as refusal
 use Rattle.mr_world.specs.Calls.{is_spent}
-use Rattle.mr_world.specs.Linking.{FollowsBy, NoneFollows}
+use Rattle.mr_world.specs.Linking.{FollowsBy, NoneFollows, FollowerRests}
 
 -- The node n runs, and follows by the link l, which has this name there.
 pub record IsFollower (w : WorldState) (l n : ℕ) (name : LinkId) : Type 0 where
@@ -52,13 +52,14 @@ pub record HasWaited (w : WorldState) (l : ℕ) (v : WorldState) : Type 0 where
   pub carried : v ≡ followed w number who.slot who.link node no_outs
   pub is : v ≡ put_node w number who.slot node
 
--- .. memory ran out within an effect, and it stops
+-- .. memory ran out within an effect, and it stops. Its end of the link stays open.
 pub record HasSpent (w : WorldState) (l : ℕ) (v : WorldState) : Type 0 where
   pub number : ℕ
   pub name : LinkId
   pub who : IsFollower w l number name
   pub node : NodeState
   pub row : master.Spends who.slot.node name node
+  pub still : node.follow ≢ None
   pub is : v ≡ put_node w number who.slot node
 
 -- .. it lacks memory. Nothing but the node may be another, by what it took of a snapshot; the bytes that are unread are the same.
@@ -73,12 +74,13 @@ pub record HasLacked (w : WorldState) (l : ℕ) (v : WorldState) : Type 0 where
   pub is : v ≡ put_node w number who.slot node
 
 -- What it gives out is carried: its line is sent to its master, its file is what it is behind that, and the rest of the bytes is left. Or there is no memory
--- for that, and it stops.
+-- for that, and it stops. Where it is stopped, nothing happens.
 pub data Follows (w : WorldState) (l : ℕ) (v : WorldState) : Type 0 where
   carries : (h : HasHeard w l) → v ≡ followed w h.number h.who.slot h.who.link h.node h.outs → Follows w l v
   fails : (h : HasHeard w l) → v ≡ put_node w h.number h.who.slot (stopped_as h.node) → Follows w l v
   waits : HasWaited w l v → Follows w l v
   spends : HasSpent w l v → Follows w l v
+  rests : FollowerRests w l → v ≡ w → Follows w l v
 
 abbrev pub FollowCall : WorldState → ℕ → List ℕ → WorldState → Result (Unit {0}) Refusal → Type 0
 FollowCall w l fresh v (Ok done) = (is_spent w.book fresh ≡ false) × Follows w l v

@@ -1,12 +1,12 @@
 -- What the events between links and nodes come to: bytes that come at a node, and ends that a node closes. As in `Calls`.
-use Rattle.std.specs.Prelude.{◌≡◌, ◌≢◌, ◌≤◌, ◌+◌, ℕ, Result, Ok, Err, length, take, drop, true, Some, None}
+use Rattle.std.specs.Prelude.{◌≡◌, ◌≢◌, ◌≤◌, ◌+◌, ℕ, Result, Ok, Err, length, take, drop, false, Some, None, slice_get}
 use Rattle.mr_links.specs.declared.link_id.LinkId.{LinkId}
 use Rattle.mr_follow.specs.State.{FollowState}
 use Rattle.mr_rows.specs.State.{NodeState, IsTooMuch}
 use Rattle.mr_rows.specs.Sound.{IsSound}
 use Rattle.mr_rows.specs.LinkRows.{Feeds, closed_at}
 use Rattle.mr_node.specs.Calls.{FitsMore}
-use Rattle.mr_seen.specs.State.{Link, Slot, WorldState}
+use Rattle.mr_seen.specs.State.{a_node, Link, Slot, WorldState}
 use Rattle.mr_seen.specs.Events.{IsFollowed, IsServed}
 use Rattle.mr_seen.specs.Carrying.{fed_server, put_node}
 use Rattle.mr_world.specs.Calls.{IsDown, NoneServes, ServesAt}
@@ -70,21 +70,40 @@ DeliverCall w l count v (Err refusal.Memory) = NeedsRoom w l count × (v ≡ w)
 DeliverCall w l count v (Err refusal.Drawn) = ⊥
 
 -- ---- the end of the node that dialled
--- The node runs, and follows by the link that it dialled last, which is l.
+-- The node follows by the link that it dialled last, which is l. It may be stopped.
 pub record IsFollowing (s : Slot) (l : ℕ) : Type 0 where
-  pub up : s.node.core.up ≡ true
   pub dialled : s.dialled ≡ l
   pub follows : s.node.follow ≢ None
+
+-- The node n dialled the link l, which has this name there; and its end is open: n follows by it. It may be stopped.
+pub record FollowsAt (w : WorldState) (l n : ℕ) (name : LinkId) (k : Link) (s : Slot) : Type 0 where
+  pub found : slice_get w.links l ≡ Some k
+  pub caller : k.caller ≡ a_node n name
+  pub at : slice_get w.slots n ≡ Some s
+  pub following : IsFollowing s l
+
+-- There is no such end.
+abbrev pub NoneFollows : WorldState → ℕ → Type 0
+NoneFollows w l = (n : ℕ) (name : LinkId) (k : Link) (s : Slot) → FollowsAt w l n name k s → ⊥
+
+-- There is one, and it is this node's.
+pub record IsDialler (w : WorldState) (l n : ℕ) (name : LinkId) : Type 0 where
+  pub link : Link
+  pub slot : Slot
+  pub at : FollowsAt w l n name link slot
+
+-- .. which is stopped
+pub record FollowerRests (w : WorldState) (l : ℕ) : Type 0 where
+  pub number : ℕ
+  pub name : LinkId
+  pub who : IsDialler w l number name
+  pub down : who.slot.node.core.up ≡ false
 
 -- The node n runs, and follows by the link l.
 pub record FollowsBy (w : WorldState) (l n : ℕ) (k : Link) (s : Slot) (name : LinkId) (f : FollowState) : Type 0 where
   pub followed : IsFollowed w n s k
   pub follows : s.node.follow ≡ Some (name, f)
   pub dialled : s.dialled ≡ l
-
--- No node does so.
-abbrev pub NoneFollows : WorldState → ℕ → Type 0
-NoneFollows w l = (n : ℕ) (k : Link) (s : Slot) (name : LinkId) (f : FollowState) → FollowsBy w l n k s name f → ⊥
 
 -- the node that follows by a link closes its end
 pub record Drops (w : WorldState) (l : ℕ) (v : WorldState) : Type 0 where
@@ -96,8 +115,12 @@ pub record Drops (w : WorldState) (l : ℕ) (v : WorldState) : Type 0 where
   pub by : FollowsBy w l number link slot name reader
   pub is : v ≡ put_node w number slot (closed_at name slot.node)
 
+pub data BreaksOff (w : WorldState) (l : ℕ) (v : WorldState) : Type 0 where
+  drops : Drops w l v → BreaksOff w l v
+  rests : FollowerRests w l → v ≡ w → BreaksOff w l v
+
 abbrev pub DropCall : WorldState → ℕ → WorldState → Result (Unit {0}) Refusal → Type 0
-DropCall w l v (Ok done) = Drops w l v
+DropCall w l v (Ok done) = BreaksOff w l v
 DropCall w l v (Err refusal.Nobody) = NoneFollows w l × (v ≡ w)
 DropCall w l v (Err refusal.TooMuch) = ⊥
 DropCall w l v (Err refusal.InputFull) = ⊥

@@ -178,14 +178,13 @@ impl Slot {
         fed
     }
 
-    /// Whether the node runs and follows by the link that it dialled last, which is this.
+    /// Whether the node follows by the link that it dialled last, which is this, stopped or not.
     pub(crate) fn follows_by(&self, l: usize) -> bool
-        ensures yes { IsTrue result → IsFollowing self.now l }
-        ensures no { (result ≡ false) → self.now.node.core.master ≡ false → IsFollowing self.now l → ⊥ }
+        ensures { IsTrue result ↔ IsFollowing self.now l }
     {
-        self.is_up()
-            && self.dialled == l
-            && matches!(self.node.role(), Role::Sync | Role::Connected)
+        // its clause says that a master follows nobody
+        self.node.sound();
+        self.dialled == l && matches!(self.node.role(), Role::Sync | Role::Connected)
     }
 
     /// Closes the node's end of a link.

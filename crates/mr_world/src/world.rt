@@ -106,7 +106,7 @@ impl World {
     }
 
     /// The node that follows by a link takes the next bytes of those that the server sent it, so many. A client takes its own by
-    /// `deliver_to_client`; at a node that is stopped or follows no more nothing is taken.
+    /// `deliver_to_client`; a node that follows by it no more has no end of it. At a stopped node nothing happens.
     pub fn deliver_to_dialler(&mut self, l: usize, count: usize) -> Result<(), Refusal>
         ensures { ListenCall self.old l count self.new result }
     {
@@ -142,7 +142,8 @@ impl World {
         self.parts.step_server(self.alloc, l, given, fresh)
     }
 
-    /// The node that follows by a link closes its end. That of a client, of a node that is stopped or follows no more, isn't one.
+    /// The node that follows by a link closes its end. That of a client, or of a node that follows by it no more, isn't one. At a stopped node
+    /// nothing happens.
     pub fn break_dialler(&mut self, l: usize) -> Result<(), Refusal>
         ensures { DropCall self.old l self.new result }
     {
@@ -168,7 +169,7 @@ impl World {
 
     /// The node that follows by a link makes a step there, with a fresh id that was never drawn. Where memory runs out for what the node
     /// gives out, it stops. Where the node itself lacks memory, it may have taken what is there of a snapshot: what it shows, its file, its
-    /// links and the book stay.
+    /// links and the book stay. At a stopped node nothing happens.
     pub fn step_dialler(&mut self, l: usize, given: Given, fresh: ReplId) -> Result<(), Refusal>
         ensures { FollowCall self.old l fresh self.new result }
     {

@@ -1,9 +1,8 @@
 // A step of the node that follows by a link, at that link.
-ghost use Rattle.std.specs.Prelude.{◌≡◌, IfNone, IfSome, OnOk, OnErr};
+ghost use Rattle.std.specs.Prelude.{◌≡◌, OnOk, OnErr};
 ghost use Rattle.mr_seen.specs.Carrying.{filed};
 ghost use Rattle.mr_seen.specs.Worlds.{IsWorld};
-ghost use Rattle.mr_world.specs.Linking.{NoneFollows};
-ghost use Rattle.mr_world.specs.Following.{FollowCall, IsFollower, heard_by};
+ghost use Rattle.mr_world.specs.Following.{FollowCall, heard_by};
 
 use crate::carry::copied;
 use crate::entry::is_spent;
@@ -12,35 +11,14 @@ use crate::parts::Parts;
 use crate::refusal::Refusal;
 use crate::slot::Slot;
 use mr_data::Given;
-use mr_links::LinkId;
 use mr_node::{NodeFault, Step};
 use mr_outs::Outs;
 use mr_repl::ReplId;
 use std::alloc::{AllocError, Global};
 
 impl Parts {
-    /// The node that follows by a link, and its name for it.
-    fn follower(&self, l: usize) -> Option<(usize, LinkId)>
-        requires { IsWorld self.now }
-        ensures some { IfSome result (λ p. IsFollower self.now l p.0 p.1) }
-        ensures none { IfNone result (NoneFollows self.now l) }
-    {
-        if l >= self.links.len() {
-            return None;
-        }
-        let Some((n, name)) = self.links[l].peer() else {
-            return None;
-        };
-        if n >= self.slots.len() {
-            return None;
-        }
-        if !self.slots[n].follows_by(l) {
-            return None;
-        }
-        Some((n, name))
-    }
-
-    /// The node that follows by a link makes a step there. What it gives out is carried; where memory runs out for that the node stops.
+    /// The node that follows by a link makes a step there. What it gives out is carried; where memory runs out for that the node stops. At a
+    /// stopped node nothing happens.
     pub(crate) fn step_dialler(
         &mut self,
         alloc: Global,
@@ -54,9 +32,12 @@ impl Parts {
         if is_spent(self.book.as_slice(), fresh) {
             return Err(Refusal::Drawn);
         }
-        let Some((n, name)) = self.follower(l) else {
+        let Some((n, name)) = self.dialler(l) else {
             return Err(Refusal::Nobody);
         };
+        if !self.slots[n].is_up() {
+            return Ok(());
+        }
         match self.slots[n].step(name, given, fresh) {
             Ok(Step::Done(outs)) => {
                 let left = self.slots[n].unread(name);

@@ -7,26 +7,20 @@ use crate::refusal::Refusal;
 use mr_node::NodeFault;
 
 impl Parts {
-    /// The node that follows by a link takes bytes that the server sent it.
+    /// The node that follows by a link takes bytes that the server sent it. At a stopped node nothing happens.
     pub(crate) fn deliver_to_dialler(&mut self, l: usize, count: usize) -> Result<(), Refusal>
         requires { IsWorld self.old }
         ensures { ListenCall self.old l count self.new result }
     {
-        if l >= self.links.len() {
-            return Err(Refusal::Nobody);
-        }
-        let link = &self.links[l];
-        let Some((n, name)) = link.peer() else {
+        let Some((n, name)) = self.dialler(l) else {
             return Err(Refusal::Nobody);
         };
-        if n >= self.slots.len() {
-            return Err(Refusal::Nobody);
-        }
-        if !self.slots[n].follows_by(l) {
-            return Err(Refusal::Nobody);
-        }
+        let link = &self.links[l];
         if !link.has_told(count) {
             return Err(Refusal::TooMuch);
+        }
+        if !self.slots[n].is_up() {
+            return Ok(());
         }
         match self.slots[n].feed(name, link.next_told(count)) {
             Ok(()) => {

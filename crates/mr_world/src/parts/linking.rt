@@ -1,9 +1,11 @@
 // Bytes that come at a node, and ends that a node closes.
+ghost use Rattle.std.specs.Prelude.{IfNone, IfSome};
 ghost use Rattle.mr_seen.specs.Worlds.{IsWorld};
-ghost use Rattle.mr_world.specs.Linking.{DeliverCall, DropCall};
+ghost use Rattle.mr_world.specs.Linking.{DeliverCall, DropCall, IsDialler, NoneFollows};
 
 use crate::parts::Parts;
 use crate::refusal::Refusal;
+use mr_links::LinkId;
 use mr_node::NodeFault;
 
 impl Parts {
@@ -42,22 +44,36 @@ impl Parts {
         }
     }
 
-    /// The node that follows by a link closes its end.
+    /// The node that dialled a link, if its end there is open, and its name for it. It may be stopped.
+    pub(crate) fn dialler(&self, l: usize) -> Option<(usize, LinkId)>
+        ensures some { IfSome result (λ p. IsDialler self.now l p.0 p.1) }
+        ensures none { IfNone result (NoneFollows self.now l) }
+    {
+        if l >= self.links.len() {
+            return None;
+        }
+        let Some((n, name)) = self.links[l].peer() else {
+            return None;
+        };
+        if n >= self.slots.len() {
+            return None;
+        }
+        if !self.slots[n].follows_by(l) {
+            return None;
+        }
+        Some((n, name))
+    }
+
+    /// The node that follows by a link closes its end. At a stopped node nothing happens.
     pub(crate) fn break_dialler(&mut self, l: usize) -> Result<(), Refusal>
         requires { IsWorld self.old }
         ensures { DropCall self.old l self.new result }
     {
-        if l >= self.links.len() {
-            return Err(Refusal::Nobody);
-        }
-        let Some((n, name)) = self.links[l].peer() else {
+        let Some((n, name)) = self.dialler(l) else {
             return Err(Refusal::Nobody);
         };
-        if n >= self.slots.len() {
-            return Err(Refusal::Nobody);
-        }
-        if !self.slots[n].follows_by(l) {
-            return Err(Refusal::Nobody);
+        if !self.slots[n].is_up() {
+            return Ok(());
         }
         self.slots[n].close(name);
         Ok(())
