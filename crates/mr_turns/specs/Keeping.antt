@@ -1,0 +1,55 @@
+-- What the file says of its node in the event loop: within turns, between them, and behind a fault.
+use Rattle.std.specs.Prelude.{◌≡◌, ◌++◌, ℕ, List, [], Bool, Some, Ok, length}
+use Rattle.mr_entries.specs.Dataset.{Dataset}
+use Rattle.mr_replay.specs.Effects.{Leads, Loads, Makes}
+use Rattle.mr_file.specs.declared.sync_mode.SyncMode.{SyncMode}
+use Rattle.mr_loop.specs.declared.fault.LoopFault.{LoopFault}
+use Rattle.mr_loop.specs.declared.told.Turn.{Turn}
+use Rattle.mr_loop.specs.Stage.{Stage}
+use Rattle.mr_loop.specs.Rows.{Went}
+use Rattle.mr_loop.specs.Outcomes.{Ends, Fails, Turns}
+
+-- The file makes a dataset, and the texts that no append has taken yet lead from there to the node's.
+pub record IsKept (s : Stage) : Type 0 where
+  pub file : List ℕ
+  pub told : s.told ≡ Some file
+  pub filed : Dataset
+  pub made : Makes file filed
+  pub waiting : Leads s.own.batch filed s.node.core.held
+
+-- The file is read whole, and as the node's dataset.
+pub record IsWhole (s : Stage) : Type 0 where
+  pub file : List ℕ
+  pub told : s.told ≡ Some file
+  pub loads : Loads file (length file) s.node.core.held
+
+-- The file makes a dataset, and behind that stands at most a beginning of texts of effects that lead on from there.
+pub record IsTorn (s : Stage) : Type 0 where
+  pub front : List ℕ
+  pub torn : List ℕ
+  pub told : s.told ≡ Some (front ++ torn)
+  pub filed : Dataset
+  pub made : Makes front filed
+  pub more : List ℕ
+  pub next : Dataset
+  pub leads : Leads (torn ++ more) filed next
+
+-- ---- where nothing waits for the file
+abbrev pub WholeFilesAreKept : Type 0
+WholeFilesAreKept = (s : Stage) → s.own.batch ≡ [] → IsWhole s → IsKept s
+
+abbrev pub KeptFilesAreWhole : Type 0
+KeptFilesAreWhole = (s : Stage) → s.own.batch ≡ [] → IsKept s → IsWhole s
+
+-- ---- whatever happens while turns go on
+abbrev pub TurnsKeep : Type 0
+TurnsKeep = (tells : Bool) (mode : SyncMode) (s t : Stage) → Went tells mode s t → IsKept s → IsKept t
+
+-- behind a turn that went well, and behind turns one after another
+abbrev pub TurnsLeaveWhole : Type 0
+TurnsLeaveWhole = (tells : Bool) (mode : SyncMode) (s t : Stage) → s.own.batch ≡ [] → t.own.batch ≡ [] → IsWhole s
+    → ((turn : Turn) → Turns tells mode (Ok turn) s t → IsWhole t) × (Ends tells mode (Ok tt) s t → IsWhole t)
+
+-- ---- behind a fault
+abbrev pub FaultsTear : Type 0
+FaultsTear = (tells : Bool) (mode : SyncMode) (why : LoopFault) (s t : Stage) → IsKept s → Fails tells mode why s t → IsTorn t

@@ -1,0 +1,31 @@
+//! What holds of the node and of its file over turns. No function here does anything: each is the law that it ensures.
+ghost use Rattle.mr_turns.specs.Calling.{TurnsCall};
+ghost use Rattle.mr_turns.specs.Keeping.{FaultsTear, KeptFilesAreWhole, TurnsKeep, TurnsLeaveWhole, WholeFilesAreKept};
+
+/// **Each call that a turn makes on its node is one of a World's events**: a client's link comes, bytes come at an end, a step, a tick, an end
+/// closes, a dial. Each is by its row, in the order in which they are made.
+pub fn turns_call()
+    ensures { TurnsCall }
+{}
+
+/// Where nothing waits for the file, as before and behind each turn, it is kept exactly where it is read whole, as the node's dataset.
+pub fn whole_files_are_kept()
+    ensures kept { WholeFilesAreKept }
+    ensures whole { KeptFilesAreWhole }
+{}
+
+/// **The file of a node that isn't stopped is its node's dataset**: whatever happens in a turn that goes on, the file, with what no append
+/// has taken yet, makes the dataset that the node has then.
+pub fn turns_keep_files()
+    ensures { TurnsKeep }
+{}
+
+/// Behind each turn that went well, and behind turns one after another, it is read whole as the node's dataset where it was before.
+pub fn turns_leave_files_whole()
+    ensures { TurnsLeaveWhole }
+{}
+
+/// Behind a fault the file makes a dataset, and behind that stands at most a beginning of texts of effects that lead on from there.
+pub fn faults_tear_files()
+    ensures { FaultsTear }
+{}
