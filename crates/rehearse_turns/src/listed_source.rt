@@ -1,0 +1,104 @@
+//! What a node is given from outside, as it is listed.
+ghost use Rattle.std.specs.Prelude.{◌≢◌};
+ghost use Rattle.mr_repl.specs.ReplId.{zero_id};
+ghost use Rattle.mr_data.specs.Given.{IsMoment};
+
+use crate::fault::RehearsalFault;
+use crate::line::{count_of, id_of};
+use mr_repl::ReplId;
+use mr_source::Source;
+use std::alloc::Global;
+use std::collections::VecDeque;
+use std::mem;
+
+/// No moment is later.
+const LAST_MOMENT: i64 = 1 << 61;
+
+/// A clock, words and ids that are listed: each call takes the next. At the end of its list the clock stands still, each word is 0,
+/// and an id is that of the number of ids that were drawn, itself among them.
+#[derive(Drop)]
+pub struct ListedSource {
+    alloc: Global,
+    moments: VecDeque<u64>,
+    words: VecDeque<u64>,
+    ids: VecDeque<ReplId>,
+    /// What the clock said last.
+    last: i64,
+    drawn: u64,
+    ghost in_range: { IsMoment last },
+}
+
+impl ListedSource {
+    /// Nothing is listed.
+    pub fn new(alloc: Global) -> ListedSource {
+        ListedSource {
+            alloc,
+            moments: VecDeque::new(alloc),
+            words: VecDeque::new(alloc),
+            ids: VecDeque::new(alloc),
+            last: 0,
+            drawn: 0,
+        }
+    }
+
+    /// The source of what was listed.
+    pub fn take(&mut self) -> ListedSource {
+        let fresh = ListedSource::new(self.alloc);
+        mem::replace(self, fresh)
+    }
+
+    pub fn list_moment(&mut self, word: &str) -> Result<(), RehearsalFault> {
+        self.moments.push_back(count_of(word)?)?;
+        Ok(())
+    }
+
+    pub fn list_word(&mut self, word: &str) -> Result<(), RehearsalFault> {
+        self.words.push_back(count_of(word)?)?;
+        Ok(())
+    }
+
+    pub fn list_id(&mut self, word: &str) -> Result<(), RehearsalFault> {
+        self.ids.push_back(id_of(word)?)?;
+        Ok(())
+    }
+}
+
+/// So many milliseconds as a moment, the last one where they are more.
+fn moment(millis: u64) -> i64
+    ensures { IsMoment result }
+{
+    if millis < LAST_MOMENT as u64 {
+        millis as i64
+    } else {
+        LAST_MOMENT
+    }
+}
+
+/// The id, or another one in the place of that of zeros.
+fn without_zeros(id: ReplId) -> ReplId
+    ensures { result ≢ zero_id }
+{
+    if id.is_zeros() {
+        return ReplId::new([1; 20]);
+    }
+    id
+}
+
+impl Source for ListedSource {
+    fn now(&mut self) -> i64 {
+        if let Some(millis) = self.moments.pop_front() {
+            self.last = moment(millis);
+        }
+        self.last
+    }
+
+    fn word(&mut self) -> u64 {
+        self.words.pop_front().unwrap_or(0)
+    }
+
+    fn id(&mut self) -> ReplId {
+        self.drawn = self.drawn.saturating_add(1);
+        let numbered = ReplId::numbered(self.drawn);
+        without_zeros(self.ids.pop_front().unwrap_or(numbered))
+    }
+}

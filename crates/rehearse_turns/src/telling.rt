@@ -1,0 +1,100 @@
+//! What a call answered, written.
+use crate::fault::RehearsalFault;
+use crate::heard::HeardLink;
+use crate::heard_wire::HeardWire;
+use mr_loop::Turn;
+use std::alloc::Global;
+use std::fmt::Display;
+
+pub fn tell(out: &mut Vec<u8>, text: &str) -> Result<(), RehearsalFault> {
+    out.extend_from_slice(text.as_bytes())?;
+    Ok(())
+}
+
+/// A space and the bytes.
+pub fn tell_bytes(alloc: Global, bytes: &[u8], out: &mut Vec<u8>) -> Result<(), RehearsalFault> {
+    if bytes.is_empty() {
+        return tell(out, " -");
+    }
+    tell(out, " ")?;
+    tell(out, hex::encode(alloc, bytes)?.as_str())
+}
+
+/// A space and what is shown.
+pub fn tell_shown<S: Display + Drop>(
+    alloc: Global,
+    shown: S,
+    out: &mut Vec<u8>,
+) -> Result<(), RehearsalFault> {
+    tell(out, format!(in alloc; " {shown}")?.as_str())
+}
+
+/// Why the loop ends.
+pub fn tell_fault<F: Display + Drop>(
+    alloc: Global,
+    fault: F,
+    out: &mut Vec<u8>,
+) -> Result<(), RehearsalFault> {
+    tell(out, format!(in alloc; "fault: {fault}")?.as_str())
+}
+
+/// What a turn counted.
+pub fn tell_turn(alloc: Global, told: Turn, out: &mut Vec<u8>) -> Result<(), RehearsalFault> {
+    tell(out, if told.halted { "halted" } else { "turned" })?;
+    tell_shown(alloc, told.steps, out)?;
+    tell_shown(alloc, told.done, out)?;
+    tell_shown(alloc, told.used, out)?;
+    tell_shown(alloc, told.deaf, out)
+}
+
+/// A link, behind a `;`: who opened it, whether it is open, how many bytes were read, what was written, and whom it was dialled to.
+pub fn tell_link(
+    alloc: Global,
+    wire: &HeardWire,
+    heard: &HeardLink,
+    out: &mut Vec<u8>,
+) -> Result<(), RehearsalFault> {
+    tell(
+        out,
+        if heard.is_dialled() {
+            ";dialled"
+        } else {
+            ";accepted"
+        },
+    )?;
+    tell_state(alloc, wire, heard, out)?;
+    match heard.peer() {
+        Some(peer) => tell_shown(alloc, peer, out),
+        None => Ok(()),
+    }
+}
+
+fn tell_state(
+    alloc: Global,
+    wire: &HeardWire,
+    heard: &HeardLink,
+    out: &mut Vec<u8>,
+) -> Result<(), RehearsalFault> {
+    let Some(link) = heard.link() else {
+        return tell(out, " failed");
+    };
+    match heard.written() {
+        Some(written) => tell_moved(alloc, " closed", heard.read(), written, out),
+        None => match wire.written(link) {
+            Some(written) => tell_moved(alloc, " open", heard.read(), written, out),
+            None => Err(RehearsalFault::Memory),
+        },
+    }
+}
+
+fn tell_moved(
+    alloc: Global,
+    state: &str,
+    read: usize,
+    written: &[u8],
+    out: &mut Vec<u8>,
+) -> Result<(), RehearsalFault> {
+    tell(out, state)?;
+    tell_shown(alloc, read, out)?;
+    tell_bytes(alloc, written, out)
+}
