@@ -33,8 +33,8 @@ class Ended(AssertionError):
 class Program:
     """The running program, which answers one line after another."""
 
-    def __init__(self, **how):
-        self.running = subprocess.Popen([built("rehearse_peers")], stdin=subprocess.PIPE, stdout=subprocess.PIPE, bufsize=0, **how)
+    def __init__(self, name="rehearse_peers", **how):
+        self.running = subprocess.Popen([built(name)], stdin=subprocess.PIPE, stdout=subprocess.PIPE, bufsize=0, **how)
         self.unread, self.nodes = b"", 0
 
     def call(self, *words):
