@@ -35,6 +35,8 @@ impl Wire for ToldWire {
 
     ghost failures = { λ w. w.wire.failed.count };
 
+    ghost waited = { λ _. 0 };
+
     fn wait(&mut self, millis: u64) -> Result<(), Failed> {
         self.wire.wait(millis)
     }

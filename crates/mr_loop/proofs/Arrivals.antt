@@ -1,13 +1,17 @@
 -- Links that are opened, read and dialled: the rows of these events, out of what the calls promise.
-use Rattle.std.proofs.Common.{◌≡◌, ℕ, List, Bool, Option, None, Result, Ok, Err, OnOk, refl, ap, subst, ◌∙◌}
+use Rattle.std.proofs.Common.{◌≡◌, ◌<◌, ◌≤◌, ◌≢◌, ◌+◌, ◌-◌, ℕ, zero, suc, List, Bool, true, length, take, Option, None, Some, Result, Ok, Err, OnOk, if◌then◌else◌, arith, refl, sym, ap, subst, ◌∙◌}
 use Rattle.std.specs.FinMap.{remove}
+use Rattle.std.proofs.lemmas.List.{length-take-le}
 use Rattle.mr_links.specs.Links.{Links}
 use Rattle.mr_links.specs.declared.link_id.LinkId.{LinkId}
+use Rattle.mr_ends.specs.State.{EndState, full, serves, unread_in}
+use Rattle.mr_ends.specs.State.EndState.{client, replica, shut, upstream}
+use Rattle.mr_file.specs.LogFile.{Rose}
 use Rattle.mr_file.specs.declared.sync_mode.SyncMode.{SyncMode}
 use Rattle.mr_outs.specs.Outs.{OutsState, outs_of}
-use Rattle.mr_rows.specs.State.{NodeState}
+use Rattle.mr_rows.specs.State.{NodeState, end_of, room_at}
 use Rattle.mr_rows.specs.LinkRows.{Dials}
-use Rattle.mr_node.specs.Calls.{FeedRow}
+use Rattle.mr_node.specs.Calls.{FeedRow, OpensNoMore}
 use Rattle.mr_node.specs.declared.fault.NodeFault.{NodeFault}
 use Rattle.mr_node.specs.declared.fault.NodeFault.TheVariants as refusal
 use Rattle.mr_wire.specs.Wire.{LinkState, AcceptsNone, Opens}
@@ -15,15 +19,15 @@ use Rattle.mr_wire.proofs.Places.{one_more, put_and_removed}
 use Rattle.mr_loop.specs.declared.fault.LoopFault.{LoopFault}
 use Rattle.mr_loop.specs.declared.fault.LoopFault.TheVariants as fault
 use Rattle.mr_loop.specs.declared.told.Turn.{Turn}
-use Rattle.mr_loop.specs.Stage.{LoopState, Stage}
-use Rattle.mr_loop.specs.Carrying.{CarriesAs}
-use Rattle.mr_loop.specs.Causes.{Calls, Dropped, at_dial}
-use Rattle.mr_loop.specs.Rows.{acts, spills, tears}
+use Rattle.mr_loop.specs.Stage.{LoopState, Stage, lacking}
+use Rattle.mr_loop.specs.Carrying.{CarriesAs, SameFile}
+use Rattle.mr_loop.specs.Causes.{Calls, Dropped, HasRoom, TurnsOff, at_dial, stays}
+use Rattle.mr_loop.specs.Rows.{TurnsAway, acts, memory_lacked, opens_no_more, spills, tears, wire_failed}
 use Rattle.mr_loop.specs.Counting.{one_where, taken}
 use Rattle.mr_loop.specs.Outcomes.{Does}
 use Rattle.mr_loop.specs.Quiet.{AllWait}
 use Rattle.mr_loop.proofs.Runs.{broke_one, still_one}
-use Rattle.mr_loop.proofs.Waiting.{all_is, carried_all, dialled_all, ended_all}
+use Rattle.mr_loop.proofs.Waiting.{all_is, carried_all, dialled_all, ended_all, none_some, some_is}
 
 -- ---- the wire
 
@@ -49,12 +53,84 @@ fed_none a b l bytes count refusal.Stopped row = row.1
 fed_none a b l bytes count refusal.NoLink row = row.2
 fed_none a b l bytes count refusal.InputFull row = row.1
 
--- .. so that what is dropped then is dropped of it
-pub dropped_of : {socket : LinkId} {link : Option LinkId} (s t : Stage) (b : NodeState) → b ≡ s.node → Dropped socket link (record s { node = b }) t → Dropped socket link s t
-dropped_of {socket} {link} s t b e d = subst (λ n. Dropped socket link (record s { node = n }) t) e d
-
 pub dropped_all : {socket : LinkId} {link : Option LinkId} {s t : Stage} → Dropped socket link s t → AllWait s.node → AllWait t.node
 dropped_all {socket} {link} {s} {t} d q = all_is d.node (ended_all link s.node q)
+
+-- What is dropped of what the node and the loop's own state became is dropped of these.
+pub dropped_from : {socket : LinkId} {link : Option LinkId} (s t : Stage) (b : NodeState) (o p : LoopState) → b ≡ s.node → o ≡ p → Dropped socket link (record s { node = b; own = o }) t → Dropped socket link (record s { own = p }) t
+dropped_from {socket} {link} s t b o p e f d = subst (λ x. Dropped socket link (record s { own = x }) t) f (subst (λ n. Dropped socket link (record s { node = n; own = o }) t) e d)
+
+-- ---- what was read, and refused
+
+positive : (n : ℕ) → n ≢ 0 → 0 < n
+positive zero some = absurd (some refl)
+positive (suc n) some = omega arith
+
+-- an end that takes so many bytes isn't full
+too_much : (e : EndState) (count room : ℕ) → room_at (Some e) ≡ Some room → serves e ≡ true → full < length (unread_in e) + count → count ≤ room → 0 < count → ⊥
+too_much (client u) count room is served over fits some = let left : full - length u ≡ room = some_is (full - length u) room is in omega (arith, left, over, fits, some)
+too_much (replica u) count room is served over fits some = let left : full - length u ≡ room = some_is (full - length u) room is in omega (arith, left, over, fits, some)
+too_much upstream count room is served over fits some = cc
+too_much shut count room is served over fits some = cc
+
+-- Where the node had room, what refuses bytes is that memory is lacking.
+pub fed_lacks : (a b : NodeState) (l : LinkId) (bytes : List ℕ) (count : ℕ) (why : NodeFault) → HasRoom a l count → 0 < count → FeedRow a l bytes count b (Err why) → FeedRow a l bytes count a (Err refusal.Memory)
+fed_lacks a b l bytes count refusal.Memory room some row = (row.0, row.1, row.2, row.3, row.4, refl)
+fed_lacks a b l bytes count refusal.Stopped room some row = absurd (none_some room.room (sym (ap (λ u. if u then room_at (end_of a l) else None) row.0) ∙ room.is))
+fed_lacks a b l bytes count refusal.NoLink room some row = absurd (none_some room.room (sym (ap (λ u. if u then room_at (end_of a l) else None) row.0 ∙ ap room_at row.1) ∙ room.is))
+fed_lacks a b l bytes count refusal.InputFull room some row =
+    let here = sym (ap (λ u. if u then room_at (end_of a l) else None) row.0.up ∙ ap room_at row.0.found) ∙ room.is in absurd (too_much row.0.end count room.room here row.0.served row.0.over room.fits some)
+
+-- .. of bytes that were read, where it had room for all that may be
+pub fed_refused : (a b : NodeState) (l : LinkId) (count : ℕ) (buffer : List ℕ) (why : NodeFault) → HasRoom a l (length buffer) → count ≤ length buffer → count ≢ 0
+    → FeedRow a l (take count buffer) (length (take count buffer)) b (Err why) → FeedRow a l (take count buffer) (length (take count buffer)) a (Err refusal.Memory)
+fed_refused a b l count buffer why room within some row =
+    let all : length (take count buffer) ≡ count = length-take-le count buffer within in
+    let few : HasRoom a l (length (take count buffer)) = record { room = room.room; is = room.is; fits = omega (arith, all, within, room.fits) } in
+    let any : 0 < length (take count buffer) = omega (arith, all, positive count some) in
+    fed_lacks a b l (take count buffer) (length (take count buffer)) why few any row
+
+-- as many bytes as were read
+pub room_for : (a : NodeState) (l : LinkId) (count most : ℕ) → HasRoom a l most → count ≤ most → HasRoom a l count
+room_for a l count most room within = record { room = room.room; is = room.is; fits = omega (arith, room.fits, within) }
+
+-- ---- no connection comes of a link
+
+own_lacked : (o p : LoopState) (k : ℕ) → p ≡ record o { lacked = k } → p ≡ record o { lacked = p.lacked }
+own_lacked o p k e = e ∙ ap (λ n. record o { lacked = n }) (sym (ap (λ (z : LoopState). z.lacked) e))
+
+-- since memory ran out
+pub lacks_row : {s t : Stage} → AcceptsNone s.wire t.wire → s.failed ≤ t.failed → TurnsOff s.node t.node → t.own ≡ lacking s.own → SameFile s t → TurnsAway s t
+lacks_row {s} {t} wire later node own file = record {
+  wire = wire;
+  later = later;
+  node = node;
+  own = own_lacked s.own t.own _ own;
+  why = memory_lacked (ap (λ (z : LoopState). z.lacked) own);
+  file = file;
+}
+
+-- .. or the wire failed
+pub failed_row : {s t : Stage} → AcceptsNone s.wire t.wire → Rose s.failed t.failed → s.failed ≤ t.failed → t.node ≡ s.node → t.own ≡ s.own → SameFile s t → TurnsAway s t
+failed_row {s} {t} wire rose later node own file = record {
+  wire = wire;
+  later = later;
+  node = stays node;
+  own = own_lacked s.own t.own s.own.lacked own;
+  why = wire_failed rose node (ap (λ (z : LoopState). z.lacked) own);
+  file = file;
+}
+
+-- .. or the node opens no more
+pub full_row : {s t : Stage} (stopped : NodeState) → AcceptsNone s.wire t.wire → s.failed ≤ t.failed → OpensNoMore s.node stopped → t.node ≡ s.node → t.own ≡ s.own → SameFile s t → TurnsAway s t
+full_row {s} {t} stopped wire later opens node own file = record {
+  wire = wire;
+  later = later;
+  node = stays node;
+  own = own_lacked s.own t.own s.own.lacked own;
+  why = opens_no_more stopped opens node (ap (λ (z : LoopState). z.lacked) own);
+  file = file;
+}
 
 -- ---- the link to the master
 

@@ -41,7 +41,7 @@ pub carried_core : (outs : List OutState) (s t : Stage) → Carried outs s t →
 carried_core outs s t c = carried_by (λ (z : Stage). z.node.core ≡ s.node.core) (λ out a b h p. carries_core out a b h ∙ p) outs s t c refl
 
 pub spilled_wire : (outs : List OutState) (s t : Stage) → Spilled outs s t → t.wire ≡ s.wire
-spilled_wire outs s t c = carried_wire c.done s t c.carried
+spilled_wire outs s t c = ap (λ (z : Stage). z.wire) c.lacks ∙ carried_wire c.done s c.before c.carried
 
 pub torn_wire : (outs : List OutState) (s t : Stage) → Torn outs s t → t.wire ≡ s.wire
 torn_wire outs s t c = c.wire ∙ carried_wire c.done s c.before c.carried

@@ -12,6 +12,7 @@ pub mod Same
 pub mod Sending
 pub mod Stepped
 pub mod Ticks
+pub mod Touching
 pub mod Turned
 pub mod Waiting
 pub mod Wired

@@ -22,7 +22,7 @@ use Rattle.mr_node.specs.declared.step.Step.{Step}
 use Rattle.mr_node.specs.declared.step.Step.TheVariants as step
 use Rattle.mr_loop.specs.Stage.{Stage}
 use Rattle.mr_loop.specs.Causes.{Act, Calls, Dropped, Stepped, TurnsOff, at_dial, at_step, at_tick, ended_at, dials_and_closes, opens_and_closes, stays}
-use Rattle.mr_loop.specs.Rows.{Event, fault_of, Happens, Run, Went, acts, appends, breaks, closes, fails, finds_none, hears_end, idles, is_deaf, is_refused, joins, loses, misses, misses_dial, misses_tick, settles, spills, stops, takes, tears, turns_away, writes}
+use Rattle.mr_loop.specs.Rows.{Event, fault_of, Happens, Run, Went, acts, appends, breaks, closes, fails, finds_none, hears_end, idles, is_deaf, is_refused, joins, loses, misses, misses_dial, misses_tick, settles, spills, stops, takes, tears, turns_away, waits, writes}
 use Rattle.mr_loop.proofs.Carried.{carried_core}
 use Rattle.mr_loop.proofs.Halting.{no_fault}
 
@@ -140,6 +140,7 @@ called_up (at_dial socket link) s m outs c = ap is_up c.dials.node
 
 module _ (tells : Bool) (mode : SyncMode) where
   still_up : (e : Event) (s t : Stage) → fault_of e ≡ None → Happens tells mode s e t → t.node.core.up ≡ s.node.core.up
+  still_up waits s t goes_on h = ap (λ (z : Stage). z.node.core.up) h.is
   still_up (joins socket link) s t goes_on h = ap is_up h.node.node
   still_up turns_away s t goes_on h = off_up s.node t.node h.node
   still_up (takes socket bytes) s t goes_on h = by_core h.node.feeds.core
@@ -158,7 +159,7 @@ module _ (tells : Bool) (mode : SyncMode) where
   still_up (closes socket) s t goes_on h = dropped_up h.dropped
   still_up (appends texts) s t goes_on h = by_node h.node
   still_up fails s t goes_on h = absurd (no_fault goes_on)
-  still_up (misses_tick given) s t goes_on h = ap (λ (z : Stage). z.node.core.up) h
+  still_up (misses_tick given) s t goes_on h = ap (λ (z : Stage). z.node.core.up) h.is
   still_up misses_dial s t goes_on h = off_up s.node t.node h.node
   still_up (settles hurries) s t goes_on h = ap (λ (z : Stage). z.node.core.up) h.is
   still_up stops s t goes_on h = absurd (no_fault goes_on)

@@ -20,11 +20,8 @@ use Rattle.mr_node.specs.declared.step.Step.{Step}
 use Rattle.mr_node.specs.declared.step.Step.TheVariants as step
 use Rattle.mr_loop.specs.declared.fault.LoopFault.{LoopFault}
 use Rattle.mr_loop.specs.declared.fault.LoopFault.TheVariants as fault
-use Rattle.mr_loop.specs.declared.host.Host.{Host}
-use Rattle.mr_loop.specs.declared.moment.Moment.{Moment}
 use Rattle.mr_loop.specs.declared.told.Turn.{Turn}
-use Rattle.mr_loop.specs.Hosts.{IsSame}
-use Rattle.mr_loop.specs.Stage.{Stage, LoopState, filed, stage, with_connections}
+use Rattle.mr_loop.specs.Stage.{Stage, LoopState, filed, lacking, stage, with_connections}
 use Rattle.mr_loop.specs.Carrying.{Carries, Carried, CarriesAs, CarriesOneAs, Spilled, WantsRoom}
 use Rattle.mr_loop.specs.Causes.{Act, Calls, HasInput, IsLight, Stepped, at_step}
 use Rattle.mr_loop.specs.Rows.{Event, Happens, acts, fault_of, spills, tears}
@@ -41,11 +38,6 @@ use Rattle.mr_loop.proofs.Waiting.{all_is, closed_waits, others_is, some_is}
 renewed : {A : Type 0} (x y z : MutBor A) → y ≡ record x { now = y.now } → z ≡ record y { now = z.now } → z ≡ record x { now = z.now }
 renewed {A} x y z e f = f ∙ ap (λ (b : MutBor A). record b { now = z.now }) e
 
-module _ {W F S : Type 0} where
-  -- the node and where chance comes from, changed in place
-  pub same_stepped : (a : Host W F S) (n : NodeState) (s : S) (m : Moment) → m.time ≡ a.moment.time → IsSame a (record a { node = record a.node { now = n }; source = record a.source { now = s }; moment = m })
-  same_stepped a n s m time = record { node = refl; own = refl; wire = refl; log = refl; source = refl; time = time; mode = refl }
-
 -- ---- one out
 
 pub carried_one : (out : OutState) (s t : Stage) → Carries out s t → Carried (out ∷ []) s t
@@ -56,14 +48,14 @@ pub carries_seen : (r : Result (Unit {0}) LoopFault) (x out : OutState) (s t : S
 carries_seen r x out s t e c = subst (λ y. CarriesOneAs r y s t) (sym e) c
 
 -- room was found for what waits, or the loop ends
-spilled_one : (out : OutState) (s t : Stage) → WantsRoom out → t ≡ s → Spilled (out ∷ []) s t
-spilled_one out s t wants same = record { done = []; last = out; rest = []; are = refl; carried = same; wants = wants }
+spilled_one : (out : OutState) (s t : Stage) → WantsRoom out → t ≡ record s { own = lacking s.own } → Spilled (out ∷ []) s t
+spilled_one out s t wants lacks = record { done = []; last = out; rest = []; are = refl; before = s; carried = refl; wants = wants; lacks = lacks }
 
 err_out : (e : LoopFault) (out : OutState) (s t : Stage) → e ≡ fault.Stopped → Spilled (out ∷ []) s t → CarriesOneAs (Err e) out s t
 err_out e out s t is spilled = subst (λ z. CarriesOneAs (Err z) out s t) (sym is) spilled
 
 kept_as : (out : OutState) (s : Stage) (o : LoopState) (p : LoopState) (q : Result (Unit {0}) AllocError) (r : Result (Unit {0}) LoopFault) → WantsRoom out → ((x : LoopState) → x ≡ p → Carries out s (record s { own = x }))
-    → OnOk q (o ≡ p) → OnErr q (o ≡ s.own) → OnOk r (OnErr q ⊥) → OnErr r (OnOk q ⊥) → IfErr r (λ e. e ≡ fault.Stopped) → CarriesOneAs r out s (record s { own = o })
+    → OnOk q (o ≡ p) → OnErr q (o ≡ lacking s.own) → OnOk r (OnErr q ⊥) → OnErr r (OnOk q ⊥) → IfErr r (λ e. e ≡ fault.Stopped) → CarriesOneAs r out s (record s { own = o })
 kept_as out s o p (Ok _) (Ok _) wants carries ok err well ill is = carried_one out s (record s { own = o }) (carries o ok)
 kept_as out s o p (Err _) (Ok _) wants carries ok err well ill is = absurd well
 kept_as out s o p (Ok _) (Err e) wants carries ok err well ill is = absurd ill
@@ -77,21 +69,21 @@ one_out x out s t e c = (t, subst (λ y. Carries y s t) (sym e) c, refl)
 pub own_out : (x out : OutState) (s : Stage) (p o : LoopState) → x ≡ out → Carries out s (record s { own = p }) → o ≡ p → (mid : Stage) × Carries x s mid × (record s { own = o } ≡ mid)
 own_out x out s p o e c is = (record s { own = p }, subst (λ y. Carries y s (record s { own = p })) (sym e) c, ap (λ (z : LoopState). record s { own = z }) is)
 
-stages : (s t : Stage) → t.node ≡ s.node → t.own ≡ s.own → t.wire ≡ s.wire → t.told ≡ s.told → t.synced ≡ s.synced → t ≡ s
-stages s t node own wire told synced =
-    ap (λ n. stage n t.own t.wire t.told t.synced) node ∙ (ap (λ o. stage s.node o t.wire t.told t.synced) own ∙ (ap (λ w. stage s.node s.own w t.told t.synced) wire
-    ∙ (ap (λ f. stage s.node s.own s.wire f t.synced) told ∙ ap (λ y. stage s.node s.own s.wire s.told y) synced)))
+stages : (s t : Stage) → t.node ≡ s.node → t.own ≡ s.own → t.wire ≡ s.wire → t.failed ≡ s.failed → t.told ≡ s.told → t.synced ≡ s.synced → t ≡ s
+stages s t node own wire failed told synced =
+    ap (λ n. stage n t.own t.wire t.failed t.told t.synced) node ∙ (ap (λ o. stage s.node o t.wire t.failed t.told t.synced) own ∙ (ap (λ w. stage s.node s.own w t.failed t.told t.synced) wire
+    ∙ (ap (λ k. stage s.node s.own s.wire k t.told t.synced) failed ∙ (ap (λ f. stage s.node s.own s.wire s.failed f t.synced) told ∙ ap (λ y. stage s.node s.own s.wire s.failed s.told y) synced))))
 
-pub closed_as : (x : OutState) (link : LinkId) (s t : Stage) → x ≡ close link → t.node ≡ closed_at link s.node → t.own ≡ with_connections (parted link) s.own → t.wire ≡ s.wire → t.told ≡ s.told → t.synced ≡ s.synced
+pub closed_as : (x : OutState) (link : LinkId) (s t : Stage) → x ≡ close link → t.node ≡ closed_at link s.node → t.own ≡ with_connections (parted link) s.own → t.wire ≡ s.wire → t.failed ≡ s.failed → t.told ≡ s.told → t.synced ≡ s.synced
     → (mid : Stage) × Carries x s mid × (t ≡ mid)
-closed_as x link s t e node own wire told synced = one_out x (close link) s t e (stages (record s { own = with_connections (parted link) s.own; node = closed_at link s.node }) t node own wire told synced)
+closed_as x link s t e node own wire failed told synced = one_out x (close link) s t e (stages (record s { own = with_connections (parted link) s.own; node = closed_at link s.node }) t node own wire failed told synced)
 
 pub appended_as : (x : OutState) (texts : List ℕ) (s : Stage) (o : LoopState) (q : Result (Unit {0}) AllocError) (r : Result (Unit {0}) LoopFault) → x ≡ append texts
-    → OnOk q (o ≡ filed texts s.own) → OnErr q (o ≡ s.own) → OnOk r (OnErr q ⊥) → OnErr r (OnOk q ⊥) → IfErr r (λ e. e ≡ fault.Stopped) → CarriesOneAs r x s (record s { own = o })
+    → OnOk q (o ≡ filed texts s.own) → OnErr q (o ≡ lacking s.own) → OnOk r (OnErr q ⊥) → OnErr r (OnOk q ⊥) → IfErr r (λ e. e ≡ fault.Stopped) → CarriesOneAs r x s (record s { own = o })
 appended_as x texts s o q r e ok err well ill is = carries_seen r x (append texts) s (record s { own = o }) e (kept_as (append texts) s o (filed texts s.own) q r tt (λ y same. ap (λ (z : LoopState). record s { own = z }) same) ok err well ill is)
 
 pub sent_as : (x : OutState) (link : LinkId) (bytes : List ℕ) (s : Stage) (o : LoopState) (q : Result (Unit {0}) AllocError) (r : Result (Unit {0}) LoopFault) → x ≡ send link bytes
-    → OnOk q (o ≡ with_connections (sent link bytes) s.own) → OnErr q (o ≡ s.own) → OnOk r (OnErr q ⊥) → OnErr r (OnOk q ⊥) → IfErr r (λ e. e ≡ fault.Stopped) → CarriesOneAs r x s (record s { own = o })
+    → OnOk q (o ≡ with_connections (sent link bytes) s.own) → OnErr q (o ≡ lacking s.own) → OnOk r (OnErr q ⊥) → OnErr r (OnOk q ⊥) → IfErr r (λ e. e ≡ fault.Stopped) → CarriesOneAs r x s (record s { own = o })
 sent_as x link bytes s o q r e ok err well ill is = carries_seen r x (send link bytes) s (record s { own = o }) e (kept_as (send link bytes) s o (with_connections (sent link bytes) s.own) q r tt (λ y same. ap (λ (z : LoopState). record s { own = z }) same) ok err well ill is)
 
 -- ---- all outs
@@ -140,14 +132,17 @@ fails_so_far fault.File all rest later out s t u e so torn = record {
   own = torn.own;
   node = torn.node;
   wire = torn.wire;
+  failed = torn.failed;
 }
 fails_so_far fault.Stopped all rest later out s t u e so spilled = record {
   done = so.done ++ spilled.done;
   last = spilled.last;
   rest = spilled.rest ++ later;
   are = broken_at all so.done rest later (out ∷ []) spilled.done spilled.rest spilled.last so.are e spilled.are;
-  carried = carried_append so.done spilled.done s t u so.carried spilled.carried;
+  before = spilled.before;
+  carried = carried_append so.done spilled.done s t spilled.before so.carried spilled.carried;
   wants = spilled.wants;
+  lacks = spilled.lacks;
 }
 fails_so_far fault.Listener all rest later out s t u e so never = absurd never
 

@@ -1,13 +1,14 @@
 -- Events one after another, what is counted in them, and what a fault leaves.
-use Rattle.std.proofs.Common.{◌≡◌, Bool, List, [], ◌∷◌, ◌++◌, ℕ, zero, suc, ◌+◌, arith, None, Some, Result, Ok, Err, refl, sym, ap, subst, ◌∙◌}
+use Rattle.std.proofs.Common.{◌≡◌, ◌<◌, ◌≤◌, inl, inr, Bool, true, false, List, [], ◌∷◌, ◌++◌, ℕ, ℤ, zero, suc, ◌+◌, arith, None, Some, Result, Ok, Err, refl, sym, ap, subst, ◌∙◌}
+use Rattle.mr_file.specs.LogFile.{Rose}
 use Rattle.mr_file.specs.declared.sync_mode.SyncMode.{SyncMode}
 use Rattle.mr_loop.specs.declared.fault.LoopFault.{LoopFault}
 use Rattle.mr_loop.specs.declared.fault.LoopFault.TheVariants as fault
 use Rattle.mr_loop.specs.declared.told.Turn.{Turn}
 use Rattle.mr_loop.specs.Stage.{Stage}
-use Rattle.mr_loop.specs.Rows.{Event, fault_of, Happens, IsToldToStop, Run, Went, spills, tears, fails, stops}
-use Rattle.mr_loop.specs.Counting.{calls_by, uses_by, ids_by, deaf_by, ticks_by, counted, raised, sum_in, CountsOn, CountsStill}
-use Rattle.mr_loop.specs.Outcomes.{Broke, Does, Ends, Fails, Serves}
+use Rattle.mr_loop.specs.Rows.{Event, fault_of, Happens, HasWaited, IsToldToStop, Run, Went, spills, tears, fails, stops, waits}
+use Rattle.mr_loop.specs.Counting.{calls_by, uses_by, ids_by, deaf_by, ticks_by, counted, raised, sum_in, CountsOn, CountsStill, TellsOf}
+use Rattle.mr_loop.specs.Outcomes.{BreaksDown, Broke, Does, Ends, Fails, HasTurned, Serves, Turns, TurnsOn}
 
 pub run_append : (tells : Bool) (mode : SyncMode) (xs ys : List Event) (a b c : Stage) → Run tells mode a xs b → Run tells mode b ys c → Run tells mode a (xs ++ ys) c
 run_append tells mode [] ys a b c r q = subst (λ x. Run tells mode x ys c) r q
@@ -141,15 +142,67 @@ breaks_down fault.Listener broke stopped = absurd (no_listener broke.last broke.
 breaks_down {tells} {mode} {s} {b} {t} fault.File broke stopped = record { behind = b; broke = broke; stopped = stopped }
 breaks_down {tells} {mode} {s} {b} {t} fault.Stopped broke stopped = record { behind = b; broke = broke; stopped = stopped }
 
--- ---- turns one after another
+-- ---- the wait before a turn
 
--- turns that went on, and one that answers a fault
-pub serves_behind : {tells : Bool} {s b t : Stage} (m n : SyncMode) (r : Result (Unit {0}) LoopFault) (why : LoopFault) → r ≡ Err why → m ≡ n → Went tells n s b → Fails tells m why b t → Serves tells n r s t
-serves_behind {tells} {s} {b} {t} m n r why told mode went turn = record {
-  before = b;
-  went = went;
-  last = subst (λ (z : Result (Unit {0}) LoopFault). Ends tells n z b t) (sym told) (subst (λ k. Fails tells k why b t) mode turn);
+rose_later : {a b c : ℕ} → a ≤ b → Rose b c → Rose a c
+rose_later later (inl more) = inl (omega (arith, later, more))
+rose_later later (inr most) = inr most
+
+still_zero : (f : Event → ℕ) (e : Event) (es : List Event) → f e ≡ 0 → sum_in f (e ∷ es) ≡ sum_in f es
+still_zero f e es none = omega (arith, none)
+
+abbrev waited_went : {tells : Bool} {mode : SyncMode} {s m t : Stage} → HasWaited s m → Went tells mode m t → Went tells mode s t
+waited_went {tells} {mode} {s} {m} {t} first w = record { events = waits ∷ w.events; run = (m, refl, first, w.run) }
+
+waited_down : {tells : Bool} {mode : SyncMode} {why : LoopFault} {s m t : Stage} → HasWaited s m → BreaksDown tells mode why m t → BreaksDown tells mode why s t
+waited_down first h = record {
+  behind = h.behind;
+  broke = record { before = h.broke.before; went = waited_went first h.broke.went; last = h.broke.last; told = h.broke.told; happens = h.broke.happens };
+  stopped = h.stopped;
 }
 
-pub serves_on : {tells : Bool} {mode : SyncMode} {s t : Stage} → Went tells mode s t → Serves tells mode (Ok tt) s t
-serves_on {tells} {mode} {s} {t} went = record { before = s; went = went_nowhere s; last = went }
+pub waited_turns : (tells : Bool) (mode : SyncMode) (now : ℤ) (s m t : Stage) (r : Result Turn LoopFault) → HasWaited s m → Turns tells mode now r m t → Turns tells mode now r s t
+waited_turns tells mode now s m t (Ok turn) first h = record {
+  went = waited_went first h.went;
+  steps_are = h.steps_are ∙ ap counted (sym (still_zero calls_by waits h.went.events refl));
+  done_are = h.done_are ∙ ap counted (sym (still_zero uses_by waits h.went.events refl));
+  used_are = h.used_are ∙ ap counted (sym (still_zero ids_by waits h.went.events refl));
+  deaf_are = h.deaf_are ∙ ap counted (sym (still_zero deaf_by waits h.went.events refl));
+  ticked = omega (arith, h.ticked, still_zero ticks_by waits h.went.events refl);
+  few = omega (arith, h.few, still_zero ticks_by waits h.went.events refl);
+  at = (tt, h.at);
+  keeps_up = λ due. let kept = h.keeps_up due in (still_zero ticks_by waits h.went.events refl ∙ kept.0, kept.1);
+  halted = h.halted;
+}
+waited_turns tells mode now s m t (Err fault.Listener) first h = record {
+  rose = rose_later first.later h.rose;
+  is = h.is ∙ ap (λ (z : Stage). record z { failed = t.failed }) first.is;
+}
+waited_turns tells mode now s m t (Err fault.File) first h = waited_down first h
+waited_turns tells mode now s m t (Err fault.Stopped) first h = waited_down first h
+
+-- ---- turns one after another
+
+pub has_turned : {tells halted : Bool} {now : ℤ} {turn : Turn} {s t : Stage} (m n : SyncMode) → m ≡ n → TellsOf tells m now turn s t → turn.halted ≡ halted → HasTurned tells n halted s t
+has_turned {tells} {halted} {now} {turn} {s} {t} m n mode h is = record { now = now; turn = turn; tells_of = subst (λ k. TellsOf tells k now turn s t) mode h; is = is }
+
+-- one turn more
+pub turned_on : {tells : Bool} {mode : SyncMode} {m t : Stage} (s : Stage) (n k : ℕ) → k ≡ suc n → TurnsOn tells mode n s m → HasTurned tells mode false m t → TurnsOn tells mode k s t
+turned_on {tells} {mode} {m} {t} s n k e went turned = subst (λ z. TurnsOn tells mode z s t) (sym e) (m, went, turned)
+
+-- all were made
+pub serves_all : {tells : Bool} {mode : SyncMode} {s t : Stage} (turns count : ℕ) → count ≡ turns → TurnsOn tells mode count s t → Serves tells mode turns (Ok tt) s t
+serves_all {tells} {mode} {s} {t} turns count all went = record { count = count; before = t; went = went; last = inl (all, refl) }
+
+-- .. or a client asked in one that the program end
+pub serves_halted : {tells : Bool} {mode : SyncMode} {s b t : Stage} (turns count : ℕ) → count < turns → TurnsOn tells mode count s b → HasTurned tells mode true b t → Serves tells mode turns (Ok tt) s t
+serves_halted {tells} {mode} {s} {b} {t} turns count few went turned = record { count = count; before = b; went = went; last = inr (few, turned) }
+
+-- .. or one met a fault
+pub serves_behind : {tells : Bool} {s t : Stage} (b : Stage) (m n : SyncMode) (turns count : ℕ) (r : Result (Unit {0}) LoopFault) (why : LoopFault) → r ≡ Err why → m ≡ n → count < turns → TurnsOn tells n count s b → Fails tells m why b t → Serves tells n turns r s t
+serves_behind {tells} {s} {t} b m n turns count r why told mode few went turn = record {
+  count = count;
+  before = b;
+  went = went;
+  last = subst (λ (z : Result (Unit {0}) LoopFault). Ends tells n turns count z b t) (sym told) (few, subst (λ k. Fails tells k why b t) mode turn);
+}

@@ -20,7 +20,7 @@ use Rattle.mr_loop.specs.declared.fault.LoopFault.{LoopFault}
 use Rattle.mr_loop.specs.Stage.{Stage, LoopState, connection_at, with_connections}
 use Rattle.mr_loop.specs.Carrying.{Carries, Carried, IsRewritten, SameFile}
 use Rattle.mr_loop.specs.Causes.{Act, Calls, at_dial, at_step, at_tick}
-use Rattle.mr_loop.specs.Rows.{Event, fault_of, Happens, IsAppended, Run, acts, appends, breaks, closes, fails, finds_none, hears_end, idles, is_deaf, is_refused, joins, loses, misses, misses_dial, misses_tick, settles, spills, stops, takes, tears, turns_away, writes}
+use Rattle.mr_loop.specs.Rows.{Event, fault_of, Happens, IsAppended, Run, acts, appends, breaks, closes, fails, finds_none, hears_end, idles, is_deaf, is_refused, joins, loses, misses, misses_dial, misses_tick, settles, spills, stops, takes, tears, turns_away, waits, writes}
 use Rattle.mr_loop.specs.Sent.{drops, filed_by, filed_in, files, moved_by, moved_in, parts, parts_with, sends, sent_by, sent_in, StaysIn, IsInOrder, GoesOutInOrder, IsSyncedWhole, IsFiledFirst, IsSentOnceFiled, IsSilent, IsSilentBehindFaults}
 use Rattle.mr_loop.proofs.Carried.{carried_by, spilled_wire, torn_wire}
 use Rattle.mr_loop.proofs.Halting.{no_fault}
@@ -212,6 +212,7 @@ by_stage e = ap (λ (z : Stage). z.own.connections) e
 
 module _ (tells : Bool) (mode : SyncMode) where
   pub kept : (e : Event) (s t : Stage) (k : LinkId) (c : ConnectionState) → connection_at s.own k ≡ Some c → fault_of e ≡ None → drops k e ≡ false → Happens tells mode s e t → Kept k c e t.own
+  kept waits s t k c here goes_on stays h = same_own waits s.own t.own k c here (by_stage h.is) refl (λ l. refl) (λ l. refl)
   kept (joins j l) s t k c here goes_on stays h = unchanged k c (joins j l) t.own (begun_other s.own t.own j k (begun l) c h.fresh here h.connections) refl (λ l. refl) (λ l. refl)
   kept turns_away s t k c here goes_on stays h = same_own turns_away s.own t.own k c here (by_own h.own) refl (λ l. refl) (λ l. refl)
   kept (takes j bytes) s t k c here goes_on stays h = same_own (takes j bytes) s.own t.own k c here (by_own h.own) refl (λ l. refl) (λ l. refl)
@@ -230,7 +231,7 @@ module _ (tells : Bool) (mode : SyncMode) where
   kept (closes j) s t k c here goes_on stays h = unchanged k c (closes j) t.own (dropped_other s.own t.own j k c here stays h.dropped.connections) refl (λ l. refl) (λ l. refl)
   kept (appends texts) s t k c here goes_on stays h = same_own (appends texts) s.own t.own k c here (by_own h.own) refl (λ l. refl) (λ l. refl)
   kept fails s t k c here goes_on stays h = absurd (no_fault goes_on)
-  kept (misses_tick given) s t k c here goes_on stays h = same_own (misses_tick given) s.own t.own k c here (by_stage h) refl (λ l. refl) (λ l. refl)
+  kept (misses_tick given) s t k c here goes_on stays h = same_own (misses_tick given) s.own t.own k c here (by_stage h.is) refl (λ l. refl) (λ l. refl)
   kept misses_dial s t k c here goes_on stays h = same_own misses_dial s.own t.own k c here (by_own h.own) refl (λ l. refl) (λ l. refl)
   kept (settles hurries) s t k c here goes_on stays h = same_own (settles hurries) s.own t.own k c here (by_stage h.is) refl (λ l. refl) (λ l. refl)
   kept stops s t k c here goes_on stays h = absurd (no_fault goes_on)
@@ -358,6 +359,7 @@ batch_of e = ap (λ (z : LoopState). z.batch) e
 
 module _ (tells : Bool) (mode : SyncMode) where
   filed : (e : Event) (s t : Stage) (xs : List ℕ) → fault_of e ≡ None → Happens tells mode s e t → Holds s xs → Holds t (filed_by e xs)
+  filed waits s t xs goes_on h held = holds_same s t xs (ap (λ (z : Stage). z.told) h.is) (ap (λ (z : Stage). z.own.batch) h.is) held
   filed (joins j l) s t xs goes_on h held = holds_same s t xs h.file.0 h.batch held
   filed turns_away s t xs goes_on h held = holds_same s t xs h.file.0 (batch_of h.own) held
   filed (takes j bytes) s t xs goes_on h held = holds_same s t xs h.file.0 (batch_of h.own) held
@@ -376,7 +378,7 @@ module _ (tells : Bool) (mode : SyncMode) where
   filed (closes j) s t xs goes_on h held = holds_same s t xs h.dropped.file.0 h.dropped.batch held
   filed (appends texts) s t xs goes_on h held = appended_holds mode texts s t xs h held
   filed fails s t xs goes_on h held = absurd (no_fault goes_on)
-  filed (misses_tick given) s t xs goes_on h held = holds_is s t xs h held
+  filed (misses_tick given) s t xs goes_on h held = holds_same s t xs (ap (λ (z : Stage). z.told) h.is) (ap (λ (z : Stage). z.own.batch) h.is) held
   filed misses_dial s t xs goes_on h held = holds_same s t xs h.file.0 (batch_of h.own) held
   filed (settles hurries) s t xs goes_on h held = holds_same s t xs (ap (λ (z : Stage). z.told) h.is) (ap (λ (z : Stage). z.own.batch) h.is) held
   filed stops s t xs goes_on h held = absurd (no_fault goes_on)
@@ -387,6 +389,7 @@ module _ (tells : Bool) (mode : SyncMode) where
 
 module _ (tells : Bool) where
   synced_kept : (e : Event) (s t : Stage) → fault_of e ≡ None → Happens tells sync.Always s e t → IsSyncedWhole s → IsSyncedWhole t
+  synced_kept waits s t goes_on h whole = synced_same s t (ap (λ (z : Stage). z.told) h.is, ap (λ (z : Stage). z.synced) h.is) (ap (λ (z : Stage). z.own.batch) h.is) whole
   synced_kept (joins j l) s t goes_on h whole = synced_same s t h.file h.batch whole
   synced_kept turns_away s t goes_on h whole = synced_same s t h.file (batch_of h.own) whole
   synced_kept (takes j bytes) s t goes_on h whole = synced_same s t h.file (batch_of h.own) whole
@@ -405,7 +408,7 @@ module _ (tells : Bool) where
   synced_kept (closes j) s t goes_on h whole = synced_same s t h.dropped.file h.dropped.batch whole
   synced_kept (appends texts) s t goes_on h whole = λ none. h.synced refl
   synced_kept fails s t goes_on h whole = absurd (no_fault goes_on)
-  synced_kept (misses_tick given) s t goes_on h whole = subst IsSyncedWhole (sym h) whole
+  synced_kept (misses_tick given) s t goes_on h whole = synced_same s t (ap (λ (z : Stage). z.told) h.is, ap (λ (z : Stage). z.synced) h.is) (ap (λ (z : Stage). z.own.batch) h.is) whole
   synced_kept misses_dial s t goes_on h whole = synced_same s t h.file (batch_of h.own) whole
   synced_kept (settles hurries) s t goes_on h whole = synced_same s t (ap (λ (z : Stage). z.told) h.is, ap (λ (z : Stage). z.synced) h.is) (ap (λ (z : Stage). z.own.batch) h.is) whole
   synced_kept stops s t goes_on h whole = absurd (no_fault goes_on)

@@ -32,7 +32,7 @@ use Rattle.mr_loop.specs.Counting.{IsTickDue, Passes, TickAt, most_ticks, taken,
 use Rattle.mr_loop.specs.Going.{PassesAs, PassesOn}
 use Rattle.mr_loop.specs.Hosts.{stage_in}
 use Rattle.mr_loop.specs.Outcomes.{Broke}
-use Rattle.mr_loop.specs.Rows.{Event, acts, misses_tick}
+use Rattle.mr_loop.specs.Rows.{Event, MissesTick, acts, misses_tick}
 use Rattle.mr_loop.proofs.Carried.{carried_core}
 use Rattle.mr_loop.proofs.Outs.{taken_deaf, taken_done, taken_steps, taken_used}
 use Rattle.mr_loop.proofs.Runs.{broke_moded, counts_event, counts_on, sum_append, went_broke, went_nowhere}
@@ -114,6 +114,12 @@ not_false false h = absurd (h refl)
 pub more_due : (s t : Stage) (n : NodeState) (now : ℤ) (outs : OutsState) (more : Bool) → TickRow s.node now n outs → Carried (outs_of outs) (record s { node = n }) t → (more ≡ false → outs.appended ≡ []) → IsTickDue now t.node → more ≡ true
 more_due s t n now outs more row carried none due = not_false more (λ ends. none_due s.node n t.node now outs row (carried_core (outs_of outs) (record s { node = n }) t carried) (none ends) due)
 
+pub missed_up : (a b : NodeState) (now : ℤ) (e : NodeFault) → (e ≡ refusal.Stopped → ⊥) → TickStep a now b (Err e) → a.core.up ≡ true
+missed_up a b now refusal.Memory other row = row.0
+missed_up a b now refusal.Stopped other row = absurd (other refl)
+missed_up a b now refusal.NoLink other row = absurd row
+missed_up a b now refusal.InputFull other row = absurd row
+
 -- what refuses a tick and is no stop changes nothing
 pub missed_same : (a b : NodeState) (now : ℤ) (e : NodeFault) → (e ≡ refusal.Stopped → ⊥) → TickStep a now b (Err e) → b ≡ a
 missed_same a b now refusal.Memory other row = row.1
@@ -137,8 +143,8 @@ ticks_once s t n given outs old new row carried took = record {
 }
 
 -- one for which memory ran out
-pub misses_once : {tells : Bool} {mode : SyncMode} (s t : Stage) (given : Given) (turn : Turn) → t ≡ s → Passes tells mode given.now 1 turn turn s t
-misses_once s t given turn same = record { counts = counts_event (misses_tick given) turn turn refl same refl refl refl refl; done = refl; ticked = omega arith; at = (refl, tt) }
+pub misses_once : {tells : Bool} {mode : SyncMode} (s t : Stage) (given : Given) (turn : Turn) → MissesTick s t → Passes tells mode given.now 1 turn turn s t
+misses_once s t given turn misses = record { counts = counts_event (misses_tick given) turn turn refl misses refl refl refl refl; done = refl; ticked = omega arith; at = (refl, tt) }
 
 -- at the moment of the turn, and in the mode of its log
 pub passes_at : {tells : Bool} {count : ℕ} {old new : Turn} {s t : Stage} (m n : SyncMode) (x now : ℤ) → m ≡ n → x ≡ now → Passes tells m x count old new s t → Passes tells n now count old new s t
@@ -180,16 +186,16 @@ some_ticks n = omega arith
 true_false : (b : Bool) → b ≡ true → b ≡ false → ⊥
 true_false b is not = let wrong : true ≡ false = sym is ∙ not in cc
 
-module _ {W F S : Type 0} (tells : Bool) (links : W → Links LinkState) (told : F → Option (List ℕ)) (synced : F → Option ℕ) where
+module _ {W F S : Type 0} (tells : Bool) (links : W → Links LinkState) (failures : W → ℕ) (told : F → Option (List ℕ)) (synced : F → Option ℕ) where
   -- none is left
   pub all_passed : (a b : Host W F S) (left done : ℕ) → left ≡ 0
-      → PassesSoFar tells a.log.now.mode a.moment.time (most_ticks done) left a.moment.turn b.moment.turn (stage_in links told synced a) (stage_in links told synced b) → PassesOn tells links told synced true (most_ticks done) a b
+      → PassesSoFar tells a.log.now.mode a.moment.time (most_ticks done) left a.moment.turn b.moment.turn (stage_in links failures told synced a) (stage_in links failures told synced b) → PassesOn tells links failures told synced true (most_ticks done) a b
   all_passed a b left done e so = record { count = so.count; went = so.went; some = omega (arith, e, some_ticks done, so.all); few = omega (arith, so.all); keeps_up = λ due. (omega (arith, e, so.all), refl) }
 
   -- .. or nothing more is due
   pub enough_passed : (a b : Host W F S) (left less most : ℕ) (mid : Turn) (s : Stage) (more : Bool) → left ≡ less + 1
-      → PassesSoFar tells a.log.now.mode a.moment.time most left a.moment.turn mid (stage_in links told synced a) s → Passes tells a.log.now.mode a.moment.time 1 mid b.moment.turn s (stage_in links told synced b)
-      → (IsTickDue a.moment.time b.node.now → more ≡ true) → more ≡ false → PassesOn tells links told synced false most a b
+      → PassesSoFar tells a.log.now.mode a.moment.time most left a.moment.turn mid (stage_in links failures told synced a) s → Passes tells a.log.now.mode a.moment.time 1 mid b.moment.turn s (stage_in links failures told synced b)
+      → (IsTickDue a.moment.time b.node.now → more ≡ true) → more ≡ false → PassesOn tells links failures told synced false most a b
   enough_passed a b left less most mid s more one so next keeps ends = record {
     count = so.count + 1;
     went = passes_on so.went next;
@@ -200,6 +206,6 @@ module _ {W F S : Type 0} (tells : Bool) (links : W → Links LinkState) (told :
 
   -- .. or a fault came
   pub breaks_passing : (a b : Host W F S) (left most : ℕ) (mid : Turn) (s : Stage) (m : SyncMode) (r : Result Bool LoopFault) (why : LoopFault) → r ≡ Err why → m ≡ a.log.now.mode
-      → PassesSoFar tells a.log.now.mode a.moment.time most left a.moment.turn mid (stage_in links told synced a) s → Broke tells m why s (stage_in links told synced b) → PassesAs tells links told synced r most a b
+      → PassesSoFar tells a.log.now.mode a.moment.time most left a.moment.turn mid (stage_in links failures told synced a) s → Broke tells m why s (stage_in links failures told synced b) → PassesAs tells links failures told synced r most a b
   breaks_passing a b left most mid s m r why is mode so broke =
-      subst (λ (z : Result Bool LoopFault). PassesAs tells links told synced z most a b) (sym is) (went_broke so.went.counts.went (broke_moded m a.log.now.mode mode broke))
+      subst (λ (z : Result Bool LoopFault). PassesAs tells links failures told synced z most a b) (sym is) (went_broke so.went.counts.went (broke_moded m a.log.now.mode mode broke))

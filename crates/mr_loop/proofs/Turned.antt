@@ -14,7 +14,7 @@ use Rattle.mr_loop.specs.Hosts.{IsSame, stage_in}
 use Rattle.mr_loop.specs.Outcomes.{Broke, DoesTelling}
 use Rattle.mr_loop.specs.Stage.{Stage}
 use Rattle.mr_loop.specs.Causes.{Act, at_dial, at_step, at_tick}
-use Rattle.mr_loop.specs.Rows.{Event, acts, appends, breaks, closes, fails, finds_none, hears_end, idles, is_deaf, is_refused, joins, loses, misses, misses_dial, misses_tick, settles, spills, stops, takes, tears, turns_away, writes}
+use Rattle.mr_loop.specs.Rows.{Event, acts, appends, breaks, closes, fails, finds_none, hears_end, idles, is_deaf, is_refused, joins, loses, misses, misses_dial, misses_tick, settles, spills, stops, takes, tears, turns_away, waits, writes}
 use Rattle.mr_loop.specs.Counting.{CountsOn, CountsStill, IsActAt, IsTickAt, IsTickDue, Passes, TellsOf, TickAt, calls_by, counted, deaf_by, ids_by, most_ticks, raised, sum_in, ticks_by, ticks_in_act, uses_by}
 use Rattle.mr_loop.proofs.Runs.{broke_moded, counts_event, counts_on, sum_append, sum_one, went_broke, went_further}
 
@@ -40,6 +40,7 @@ act_at now (at_dial socket link) e = tt
 untimed : (now : ℤ) (e : Event) → ticks_by e ≡ 0 → IsTickAt now e
 untimed now (acts act outs) e = act_at now act e
 untimed now (misses_tick given) e = let wrong : 1 ≡ 0 = e in absurd (omega (arith, wrong))
+untimed now waits e = tt
 untimed now (joins socket link) e = tt
 untimed now turns_away e = tt
 untimed now (takes socket bytes) e = tt
@@ -79,7 +80,7 @@ pub told_of : {tells : Bool} {mode : SyncMode} {s t u v w : Stage} (begun old mi
     → begun ≡ record { steps = 0; done = 0; used = 0; deaf = 0; halted = false } → CountsStill tells mode begun old s t → Passes tells mode now count old mid t u → CountsStill tells mode mid new u v → new ≡ mid
     → w ≡ record v { own = record v.own { hurries = hurries } } → turn ≡ record new { halted = v.own.halted } → v.node.core ≡ u.node.core
     → 0 < count → count ≤ most → most ≡ most_ticks old.done → (IsTickDue now u.node → (count ≡ most) × (more ≡ true)) → (more ≡ true → hurries ≡ true)
-    → TellsOf tells mode turn s w
+    → TellsOf tells mode now turn s w
 told_of {tells} {mode} {s} {t} {u} {v} {w} begun old mid new turn now count most more hurries first x p y same last is core some few bound due hurry =
     let settled : CountsOn tells mode new new v w = counts_event (settles hurries) new new refl (record { is = last }) refl refl refl refl in
     let all = counts_on x.counts (counts_on p.counts (counts_on y.counts settled)) in
@@ -95,7 +96,6 @@ told_of {tells} {mode} {s} {t} {u} {v} {w} begun old mid new turn now count most
       deaf_are = ap (λ (z : Turn). z.deaf) is ∙ (all.deaf_are ∙ (ap (raised (sum_in deaf_by all.went.events)) (ap (λ (z : Turn). z.deaf) first) ∙ raised_none (sum_in deaf_by all.went.events)));
       ticked = omega (arith, ticks, some);
       few = let least : most_ticks turn.done ≡ most = ap most_ticks done ∙ sym bound in omega (arith, ticks, few, least);
-      now = now;
       at = both_at now xs (ps ++ (ys ++ zs)) (no_tick_at now xs x.no_tick) (both_at now ps (ys ++ zs) p.at (both_at now ys zs (no_tick_at now ys y.no_tick) (tt, tt)));
       keeps_up = λ d.
           let kept = due (due_core now u.node v.node core (subst (λ (z : Stage). IsTickDue now z.node) last d)) in
@@ -106,13 +106,13 @@ told_of {tells} {mode} {s} {t} {u} {v} {w} begun old mid new turn now count most
 pub passes_moded : {tells : Bool} {now : ℤ} {count : ℕ} {old new : Turn} {a b : Stage} (m n : SyncMode) → m ≡ n → Passes tells m now count old new a b → Passes tells n now count old new a b
 passes_moded {tells} {now} {count} {old} {new} {a} {b} m n e x = subst (λ k. Passes tells k now count old new a b) e x
 
-pub tells_broke : {tells : Bool} {mode : SyncMode} {s t : Stage} (r : Result Turn LoopFault) (why : LoopFault) → r ≡ Err why → Broke tells mode why s t → DoesTelling tells mode r s t
-tells_broke {tells} {mode} {s} {t} r why e b = subst (λ (z : Result Turn LoopFault). DoesTelling tells mode z s t) (sym e) b
+pub tells_broke : {tells : Bool} {mode : SyncMode} {s t : Stage} (now : ℤ) (r : Result Turn LoopFault) (why : LoopFault) → r ≡ Err why → Broke tells mode why s t → DoesTelling tells mode now r s t
+tells_broke {tells} {mode} {s} {t} now r why e b = subst (λ (z : Result Turn LoopFault). DoesTelling tells mode now z s t) (sym e) b
 
-module _ {W F S : Type 0} (tells : Bool) (links : W → Links LinkState) (told : F → Option (List ℕ)) (synced : F → Option ℕ) where
+module _ {W F S : Type 0} (tells : Bool) (links : W → Links LinkState) (failures waited : W → ℕ) (told : F → Option (List ℕ)) (synced : F → Option ℕ) (clock : S → ℤ) where
   -- a fault behind ticks
-  pub passes_broke : {more : Bool} {most : ℕ} (a b c d : Host W F S) (why : LoopFault) → IsSame a b → Goes tells links told synced a b → IsSame b c → PassesOn tells links told synced more most b c
-      → Broke tells c.log.now.mode why (stage_in links told synced c) (stage_in links told synced d) → Broke tells a.log.now.mode why (stage_in links told synced a) (stage_in links told synced d)
+  pub passes_broke : {more : Bool} {most : ℕ} (a b c d : Host W F S) (why : LoopFault) → IsSame waited clock a b → Goes tells links failures told synced a b → IsSame waited clock b c → PassesOn tells links failures told synced more most b c
+      → Broke tells c.log.now.mode why (stage_in links failures told synced c) (stage_in links failures told synced d) → Broke tells a.log.now.mode why (stage_in links failures told synced a) (stage_in links failures told synced d)
   passes_broke a b c d why same x on p y =
       let ticks = passes_moded b.log.now.mode a.log.now.mode same.mode p.went in
       went_broke (went_further x.counts.went ticks.counts.went) (broke_moded c.log.now.mode a.log.now.mode (on.mode ∙ same.mode) y)

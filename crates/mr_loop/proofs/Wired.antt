@@ -15,15 +15,16 @@ use Rattle.mr_wire.specs.declared.wire.Moved.TheVariants as answered
 use Rattle.mr_connections.specs.State.{ConnectionState, Rows, begun, changed, left, pushed, where_linked, with_each, wrote}
 use Rattle.mr_connections.proofs.Changed.{get-changed}
 use Rattle.mr_connections.proofs.Each.{get-with_each}
-use Rattle.mr_loop.specs.Stage.{Stage, LoopState, connection_at}
+use Rattle.mr_loop.specs.Stage.{Stage, LoopState, connection_at, lacking}
 use Rattle.mr_loop.specs.Carrying.{Carries}
 use Rattle.mr_loop.specs.Causes.{Act, Calls, Dropped, Touches, at_dial, at_step, at_tick}
-use Rattle.mr_loop.specs.Rows.{Event, fault_of, Happens, Run, acts, appends, breaks, closes, fails, finds_none, hears_end, idles, is_deaf, is_refused, joins, loses, misses, misses_dial, misses_tick, settles, spills, stops, takes, tears, turns_away, writes}
+use Rattle.mr_loop.specs.Rows.{Event, fault_of, Happens, Run, acts, appends, breaks, closes, fails, finds_none, hears_end, idles, is_deaf, is_refused, joins, loses, misses, misses_dial, misses_tick, settles, spills, stops, takes, tears, turns_away, waits, writes}
 use Rattle.mr_loop.specs.Sent.{drops, moved_by, moved_in, moved_of, moved_on, StaysIn, HaveSockets, HaveSocketsFirst, HaveSocketsAlways, WireHasWhatIsSent}
 use Rattle.mr_loop.proofs.Carried.{carried_by, carried_wire}
 use Rattle.mr_loop.proofs.Halting.{no_fault}
-use Rattle.mr_loop.proofs.Sending.{in_order, kept, some_at}
-use Rattle.mr_loop.proofs.Waiting.{is_one, itself, none_some}
+use Rattle.mr_loop.proofs.Sending.{in_order, kept}
+use Rattle.mr_loop.proofs.Touching.{here_put, other_put, put_at, touched_links}
+use Rattle.mr_loop.proofs.Waiting.{is_one, none_some}
 
 -- ---- connections
 
@@ -57,10 +58,6 @@ record StaysOpen (v w : Links LinkState) : Type 0 where
 same_open : {v w : Links LinkState} → w.open_links ≡ v.open_links → StaysOpen v w
 same_open same = record { each = λ l e there. (e, ap (λ m. get m l) same ∙ there) }
 
--- what is under a name once a link was put
-put_at : (v w : Links LinkState) (n l : LinkId) (f : LinkState) → w.open_links ≡ insert v.open_links n f → get w.open_links l ≡ cond (eq_by_cmp id_cmp l n) (Some f) (get v.open_links l)
-put_at v w n l f own = ap (λ m. get m l) own ∙ get-insert ids_total v.open_links n f l
-
 put_open : (v w : Links LinkState) (n : LinkId) (f : LinkState) → w.open_links ≡ insert v.open_links n f → StaysOpen v w
 put_open v w n f own = record {
   each = λ l e there. elim (eq_by_cmp id_cmp l n) as (λ b. eq_by_cmp id_cmp l n ≡ b → (z : LinkState) × (get w.open_links l ≡ Some z)) [
@@ -69,21 +66,10 @@ put_open v w n f own = record {
   ] refl;
 }
 
--- a link that is put, under its own name and under another
-here_put : (v w : Links LinkState) (n : LinkId) (f : LinkState) → w.open_links ≡ insert v.open_links n f → get w.open_links n ≡ Some f
-here_put v w n f own = put_at v w n n f own ∙ ap (λ b. cond b (Some f) (get v.open_links n)) (itself n)
-
-other_put : (v w : Links LinkState) (n l : LinkId) (f : LinkState) → eq_by_cmp id_cmp l n ≡ false → w.open_links ≡ insert v.open_links n f → get w.open_links l ≡ get v.open_links l
-other_put v w n l f other own = put_at v w n l f own ∙ ap (λ b. cond b (Some f) (get v.open_links l)) other
-
--- what an open link becomes
-touched_links : (v w : Links LinkState) (n : LinkId) (f : LinkState → LinkState) (x : LinkState) → get v.open_links n ≡ Some x → Touches v n f w → w.open_links ≡ insert v.open_links n (f x)
-touched_links v w n f x e t = ap (λ (z : Links LinkState). z.open_links) (some_at (λ x. w ≡ record v { open_links = insert v.open_links n (f x) }) (get v.open_links n) x e t.changes)
-
 touched_open : (v w : Links LinkState) (n : LinkId) (f : LinkState → LinkState) → Touches v n f w → StaysOpen v w
 touched_open v w n f t = elim (get v.open_links n) as (λ o. get v.open_links n ≡ o → StaysOpen v w) [
   | None ↦ λ e. same_open (ap (λ (z : Links LinkState). z.open_links) (t.absent e))
-  | Some x ↦ λ e. put_open v w n (f x) (touched_links v w n f x e t)
+  | Some x ↦ λ e. put_open v w n (f x) (touched_links v w n f x e t.changes)
 ] refl
 
 -- ---- each connection goes on having its socket
@@ -125,8 +111,9 @@ dropped_both s t j link h d = record {
 }
 
 -- .. behind a read or a write
-touched_dropped : (s t : Stage) (j : LinkId) (link : Option LinkId) (f : LinkState → LinkState) (wire : Links LinkState) → HaveSockets s → Touches s.wire j f wire → Dropped j link (record s { wire = wire }) t → HaveSockets t
-touched_dropped s t j link f wire h touched d = dropped_both (record s { wire = wire }) t j link (socketed s (record s { wire = wire }) h (were_same refl) (touched_open s.wire wire j f touched)) d
+touched_dropped : (s t : Stage) (j : LinkId) (link : Option LinkId) (f : LinkState → LinkState) (wire : Links LinkState) (failed : ℕ) → HaveSockets s → Touches s.wire j f wire → Dropped j link (record s { wire = wire; failed = failed }) t → HaveSockets t
+touched_dropped s t j link f wire failed h touched d =
+    let called = record s { wire = wire; failed = failed } in dropped_both called t j link (socketed s called h (were_same refl) (touched_open s.wire wire j f touched)) d
 
 carries_sockets : (out : OutState) (s t : Stage) → Carries out s t → HaveSockets s → HaveSockets t
 carries_sockets (grow bytes) s t c h = subst HaveSockets (sym c) h
@@ -148,25 +135,26 @@ called_sockets (at_dial socket link) s m outs c h = began s m socket (begun link
 
 module _ (tells : Bool) (mode : SyncMode) where
   sockets_kept : (e : Event) (s t : Stage) → HaveSockets s → fault_of e ≡ None → Happens tells mode s e t → HaveSockets t
+  sockets_kept waits s t held goes_on h = by_stage held (ap (λ (z : Stage). z.own) h.is) (ap (λ (z : Stage). z.wire) h.is)
   sockets_kept (joins j l) s t held goes_on h = began s t j (begun l) new_link held h.wire h.connections
   sockets_kept turns_away s t held goes_on h = socketed s t held (by_own h.own) (same_open h.wire.links)
   sockets_kept (takes j bytes) s t held goes_on h = socketed s t held (by_own h.own) (touched_open s.wire t.wire j (behind_read tells (answered.Bytes h.count) h.buffer) h.wire)
   sockets_kept (finds_none j) s t held goes_on h = socketed s t held (by_own h.own) (touched_open s.wire t.wire j (behind_read tells h.answer h.buffer) h.wire)
   sockets_kept (hears_end j x) s t held goes_on h = socketed s t held (were_each (where_linked x left) s.own.connections t.own.connections (ap (λ (z : LoopState). z.connections) h.own)) (touched_open s.wire t.wire j (behind_read tells answered.End h.buffer) h.wire)
-  sockets_kept (loses j) s t held goes_on h = touched_dropped s t j (Some h.link) (behind_read tells answered.Failed h.buffer) h.wire held h.touched h.dropped
-  sockets_kept (misses j) s t held goes_on h = touched_dropped s t j (Some h.link) (behind_read tells (answered.Bytes h.count) h.buffer) h.wire held h.touched h.dropped
-  sockets_kept (is_refused j l given fresh) s t held goes_on h = dropped_both (record s { node = h.node }) t j (Some l) (socketed s (record s { node = h.node }) held (were_same refl) (same_open refl)) h.dropped
+  sockets_kept (loses j) s t held goes_on h = touched_dropped s t j (Some h.link) (behind_read tells answered.Failed h.buffer) h.wire h.failed held h.touched h.dropped
+  sockets_kept (misses j) s t held goes_on h = touched_dropped (record s { own = lacking s.own }) t j (Some h.link) (behind_read tells (answered.Bytes h.count) h.buffer) h.wire h.failed (record { each = held.each }) h.touched h.dropped
+  sockets_kept (is_refused j l given fresh) s t held goes_on h = dropped_both (record s { node = h.node; own = lacking s.own }) t j (Some l) (socketed s (record s { node = h.node; own = lacking s.own }) held (were_same refl) (same_open refl)) h.dropped
   sockets_kept (is_deaf j l) s t held goes_on h = dropped_both s t j (Some l) held h.dropped
   sockets_kept (idles j l given fresh) s t held goes_on h = by_stage held (ap (λ (z : Stage). z.own) h.same) (ap (λ (z : Stage). z.wire) h.same)
   sockets_kept (acts act outs) s t held goes_on h = carried_by HaveSockets carries_sockets (outs_of outs) h.called t h.carried (called_sockets act s h.called outs h.calls held)
   sockets_kept (spills act outs) s t held goes_on h = absurd (no_fault goes_on)
   sockets_kept (tears act outs) s t held goes_on h = absurd (no_fault goes_on)
   sockets_kept (writes j bytes) s t held goes_on h = socketed s t held (were_changed j (wrote (count_of h.answer)) s.own.connections t.own.connections (ap (λ (z : LoopState). z.connections) h.own)) (touched_open s.wire t.wire j (behind_write tells h.answer h.waiting) h.wire)
-  sockets_kept (breaks j) s t held goes_on h = touched_dropped s t j h.link (behind_write tells h.answer h.waiting) h.wire held h.touched h.dropped
+  sockets_kept (breaks j) s t held goes_on h = touched_dropped s t j h.link (behind_write tells answered.Failed h.waiting) h.wire h.failed held h.touched h.dropped
   sockets_kept (closes j) s t held goes_on h = dropped_both s t j None held h.dropped
   sockets_kept (appends texts) s t held goes_on h = socketed s t held (were_same (ap (λ (z : LoopState). z.connections) h.own)) (same_wire h.wire)
   sockets_kept fails s t held goes_on h = absurd (no_fault goes_on)
-  sockets_kept (misses_tick given) s t held goes_on h = subst HaveSockets (sym h) held
+  sockets_kept (misses_tick given) s t held goes_on h = socketed s t held (were_same (ap (λ (z : Stage). z.own.connections) h.is)) (same_wire (ap (λ (z : Stage). z.wire) h.is))
   sockets_kept misses_dial s t held goes_on h = socketed s t held (by_own h.own) (same_open h.wire.links)
   sockets_kept (settles hurries) s t held goes_on h = socketed s t held (were_same (ap (λ (z : Stage). z.own.connections) h.is)) (same_wire (ap (λ (z : Stage). z.wire) h.is))
   sockets_kept stops s t held goes_on h = absurd (no_fault goes_on)
@@ -182,7 +170,7 @@ not_moved : (v w : Links LinkState) (n l : LinkId) (f : LinkState → LinkState)
 not_moved v w n l f keeps t = elim (get v.open_links n) as (λ o. get v.open_links n ≡ o → moved_on w l ≡ moved_on v l) [
   | None ↦ λ e. ap (λ (z : Links LinkState). moved_on z l) (t.absent e)
   | Some x ↦ λ e.
-      let own = touched_links v w n f x e t in
+      let own = touched_links v w n f x e t.changes in
       elim (eq_by_cmp id_cmp l n) as (λ b. eq_by_cmp id_cmp l n ≡ b → moved_on w l ≡ moved_on v l) [
         | true ↦ λ h. ap moved_of (put_at v w n l (f x) own ∙ ap (λ b. cond b (Some (f x)) (get v.open_links l)) h) ∙ (keeps x ∙ sym (ap moved_of (ap (get v.open_links) (is_one l n h) ∙ e)))
         | false ↦ λ h. ap moved_of (other_put v w n l (f x) h own)
@@ -191,12 +179,12 @@ not_moved v w n l f keeps t = elim (get v.open_links n) as (λ o. get v.open_lin
 
 -- a write
 moved_here : (v w : Links LinkState) (n : LinkId) (f : LinkState → LinkState) (x : LinkState) → get v.open_links n ≡ Some x → Touches v n f w → moved_on w n ≡ (f x).moved
-moved_here v w n f x e t = ap moved_of (here_put v w n (f x) (touched_links v w n f x e t))
+moved_here v w n f x e t = ap moved_of (here_put v w n (f x) (touched_links v w n f x e t.changes))
 
 moved_elsewhere : (v w : Links LinkState) (n l : LinkId) (f : LinkState → LinkState) → eq_by_cmp id_cmp l n ≡ false → Touches v n f w → moved_on w l ≡ moved_on v l
 moved_elsewhere v w n l f other t = elim (get v.open_links n) as (λ o. get v.open_links n ≡ o → moved_on w l ≡ moved_on v l) [
   | None ↦ λ e. ap (λ (z : Links LinkState). moved_on z l) (t.absent e)
-  | Some x ↦ λ e. ap moved_of (other_put v w n l (f x) other (touched_links v w n f x e t))
+  | Some x ↦ λ e. ap moved_of (other_put v w n l (f x) other (touched_links v w n f x e t.changes))
 ] refl
 
 -- a link that is new
@@ -218,9 +206,10 @@ unmoved {v} {w} e k none same = quiet v w e k none (ap (λ (z : Links LinkState)
 dropped_elsewhere : (s t : Stage) (e : Event) (j k : LinkId) (link : Option LinkId) → moved_by k e ≡ [] → eq_by_cmp id_cmp k j ≡ false → Dropped j link s t → moved_on t.wire k ≡ moved_on s.wire k ++ moved_by k e
 dropped_elsewhere s t e j k link none other d = quiet s.wire t.wire e k none (ap moved_of (other_closed s.wire t.wire j k other d.wire))
 
-touched_elsewhere : (s t : Stage) (e : Event) (j k : LinkId) (link : Option LinkId) (f : LinkState → LinkState) (wire : Links LinkState) → moved_by k e ≡ [] → eq_by_cmp id_cmp k j ≡ false → Touches s.wire j f wire → Dropped j link (record s { wire = wire }) t
+touched_elsewhere : (s t : Stage) (e : Event) (j k : LinkId) (link : Option LinkId) (f : LinkState → LinkState) (wire : Links LinkState) (failed : ℕ) → moved_by k e ≡ [] → eq_by_cmp id_cmp k j ≡ false → Touches s.wire j f wire
+    → Dropped j link (record s { wire = wire; failed = failed }) t
     → moved_on t.wire k ≡ moved_on s.wire k ++ moved_by k e
-touched_elsewhere s t e j k link f wire none other touched d = quiet s.wire t.wire e k none (ap moved_of (other_closed wire t.wire j k other d.wire) ∙ moved_elsewhere s.wire wire j k f other touched)
+touched_elsewhere s t e j k link f wire failed none other touched d = quiet s.wire t.wire e k none (ap moved_of (other_closed wire t.wire j k other d.wire) ∙ moved_elsewhere s.wire wire j k f other touched)
 
 written : (s : Stage) (w : Links LinkState) (j k : LinkId) (c : ConnectionState) (answer : Moved) (bytes waiting : List ℕ) → HaveSockets s → connection_at s.own k ≡ Some c
     → bytes ≡ take (count_of answer) waiting → Touches s.wire j (behind_write true answer waiting) w → moved_on w k ≡ moved_on s.wire k ++ moved_by k (writes j bytes)
@@ -240,25 +229,26 @@ called_moved (at_dial socket link) s m outs k c held here h = moved_before s m.w
 
 module _ (mode : SyncMode) where
   moved_kept : (e : Event) (s t : Stage) (k : LinkId) (c : ConnectionState) → HaveSockets s → connection_at s.own k ≡ Some c → fault_of e ≡ None → drops k e ≡ false → Happens true mode s e t → moved_on t.wire k ≡ moved_on s.wire k ++ moved_by k e
+  moved_kept waits s t k c held here goes_on stays h = unmoved waits k refl (ap (λ (z : Stage). z.wire) h.is)
   moved_kept (joins j l) s t k c held here goes_on stays h = quiet s.wire t.wire (joins j l) k refl (moved_before s t.wire j k c new_link held here h.wire)
   moved_kept turns_away s t k c held here goes_on stays h = quiet s.wire t.wire turns_away k refl (ap (λ z. moved_of (get z k)) h.wire.links)
   moved_kept (takes j bytes) s t k c held here goes_on stays h = quiet s.wire t.wire (takes j bytes) k refl (not_moved s.wire t.wire j k (behind_read true (answered.Bytes h.count) h.buffer) (λ e. refl) h.wire)
   moved_kept (finds_none j) s t k c held here goes_on stays h = quiet s.wire t.wire (finds_none j) k refl (not_moved s.wire t.wire j k (behind_read true h.answer h.buffer) (λ e. refl) h.wire)
   moved_kept (hears_end j x) s t k c held here goes_on stays h = quiet s.wire t.wire (hears_end j x) k refl (not_moved s.wire t.wire j k (behind_read true answered.End h.buffer) (λ e. refl) h.wire)
-  moved_kept (loses j) s t k c held here goes_on stays h = touched_elsewhere s t (loses j) j k (Some h.link) (behind_read true answered.Failed h.buffer) h.wire refl stays h.touched h.dropped
-  moved_kept (misses j) s t k c held here goes_on stays h = touched_elsewhere s t (misses j) j k (Some h.link) (behind_read true (answered.Bytes h.count) h.buffer) h.wire refl stays h.touched h.dropped
-  moved_kept (is_refused j l given fresh) s t k c held here goes_on stays h = dropped_elsewhere (record s { node = h.node }) t (is_refused j l given fresh) j k (Some l) refl stays h.dropped
+  moved_kept (loses j) s t k c held here goes_on stays h = touched_elsewhere s t (loses j) j k (Some h.link) (behind_read true answered.Failed h.buffer) h.wire h.failed refl stays h.touched h.dropped
+  moved_kept (misses j) s t k c held here goes_on stays h = touched_elsewhere (record s { own = lacking s.own }) t (misses j) j k (Some h.link) (behind_read true (answered.Bytes h.count) h.buffer) h.wire h.failed refl stays h.touched h.dropped
+  moved_kept (is_refused j l given fresh) s t k c held here goes_on stays h = dropped_elsewhere (record s { node = h.node; own = lacking s.own }) t (is_refused j l given fresh) j k (Some l) refl stays h.dropped
   moved_kept (is_deaf j l) s t k c held here goes_on stays h = dropped_elsewhere s t (is_deaf j l) j k (Some l) refl stays h.dropped
   moved_kept (idles j l given fresh) s t k c held here goes_on stays h = unmoved (idles j l given fresh) k refl (ap (λ (z : Stage). z.wire) h.same)
   moved_kept (acts act outs) s t k c held here goes_on stays h = quiet s.wire t.wire (acts act outs) k refl (ap (λ (z : Links LinkState). moved_on z k) (carried_wire (outs_of outs) h.called t h.carried) ∙ called_moved act s h.called outs k c held here h.calls)
   moved_kept (spills act outs) s t k c held here goes_on stays h = absurd (no_fault goes_on)
   moved_kept (tears act outs) s t k c held here goes_on stays h = absurd (no_fault goes_on)
   moved_kept (writes j bytes) s t k c held here goes_on stays h = written s t.wire j k c h.answer bytes h.waiting held here h.bytes_are h.wire
-  moved_kept (breaks j) s t k c held here goes_on stays h = touched_elsewhere s t (breaks j) j k h.link (behind_write true h.answer h.waiting) h.wire refl stays h.touched h.dropped
+  moved_kept (breaks j) s t k c held here goes_on stays h = touched_elsewhere s t (breaks j) j k h.link (behind_write true answered.Failed h.waiting) h.wire h.failed refl stays h.touched h.dropped
   moved_kept (closes j) s t k c held here goes_on stays h = dropped_elsewhere s t (closes j) j k None refl stays h.dropped
   moved_kept (appends texts) s t k c held here goes_on stays h = unmoved (appends texts) k refl h.wire
   moved_kept fails s t k c held here goes_on stays h = absurd (no_fault goes_on)
-  moved_kept (misses_tick given) s t k c held here goes_on stays h = unmoved (misses_tick given) k refl (ap (λ (z : Stage). z.wire) h)
+  moved_kept (misses_tick given) s t k c held here goes_on stays h = unmoved (misses_tick given) k refl (ap (λ (z : Stage). z.wire) h.is)
   moved_kept misses_dial s t k c held here goes_on stays h = quiet s.wire t.wire misses_dial k refl (ap (λ z. moved_of (get z k)) h.wire.links)
   moved_kept (settles hurries) s t k c held here goes_on stays h = unmoved (settles hurries) k refl (ap (λ (z : Stage). z.wire) h.is)
   moved_kept stops s t k c held here goes_on stays h = absurd (no_fault goes_on)

@@ -1,12 +1,15 @@
 -- What is filed and written: the rows of these events, and how the calls that make them go on from one another.
-use Rattle.std.proofs.Common.{◌≡◌, ◌≤◌, ◌+◌, ◌⊎◌, inl, inr, ℕ, List, [], Bool, true, false, cond, length, take, Option, None, Some, MutBor, refl, sym, ap, subst, ◌∙◌}
+use Rattle.std.proofs.Common.{◌≡◌, ◌≢◌, ◌<◌, ◌≤◌, ◌+◌, ◌-◌, ◌⊎◌, inl, inr, ℕ, ℤ, zero, suc, List, [], Bool, true, false, cond, length, take, drop, Option, None, Some, MutBor, if◌then◌else◌, arith, refl, sym, ap, subst, ◌∙◌}
 use Rattle.std.specs.Option.{option_map}
-use Rattle.std.specs.FinMap.{get}
+use Rattle.std.proofs.lemmas.List.{length-drop}
+use Rattle.std.specs.FinMap.{get, remove, get-remove}
 use Rattle.mr_links.specs.Links.{Links}
 use Rattle.mr_links.specs.declared.link_id.LinkId.{LinkId}
+use Rattle.mr_links.proofs.LinkRows.{ids_total}
+use Rattle.mr_file.specs.LogFile.{Rose}
 use Rattle.mr_file.specs.declared.sync_mode.SyncMode.{SyncMode}
 use Rattle.mr_rows.specs.State.{NodeState}
-use Rattle.mr_wire.specs.Wire.{LinkState, ChangesLink, behind_write, count_of, is_over}
+use Rattle.mr_wire.specs.Wire.{LinkState, ChangesLink, behind_write, count_of, moves_none}
 use Rattle.mr_wire.specs.declared.wire.Moved.{Moved}
 use Rattle.mr_wire.specs.declared.wire.Moved.TheVariants as moved
 use Rattle.mr_connections.specs.State.{ConnectionState, HasLink, changed, wrote}
@@ -16,14 +19,16 @@ use Rattle.mr_loop.specs.declared.told.Turn.{Turn}
 use Rattle.mr_loop.specs.Stage.{Stage, LoopState, connection_at, with_connections}
 use Rattle.mr_loop.specs.Hosts.{IsSame}
 use Rattle.mr_loop.specs.Carrying.{SameFile}
-use Rattle.mr_loop.specs.Causes.{Dropped, Has, HasInput, IsBurdened}
+use Rattle.mr_loop.specs.Causes.{Dropped, Has, HasInput, IsBurdened, IsStuck}
+use Rattle.mr_loop.specs.Writing.{IsNoneDone, IsWritten, waiting_at, waiting_of}
 use Rattle.mr_loop.specs.Rows.{Breaks, IsDeaf, Writes, is_deaf}
 use Rattle.mr_loop.specs.Counting.{CountsStill, counted}
 use Rattle.mr_loop.specs.Going.{Goes}
 use Rattle.mr_loop.specs.Quiet.{AllWait}
 use Rattle.mr_loop.proofs.Same.{same_here, same_on}
 use Rattle.mr_loop.proofs.Runs.{still_event, still_here, still_moded, still_on}
-use Rattle.mr_loop.proofs.Waiting.{itself}
+use Rattle.mr_loop.proofs.Waiting.{itself, none_some, some_is}
+use Rattle.mr_loop.proofs.Touching.{here_put, touched_links}
 
 -- ---- one connection
 
@@ -47,16 +52,23 @@ wrote_has o p socket link count is h = record {
 
 -- ---- rows
 
--- the two answers behind which a link is over
-pub ended_or_failed : (answer : Moved) → (answer ≡ moved.End) ⊎ (answer ≡ moved.Failed) → is_over answer ≡ true
-ended_or_failed answer (inl e) = ap is_over e
-ended_or_failed answer (inr e) = ap is_over e
+-- two answers that move nothing and are no failure
+pub none_moved : (answer : Moved) → (answer ≡ moved.NotReady) ⊎ (answer ≡ moved.End) → count_of answer ≡ 0
+none_moved answer (inl e) = ap count_of e
+none_moved answer (inr e) = ap count_of e
+
+none_failed : (answer : Moved) → (answer ≡ moved.NotReady) ⊎ (answer ≡ moved.End) → answer ≢ moved.Failed
+none_failed answer (inl e) f = cc
+none_failed answer (inr e) f = cc
+
+pub some_failed : (count : ℕ) → moved.Bytes count ≢ moved.Failed
+some_failed count e = cc
 
 -- bytes that were moved, as the wire answered it of what waits on the connection
-pub writes_row : {tells : Bool} {s t : Stage} (socket : LinkId) (c : ConnectionState) (answer : Moved) (bytes : List ℕ) → s.own.batch ≡ [] → Some c ≡ connection_at s.own socket → bytes ≡ c.waiting → is_over answer ≡ false
-    → count_of answer ≤ length bytes → ChangesLink s.wire socket (behind_write tells answer bytes) t.wire → (get s.wire.open_links socket ≡ None → t.wire ≡ s.wire)
+pub writes_row : {tells : Bool} {s t : Stage} (socket : LinkId) (c : ConnectionState) (answer : Moved) (bytes : List ℕ) → s.own.batch ≡ [] → Some c ≡ connection_at s.own socket → bytes ≡ c.waiting → answer ≢ moved.Failed
+    → count_of answer ≤ length bytes → ChangesLink s.wire socket (behind_write tells answer bytes) t.wire → (get s.wire.open_links socket ≡ None → t.wire ≡ s.wire) → s.failed ≤ t.failed
     → t.own ≡ with_connections (changed socket (wrote (count_of answer))) s.own → t.node ≡ s.node → SameFile s t → Writes tells socket (take (count_of answer) c.waiting) s t
-writes_row {tells} {s} {t} socket c answer bytes filed here are goes_on within written absent own node file = record {
+writes_row {tells} {s} {t} socket c answer bytes filed here are goes_on within written absent later own node file = record {
   filed = filed;
   link = c.link;
   waiting = c.waiting;
@@ -66,25 +78,94 @@ writes_row {tells} {s} {t} socket c answer bytes filed here are goes_on within w
   within = subst (λ z. count_of answer ≤ length z) are within;
   bytes_are = refl;
   wire = record { changes = subst (λ z. ChangesLink s.wire socket (behind_write tells answer z) t.wire) are written; absent = absent };
+  later = later;
   own = own;
   node = node;
   file = file;
 }
 
--- .. and a write that found the link's end, or failed
-pub breaks_row : {tells : Bool} {s t : Stage} (socket : LinkId) (c : ConnectionState) (link : Option LinkId) (answer : Moved) (bytes : List ℕ) (wire : Links LinkState) → s.own.batch ≡ [] → Some c ≡ connection_at s.own socket → link ≡ c.link → bytes ≡ c.waiting
-    → is_over answer ≡ true → ChangesLink s.wire socket (behind_write tells answer bytes) wire → (get s.wire.open_links socket ≡ None → wire ≡ s.wire) → Dropped socket link (record s { wire = wire }) t → Breaks tells socket s t
-breaks_row {tells} {s} {t} socket c link answer bytes wire filed here linked are over written absent dropped = record {
+-- .. and a write that moved none, where it is answered so
+pub writes_none : {tells : Bool} {s t : Stage} (socket : LinkId) (c : ConnectionState) (answer : Moved) (bytes : List ℕ) → (answer ≡ moved.NotReady) ⊎ (answer ≡ moved.End) → s.own.batch ≡ [] → Some c ≡ connection_at s.own socket → bytes ≡ c.waiting
+    → count_of answer ≤ length bytes → ChangesLink s.wire socket (behind_write tells answer bytes) t.wire → (get s.wire.open_links socket ≡ None → t.wire ≡ s.wire) → s.failed ≤ t.failed
+    → t.own ≡ with_connections (changed socket (wrote 0)) s.own → t.node ≡ s.node → SameFile s t → Writes tells socket (take 0 c.waiting) s t
+writes_none {tells} {s} {t} socket c answer bytes none filed here are within written absent later own node file =
+    let zero = none_moved answer none in
+    subst (λ n. Writes tells socket (take n c.waiting) s t) zero
+    (writes_row socket c answer bytes filed here are (none_failed answer none) within written absent later (own ∙ ap (λ n. with_connections (changed socket (wrote n)) s.own) (sym zero)) node file)
+
+-- .. and one that failed
+pub breaks_row : {tells : Bool} {s t : Stage} (socket : LinkId) (c : ConnectionState) (link : Option LinkId) (bytes : List ℕ) (wire : Links LinkState) (failed : ℕ) → s.own.batch ≡ [] → Some c ≡ connection_at s.own socket → link ≡ c.link → bytes ≡ c.waiting
+    → ChangesLink s.wire socket (behind_write tells moved.Failed bytes) wire → (get s.wire.open_links socket ≡ None → wire ≡ s.wire) → Rose s.failed failed → Dropped socket link (record s { wire = wire; failed = failed }) t → Breaks tells socket s t
+breaks_row {tells} {s} {t} socket c link bytes wire failed filed here linked are written absent rose dropped = record {
   filed = filed;
   link = link;
   waiting = c.waiting;
   has = has_at s.own socket c link c.waiting here (sym linked) refl;
-  answer = answer;
-  is_over = over;
   wire = wire;
-  touched = record { changes = subst (λ z. ChangesLink s.wire socket (behind_write tells answer z) wire) are written; absent = absent };
+  touched = record { changes = subst (λ z. ChangesLink s.wire socket (behind_write tells moved.Failed z) wire) are written; absent = absent };
+  failed = failed;
+  rose = rose;
   dropped = dropped;
 }
+
+-- ---- of which connection nothing is left
+
+pub dropped_none : (o p : LoopState) (socket : LinkId) → p.connections ≡ remove o.connections socket → IsNoneDone p socket
+dropped_none o p socket is = record {
+  none = λ c here link waiting.
+      none_some c (sym (ap (λ m. get m socket) is ∙ (get-remove ids_total o.connections socket socket ∙ ap (λ b. cond b None (get o.connections socket)) (itself socket))) ∙ here);
+}
+
+pub not_done : (o : LoopState) (socket : LinkId) (c : ConnectionState) (is : Bool) → Some c ≡ connection_at o socket → ((c.link ≡ None) × (c.waiting ≡ []) → is ≡ true) → is ≡ false → IsNoneDone o socket
+not_done o socket c is here done other = record {
+  none = λ d there link waiting.
+      let same : c ≡ d = some_is c d (here ∙ there) in
+      let wrong : true ≡ false = sym (done (ap (λ (z : ConnectionState). z.link) same ∙ link, ap (λ (z : ConnectionState). z.waiting) same ∙ waiting)) ∙ other in
+      cc;
+}
+
+-- ---- what can't be moved
+
+pub no_bytes : (count : ℕ) → count ≤ 0 → moves_none (moved.Bytes count) ≡ true
+no_bytes zero h = refl
+no_bytes (suc n) h = absurd (omega (arith, h))
+
+-- a write that moved nothing, and didn't fail
+pub stuck_now : {tells : Bool} (v w : Links LinkState) (l : LinkId) (answer : Moved) (bytes : List ℕ) → answer ≢ moved.Failed → moves_none answer ≡ true → ChangesLink v l (behind_write tells answer bytes) w → (get v.open_links l ≡ None → answer ≡ moved.Failed) → IsStuck tells w l
+stuck_now {tells} v w l answer bytes goes_on none written absent = record {
+  told = λ tell. elim (get v.open_links l) as (λ o. get v.open_links l ≡ o → (e : LinkState) × (get w.open_links l ≡ Some e) × (e.stuck ≡ true)) [
+    | None ↦ λ e. absurd (goes_on (absent e))
+    | Some x ↦ λ e. (behind_write tells answer bytes x, here_put v w l (behind_write tells answer bytes x) (touched_links v w l (behind_write tells answer bytes) x e written), ap (λ b. if b then moves_none answer else x.stuck) tell ∙ none)
+  ] refl;
+}
+
+pub none_stuck : {tells : Bool} (v w : Links LinkState) (l : LinkId) (answer : Moved) (bytes : List ℕ) → (answer ≡ moved.NotReady) ⊎ (answer ≡ moved.End) → ChangesLink v l (behind_write tells answer bytes) w → (get v.open_links l ≡ None → answer ≡ moved.Failed) → IsStuck tells w l
+none_stuck v w l answer bytes (inl e) written absent = stuck_now v w l answer bytes (none_failed answer (inl e)) (ap moves_none e) written absent
+none_stuck v w l answer bytes (inr e) written absent = stuck_now v w l answer bytes (none_failed answer (inr e)) (ap moves_none e) written absent
+
+-- what waits on a connection that is there, before a write and behind it
+waits_at : (o : LoopState) (socket : LinkId) (c : ConnectionState) → Some c ≡ connection_at o socket → waiting_at o socket ≡ c.waiting
+waits_at o socket c here = ap waiting_of (sym here)
+
+wrote_at : (o p : LoopState) (socket : LinkId) (c : ConnectionState) (count : ℕ) → Some c ≡ connection_at o socket → p ≡ with_connections (changed socket (wrote count)) o → waiting_at p socket ≡ drop count c.waiting
+wrote_at o p socket c count here is =
+    ap waiting_of (ap (λ (z : LoopState). connection_at z socket) is
+    ∙ (get-changed socket (wrote count) o.connections socket
+    ∙ (ap (λ b. cond b (option_map (wrote count) (get o.connections socket)) (get o.connections socket)) (itself socket) ∙ ap (option_map (wrote count)) (sym here))))
+
+-- less waits once something was moved
+pub wrote_less : (o p : LoopState) (socket : LinkId) (c : ConnectionState) (count : ℕ) → Some c ≡ connection_at o socket → p ≡ with_connections (changed socket (wrote count)) o → 0 < count → count ≤ length c.waiting → length (waiting_at p socket) < length (waiting_at o socket)
+wrote_less o p socket c count here is some within =
+    let before : length (waiting_at o socket) ≡ length c.waiting = ap length (waits_at o socket c here) in
+    let behind : length (waiting_at p socket) ≡ length c.waiting - count = ap length (wrote_at o p socket c count here is) ∙ length-drop count c.waiting in
+    omega (arith, before, behind, some, within)
+
+-- a client that left too much unread is one to whom a write moved nothing
+pub burdened_stuck : {tells : Bool} (a : NodeState) (o : LoopState) (w : Links LinkState) (socket link : LinkId) → IsBurdened a o socket link → IsWritten tells w socket link o → IsStuck tells w socket
+burdened_stuck {tells} a o w socket link b written = elim written.all [
+  | inl none ↦ let much = b.too_much in let empty : length b.connection.waiting ≡ 0 = ap length (sym (ap waiting_of b.is) ∙ none) in absurd (omega (arith, much, empty))
+  | inr stuck ↦ stuck
+]
 
 -- ---- one call after another
 
@@ -97,11 +178,11 @@ at_now x m = record m { now = x }
 
 -- ---- writing in a loop
 
-module _ {W F S : Type 0} (tells : Bool) (links : W → Links LinkState) (told : F → Option (List ℕ)) (synced : F → Option ℕ) where
+module _ {W F S : Type 0} (tells : Bool) (links : W → Links LinkState) (failures waited : W → ℕ) (told : F → Option (List ℕ)) (synced : F → Option ℕ) (clock : S → ℤ) where
   -- some connections were written to
   pub record HasWritten (a b : Host W F S) : Type 0 where
-    pub went : Goes tells links told synced a b
-    pub same : IsSame a b
+    pub went : Goes tells links failures told synced a b
+    pub same : IsSame waited clock a b
     pub batch : b.own.now.batch ≡ []
     pub turn : b.moment.turn ≡ a.moment.turn
     pub core : b.node.now.core ≡ a.node.now.core
@@ -109,8 +190,8 @@ module _ {W F S : Type 0} (tells : Bool) (links : W → Links LinkState) (told :
 
   -- .. or one was, which is still there as it was
   pub record WritesOn (socket link : LinkId) (a b : Host W F S) : Type 0 where
-    pub went : Goes tells links told synced a b
-    pub same : IsSame a b
+    pub went : Goes tells links failures told synced a b
+    pub same : IsSame waited clock a b
     pub batch : b.own.now.batch ≡ []
     pub turn : b.moment.turn ≡ a.moment.turn
     pub node : b.node.now ≡ a.node.now
@@ -151,11 +232,17 @@ module _ {W F S : Type 0} (tells : Bool) (links : W → Links LinkState) (told :
 abbrev deafened : Turn → Turn
 deafened turn = record turn { deaf = counted (turn.deaf + 1) }
 
-pub deaf_still : {tells : Bool} {mode : SyncMode} {s t : Stage} (socket link : LinkId) (old mid new : Turn) → mid ≡ old → new ≡ deafened mid → IsDeaf socket link s t → CountsStill tells mode old new s t
+pub deaf_still : {tells : Bool} {mode : SyncMode} {s t : Stage} (socket link : LinkId) (old mid new : Turn) → mid ≡ old → new ≡ deafened mid → IsDeaf tells socket link s t → CountsStill tells mode old new s t
 deaf_still socket link old mid new same is h =
     let all : new ≡ deafened old = is ∙ ap deafened same in
     still_event (is_deaf socket link) old new refl refl h (ap (λ (x : Turn). x.steps) all) (ap (λ (x : Turn). x.done) all) (ap (λ (x : Turn). x.used) all) (ap (λ (x : Turn). x.deaf) all)
 
 -- the node and the connection are as they were before its bytes were written
-pub deaf_row : {s t : Stage} (socket link : LinkId) (a : NodeState) → s.node ≡ a → HasInput a link → HasLink s.own.connections socket link → IsBurdened s.node s.own socket link → Dropped socket (Some link) s t → IsDeaf socket link s t
-deaf_row socket link a same input has burdened dropped = record { has = has; input = subst (λ n. HasInput n link) (sym same) input; burdened = burdened; dropped = dropped }
+pub deaf_row : {tells : Bool} {s t : Stage} (socket link : LinkId) (a : NodeState) → s.node ≡ a → HasInput a link → IsWritten tells s.wire socket link s.own → IsBurdened s.node s.own socket link → Dropped socket (Some link) s t → IsDeaf tells socket link s t
+deaf_row {tells} {s} socket link a same input written burdened dropped = record {
+  has = written.has;
+  input = subst (λ n. HasInput n link) (sym same) input;
+  burdened = burdened;
+  stuck = burdened_stuck s.node s.own s.wire socket link burdened written;
+  dropped = dropped;
+}

@@ -6,7 +6,7 @@ use Rattle.mr_rows.specs.LinkRows.{closed_at}
 use Rattle.mr_connections.specs.State.{sent, parted}
 use Rattle.mr_loop.specs.declared.fault.LoopFault.{LoopFault}
 use Rattle.mr_loop.specs.declared.fault.LoopFault.TheVariants as fault
-use Rattle.mr_loop.specs.Stage.{Stage, with_connections, filed, committed, halting}
+use Rattle.mr_loop.specs.Stage.{Stage, with_connections, filed, committed, halting, lacking}
 
 abbrev pub SameFile : Stage → Stage → Type 0
 SameFile s t = (t.told ≡ s.told) × (t.synced ≡ s.synced)
@@ -18,6 +18,7 @@ pub record IsRewritten (bytes : List ℕ) (s t : Stage) : Type 0 where
   pub own : t.own ≡ committed s.own
   pub node : t.node ≡ s.node
   pub wire : t.wire ≡ s.wire
+  pub failed : t.failed ≡ s.failed
 
 -- An out is carried out: texts wait for the file; the file is replaced; bytes wait on a link; the node's end of a link is closed, and its connection
 -- gets nothing more. That the stream grew, whom the node follows and which id it took are its own affair.
@@ -42,14 +43,16 @@ WantsRoom (append bytes) = Unit {0}
 WantsRoom (send link bytes) = Unit {0}
 WantsRoom _ = ⊥
 
--- Memory ran out for an out: those before it were carried out, and no more.
+-- **Memory ran out for an out**, which the loop remembers: those before it were carried out, and no more.
 pub record Spilled (outs : List OutState) (s t : Stage) : Type 0 where
   pub done : List OutState
   pub last : OutState
   pub rest : List OutState
   pub are : outs ≡ done ++ last ∷ rest
-  pub carried : Carried done s t
+  pub before : Stage
+  pub carried : Carried done s before
   pub wants : WantsRoom last
+  pub lacks : t ≡ record before { own = lacking before.own }
 
 -- The file was to be replaced, and failed: it has the old bytes, or the new ones. The outs before were carried out, and no more.
 pub record Torn (outs : List OutState) (s t : Stage) : Type 0 where
@@ -63,6 +66,7 @@ pub record Torn (outs : List OutState) (s t : Stage) : Type 0 where
   pub own : t.own ≡ before.own
   pub node : t.node ≡ before.node
   pub wire : t.wire ≡ before.wire
+  pub failed : t.failed ≡ before.failed
 
 -- what comes of carrying outs out, by what is answered
 abbrev pub CarriesAs : Result (Unit {0}) LoopFault → List OutState → Stage → Stage → Type 0

@@ -1,12 +1,12 @@
 -- What the events of a turn rest on: what is there of a connection, and what the node makes of a call.
-use Rattle.std.specs.Prelude.{◌≡◌, ◌≢◌, ◌<◌, ◌≤◌, ℕ, List, true, false, Option, Some, None, Result, Ok, Err, length}
+use Rattle.std.specs.Prelude.{◌≡◌, ◌≢◌, ◌<◌, ◌≤◌, ℕ, List, Bool, true, false, Option, Some, None, Result, Ok, Err, length}
 use Rattle.std.specs.FinMap as map
 use Rattle.mr_links.specs.Links.{Links}
 use Rattle.mr_links.specs.declared.link_id.LinkId.{LinkId}
 use Rattle.mr_data.specs.declared.given.Given.{Given}
 use Rattle.mr_outs.specs.Outs.{OutsState}
 use Rattle.mr_outs.specs.Address.{AddressState}
-use Rattle.mr_rows.specs.State.{IsNode, NodeState, end_of}
+use Rattle.mr_rows.specs.State.{IsNode, NodeState, end_of, room_of}
 use Rattle.mr_rows.specs.LinkRows.{Opens, Dials, Feeds, closed_at}
 use Rattle.mr_rows.specs.TimeRows.{TickRow}
 use Rattle.mr_node.specs.Calls.{IsClients, OpensNoMore, Unreads}
@@ -51,6 +51,12 @@ pub record IsRead (o : LoopState) (socket link : LinkId) : Type 0 where
 
 -- ---- the node
 
+-- The node takes so many bytes more on the link.
+pub record HasRoom (a : NodeState) (l : LinkId) (count : ℕ) : Type 0 where
+  pub room : ℕ
+  pub is : room_of a l ≡ Some room
+  pub fits : count ≤ room
+
 -- a link that is open at the node, and on which something is unread
 pub record HasInput (a : NodeState) (l : LinkId) : Type 0 where
   pub node : IsNode a
@@ -94,6 +100,10 @@ pub record Touches (a : Links LinkState) (l : LinkId) (f : LinkState → LinkSta
   pub changes : ChangesLink a l f b
   pub absent : map.get a.open_links l ≡ None → b ≡ a
 
+-- The last write of a link moved nothing, as a wire that tells its bytes tells.
+pub record IsStuck (tells : Bool) (w : Links LinkState) (l : LinkId) : Type 0 where
+  pub told : tells ≡ true → (e : LinkState) × (map.get w.open_links l ≡ Some e) × (e.stuck ≡ true)
+
 -- ---- what ends a connection
 
 -- A connection is there, and its link at the node is this.
@@ -107,8 +117,10 @@ pub record Dropped (socket : LinkId) (link : Option LinkId) (s t : Stage) : Type
   pub batch : t.own.batch ≡ s.own.batch
   pub halted : t.own.halted ≡ s.own.halted
   pub hurries : t.own.hurries ≡ s.own.hurries
+  pub lacked : t.own.lacked ≡ s.own.lacked
   pub wire : t.wire.open_links ≡ map.remove s.wire.open_links socket
   pub opened : t.wire.opened ≡ s.wire.opened
+  pub failed : t.failed ≡ s.failed
   pub file : SameFile s t
 
 -- ---- what the node does that gives something out
@@ -136,12 +148,14 @@ pub record DialsAt (socket link : LinkId) (s t : Stage) (outs : OutsState) : Typ
   pub address : AddressState
   pub told : s.node.core.upstream ≡ Some address
   pub connects : Connects s.wire address.host address.port socket t.wire
+  pub later : s.failed ≤ t.failed
   pub dials : Dials s.node link t.node outs
   pub fresh : connection_at s.own socket ≡ None
   pub connections : t.own.connections ≡ map.insert s.own.connections socket (begun link)
   pub batch : t.own.batch ≡ s.own.batch
   pub halted : t.own.halted ≡ s.own.halted
   pub hurries : t.own.hurries ≡ s.own.hurries
+  pub lacked : t.own.lacked ≡ s.own.lacked
   pub file : SameFile s t
 
 -- what a call makes of all, before its outs are carried out

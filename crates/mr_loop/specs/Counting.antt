@@ -128,8 +128,8 @@ module _ (tells : Bool) (mode : SyncMode) where
     pub ticked : sum_in ticks_by counts.went.events ≡ count
     pub at : TickAt now counts.went.events
 
-  -- What a turn tells is what its events come to, and whether a client asked that the program end.
-  pub record TellsOf (turn : Turn) (s t : Stage) : Type 0 where
+  -- What a turn at this moment tells is what its events come to, and whether a client asked that the program end.
+  pub record TellsOf (now : ℤ) (turn : Turn) (s t : Stage) : Type 0 where
     pub went : Went tells mode s t
     pub steps_are : turn.steps ≡ counted (sum_in calls_by went.events)
     pub done_are : turn.done ≡ counted (sum_in uses_by went.events)
@@ -138,7 +138,6 @@ module _ (tells : Bool) (mode : SyncMode) where
     -- time passes, and the turn has one moment
     pub ticked : 0 < sum_in ticks_by went.events
     pub few : sum_in ticks_by went.events ≤ most_ticks turn.done
-    pub now : ℤ
     pub at : TickAt now went.events
     -- **Ticks keep up**: where another would still delete, so many were made, and the next turn goes on without waiting
     pub keeps_up : IsTickDue now t.node → (sum_in ticks_by went.events ≡ most_ticks turn.done) × (t.own.hurries ≡ true)

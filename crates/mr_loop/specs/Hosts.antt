@@ -1,17 +1,18 @@
 -- What a host is to a turn: the stage that it lends, and what stays of it.
-use Rattle.std.specs.Prelude.{◌≡◌, ℕ, List, Option}
+use Rattle.std.specs.Prelude.{◌≡◌, ℕ, ℤ, List, Option}
 use Rattle.mr_links.specs.Links.{Links}
 use Rattle.mr_wire.specs.Wire.{LinkState}
 use Rattle.mr_loop.specs.declared.host.Host.{Host}
 use Rattle.mr_loop.specs.Stage.{Stage, stage}
 
 module _ {W F S : Type 0} where
-  -- the stage: of a wire its links, and of a file its bytes and how many are synced
-  abbrev pub stage_in : (W → Links LinkState) → (F → Option (List ℕ)) → (F → Option ℕ) → Host W F S → Stage
-  stage_in links told synced h = stage h.node.now h.own.now (links h.wire.now) (told h.log.now.file) (synced h.log.now.file)
+  -- the stage: of a wire its links and how often it failed, and of a file its bytes and how many are synced
+  abbrev pub stage_in : (W → Links LinkState) → (W → ℕ) → (F → Option (List ℕ)) → (F → Option ℕ) → Host W F S → Stage
+  stage_in links failures told synced h = stage h.node.now h.own.now (links h.wire.now) (failures h.wire.now) (told h.log.now.file) (synced h.log.now.file)
 
-  -- The values that it borrowed are those that it borrows, in whatever state; the moment of the turn and how the file is synced stay.
-  pub record IsSame (a b : Host W F S) : Type 0 where
+  -- The values that it borrowed are those that it borrows, in whatever state. The moment of the turn and how the file is synced stay; the wire isn't waited on
+  -- again, and the source isn't asked for the time again.
+  pub record IsSame (waited : W → ℕ) (clock : S → ℤ) (a b : Host W F S) : Type 0 where
     pub node : b.node ≡ record a.node { now = b.node.now }
     pub own : b.own ≡ record a.own { now = b.own.now }
     pub wire : b.wire ≡ record a.wire { now = b.wire.now }
@@ -19,3 +20,5 @@ module _ {W F S : Type 0} where
     pub source : b.source ≡ record a.source { now = b.source.now }
     pub time : b.moment.time ≡ a.moment.time
     pub mode : b.log.now.mode ≡ a.log.now.mode
+    pub wait_stays : waited b.wire.now ≡ waited a.wire.now
+    pub clock_stays : clock b.source.now ≡ clock a.source.now

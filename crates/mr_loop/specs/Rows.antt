@@ -1,5 +1,5 @@
 -- What a turn does: one event after another, each by its row. A row says what becomes of everything that a turn acts on.
-use Rattle.std.specs.Prelude.{◌≡◌, ◌≤◌, ℕ, List, [], ◌∷◌, Bool, true, false, Option, Some, None, Ok, Err, length, take}
+use Rattle.std.specs.Prelude.{◌≡◌, ◌≢◌, ◌≤◌, ℕ, List, [], ◌∷◌, Bool, true, false, Option, Some, None, Ok, Err, length, take}
 use Rattle.std.specs.FinMap as map
 use Rattle.mr_links.specs.Links.{Links}
 use Rattle.mr_links.specs.declared.link_id.LinkId.{LinkId}
@@ -9,7 +9,7 @@ use Rattle.mr_rows.specs.State.{NodeState, stopped_as}
 use Rattle.mr_rows.specs.LinkRows.{Opens, closed_at}
 use Rattle.mr_node.specs.declared.fault.NodeFault.TheVariants as refusal
 use Rattle.mr_node.specs.declared.step.Step.TheVariants as step
-use Rattle.mr_file.specs.LogFile.{Appends, AppendsSome, IsSynced}
+use Rattle.mr_file.specs.LogFile.{Appends, AppendsSome, IsSynced, Rose}
 use Rattle.mr_file.specs.declared.sync_mode.SyncMode.{SyncMode}
 use Rattle.mr_file.specs.declared.sync_mode.SyncMode.TheVariants as sync
 use Rattle.mr_wire.specs.Wire.{LinkState, Accepts, AcceptsNone, behind_read, behind_write, count_of, is_over}
@@ -18,15 +18,18 @@ use Rattle.mr_wire.specs.declared.wire.Moved.TheVariants as moved
 use Rattle.mr_connections.specs.State.{HasLink, begun, changed, parted, wrote}
 use Rattle.mr_loop.specs.declared.fault.LoopFault.{LoopFault}
 use Rattle.mr_loop.specs.declared.fault.LoopFault.TheVariants as fault
-use Rattle.mr_loop.specs.Stage.{Stage, committed, connection_at, with_connections}
+use Rattle.mr_node.specs.Calls.{FeedRow, OpensNoMore}
+use Rattle.mr_loop.specs.Stage.{Lacks, Stage, committed, connection_at, lacking, with_connections}
 use Rattle.mr_loop.specs.Carrying.{Carried, SameFile, Spilled, Torn}
-use Rattle.mr_loop.specs.Causes.{Act, Calls, Dropped, Fed, Has, HasInput, IsBurdened, IsRead, Stepped, Stopping, Touches, TurnsOff}
+use Rattle.mr_loop.specs.Causes.{Act, Calls, Dropped, Fed, Has, HasInput, HasRoom, IsBurdened, IsRead, IsStuck, Stepped, Stopping, Touches, TurnsOff}
 
 -- what happens in a turn
 pub data Event : Type 0 where
+  -- the wire was waited on, or asked for a link and nobody had opened one
+  waits : Event
   -- the wire accepted a link, the node opened one, and they are a connection
   joins : (socket link : LinkId) → Event
-  -- nobody came, or the wire's link was closed again, since the wire failed or memory ran out
+  -- the wire failed as it was asked for a link, or the link was closed again, since memory ran out
   turns_away : Event
   -- these bytes were read, and fed to the node
   takes : (socket : LinkId) (bytes : List ℕ) → Event
@@ -77,31 +80,48 @@ fault_of fails = Some fault.File
 fault_of stops = Some fault.Stopped
 fault_of _ = None
 
+-- The wire says no less often behind a call that it failed.
+pub record HasWaited (s t : Stage) : Type 0 where
+  pub later : s.failed ≤ t.failed
+  pub is : t ≡ record s { failed = t.failed }
+
 pub record Joins (socket link : LinkId) (s t : Stage) : Type 0 where
   pub wire : Accepts s.wire socket t.wire
+  pub later : s.failed ≤ t.failed
   pub node : Opens s.node link t.node
   pub fresh : connection_at s.own socket ≡ None
   pub connections : t.own.connections ≡ map.insert s.own.connections socket (begun link)
   pub batch : t.own.batch ≡ s.own.batch
   pub halted : t.own.halted ≡ s.own.halted
   pub hurries : t.own.hurries ≡ s.own.hurries
+  pub lacked : t.own.lacked ≡ s.own.lacked
   pub file : SameFile s t
 
--- No connection comes of what was accepted or dialled.
+-- Why no connection comes of a link that was accepted or dialled: the wire failed, and there is none; memory ran out; or the node opens no more.
+pub data TurnsAwayFor (s t : Stage) : Type 0 where
+  wire_failed : Rose s.failed t.failed → t.node ≡ s.node → t.own.lacked ≡ s.own.lacked → TurnsAwayFor s t
+  memory_lacked : Lacks s.own t.own → TurnsAwayFor s t
+  opens_no_more : (stopped : NodeState) → OpensNoMore s.node stopped → t.node ≡ s.node → t.own.lacked ≡ s.own.lacked → TurnsAwayFor s t
+
+-- **No connection comes of what was accepted or dialled only at such a cause**, and the wire's link is closed again.
 pub record TurnsAway (s t : Stage) : Type 0 where
   pub wire : AcceptsNone s.wire t.wire
+  pub later : s.failed ≤ t.failed
   pub node : TurnsOff s.node t.node
-  pub own : t.own ≡ s.own
+  pub own : t.own ≡ record s.own { lacked = t.own.lacked }
+  pub why : TurnsAwayFor s t
   pub file : SameFile s t
 
--- **A connection is read of only where at most so much waits for it.**
+-- **A connection is read of only where at most so much waits for it**, no more than the node takes; and what is read is fed.
 pub record Takes (tells : Bool) (socket : LinkId) (bytes : List ℕ) (s t : Stage) : Type 0 where
   pub link : LinkId
   pub read : IsRead s.own socket link
   pub count : ℕ
   pub buffer : List ℕ
   pub bytes_are : bytes ≡ take count buffer
+  pub room : HasRoom s.node link count
   pub wire : Touches s.wire socket (behind_read tells (moved.Bytes count) buffer) t.wire
+  pub later : s.failed ≤ t.failed
   pub node : Fed s.node link bytes t.node
   pub own : t.own ≡ s.own
   pub file : SameFile s t
@@ -114,6 +134,7 @@ pub record FindsNone (tells : Bool) (socket : LinkId) (s t : Stage) : Type 0 whe
   pub none : count_of answer ≡ 0
   pub goes_on : is_over answer ≡ false
   pub wire : Touches s.wire socket (behind_read tells answer buffer) t.wire
+  pub later : s.failed ≤ t.failed
   pub node : t.node ≡ s.node
   pub own : t.own ≡ s.own
   pub file : SameFile s t
@@ -123,20 +144,23 @@ pub record HearsEnd (tells : Bool) (socket link : LinkId) (s t : Stage) : Type 0
   pub read : IsRead s.own socket link
   pub buffer : List ℕ
   pub wire : Touches s.wire socket (behind_read tells moved.End buffer) t.wire
+  pub later : s.failed ≤ t.failed
   pub node : t.node ≡ closed_at link s.node
   pub own : t.own ≡ with_connections (parted link) s.own
   pub file : SameFile s t
 
--- A read failed.
+-- **A read failed**, as the wire counts.
 pub record Loses (tells : Bool) (socket : LinkId) (s t : Stage) : Type 0 where
   pub link : LinkId
   pub read : IsRead s.own socket link
   pub buffer : List ℕ
   pub wire : Links LinkState
   pub touched : Touches s.wire socket (behind_read tells moved.Failed buffer) wire
-  pub dropped : Dropped socket (Some link) (record s { wire = wire }) t
+  pub failed : ℕ
+  pub rose : Rose s.failed failed
+  pub dropped : Dropped socket (Some link) (record s { wire = wire; failed = failed }) t
 
--- Bytes were read, and the node had no memory for them.
+-- Bytes were read, and the node had no memory for them, though room.
 pub record Misses (tells : Bool) (socket : LinkId) (s t : Stage) : Type 0 where
   pub link : LinkId
   pub read : IsRead s.own socket link
@@ -144,20 +168,24 @@ pub record Misses (tells : Bool) (socket : LinkId) (s t : Stage) : Type 0 where
   pub buffer : List ℕ
   pub wire : Links LinkState
   pub touched : Touches s.wire socket (behind_read tells (moved.Bytes count) buffer) wire
-  pub dropped : Dropped socket (Some link) (record s { wire = wire }) t
+  pub failed : ℕ
+  pub later : s.failed ≤ failed
+  pub refused : FeedRow s.node link (take count buffer) (length (take count buffer)) s.node (Err refusal.Memory)
+  pub dropped : Dropped socket (Some link) (record s { wire = wire; failed = failed; own = lacking s.own }) t
 
 -- The node had no memory for a step.
 pub record IsRefused (socket link : LinkId) (given : Given) (fresh : List ℕ) (s t : Stage) : Type 0 where
   pub has : HasLink s.own.connections socket link
   pub node : NodeState
   pub refused : Stepped s.node link given fresh node (Err refusal.Memory)
-  pub dropped : Dropped socket (Some link) (record s { node = node }) t
+  pub dropped : Dropped socket (Some link) (record s { node = node; own = lacking s.own }) t
 
--- **In place of a step**: something is unread on a client's link, and more waits for the client than it may leave so.
-pub record IsDeaf (socket link : LinkId) (s t : Stage) : Type 0 where
+-- **In place of a step**: something is unread on a client's link, more waits for the client than it may leave so, and the last write to it moved nothing.
+pub record IsDeaf (tells : Bool) (socket link : LinkId) (s t : Stage) : Type 0 where
   pub has : HasLink s.own.connections socket link
   pub input : HasInput s.node link
   pub burdened : IsBurdened s.node s.own socket link
+  pub stuck : IsStuck tells s.wire socket
   pub dropped : Dropped socket (Some link) s t
 
 pub record Idles (socket link : LinkId) (given : Given) (fresh : List ℕ) (s t : Stage) : Type 0 where
@@ -188,25 +216,26 @@ pub record Writes (tells : Bool) (socket : LinkId) (bytes : List ℕ) (s t : Sta
   pub waiting : List ℕ
   pub has : Has s.own socket link waiting
   pub answer : Moved
-  pub goes_on : is_over answer ≡ false
+  pub goes_on : answer ≢ moved.Failed
   pub within : count_of answer ≤ length waiting
   pub bytes_are : bytes ≡ take (count_of answer) waiting
   pub wire : Touches s.wire socket (behind_write tells answer waiting) t.wire
+  pub later : s.failed ≤ t.failed
   pub own : t.own ≡ with_connections (changed socket (wrote (count_of answer))) s.own
   pub node : t.node ≡ s.node
   pub file : SameFile s t
 
--- A write failed, or found that the peer is gone.
+-- **A write failed**, as the wire counts.
 pub record Breaks (tells : Bool) (socket : LinkId) (s t : Stage) : Type 0 where
   pub filed : s.own.batch ≡ []
   pub link : Option LinkId
   pub waiting : List ℕ
   pub has : Has s.own socket link waiting
-  pub answer : Moved
-  pub is_over : is_over answer ≡ true
   pub wire : Links LinkState
-  pub touched : Touches s.wire socket (behind_write tells answer waiting) wire
-  pub dropped : Dropped socket link (record s { wire = wire }) t
+  pub touched : Touches s.wire socket (behind_write tells moved.Failed waiting) wire
+  pub failed : ℕ
+  pub rose : Rose s.failed failed
+  pub dropped : Dropped socket link (record s { wire = wire; failed = failed }) t
 
 -- All that was sent is written, and the node has no end any more.
 pub record Closes (socket : LinkId) (s t : Stage) : Type 0 where
@@ -220,13 +249,20 @@ pub record IsAppended (mode : SyncMode) (texts : List ℕ) (s t : Stage) : Type 
   pub synced : mode ≡ sync.Always → IsSynced t.told t.synced
   pub own : t.own ≡ committed s.own
   pub wire : t.wire ≡ s.wire
+  pub failed : t.failed ≡ s.failed
   pub node : t.node ≡ s.node
 
 pub record FailsAtFile (s t : Stage) : Type 0 where
   pub written : AppendsSome s.told t.told s.own.batch
   pub own : t.own ≡ s.own
   pub wire : t.wire ≡ s.wire
+  pub failed : t.failed ≡ s.failed
   pub node : t.node ≡ s.node
+
+-- The node had no memory for a tick, and stays.
+pub record MissesTick (s t : Stage) : Type 0 where
+  pub up : s.node.core.up ≡ true
+  pub is : t ≡ record s { own = lacking s.own }
 
 pub record Settles (hurries : Bool) (s t : Stage) : Type 0 where
   pub is : t ≡ record s { own = record s.own { hurries = hurries } }
@@ -236,6 +272,7 @@ pub record IsStopped (s t : Stage) : Type 0 where
   pub why : Stopping s.node t.node
   pub own : t.own ≡ s.own
   pub wire : t.wire ≡ s.wire
+  pub failed : t.failed ≡ s.failed
   pub file : SameFile s t
 
 -- The node is told to stop: of all that a turn acts on nothing changes but that it is up.
@@ -245,6 +282,7 @@ pub record IsToldToStop (s t : Stage) : Type 0 where
 module _ (tells : Bool) (mode : SyncMode) where
   -- what an event makes of all that a turn acts on
   abbrev pub Happens : Stage → Event → Stage → Type 0
+  Happens s waits t = HasWaited s t
   Happens s (joins socket link) t = Joins socket link s t
   Happens s turns_away t = TurnsAway s t
   Happens s (takes socket bytes) t = Takes tells socket bytes s t
@@ -253,7 +291,7 @@ module _ (tells : Bool) (mode : SyncMode) where
   Happens s (loses socket) t = Loses tells socket s t
   Happens s (misses socket) t = Misses tells socket s t
   Happens s (is_refused socket link given fresh) t = IsRefused socket link given fresh s t
-  Happens s (is_deaf socket link) t = IsDeaf socket link s t
+  Happens s (is_deaf socket link) t = IsDeaf tells socket link s t
   Happens s (idles socket link given fresh) t = Idles socket link given fresh s t
   Happens s (acts act outs) t = Acts act outs s t
   Happens s (spills act outs) t = Spills act outs s t
@@ -263,7 +301,7 @@ module _ (tells : Bool) (mode : SyncMode) where
   Happens s (closes socket) t = Closes socket s t
   Happens s (appends texts) t = IsAppended mode texts s t
   Happens s fails t = FailsAtFile s t
-  Happens s (misses_tick given) t = t ≡ s
+  Happens s (misses_tick given) t = MissesTick s t
   Happens s misses_dial t = TurnsAway s t
   Happens s (settles hurries) t = Settles hurries s t
   Happens s stops t = IsStopped s t

@@ -1,5 +1,5 @@
 -- What a turn acts on.
-use Rattle.std.specs.Prelude.{ℕ, List, [], ◌++◌, Bool, true, Option, refl}
+use Rattle.std.specs.Prelude.{◌≡◌, ℕ, ◌+◌, ◌-◌, ◌^◌, min, List, [], ◌++◌, Bool, true, Option, refl}
 use Rattle.std.specs.Coded.{Coded, code_by, coded×, coded_ℕ, coded_bool, coded_list}
 use Rattle.std.specs.FinMap as map
 use Rattle.mr_links.specs.LinkId.{id_cmp, coded_id}
@@ -15,10 +15,11 @@ pub record LoopState : Type 0 where
   pub batch : List ℕ  -- the texts of effects that no append has taken
   pub halted : Bool  -- a client asked that the program end
   pub hurries : Bool  -- the next turn goes on without waiting
+  pub lacked : ℕ  -- how often memory ran out, as a count that stays at its last value
 
 abbrev pub loop_code : Coded LoopState
-loop_code = code_by (map.FinMap id_cmp ConnectionState × (List ℕ × (Bool × Bool))) (coded× (map.code coded_id connection_code) (coded× (coded_list coded_ℕ) (coded× coded_bool coded_bool)))
-    (λ s. (s.connections, (s.batch, (s.halted, s.hurries)))) (λ p. record { connections = p.0; batch = p.1.0; halted = p.1.1.0; hurries = p.1.1.1 }) (λ _. refl)
+loop_code = code_by (map.FinMap id_cmp ConnectionState × (List ℕ × (Bool × (Bool × ℕ)))) (coded× (map.code coded_id connection_code) (coded× (coded_list coded_ℕ) (coded× coded_bool (coded× coded_bool coded_ℕ))))
+    (λ s. (s.connections, (s.batch, (s.halted, (s.hurries, s.lacked))))) (λ p. record { connections = p.0; batch = p.1.0; halted = p.1.1.0; hurries = p.1.1.1.0; lacked = p.1.1.1.1 }) (λ _. refl)
 
 abbrev pub connection_at : LoopState → LinkId → Option ConnectionState
 connection_at o socket = map.get o.connections socket
@@ -38,13 +39,21 @@ committed o = record o { batch = [] }
 abbrev pub halting : LoopState → LoopState
 halting o = record o { halted = true }
 
+-- memory ran out once more
+abbrev pub lacking : LoopState → LoopState
+lacking o = record o { lacked = min (o.lacked + 1) (2 ^ 64 - 1) }
+
+abbrev pub Lacks : LoopState → LoopState → Type 0
+Lacks o p = p.lacked ≡ (lacking o).lacked
+
 -- all that a turn acts on
 pub record Stage : Type 0 where
   pub node : NodeState
   pub own : LoopState
   pub wire : Links LinkState
+  pub failed : ℕ  -- how often the wire failed
   pub told : Option (List ℕ)  -- the bytes of the file, of one that tells them
   pub synced : Option ℕ  -- how many of them the last sync covered
 
-abbrev pub stage : NodeState → LoopState → Links LinkState → Option (List ℕ) → Option ℕ → Stage
-stage node own wire told synced = record { node = node; own = own; wire = wire; told = told; synced = synced }
+abbrev pub stage : NodeState → LoopState → Links LinkState → ℕ → Option (List ℕ) → Option ℕ → Stage
+stage node own wire failed told synced = record { node = node; own = own; wire = wire; failed = failed; told = told; synced = synced }

@@ -21,9 +21,9 @@ use std::alloc::AllocError;
 impl<W: Wire, F: LogFile, S: Source> Host<'_, '_, W, F, S> {
     /// What a call on the node gave out is carried out. Where the node took the fresh id, another is drawn.
     pub(crate) fn take(&mut self, outs: Outs) -> Result<(), LoopFault>
-        ensures carried { CarriesAs result (outs_of outs) (stage_in W.links F.told F.synced self.old) (stage_in W.links F.told F.synced self.new) }
+        ensures carried { CarriesAs result (outs_of outs) (stage_in W.links W.failures F.told F.synced self.old) (stage_in W.links W.failures F.told F.synced self.new) }
         ensures turn { OnOk result (self.new.moment.turn ≡ taken outs.used self.old.moment.turn) }
-        ensures same { IsSame self.old self.new }
+        ensures same { IsSame W.waited S.clock self.old self.new }
         ensures device { IsErrOf result LoopFault.File → self.new.log.now.broken ≡ true }
     {
         let carried = self.carry_out(&outs);
@@ -39,9 +39,9 @@ impl<W: Wire, F: LogFile, S: Source> Host<'_, '_, W, F, S> {
 
     /// All outs are carried out, one after another.
     fn carry_out(&mut self, outs: &Outs) -> Result<(), LoopFault>
-        ensures carried { CarriesAs result (outs_of outs.now) (stage_in W.links F.told F.synced self.old) (stage_in W.links F.told F.synced self.new) }
+        ensures carried { CarriesAs result (outs_of outs.now) (stage_in W.links W.failures F.told F.synced self.old) (stage_in W.links W.failures F.told F.synced self.new) }
         ensures turn { self.new.moment.turn ≡ self.old.moment.turn }
-        ensures same { IsSame self.old self.new }
+        ensures same { IsSame W.waited S.clock self.old self.new }
         ensures device { IsErrOf result LoopFault.File → self.new.log.now.broken ≡ true }
     {
         for out in outs.iter() {
@@ -52,9 +52,9 @@ impl<W: Wire, F: LogFile, S: Source> Host<'_, '_, W, F, S> {
 
     /// One of them is carried out.
     fn carry(&mut self, out: Out<'_>) -> Result<(), LoopFault>
-        ensures carried { CarriesOneAs result (out_view out.entry) (stage_in W.links F.told F.synced self.old) (stage_in W.links F.told F.synced self.new) }
+        ensures carried { CarriesOneAs result (out_view out.entry) (stage_in W.links W.failures F.told F.synced self.old) (stage_in W.links W.failures F.told F.synced self.new) }
         ensures turn { self.new.moment.turn ≡ self.old.moment.turn }
-        ensures same { IsSame self.old self.new }
+        ensures same { IsSame W.waited S.clock self.old self.new }
         ensures device { IsErrOf result LoopFault.File → self.new.log.now.broken ≡ true }
     {
         match out {
@@ -85,7 +85,7 @@ impl<W: Wire, F: LogFile, S: Source> Host<'_, '_, W, F, S> {
         ensures wire { self.new.wire.now ≡ self.old.wire.now }
         ensures log { self.new.log.now ≡ self.old.log.now }
         ensures turn { self.new.moment.turn ≡ self.old.moment.turn }
-        ensures same { IsSame self.old self.new }
+        ensures same { IsSame W.waited S.clock self.old self.new }
     {
         self.node.close(link);
         self.own.part(link);
@@ -93,9 +93,9 @@ impl<W: Wire, F: LogFile, S: Source> Host<'_, '_, W, F, S> {
 
     /// The file is replaced at once. The new one has all effects so far, so that nothing waits for it any more.
     fn rewrite(&mut self, whole: &[u8]) -> Result<(), LoopFault>
-        ensures carried { CarriesOneAs result (replace whole.now) (stage_in W.links F.told F.synced self.old) (stage_in W.links F.told F.synced self.new) }
+        ensures carried { CarriesOneAs result (replace whole.now) (stage_in W.links W.failures F.told F.synced self.old) (stage_in W.links W.failures F.told F.synced self.new) }
         ensures turn { self.new.moment.turn ≡ self.old.moment.turn }
-        ensures same { IsSame self.old self.new }
+        ensures same { IsSame W.waited S.clock self.old self.new }
         ensures device { IsErrOf result LoopFault.File → self.new.log.now.broken ≡ true }
     {
         match self.log.replace(whole) {

@@ -12,9 +12,9 @@ use mr_wire::Wire;
 impl<W: Wire, F: LogFile, S: Source> Host<'_, '_, W, F, S> {
     /// Closes a connection, at the node where that has an end of it, and on the wire. What waits is dropped.
     pub(crate) fn drop_connection(&mut self, socket: LinkId, link: Option<LinkId>)
-        ensures dropped { Dropped socket link (stage_in W.links F.told F.synced self.old) (stage_in W.links F.told F.synced self.new) }
+        ensures dropped { Dropped socket link (stage_in W.links W.failures F.told F.synced self.old) (stage_in W.links W.failures F.told F.synced self.new) }
         ensures turn { self.new.moment.turn ≡ self.old.moment.turn }
-        ensures same { IsSame self.old self.new }
+        ensures same { IsSame W.waited S.clock self.old self.new }
     {
         if let Some(link) = link {
             self.node.close(link);

@@ -13,11 +13,11 @@ use mr_wire::Wire;
 impl<W: Wire, F: LogFile, S: Source> Host<'_, '_, W, F, S> {
     /// Appends what waits for the file, and syncs it with `Always`. Where nothing waits, no call is made.
     pub(crate) fn commit(&mut self) -> Result<(), LoopFault>
-        ensures went { GoesAs W.tells W.links F.told F.synced result self.old self.new }
+        ensures went { GoesAs W.tells W.links W.failures F.told F.synced result self.old self.new }
         ensures all { OnOk result (self.new.own.now ≡ committed self.old.own.now) }
         ensures node { self.new.node.now ≡ self.old.node.now }
         ensures turn { self.new.moment.turn ≡ self.old.moment.turn }
-        ensures same { IsSame self.old self.new }
+        ensures same { IsSame W.waited S.clock self.old self.new }
         ensures device { IsErrOf result LoopFault.File → self.new.log.now.broken ≡ true }
     {
         if self.own.batch().is_empty() {

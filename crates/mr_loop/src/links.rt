@@ -2,7 +2,7 @@
 ghost use Rattle.std.specs.Prelude.{◌≡◌, ◌≤◌, ◌||◌, [], length, false, true, IfOk, IfSome, IfNone, OnOk, OnErr, None, option_copied};
 ghost use Rattle.std.specs.FinMap as map;
 ghost use Rattle.mr_connections.specs.State.{HasLink, NoneHas, begun, changed, parted, sent, wrote};
-ghost use Rattle.mr_loop.specs.Stage.{LoopState, committed, connection_at, filed, halting, with_connections};
+ghost use Rattle.mr_loop.specs.Stage.{LoopState, committed, connection_at, filed, halting, lacking, with_connections};
 
 use mr_connections::{Connection, Connections, PIECE};
 use mr_links::LinkId;
@@ -27,6 +27,8 @@ pub struct Links {
     halted: bool,
     /// The last turn met a limit, so that the next doesn't wait.
     hurries: bool,
+    /// How often memory ran out. The count stays at its greatest.
+    lacked: u64,
     /// Room for what one read gives.
     piece: Vec<u8>,
     /// For the datasets of snapshots.
@@ -42,13 +44,13 @@ impl Model for Links {
 
     ghost coded = { loop_code };
 
-    ghost view = { λ l. record { connections = l.connections; batch = l.batch.items; halted = l.halted; hurries = l.hurries } };
+    ghost view = { λ l. record { connections = l.connections; batch = l.batch.items; halted = l.halted; hurries = l.hurries; lacked = l.lacked } };
 }
 
 impl Links {
     /// No connections. The datasets of snapshots that are loaded have this seed, which changes no answer.
     pub fn new(alloc: Global, seed: RandomState) -> Result<Links, AllocError>
-        ensures { IfOk result (λ links. links ≡ record { connections = map.empty; batch = []; halted = false; hurries = false }) }
+        ensures { IfOk result (λ links. links ≡ record { connections = map.empty; batch = []; halted = false; hurries = false; lacked = 0 }) }
     {
         let piece = Vec::from_elem(alloc, 0u8, PIECE)?;
         Ok(Links {
@@ -57,6 +59,7 @@ impl Links {
             batch: Vec::new(alloc),
             halted: false,
             hurries: false,
+            lacked: 0,
             piece,
             seed,
             dialled: None,
@@ -69,6 +72,14 @@ impl Links {
         ensures waits { self.now.hurries ≡ false → result ≡ 100 }
     {
         if self.hurries { 0 } else { LONGEST_WAIT }
+    }
+
+    /// How often memory ran out: for a link that a peer opened or that leads to the master, for bytes that came, a step, time that
+    /// passes, or what the node gave out. The count stays at its greatest.
+    pub fn lacked(&self) -> u64
+        ensures { result ≡ self.now.lacked }
+    {
+        self.lacked
     }
 
     /// Whether a client said SHUTDOWN: no turn may begin any more.
@@ -106,6 +117,13 @@ impl Links {
         ensures { self.new ≡ halting self.old }
     {
         self.halted = true;
+    }
+
+    /// Memory ran out.
+    pub(crate) fn lack(&mut self)
+        ensures { self.new ≡ lacking self.old }
+    {
+        self.lacked = self.lacked.saturating_add(1);
     }
 
     /// For the datasets of snapshots.
@@ -154,9 +172,15 @@ impl Links {
     /// Puts texts behind what waits for the file.
     pub(crate) fn file(&mut self, texts: &[u8]) -> Result<(), AllocError>
         ensures ok { OnOk result (self.new ≡ filed texts.now self.old) }
-        ensures err { OnErr result (self.new ≡ self.old) }
+        ensures err { OnErr result (self.new ≡ lacking self.old) }
     {
-        self.batch.extend_from_slice(texts)
+        match self.batch.extend_from_slice(texts) {
+            Ok(()) => Ok(()),
+            Err(refused) => {
+                self.lack();
+                Err(refused)
+            }
+        }
     }
 }
 
@@ -178,9 +202,15 @@ impl Links {
     pub(crate) fn join(&mut self, socket: LinkId, link: LinkId) -> Result<(), AllocError>
         ensures fresh { OnOk result (connection_at self.old socket ≡ None) }
         ensures joined { OnOk result (self.new ≡ record self.old { connections = map.insert self.old.connections socket (begun link) }) }
-        ensures err { OnErr result (self.new ≡ self.old) }
+        ensures err { OnErr result (self.new ≡ lacking self.old) }
     {
-        self.connections.join(socket, link)
+        match self.connections.join(socket, link) {
+            Ok(()) => Ok(()),
+            Err(refused) => {
+                self.lack();
+                Err(refused)
+            }
+        }
     }
 
     /// Takes a connection out.
@@ -200,9 +230,15 @@ impl Links {
     /// Puts bytes behind what waits on the connection with this link.
     pub(crate) fn send(&mut self, link: LinkId, bytes: &[u8]) -> Result<(), AllocError>
         ensures ok { OnOk result (self.new ≡ with_connections (sent link bytes.now) self.old) }
-        ensures err { OnErr result (self.new ≡ self.old) }
+        ensures err { OnErr result (self.new ≡ lacking self.old) }
     {
-        self.connections.send(link, bytes)
+        match self.connections.send(link, bytes) {
+            Ok(()) => Ok(()),
+            Err(refused) => {
+                self.lack();
+                Err(refused)
+            }
+        }
     }
 
     /// So many bytes of what waits on a connection were moved.

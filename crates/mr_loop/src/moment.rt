@@ -20,7 +20,8 @@ pub(crate) struct Moment {
 impl Moment {
     /// A turn begins: nothing is counted yet.
     pub(crate) fn begun<S: Source>(source: &mut S) -> Moment
-        ensures { result.turn ≡ record { steps = 0; done = 0; used = 0; deaf = 0; halted = false } }
+        ensures turn { result.turn ≡ record { steps = 0; done = 0; used = 0; deaf = 0; halted = false } }
+        ensures time { result.time ≡ S.clock source.new }
     {
         let fresh = source.id();
         let time = source.now();

@@ -1,7 +1,7 @@
 // What peers send.
-ghost use Rattle.std.specs.Prelude.{◌≡◌, IfSome};
+ghost use Rattle.std.specs.Prelude.{◌≡◌, length, IfSome};
 ghost use Rattle.mr_connections.specs.State.{HasLink};
-ghost use Rattle.mr_loop.specs.Causes.{IsRead};
+ghost use Rattle.mr_loop.specs.Causes.{HasRoom, IsRead};
 ghost use Rattle.mr_loop.specs.Going.{Goes, StaysAs};
 ghost use Rattle.mr_loop.specs.Hosts.{IsSame};
 ghost use Rattle.mr_loop.specs.Quiet.{AllWait, WaitsBut};
@@ -15,8 +15,8 @@ use mr_wire::{Moved, Wire};
 impl<W: Wire, F: LogFile, S: Source> Host<'_, '_, W, F, S> {
     /// Serves those in this turn whose sockets the wire names, in its order.
     pub(crate) fn gather(&mut self)
-        ensures stays { StaysAs W.tells W.links F.told F.synced self.old self.new }
-        ensures same { IsSame self.old self.new }
+        ensures stays { StaysAs W.tells W.links W.failures F.told F.synced self.old self.new }
+        ensures same { IsSame W.waited S.clock self.old self.new }
     {
         self.own.serve_nobody();
         for _ in 0..self.own.len() {
@@ -36,8 +36,8 @@ impl<W: Wire, F: LogFile, S: Source> Host<'_, '_, W, F, S> {
         piece: &mut [u8],
         most: usize,
     ) -> Option<LinkId>
-        ensures went { Goes W.tells W.links F.told F.synced self.old self.new }
-        ensures same { IsSame self.old self.new }
+        ensures went { Goes W.tells W.links W.failures F.told F.synced self.old self.new }
+        ensures same { IsSame W.waited S.clock self.old self.new }
         ensures quiet { AllWait self.old.node.now → WaitsBut result self.new.node.now }
         ensures linked { IfSome result (λ link. HasLink self.new.own.now.connections socket link) }
     {
@@ -51,24 +51,22 @@ impl<W: Wire, F: LogFile, S: Source> Host<'_, '_, W, F, S> {
             self.own.narrow(socket);
             return None;
         }
-        let room = self
-            .node
-            .room(link)
-            .unwrap_or(0)
-            .min(piece.len())
-            .min(connection.piece())
-            .min(most);
-        if room == 0 {
+        let Some(room) = self.node.room(link) else {
+            return None;
+        };
+        let most = room.min(piece.len()).min(connection.piece()).min(most);
+        if most == 0 {
             return None;
         }
-        self.read_into(socket, link, &mut piece[..room])
+        self.read_into(socket, link, &mut piece[..most])
     }
 
     /// Reads once, and feeds what came.
     fn read_into(&mut self, socket: LinkId, link: LinkId, buffer: &mut [u8]) -> Option<LinkId>
-        requires { IsRead self.old.own.now socket link }
-        ensures went { Goes W.tells W.links F.told F.synced self.old self.new }
-        ensures same { IsSame self.old self.new }
+        requires read { IsRead self.old.own.now socket link }
+        requires room { HasRoom self.old.node.now link (length buffer.old) }
+        ensures went { Goes W.tells W.links W.failures F.told F.synced self.old self.new }
+        ensures same { IsSame W.waited S.clock self.old self.new }
         ensures quiet { AllWait self.old.node.now → WaitsBut result self.new.node.now }
         ensures linked { IfSome result (λ l. HasLink self.new.own.now.connections socket l) }
     {
@@ -83,6 +81,7 @@ impl<W: Wire, F: LogFile, S: Source> Host<'_, '_, W, F, S> {
                         Some(link)
                     }
                     Err(_refused) => {
+                        self.own.lack();
                         self.drop_connection(socket, Some(link));
                         None
                     }

@@ -21,8 +21,8 @@ impl<W: Wire, F: LogFile, S: Source> Host<'_, '_, W, F, S> {
     /// Steps on a link until nothing whole is there.
     pub(crate) fn step_all(&mut self, socket: LinkId, link: LinkId) -> Result<(), LoopFault>
         requires { IsLinked self.old.node.now self.old.own.now socket link }
-        ensures went { GoesAs W.tells W.links F.told F.synced result self.old self.new }
-        ensures same { IsSame self.old self.new }
+        ensures went { GoesAs W.tells W.links W.failures F.told F.synced result self.old self.new }
+        ensures same { IsSame W.waited S.clock self.old self.new }
         ensures device { IsErrOf result LoopFault.File → self.new.log.now.broken ≡ true }
         ensures quiet { OthersWait self.old.node.now link → OnOk result (AllWait self.new.node.now) }
     {
@@ -34,8 +34,8 @@ impl<W: Wire, F: LogFile, S: Source> Host<'_, '_, W, F, S> {
     /// was used.
     fn step_next(&mut self, socket: LinkId, link: LinkId) -> Result<bool, LoopFault>
         requires { IsLinked self.old.node.now self.old.own.now socket link }
-        ensures went { GoesAs W.tells W.links F.told F.synced result self.old self.new }
-        ensures same { IsSame self.old self.new }
+        ensures went { GoesAs W.tells W.links W.failures F.told F.synced result self.old self.new }
+        ensures same { IsSame W.waited S.clock self.old self.new }
         ensures device { IsErrOf result LoopFault.File → self.new.log.now.broken ≡ true }
         ensures quiet { OthersWait self.old.node.now link → IfOk result (λ used. WaitsUnless used link self.new.node.now) }
         ensures linked { IfOk result (λ used. used ≡ true → IsLinked self.new.node.now self.new.own.now socket link) }
@@ -76,8 +76,8 @@ impl<W: Wire, F: LogFile, S: Source> Host<'_, '_, W, F, S> {
         requires input { HasInput self.old.node.now link }
         requires has { HasLink self.old.own.now.connections socket link }
         requires light { IsLight self.old.node.now self.old.own.now socket link }
-        ensures went { GoesAs W.tells W.links F.told F.synced result self.old self.new }
-        ensures same { IsSame self.old self.new }
+        ensures went { GoesAs W.tells W.links W.failures F.told F.synced result self.old self.new }
+        ensures same { IsSame W.waited S.clock self.old self.new }
         ensures device { IsErrOf result LoopFault.File → self.new.log.now.broken ≡ true }
         ensures quiet { OthersWait self.old.node.now link → IfOk result (λ used. WaitsUnless used link self.new.node.now) }
         ensures linked { IfOk result (λ used. used ≡ true → IsLinked self.new.node.now self.new.own.now socket link) }
@@ -96,6 +96,7 @@ impl<W: Wire, F: LogFile, S: Source> Host<'_, '_, W, F, S> {
             Ok(Step::Closed) => Ok(false),
             Err(NodeFault::Stopped) => Err(LoopFault::Stopped),
             Err(_refused) => {
+                self.own.lack();
                 self.drop_connection(socket, Some(link));
                 Ok(false)
             }
@@ -107,8 +108,8 @@ impl<W: Wire, F: LogFile, S: Source> Host<'_, '_, W, F, S> {
     fn unburden(&mut self, socket: LinkId, link: LinkId) -> Result<bool, LoopFault>
         requires input { HasInput self.old.node.now link }
         requires linked { IsLinked self.old.node.now self.old.own.now socket link }
-        ensures went { GoesAs W.tells W.links F.told F.synced result self.old self.new }
-        ensures same { IsSame self.old self.new }
+        ensures went { GoesAs W.tells W.links W.failures F.told F.synced result self.old self.new }
+        ensures same { IsSame W.waited S.clock self.old self.new }
         ensures device { IsErrOf result LoopFault.File → self.new.log.now.broken ≡ true }
         ensures quiet { OthersWait self.old.node.now link → IfOk result (λ there. there ≡ false → AllWait self.new.node.now) }
         ensures node { IfOk result (λ there. there ≡ true → self.new.node.now ≡ self.old.node.now) }

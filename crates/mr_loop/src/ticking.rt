@@ -16,8 +16,8 @@ use mr_wire::Wire;
 impl<W: Wire, F: LogFile, S: Source> Host<'_, '_, W, F, S> {
     /// Has time pass at the node, again and again while it deletes, and so often at most. It answers whether more may be due.
     pub(crate) fn tick_all(&mut self) -> Result<bool, LoopFault>
-        ensures went { PassesAs W.tells W.links F.told F.synced result (most_ticks self.old.moment.turn.done) self.old self.new }
-        ensures same { IsSame self.old self.new }
+        ensures went { PassesAs W.tells W.links W.failures F.told F.synced result (most_ticks self.old.moment.turn.done) self.old self.new }
+        ensures same { IsSame W.waited S.clock self.old self.new }
         ensures device { IsErrOf result LoopFault.File → self.new.log.now.broken ≡ true }
         ensures quiet { AllWait self.old.node.now → OnOk result (AllWait self.new.node.now) }
     {
@@ -33,8 +33,8 @@ impl<W: Wire, F: LogFile, S: Source> Host<'_, '_, W, F, S> {
 
     /// Time passes at the node. It answers whether another tick may still delete.
     fn tick(&mut self) -> Result<bool, LoopFault>
-        ensures went { TicksAs W.tells W.links F.told F.synced result self.old self.new }
-        ensures same { IsSame self.old self.new }
+        ensures went { TicksAs W.tells W.links W.failures F.told F.synced result self.old self.new }
+        ensures same { IsSame W.waited S.clock self.old self.new }
         ensures device { IsErrOf result LoopFault.File → self.new.log.now.broken ≡ true }
         ensures quiet { AllWait self.old.node.now → OnOk result (AllWait self.new.node.now) }
     {
@@ -46,7 +46,10 @@ impl<W: Wire, F: LogFile, S: Source> Host<'_, '_, W, F, S> {
                 Ok(more)
             }
             Err(NodeFault::Stopped) => Err(LoopFault::Stopped),
-            Err(_refused) => Ok(true),
+            Err(_refused) => {
+                self.own.lack();
+                Ok(true)
+            }
         }
     }
 }

@@ -1,5 +1,5 @@
 // A turn.
-ghost use Rattle.std.specs.Prelude.{◌≡◌, [], false, true, OnErr, OnOk, IsErrOf};
+ghost use Rattle.std.specs.Prelude.{◌≡◌, ◌≤◌, [], false, true, OnErr, OnOk, IsErrOf};
 ghost use Rattle.mr_file.specs.LogFile.{Rose};
 ghost use Rattle.mr_loop.specs.Going.{GoesAs, GoesTelling};
 ghost use Rattle.mr_loop.specs.Hosts.{IsSame, stage_in};
@@ -40,7 +40,7 @@ pub fn turn<W: Wire, F: LogFile, S: Source>(
     requires filed { links.old.batch ≡ [] }
     requires runs { links.old.halted ≡ false }
     requires up { node.old.core.up ≡ true }
-    ensures went { Turns W.tells log.old.mode result (stage node.old links.old (W.links wire.old) (F.told log.old.file) (F.synced log.old.file)) (stage node.new links.new (W.links wire.new) (F.told log.new.file) (F.synced log.new.file)) }
+    ensures went { Turns W.tells log.old.mode (S.clock source.new) result (stage node.old links.old (W.links wire.old) (W.failures wire.old) (F.told log.old.file) (F.synced log.old.file)) (stage node.new links.new (W.links wire.new) (W.failures wire.new) (F.told log.new.file) (F.synced log.new.file)) }
     ensures written { OnOk result (links.new.batch ≡ []) }
     ensures mode { log.new.mode ≡ log.old.mode }
     ensures device { IsErrOf result LoopFault.File → log.new.broken ≡ true }
@@ -49,12 +49,16 @@ pub fn turn<W: Wire, F: LogFile, S: Source>(
     ensures file { IsErrOf result LoopFault.File → node.new.core.up ≡ false }
     ensures stopped { IsErrOf result LoopFault.Stopped → node.new.core.up ≡ false }
     ensures up { OnOk result (node.new.core.up ≡ true) }
+    ensures hurries { W.tells ≡ true → links.old.hurries ≡ true → W.waited wire.new ≡ 0 }
+    ensures waits { W.tells ≡ true → links.old.hurries ≡ false → W.waited wire.new ≡ 100 }
 {
-    if wait(links, wire).is_err() {
-        return Err(LoopFault::Listener);
+    match wait(links, wire) {
+        Ok(()) => {
+            let moment = Moment::begun(source);
+            turn_at(node, links, wire, log, source, moment)
+        }
+        Err(_failed) => Err(LoopFault::Listener),
     }
-    let moment = Moment::begun(source);
-    turn_at(node, links, wire, log, source, moment)
 }
 
 /// A turn behind its wait, at this moment.
@@ -69,7 +73,7 @@ fn turn_at<W: Wire, F: LogFile, S: Source>(
     requires filed { own.old.batch ≡ [] }
     requires begun { moment.turn ≡ record { steps = 0; done = 0; used = 0; deaf = 0; halted = false } }
     requires up { node.old.core.up ≡ true }
-    ensures went { Turns W.tells log.old.mode result (stage node.old own.old (W.links wire.old) (F.told log.old.file) (F.synced log.old.file)) (stage node.new own.new (W.links wire.new) (F.told log.new.file) (F.synced log.new.file)) }
+    ensures went { Turns W.tells log.old.mode moment.time result (stage node.old own.old (W.links wire.old) (W.failures wire.old) (F.told log.old.file) (F.synced log.old.file)) (stage node.new own.new (W.links wire.new) (W.failures wire.new) (F.told log.new.file) (F.synced log.new.file)) }
     ensures written { OnOk result (own.new.batch ≡ []) }
     ensures mode { log.new.mode ≡ log.old.mode }
     ensures device { IsErrOf result LoopFault.File → log.new.broken ≡ true }
@@ -77,6 +81,8 @@ fn turn_at<W: Wire, F: LogFile, S: Source>(
     ensures quiet { AllWait node.old → OnOk result (AllWait node.new) }
     ensures down { OnErr result (node.new.core.up ≡ false) }
     ensures up { OnOk result (node.new.core.up ≡ true) }
+    ensures waited { W.waited wire.new ≡ W.waited wire.old }
+    ensures clock { S.clock source.new ≡ S.clock source.old }
 {
     let mut host = Host {
         node,
@@ -92,6 +98,9 @@ fn turn_at<W: Wire, F: LogFile, S: Source>(
 /// Waits until something is ready. Behind a turn that met a limit nothing is waited for.
 fn wait<W: Wire>(links: &Links, wire: &mut W) -> Result<(), Failed>
     ensures same { W.links wire.new ≡ W.links wire.old }
+    ensures hurries { W.tells ≡ true → links.now.hurries ≡ true → W.waited wire.new ≡ 0 }
+    ensures waits { W.tells ≡ true → links.now.hurries ≡ false → W.waited wire.new ≡ 100 }
+    ensures later { W.failures wire.old ≤ W.failures wire.new }
     ensures cause { OnErr result (Rose (W.failures wire.old) (W.failures wire.new)) }
 {
     wire.wait(links.longest_wait())
@@ -120,9 +129,9 @@ impl<W: Wire, F: LogFile, S: Source> Host<'_, '_, W, F, S> {
     fn run(&mut self) -> Result<Turn, LoopFault>
         requires filed { self.old.own.now.batch ≡ [] }
         requires begun { self.old.moment.turn ≡ record { steps = 0; done = 0; used = 0; deaf = 0; halted = false } }
-        ensures went { Turns W.tells self.old.log.now.mode result (stage_in W.links F.told F.synced self.old) (stage_in W.links F.told F.synced self.new) }
+        ensures went { Turns W.tells self.old.log.now.mode self.old.moment.time result (stage_in W.links W.failures F.told F.synced self.old) (stage_in W.links W.failures F.told F.synced self.new) }
         ensures written { OnOk result (self.new.own.now.batch ≡ []) }
-        ensures same { IsSame self.old self.new }
+        ensures same { IsSame W.waited S.clock self.old self.new }
         ensures device { IsErrOf result LoopFault.File → self.new.log.now.broken ≡ true }
         ensures quiet { AllWait self.old.node.now → OnOk result (AllWait self.new.node.now) }
         ensures listener { IsErrOf result LoopFault.Listener → ⊥ }
@@ -142,9 +151,9 @@ impl<W: Wire, F: LogFile, S: Source> Host<'_, '_, W, F, S> {
     fn go_on(&mut self) -> Result<Turn, LoopFault>
         requires filed { self.old.own.now.batch ≡ [] }
         requires begun { self.old.moment.turn ≡ record { steps = 0; done = 0; used = 0; deaf = 0; halted = false } }
-        ensures went { GoesTelling W.tells W.links F.told F.synced result self.old self.new }
+        ensures went { GoesTelling W.tells W.links W.failures F.told F.synced result self.old self.new }
         ensures written { OnOk result (self.new.own.now.batch ≡ []) }
-        ensures same { IsSame self.old self.new }
+        ensures same { IsSame W.waited S.clock self.old self.new }
         ensures device { IsErrOf result LoopFault.File → self.new.log.now.broken ≡ true }
         ensures quiet { AllWait self.old.node.now → OnOk result (AllWait self.new.node.now) }
     {
@@ -160,9 +169,9 @@ impl<W: Wire, F: LogFile, S: Source> Host<'_, '_, W, F, S> {
 
     /// Appends what waits for the file, and then writes what waits on the connections.
     fn send_all(&mut self) -> Result<(), LoopFault>
-        ensures went { GoesAs W.tells W.links F.told F.synced result self.old self.new }
+        ensures went { GoesAs W.tells W.links W.failures F.told F.synced result self.old self.new }
         ensures written { OnOk result (self.new.own.now.batch ≡ []) }
-        ensures same { IsSame self.old self.new }
+        ensures same { IsSame W.waited S.clock self.old self.new }
         ensures turn { OnOk result (self.new.moment.turn ≡ self.old.moment.turn) }
         ensures core { self.new.node.now.core ≡ self.old.node.now.core }
         ensures device { IsErrOf result LoopFault.File → self.new.log.now.broken ≡ true }
@@ -175,8 +184,8 @@ impl<W: Wire, F: LogFile, S: Source> Host<'_, '_, W, F, S> {
 
     /// Serves each connection whose socket is ready. It answers whether one of them may have more to read.
     fn read_all(&mut self) -> Result<bool, LoopFault>
-        ensures went { GoesAs W.tells W.links F.told F.synced result self.old self.new }
-        ensures same { IsSame self.old self.new }
+        ensures went { GoesAs W.tells W.links W.failures F.told F.synced result self.old self.new }
+        ensures same { IsSame W.waited S.clock self.old self.new }
         ensures device { IsErrOf result LoopFault.File → self.new.log.now.broken ≡ true }
         ensures quiet { AllWait self.old.node.now → OnOk result (AllWait self.new.node.now) }
     {
@@ -188,8 +197,8 @@ impl<W: Wire, F: LogFile, S: Source> Host<'_, '_, W, F, S> {
     }
 
     fn read_each(&mut self, piece: &mut [u8]) -> Result<bool, LoopFault>
-        ensures went { GoesAs W.tells W.links F.told F.synced result self.old self.new }
-        ensures same { IsSame self.old self.new }
+        ensures went { GoesAs W.tells W.links W.failures F.told F.synced result self.old self.new }
+        ensures same { IsSame W.waited S.clock self.old self.new }
         ensures device { IsErrOf result LoopFault.File → self.new.log.now.broken ≡ true }
         ensures quiet { AllWait self.old.node.now → OnOk result (AllWait self.new.node.now) }
     {
@@ -203,8 +212,8 @@ impl<W: Wire, F: LogFile, S: Source> Host<'_, '_, W, F, S> {
 
     /// Serves the connection that is ready there, and has what waits on it written next.
     fn read_at(&mut self, piece: &mut [u8], index: usize) -> Result<bool, LoopFault>
-        ensures went { GoesAs W.tells W.links F.told F.synced result self.old self.new }
-        ensures same { IsSame self.old self.new }
+        ensures went { GoesAs W.tells W.links W.failures F.told F.synced result self.old self.new }
+        ensures same { IsSame W.waited S.clock self.old self.new }
         ensures device { IsErrOf result LoopFault.File → self.new.log.now.broken ≡ true }
         ensures quiet { AllWait self.old.node.now → OnOk result (AllWait self.new.node.now) }
     {
@@ -218,8 +227,8 @@ impl<W: Wire, F: LogFile, S: Source> Host<'_, '_, W, F, S> {
 
     /// Reads of a connection and steps, until nothing more is there. It answers whether it left off before that.
     fn read_connection(&mut self, piece: &mut [u8], socket: LinkId) -> Result<bool, LoopFault>
-        ensures went { GoesAs W.tells W.links F.told F.synced result self.old self.new }
-        ensures same { IsSame self.old self.new }
+        ensures went { GoesAs W.tells W.links W.failures F.told F.synced result self.old self.new }
+        ensures same { IsSame W.waited S.clock self.old self.new }
         ensures device { IsErrOf result LoopFault.File → self.new.log.now.broken ≡ true }
         ensures quiet { AllWait self.old.node.now → OnOk result (AllWait self.new.node.now) }
     {

@@ -3,7 +3,7 @@ ghost use Rattle.std.specs.Prelude.{◌≡◌, [], false, true};
 ghost use Rattle.mr_rows.specs.LinkRows.{closed_at};
 ghost use Rattle.mr_connections.specs.State.{HasLink};
 ghost use Rattle.mr_links.specs.declared.link_id.LinkId.{LinkId};
-ghost use Rattle.mr_loop.specs.Writing.{WroteOn};
+ghost use Rattle.mr_loop.specs.Writing.{IsNoneDone, IsWritten, WroteOn};
 ghost use Rattle.mr_loop.specs.Going.{Goes};
 ghost use Rattle.mr_loop.specs.Hosts.{IsSame};
 ghost use Rattle.mr_loop.specs.Quiet.{AllWait};
@@ -29,8 +29,8 @@ impl<W: Wire, F: LogFile, S: Source> Host<'_, '_, W, F, S> {
     /// Writes what waits on each connection that is noted, once. One on which less is moved is served again once the wire names it.
     pub(crate) fn write_all(&mut self)
         requires { self.old.own.now.batch ≡ [] }
-        ensures went { Goes W.tells W.links F.told F.synced self.old self.new }
-        ensures same { IsSame self.old self.new }
+        ensures went { Goes W.tells W.links W.failures F.told F.synced self.old self.new }
+        ensures same { IsSame W.waited S.clock self.old self.new }
         ensures batch { self.new.own.now.batch ≡ [] }
         ensures turn { self.new.moment.turn ≡ self.old.moment.turn }
         ensures core { self.new.node.now.core ≡ self.old.node.now.core }
@@ -47,12 +47,13 @@ impl<W: Wire, F: LogFile, S: Source> Host<'_, '_, W, F, S> {
     /// Writes what waits on a connection, once. Where the node has closed its end, the connection is closed once all is written.
     fn write_to(&mut self, socket: LinkId)
         requires { self.old.own.now.batch ≡ [] }
-        ensures went { Goes W.tells W.links F.told F.synced self.old self.new }
-        ensures same { IsSame self.old self.new }
+        ensures went { Goes W.tells W.links W.failures F.told F.synced self.old self.new }
+        ensures same { IsSame W.waited S.clock self.old self.new }
         ensures batch { self.new.own.now.batch ≡ [] }
         ensures turn { self.new.moment.turn ≡ self.old.moment.turn }
         ensures core { self.new.node.now.core ≡ self.old.node.now.core }
         ensures quiet { AllWait self.old.node.now → AllWait self.new.node.now }
+        ensures closed { IsNoneDone self.new.own.now socket }
     {
         let _wrote = self.write_once(socket);
         self.close_done(socket);
@@ -62,31 +63,30 @@ impl<W: Wire, F: LogFile, S: Source> Host<'_, '_, W, F, S> {
     pub(crate) fn write_ready(&mut self, socket: LinkId, link: LinkId) -> bool
         requires filed { self.old.own.now.batch ≡ [] }
         requires has { HasLink self.old.own.now.connections socket link }
-        ensures went { Goes W.tells W.links F.told F.synced self.old self.new }
-        ensures same { IsSame self.old self.new }
+        ensures went { Goes W.tells W.links W.failures F.told F.synced self.old self.new }
+        ensures same { IsSame W.waited S.clock self.old self.new }
         ensures turn { self.new.moment.turn ≡ self.old.moment.turn }
-        ensures there { result ≡ true → (self.new.node.now ≡ self.old.node.now) × HasLink self.new.own.now.connections socket link }
+        ensures there { result ≡ true → (self.new.node.now ≡ self.old.node.now) × IsWritten W.tells (W.links self.new.wire.now) socket link self.new.own.now }
         ensures gone { result ≡ false → self.new.node.now ≡ closed_at link self.old.node.now }
     {
-        for _ in 0..u64::MAX {
+        loop {
             match self.write_once(socket) {
                 Wrote::Some => {}
                 Wrote::Nothing => return true,
                 Wrote::Gone => return false,
             }
         }
-        true
     }
 
     /// Writes what waits on a connection, once. Where that fails, the connection is closed.
     fn write_once(&mut self, socket: LinkId) -> Wrote
         requires { self.old.own.now.batch ≡ [] }
-        ensures went { Goes W.tells W.links F.told F.synced self.old self.new }
-        ensures same { IsSame self.old self.new }
+        ensures went { Goes W.tells W.links W.failures F.told F.synced self.old self.new }
+        ensures same { IsSame W.waited S.clock self.old self.new }
         ensures batch { self.new.own.now.batch ≡ [] }
         ensures turn { self.new.moment.turn ≡ self.old.moment.turn }
         ensures core { self.new.node.now.core ≡ self.old.node.now.core }
-        ensures wrote { (link : LinkId) → HasLink self.old.own.now.connections socket link → WroteOn result socket link self.old.node.now self.new.node.now self.new.own.now }
+        ensures wrote { (link : LinkId) → HasLink self.old.own.now.connections socket link → WroteOn W.tells result (W.links self.new.wire.now) socket link self.old.node.now self.new.node.now self.old.own.now self.new.own.now }
         ensures quiet { AllWait self.old.node.now → AllWait self.new.node.now }
     {
         let Some(connection) = self.own.connection(socket) else {
@@ -105,11 +105,12 @@ impl<W: Wire, F: LogFile, S: Source> Host<'_, '_, W, F, S> {
                     Wrote::Nothing
                 }
             }
-            Moved::NotReady => {
+            // of a peer that sends no more, reads tell
+            Moved::NotReady | Moved::End => {
                 self.own.wrote(socket, 0);
                 Wrote::Nothing
             }
-            Moved::End | Moved::Failed => {
+            Moved::Failed => {
                 self.drop_connection(socket, link);
                 Wrote::Gone
             }
@@ -118,11 +119,12 @@ impl<W: Wire, F: LogFile, S: Source> Host<'_, '_, W, F, S> {
 
     /// Closes a connection whose end the node has closed, where all is written.
     fn close_done(&mut self, socket: LinkId)
-        ensures went { Goes W.tells W.links F.told F.synced self.old self.new }
-        ensures same { IsSame self.old self.new }
+        ensures went { Goes W.tells W.links W.failures F.told F.synced self.old self.new }
+        ensures same { IsSame W.waited S.clock self.old self.new }
         ensures batch { self.new.own.now.batch ≡ self.old.own.now.batch }
         ensures turn { self.new.moment.turn ≡ self.old.moment.turn }
         ensures node { self.new.node.now ≡ self.old.node.now }
+        ensures closed { IsNoneDone self.new.own.now socket }
     {
         let Some(connection) = self.own.connection(socket) else {
             return;

@@ -1,4 +1,4 @@
-ghost use Rattle.std.specs.Prelude.{◌≢◌};
+ghost use Rattle.std.specs.Prelude.{◌≡◌, ◌≢◌, ℤ};
 ghost use Rattle.mr_repl.specs.ReplId.{zero_id};
 ghost use Rattle.mr_data.specs.Given.{IsMoment};
 
@@ -6,14 +6,20 @@ use mr_repl::ReplId;
 
 /// What a node is given from outside.
 pub trait Source {
+    /// The time that it gave last.
+    ghost clock: { Self → ℤ };
+
     /// The time in milliseconds since the beginning of 1970. One outside 0 to 2^61 counts as the nearer end.
     fn now(&mut self) -> i64
-        ensures { IsMoment result };
+        ensures moment { IsMoment result }
+        ensures clock { clock self.new ≡ result };
 
     /// A word of chance.
-    fn word(&mut self) -> u64;
+    fn word(&mut self) -> u64
+        ensures clock { clock self.new ≡ clock self.old };
 
     /// An id for a stream, which isn't that of zeros. That it was never drawn before is left to chance.
     fn id(&mut self) -> ReplId
-        ensures { result ≢ zero_id };
+        ensures some { result ≢ zero_id }
+        ensures clock { clock self.new ≡ clock self.old };
 }

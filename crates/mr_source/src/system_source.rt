@@ -61,6 +61,8 @@ fn clock(rt: &HostRuntime) -> Option<i64>
 }
 
 impl Source for SystemSource {
+    ghost clock = { λ s. s.last };
+
     /// A clock that fails says what it said last.
     fn now(&mut self) -> i64 {
         if let Some(now) = clock(&self.rt) {

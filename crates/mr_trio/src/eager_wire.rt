@@ -26,6 +26,8 @@ impl Wire for EagerWire {
 
     ghost failures = { λ w. w.wire.failed.count };
 
+    ghost waited = { λ _. 0 };
+
     fn wait(&mut self, _millis: u64) -> Result<(), Failed> {
         self.wire.wait(0)
     }

@@ -38,9 +38,12 @@ impl NumberedSource {
 }
 
 impl Source for NumberedSource {
+    ghost clock = { λ _. pos 0 };
+
     fn now(&mut self) -> i64
         ensures moment { IsMoment result }
         ensures zero { result ≡ pos 0 }
+        ensures clock { pos 0 ≡ result }
         ensures same { self.new ≡ self.old }
     {
         0

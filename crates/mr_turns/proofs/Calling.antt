@@ -9,7 +9,7 @@ use Rattle.mr_node.specs.declared.step.Step.TheVariants as step
 use Rattle.mr_loop.specs.Stage.{Stage}
 use Rattle.mr_loop.specs.Carrying.{Carried}
 use Rattle.mr_loop.specs.Causes.{Act, Calls, TurnsOff, at_dial, at_step, at_tick, ended_at}
-use Rattle.mr_loop.specs.Rows.{Event, fault_of, Happens, Run, acts, appends, breaks, closes, fails, finds_none, hears_end, idles, is_deaf, is_refused, joins, loses, misses, misses_dial, misses_tick, settles, spills, stops, takes, tears, turns_away, writes}
+use Rattle.mr_loop.specs.Rows.{Event, fault_of, Happens, Run, acts, appends, breaks, closes, fails, finds_none, hears_end, idles, is_deaf, is_refused, joins, loses, misses, misses_dial, misses_tick, settles, spills, stops, takes, tears, turns_away, waits, writes}
 use Rattle.mr_loop.proofs.Halting.{no_fault}
 use Rattle.mr_turns.specs.Calling.{AreCalls, Breaks, break, call_of, client, closings, deliver, dial, IsByCalls, IsCall, Makes, NodeCall, OpensNone, step as stepping, TurnsCall}
 
@@ -57,6 +57,7 @@ ends (Some link) a b e = (break link ∷ [], one a b (break link) e, inr (record
 
 module _ (tells : Bool) (mode : SyncMode) where
   by : (e : Event) (s t : Stage) → fault_of e ≡ None → Happens tells mode s e t → OneBy e s.node t.node
+  by waits s t goes_on h = record { calls = []; are = ap (λ (z : Stage). z.node) h.is; made = refl }
   by (joins j l) s t goes_on h = record { calls = client l ∷ []; are = one s.node t.node (client l) h.node; made = refl }
   by turns_away s t goes_on h = let c = opens_none s.node t.node h.node in record { calls = c.0; are = c.1; made = c.2 }
   by (takes j bytes) s t goes_on h = record { calls = deliver h.link bytes ∷ []; are = one s.node t.node (deliver h.link bytes) h.node.feeds; made = (h.link, refl) }
@@ -83,7 +84,7 @@ module _ (tells : Bool) (mode : SyncMode) where
   by (closes j) s t goes_on h = record { calls = []; are = h.dropped.node; made = refl }
   by (appends texts) s t goes_on h = record { calls = []; are = h.node; made = refl }
   by fails s t goes_on h = absurd (no_fault goes_on)
-  by (misses_tick given) s t goes_on h = record { calls = []; are = ap (λ (z : Stage). z.node) h; made = refl }
+  by (misses_tick given) s t goes_on h = record { calls = []; are = ap (λ (z : Stage). z.node) h.is; made = refl }
   by misses_dial s t goes_on h = let c = opens_none s.node t.node h.node in record { calls = c.0; are = c.1; made = c.2 }
   by (settles hurries) s t goes_on h = record { calls = []; are = ap (λ (z : Stage). z.node) h.is; made = refl }
   by stops s t goes_on h = absurd (no_fault goes_on)

@@ -1,5 +1,5 @@
 -- That the file is kept, event by event, and what a fault leaves of it.
-use Rattle.std.proofs.Common.{◌≡◌, ◌++◌, ◌≤◌, ◌⊎◌, inl, inr, ℕ, List, [], ◌∷◌, Bool, true, Option, None, Some, Result, Ok, Err, take, drop, length, take_all, append-nil, refl, sym, ap, subst, ◌∙◌, arith}
+use Rattle.std.proofs.Common.{◌≡◌, ◌++◌, ◌≤◌, ◌⊎◌, inl, inr, ℕ, zero, suc, List, [], ◌∷◌, Bool, true, Option, None, Some, Result, Ok, Err, take, drop, length, take_all, append-nil, refl, sym, ap, subst, ◌∙◌, arith}
 use Rattle.std.proofs.lemmas.List.{take-append-drop}
 use Rattle.std.specs.FinMap.{empty}
 use Rattle.mr_links.specs.declared.link_id.LinkId.{LinkId}
@@ -26,11 +26,11 @@ use Rattle.mr_filing.proofs.Times.{ticks_file}
 use Rattle.mr_filing.proofs.Links.{dials_keep}
 use Rattle.mr_loop.specs.declared.fault.LoopFault.{LoopFault}
 use Rattle.mr_loop.specs.declared.fault.LoopFault.TheVariants as fault
-use Rattle.mr_loop.specs.Stage.{Stage, LoopState}
+use Rattle.mr_loop.specs.Stage.{Stage, LoopState, lacking}
 use Rattle.mr_loop.specs.Carrying.{Carried, Spilled, Torn}
 use Rattle.mr_loop.specs.Causes.{Act, Calls, Dropped, TurnsOff, at_dial, at_step, at_tick, ended_at}
-use Rattle.mr_loop.specs.Rows.{Event, fault_of, Happens, IsAppended, Run, acts, appends, breaks, closes, fails, finds_none, hears_end, idles, is_deaf, is_refused, joins, loses, misses, misses_dial, misses_tick, settles, spills, stops, takes, tears, turns_away, writes}
-use Rattle.mr_loop.specs.Outcomes.{Broke}
+use Rattle.mr_loop.specs.Rows.{Event, fault_of, Happens, IsAppended, Run, acts, appends, breaks, closes, fails, finds_none, hears_end, idles, is_deaf, is_refused, joins, loses, misses, misses_dial, misses_tick, settles, spills, stops, takes, tears, turns_away, waits, writes}
+use Rattle.mr_loop.specs.Outcomes.{Broke, Ends, Serves, TurnsOn}
 use Rattle.mr_loop.proofs.Carried.{carried_core}
 use Rattle.mr_loop.proofs.Halting.{no_fault}
 use Rattle.mr_loop.proofs.Sending.{some_at}
@@ -200,16 +200,18 @@ appended mode texts s t a k =
 
 module _ (tells : Bool) (mode : SyncMode) where
   kept : (e : Event) (s t : Stage) → fault_of e ≡ None → Happens tells mode s e t → IsKept s → IsKept t
+  kept waits s t goes_on h k = stay s t (ap (λ (z : Stage). z.told) h.is) (ap (λ (z : Stage). z.own.batch) h.is) (ap (λ (z : Stage). z.node.core.held) h.is) k
   kept (joins j l) s t goes_on h k = stay s t h.file.0 h.batch (ap (λ (z : NodeState). z.core.held) h.node.node) k
   kept turns_away s t goes_on h k = stay s t h.file.0 (batch_of h.own) (held_of (turned_core s.node t.node h.node)) k
   kept (takes j bytes) s t goes_on h k = stay s t h.file.0 (batch_of h.own) (held_of h.node.feeds.core) k
   kept (finds_none j) s t goes_on h k = stay s t h.file.0 (batch_of h.own) (node_of h.node) k
   kept (hears_end j x) s t goes_on h k = stay s t h.file.0 (batch_of h.own) (ap (λ (z : NodeState). z.core.held) h.node) k
-  kept (loses j) s t goes_on h k = dropped j (Some h.link) (record s { wire = h.wire }) t h.dropped (stay s (record s { wire = h.wire }) refl refl refl k)
-  kept (misses j) s t goes_on h k = dropped j (Some h.link) (record s { wire = h.wire }) t h.dropped (stay s (record s { wire = h.wire }) refl refl refl k)
+  kept (loses j) s t goes_on h k = dropped j (Some h.link) (record s { wire = h.wire; failed = h.failed }) t h.dropped (stay s (record s { wire = h.wire; failed = h.failed }) refl refl refl k)
+  kept (misses j) s t goes_on h k = let called = record s { wire = h.wire; failed = h.failed; own = lacking s.own } in dropped j (Some h.link) called t h.dropped (stay s called refl refl refl k)
   kept (is_refused j l given fresh) s t goes_on h k =
       let i = h.refused.input.unread in
-      dropped j (Some l) (record s { node = h.node }) t h.dropped (stay s (record s { node = h.node }) refl refl (refused s.node h.node l given fresh i.bytes i.up i.agree h.refused.row) k)
+      let called = record s { node = h.node; own = lacking s.own } in
+      dropped j (Some l) called t h.dropped (stay s called refl refl (refused s.node h.node l given fresh i.bytes i.up i.agree h.refused.row) k)
   kept (is_deaf j l) s t goes_on h k = dropped j (Some l) s t h.dropped k
   kept (idles j l given fresh) s t goes_on h k =
       let i = h.node.input.unread in
@@ -218,11 +220,11 @@ module _ (tells : Bool) (mode : SyncMode) where
   kept (spills act outs) s t goes_on h k = absurd (no_fault goes_on)
   kept (tears act outs) s t goes_on h k = absurd (no_fault goes_on)
   kept (writes j bytes) s t goes_on h k = stay s t h.file.0 (batch_of h.own) (node_of h.node) k
-  kept (breaks j) s t goes_on h k = dropped j h.link (record s { wire = h.wire }) t h.dropped (stay s (record s { wire = h.wire }) refl refl refl k)
+  kept (breaks j) s t goes_on h k = dropped j h.link (record s { wire = h.wire; failed = h.failed }) t h.dropped (stay s (record s { wire = h.wire; failed = h.failed }) refl refl refl k)
   kept (closes j) s t goes_on h k = dropped j None s t h.dropped k
   kept (appends texts) s t goes_on h k = appended mode texts s t h k
   kept fails s t goes_on h k = absurd (no_fault goes_on)
-  kept (misses_tick given) s t goes_on h k = subst IsKept (sym h) k
+  kept (misses_tick given) s t goes_on h k = stay s t (ap (λ (z : Stage). z.told) h.is) (ap (λ (z : Stage). z.own.batch) h.is) (ap (λ (z : Stage). z.node.core.held) h.is) k
   kept misses_dial s t goes_on h k = stay s t h.file.0 (batch_of h.own) (held_of (turned_core s.node t.node h.node)) k
   kept (settles hurries) s t goes_on h k = stay s t (ap (λ (z : Stage). z.told) h.is) (ap (λ (z : Stage). z.own.batch) h.is) (ap (λ (z : Stage). z.node.core.held) h.is) k
   kept stops s t goes_on h k = absurd (no_fault goes_on)
@@ -234,8 +236,23 @@ module _ (tells : Bool) (mode : SyncMode) where
 pub turns_keep : TurnsKeep
 turns_keep tells mode s t w k = run_kept tells mode w.events s t w.run k
 
+-- turns one after another
+module _ (tells : Bool) (mode : SyncMode) where
+  on_kept : (n : ℕ) (s t : Stage) → TurnsOn tells mode n s t → IsKept s → IsKept t
+  on_kept zero s t h k = subst IsKept (sym h) k
+  on_kept (suc n) s t h k = turns_keep tells mode h.0 t h.2.tells_of.went (on_kept n s h.0 h.1 k)
+
+  serves_kept : (turns : ℕ) (s t : Stage) → Serves tells mode turns (Ok tt) s t → IsKept s → IsKept t
+  serves_kept turns s t h k = by h.last where
+    before : IsKept h.before
+    before = on_kept h.count s h.before h.went k
+
+    by : Ends tells mode turns h.count (Ok tt) h.before t → IsKept t
+    by (inl all) = subst IsKept (sym all.1) before
+    by (inr halted) = turns_keep tells mode h.before t halted.1.tells_of.went before
+
 pub turns_leave_whole : TurnsLeaveWhole
-turns_leave_whole tells mode s t none after w = (λ turn h. kept_whole t after (turns_keep tells mode s t h.went (whole_kept s none w)), λ h. kept_whole t after (turns_keep tells mode s t h (whole_kept s none w)))
+turns_leave_whole tells mode s t none after w = (λ now turn h. kept_whole t after (turns_keep tells mode s t h.went (whole_kept s none w)), λ turns h. kept_whole t after (serves_kept tells mode turns s t h (whole_kept s none w)))
 
 -- ---- behind a fault
 whole_torn : (t : Stage) (file : List ℕ) (d : Dataset) → t.told ≡ Some file → Makes file d → IsTorn t
@@ -243,7 +260,7 @@ whole_torn t file d told made = record { front = file; torn = []; told = told �
 
 module _ (act : Act) (outs : OutsState) (s m t : Stage) (calls : Calls act s m outs) (k : IsKept s) where
   spilled : Spilled (outs_of outs) m t → IsTorn t
-  spilled p = let q = partly act outs s m calls k p.done (p.last ∷ p.rest) t p.are p.carried in whole_torn t q.0 q.1 q.2 q.3
+  spilled p = let q = partly act outs s m calls k p.done (p.last ∷ p.rest) p.before p.are p.carried in whole_torn t q.0 q.1 (ap (λ (z : Stage). z.told) p.lacks ∙ q.2) q.3
 
   torn : Torn (outs_of outs) m t → IsTorn t
   torn p =
@@ -256,6 +273,7 @@ module _ (act : Act) (outs : OutsState) (s m t : Stage) (calls : Calls act s m o
 
 module _ (tells : Bool) (mode : SyncMode) (why : LoopFault) where
   torn_by : (e : Event) (s t : Stage) → fault_of e ≡ Some why → Happens tells mode s e t → IsKept s → IsTorn t
+  torn_by waits s t is h k = absurd (none_some why is)
   torn_by (joins j l) s t is h k = absurd (none_some why is)
   torn_by turns_away s t is h k = absurd (none_some why is)
   torn_by (takes j bytes) s t is h k = absurd (none_some why is)
@@ -296,6 +314,6 @@ torn_same : (s t : Stage) → t.told ≡ s.told → IsTorn s → IsTorn t
 torn_same s t same i = record { front = i.front; torn = i.torn; told = same ∙ i.told; filed = i.filed; made = i.made; more = i.more; next = i.next; leads = i.leads }
 
 pub faults_tear : FaultsTear
-faults_tear tells mode fault.Listener s t k same = whole_torn t k.file k.filed (ap (λ (z : Stage). z.told) same ∙ k.told) k.made
+faults_tear tells mode fault.Listener s t k same = whole_torn t k.file k.filed (ap (λ (z : Stage). z.told) same.is ∙ k.told) k.made
 faults_tear tells mode fault.File s t k b = torn_same b.behind t (ap (λ (z : Stage). z.told) b.stopped.is) (broke_torn tells mode fault.File s b.behind k b.broke)
 faults_tear tells mode fault.Stopped s t k b = torn_same b.behind t (ap (λ (z : Stage). z.told) b.stopped.is) (broke_torn tells mode fault.Stopped s b.behind k b.broke)

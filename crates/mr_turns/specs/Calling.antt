@@ -14,7 +14,7 @@ use Rattle.mr_node.specs.declared.step.Step.{Step}
 use Rattle.mr_node.specs.declared.step.Step.TheVariants as answer
 use Rattle.mr_loop.specs.Stage.{Stage}
 use Rattle.mr_loop.specs.Causes.{Act, at_dial, at_step, at_tick}
-use Rattle.mr_loop.specs.Rows.{Event, Run, acts, appends, breaks, closes, fails, finds_none, hears_end, idles, is_deaf, is_refused, joins, loses, misses, misses_dial, misses_tick, settles, spills, stops, takes, tears, turns_away, writes}
+use Rattle.mr_loop.specs.Rows.{Event, Run, acts, appends, breaks, closes, fails, finds_none, hears_end, idles, is_deaf, is_refused, joins, loses, misses, misses_dial, misses_tick, settles, spills, stops, takes, tears, turns_away, waits, writes}
 
 -- a call on a node that may change it, and what it was answered
 pub data NodeCall : Type 0 where
@@ -73,6 +73,7 @@ pub data OpensNone (calls : List NodeCall) : Type 0 where
   dial_and_break : (link : LinkId) (outs : OutsState) → calls ≡ dial link outs ∷ break link ∷ [] → OpensNone calls
 
 abbrev pub Makes : Event → List NodeCall → Type 0
+Makes waits calls = calls ≡ []
 Makes (joins socket link) calls = calls ≡ client link ∷ []
 Makes turns_away calls = OpensNone calls
 Makes (takes socket bytes) calls = (link : LinkId) × (calls ≡ deliver link bytes ∷ [])

@@ -1,5 +1,5 @@
 -- What the file says of its node in the event loop: within turns, between them, and behind a fault.
-use Rattle.std.specs.Prelude.{◌≡◌, ◌++◌, ℕ, List, [], Bool, Some, Ok, length}
+use Rattle.std.specs.Prelude.{◌≡◌, ◌++◌, ℕ, ℤ, List, [], Bool, Some, Ok, length}
 use Rattle.mr_entries.specs.Dataset.{Dataset}
 use Rattle.mr_replay.specs.Effects.{Leads, Loads, Makes}
 use Rattle.mr_file.specs.declared.sync_mode.SyncMode.{SyncMode}
@@ -7,7 +7,7 @@ use Rattle.mr_loop.specs.declared.fault.LoopFault.{LoopFault}
 use Rattle.mr_loop.specs.declared.told.Turn.{Turn}
 use Rattle.mr_loop.specs.Stage.{Stage}
 use Rattle.mr_loop.specs.Rows.{Went}
-use Rattle.mr_loop.specs.Outcomes.{Ends, Fails, Turns}
+use Rattle.mr_loop.specs.Outcomes.{Fails, Serves, Turns}
 
 -- The file makes a dataset, and the texts that no append has taken yet lead from there to the node's.
 pub record IsKept (s : Stage) : Type 0 where
@@ -48,7 +48,7 @@ TurnsKeep = (tells : Bool) (mode : SyncMode) (s t : Stage) → Went tells mode s
 -- behind a turn that went well, and behind turns one after another
 abbrev pub TurnsLeaveWhole : Type 0
 TurnsLeaveWhole = (tells : Bool) (mode : SyncMode) (s t : Stage) → s.own.batch ≡ [] → t.own.batch ≡ [] → IsWhole s
-    → ((turn : Turn) → Turns tells mode (Ok turn) s t → IsWhole t) × (Ends tells mode (Ok tt) s t → IsWhole t)
+    → ((now : ℤ) (turn : Turn) → Turns tells mode now (Ok turn) s t → IsWhole t) × ((turns : ℕ) → Serves tells mode turns (Ok tt) s t → IsWhole t)
 
 -- ---- behind a fault
 abbrev pub FaultsTear : Type 0

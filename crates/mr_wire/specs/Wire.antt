@@ -1,5 +1,5 @@
 -- What a wire tells of its links, and what each call makes of them.
-use Rattle.std.specs.Prelude.{◌≡◌, ℕ, ◌+◌, ◌≤◌, List, [], ◌++◌, Bool, true, false, ◌||◌, Option, Some, None, take, if◌then◌else◌, nat_le, IfSome}
+use Rattle.std.specs.Prelude.{◌≡◌, ℕ, ◌+◌, ◌≤◌, ◌==◌, List, [], ◌++◌, Bool, true, false, ◌||◌, Option, Some, None, take, if◌then◌else◌, nat_le, IfSome}
 use Rattle.std.specs.FinMap as map
 use Rattle.std.specs.List.{find}
 use Rattle.mr_links.specs.declared.link_id.LinkId.{LinkId}
@@ -15,10 +15,11 @@ pub record LinkState : Type 0 where
   pub moved : List ℕ  -- the bytes that its writes moved
   pub ended : Bool  -- a read or a write of it answered that it ended or failed
   pub asked : Option SocketAddrV4  -- the peer that it was asked for, if this end opened it
+  pub stuck : Bool  -- the last write of it moved nothing
 
 -- a link that a peer opened
 abbrev pub new_link : LinkState
-new_link = record { given = []; moved = []; ended = false; asked = None }
+new_link = record { given = []; moved = []; ended = false; asked = None; stuck = false }
 
 -- a link that this peer was asked for
 abbrev pub asked_link : SocketAddrV4 → LinkState
@@ -38,6 +39,13 @@ is_over moved.NotReady = false
 is_over moved.End = true
 is_over moved.Failed = true
 
+-- whether it moved nothing
+abbrev pub moves_none : Moved → Bool
+moves_none (moved.Bytes n) = n == 0
+moves_none moved.NotReady = true
+moves_none moved.End = true
+moves_none moved.Failed = true
+
 -- the bytes, of a wire that tells them
 abbrev pub told : Bool → List ℕ → List ℕ
 told tells bytes = if tells then bytes else []
@@ -46,9 +54,13 @@ told tells bytes = if tells then bytes else []
 abbrev pub behind_read : Bool → Moved → List ℕ → LinkState → LinkState
 behind_read tells m buffer e = record e { given = e.given ++ told tells (take (count_of m) buffer); ended = e.ended || is_over m }
 
--- a link behind a write of these bytes with this answer
+-- a link of a wire that tells, with what a write of these bytes moved
+abbrev pub written : Moved → List ℕ → LinkState → LinkState
+written m bytes e = record e { moved = e.moved ++ take (count_of m) bytes; ended = e.ended || is_over m }
+
+-- a link behind a write of these bytes with this answer. A wire that tells its bytes tells, too, whether a write moved none.
 abbrev pub behind_write : Bool → Moved → List ℕ → LinkState → LinkState
-behind_write tells m bytes e = record e { moved = e.moved ++ told tells (take (count_of m) bytes); ended = e.ended || is_over m }
+behind_write tells m bytes e = record e { moved = e.moved ++ told tells (take (count_of m) bytes); ended = e.ended || is_over m; stuck = if tells then moves_none m else e.stuck }
 
 -- the link is open, and becomes what this makes of it; and nothing else
 abbrev pub ChangesLink : Links LinkState → LinkId → (LinkState → LinkState) → Links LinkState → Type 0

@@ -29,12 +29,12 @@ pub(crate) struct Connection {
 }
 
 impl Model for Connection {
-    ghost use Rattle.std.specs.Prelude.{[]};
+    ghost use Rattle.std.specs.Prelude.{[], false};
     ghost use Rattle.mr_wire.specs.Wire.{LinkState};
 
     ghost Value = { LinkState };
 
-    ghost view = { λ c. record { given = []; moved = []; ended = c.ended; asked = c.asked } };
+    ghost view = { λ c. record { given = []; moved = []; ended = c.ended; asked = c.asked; stuck = false } };
 }
 
 impl Connection {

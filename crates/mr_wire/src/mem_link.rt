@@ -1,5 +1,5 @@
 ghost use Rattle.std.specs.Prelude.{◌≡◌, ◌≤◌, ◌||◌, true, length, IfSome};
-ghost use Rattle.mr_wire.specs.Wire.{new_link, asked_link, behind_read, behind_write, count_of, is_over};
+ghost use Rattle.mr_wire.specs.Wire.{new_link, asked_link, behind_read, behind_write, count_of, is_over, moves_none, written};
 
 use crate::wire::Moved;
 use std::alloc::Global;
@@ -42,6 +42,8 @@ pub struct MemLink {
     given: Vec<u8>,
     moved: Vec<u8>,
     ended: bool,
+    /// The last write moved nothing.
+    stuck: bool,
     /// The peer that it was asked for, if this end opened it.
     asked: Option<SocketAddrV4>,
 }
@@ -51,7 +53,7 @@ impl Model for MemLink {
 
     ghost Value = { LinkState };
 
-    ghost view = { λ l. record { given = l.given.items; moved = l.moved.items; ended = l.ended; asked = l.asked } };
+    ghost view = { λ l. record { given = l.given.items; moved = l.moved.items; ended = l.ended; asked = l.asked; stuck = l.stuck } };
 }
 
 impl MemLink {
@@ -66,6 +68,7 @@ impl MemLink {
             given: Vec::new(alloc),
             moved: Vec::new(alloc),
             ended: false,
+            stuck: false,
             asked: None,
         }
     }
@@ -159,6 +162,16 @@ impl MemLink {
         ensures within { count_of result ≤ length bytes.now }
         ensures state { self.new ≡ behind_write true result bytes.now self.old }
     {
+        let moved = self.next_write(bytes);
+        self.stuck = moves_none(moved);
+        moved
+    }
+
+    /// What the next write of the list comes to.
+    fn next_write(&mut self, bytes: &[u8]) -> Moved
+        ensures within { count_of result ≤ length bytes.now }
+        ensures state { self.new ≡ written result bytes.now self.old }
+    {
         match self.writes.pop_front() {
             Some(Writing::AtMost(most)) => self.send(&bytes[..most.min(bytes.len())]),
             Some(Writing::NotReady) | None => self.tell(Moved::NotReady),
@@ -169,11 +182,21 @@ impl MemLink {
     /// Writes these bytes, all of them or none.
     fn send(&mut self, bytes: &[u8]) -> Moved
         ensures within { count_of result ≤ length bytes.now }
-        ensures state { self.new ≡ behind_write true result bytes.now self.old }
+        ensures state { self.new ≡ written result bytes.now self.old }
     {
         if self.moved.extend_from_slice(bytes).is_err() {
             return self.tell(Moved::Failed);
         }
         Moved::Bytes(bytes.len())
+    }
+}
+
+/// Whether a call moved nothing.
+fn moves_none(moved: Moved) -> bool
+    ensures { result ≡ moves_none moved }
+{
+    match moved {
+        Moved::Bytes(count) => count == 0,
+        Moved::NotReady | Moved::End | Moved::Failed => true,
     }
 }

@@ -55,6 +55,8 @@ pub struct MemWire {
     /// The first place whose link wasn't named since the last wait.
     unnamed: usize,
     failed: Failures,
+    /// For how many milliseconds it was asked to wait last.
+    waited: u64,
 }
 
 impl MemWire {
@@ -77,6 +79,7 @@ impl MemWire {
             links: Links::new(alloc),
             unnamed: 0,
             failed: Failures::new(),
+            waited: 0,
         }
     }
 
@@ -89,6 +92,13 @@ impl MemWire {
             Some(end) => Some(end.written()),
             None => None,
         }
+    }
+
+    /// For how many milliseconds it was asked to wait last.
+    pub fn waited(&self) -> u64
+        ensures { result ≡ self.now.waited }
+    {
+        self.waited
     }
 
     /// The peer that an open link was asked for, if this end opened it.
@@ -105,6 +115,7 @@ impl MemWire {
         ensures err { OnErr result (self.new.links ≡ self.old.links) }
         ensures later { self.old.failed.count ≤ self.new.failed.count }
         ensures cause { OnErr result (Rose self.old.failed.count self.new.failed.count) }
+        ensures waited { self.new.waited ≡ self.old.waited }
     {
         if self.links.opened() >= MOST_LINKS {
             return Err(self.failed.failure());
@@ -132,6 +143,7 @@ impl MemWire {
         ensures read { ChangesLink self.old.links link (behind_read true result into.new) self.new.links }
         ensures absent { map.get self.old.links.open_links link ≡ None → (result ≡ Moved.Failed) × (self.new.links ≡ self.old.links) }
         ensures failed { self.new.failed ≡ self.old.failed }
+        ensures waited { self.new.waited ≡ self.old.waited }
     {
         match self.links.get_mut(link) {
             Some(end) => end.read(into),
@@ -144,6 +156,7 @@ impl MemWire {
         ensures written { ChangesLink self.old.links link (behind_write true result bytes.now) self.new.links }
         ensures absent { map.get self.old.links.open_links link ≡ None → (result ≡ Moved.Failed) × (self.new.links ≡ self.old.links) }
         ensures failed { self.new.failed ≡ self.old.failed }
+        ensures waited { self.new.waited ≡ self.old.waited }
     {
         match self.links.get_mut(link) {
             Some(end) => end.write(bytes),
@@ -159,8 +172,10 @@ impl Wire for MemWire {
 
     ghost failures = { λ w. w.failed.count };
 
+    ghost waited = { λ w. w.waited };
+
     fn wait(&mut self, millis: u64) -> Result<(), Failed> {
-        let _ = millis;
+        self.waited = millis;
         self.unnamed = 0;
         match self.waits.pop_front() {
             Some(Waiting::Failed) => Err(self.failed.failure()),
@@ -198,6 +213,7 @@ impl Wire for MemWire {
         ensures there { IfSome result (λ link. IsSome (map.get self.new.links.open_links link)) }
         ensures same { self.new.links ≡ self.old.links }
         ensures failures { self.new.failed.count ≡ self.old.failed.count }
+        ensures waited { self.new.waited ≡ self.old.waited }
     {
         let link = self.first_from(self.unnamed)?;
         self.unnamed = link.index.saturating_add(1);

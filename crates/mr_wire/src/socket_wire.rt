@@ -231,6 +231,8 @@ impl Wire for SocketWire {
 
     ghost failures = { λ w. w.failed.count };
 
+    ghost waited = { λ _. 0 };
+
     fn wait(&mut self, millis: u64) -> Result<(), Failed> {
         put_back(&mut self.ready, &mut self.links);
         let longest = if self.ready.is_empty() { millis } else { 0 };

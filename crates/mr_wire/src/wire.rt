@@ -1,4 +1,4 @@
-ghost use Rattle.std.specs.Prelude.{◌≡◌, ◌≤◌, Bool, ℕ, None, length, IfOk, IfSome, IfNone, IsSome, OnErr};
+ghost use Rattle.std.specs.Prelude.{◌≡◌, ◌≤◌, Bool, true, ℕ, None, length, IfOk, IfSome, IfNone, IsSome, OnErr};
 ghost use Rattle.std.specs.FinMap as map;
 ghost use Rattle.mr_links.specs.Links.{Links};
 ghost use Rattle.mr_file.specs.LogFile.{Rose};
@@ -26,7 +26,8 @@ pub enum Moved {
 }
 
 /// A wire has links, each under a name that is never given twice. One in memory tells the bytes that its reads gave and its
-/// writes moved; of one of the system they count as none. A failure is answered only where the count of failures rose, or
+/// writes moved, whether the last write of a link moved none, and how long it was asked to wait; of one of the system they count as
+/// none. A failure is answered only where the count of failures rose, or
 /// stands at its greatest.
 pub trait Wire {
     /// Whether it tells the bytes.
@@ -37,9 +38,13 @@ pub trait Wire {
 
     ghost failures: { Self → ℕ };
 
+    /// For how many milliseconds it was asked to wait last, of a wire that tells the bytes.
+    ghost waited: { Self → ℕ };
+
     /// Waits until something is ready, and at most so many milliseconds.
     fn wait(&mut self, millis: u64) -> Result<(), Failed>
         ensures same { links self.new ≡ links self.old }
+        ensures waited { tells ≡ true → waited self.new ≡ millis }
         ensures later { failures self.old ≤ failures self.new }
         ensures cause { OnErr result (Rose (failures self.old) (failures self.new)) };
 
@@ -48,6 +53,7 @@ pub trait Wire {
         ensures some { IfOk result (λ next. IfSome next (λ link. Accepts (links self.old) link (links self.new))) }
         ensures none { IfOk result (λ next. IfNone next (links self.new ≡ links self.old)) }
         ensures err { OnErr result (AcceptsNone (links self.old) (links self.new)) }
+        ensures waited { waited self.new ≡ waited self.old }
         ensures later { failures self.old ≤ failures self.new }
         ensures cause { OnErr result (Rose (failures self.old) (failures self.new)) };
 
@@ -57,6 +63,7 @@ pub trait Wire {
     fn connect(&mut self, host: &[u8], port: u16) -> Result<LinkId, Failed>
         ensures ok { IfOk result (λ link. Connects (links self.old) host.now port link (links self.new)) }
         ensures err { OnErr result (AcceptsNone (links self.old) (links self.new)) }
+        ensures waited { waited self.new ≡ waited self.old }
         ensures later { failures self.old ≤ failures self.new }
         ensures cause { OnErr result (Rose (failures self.old) (failures self.new)) };
 
@@ -67,6 +74,7 @@ pub trait Wire {
     fn ready(&mut self) -> Option<LinkId>
         ensures there { IfSome result (λ link. IsSome (map.get (links self.new).open_links link)) }
         ensures same { links self.new ≡ links self.old }
+        ensures waited { waited self.new ≡ waited self.old }
         ensures failures { failures self.new ≡ failures self.old };
 
     /// Reads the next bytes of a link into the front of a buffer.
@@ -74,6 +82,7 @@ pub trait Wire {
         ensures within { count_of result ≤ length into.new }
         ensures read { ChangesLink (links self.old) link (behind_read tells result into.new) (links self.new) }
         ensures absent { map.get (links self.old).open_links link ≡ None → (result ≡ Moved.Failed) × (links self.new ≡ links self.old) }
+        ensures waited { waited self.new ≡ waited self.old }
         ensures later { failures self.old ≤ failures self.new }
         ensures cause { result ≡ Moved.Failed → Rose (failures self.old) (failures self.new) };
 
@@ -82,6 +91,7 @@ pub trait Wire {
         ensures within { count_of result ≤ length bytes.now }
         ensures written { ChangesLink (links self.old) link (behind_write tells result bytes.now) (links self.new) }
         ensures absent { map.get (links self.old).open_links link ≡ None → (result ≡ Moved.Failed) × (links self.new ≡ links self.old) }
+        ensures waited { waited self.new ≡ waited self.old }
         ensures later { failures self.old ≤ failures self.new }
         ensures cause { result ≡ Moved.Failed → Rose (failures self.old) (failures self.new) };
 
@@ -89,5 +99,6 @@ pub trait Wire {
     fn close(&mut self, link: LinkId)
         ensures closed { (links self.new).open_links ≡ map.remove (links self.old).open_links link }
         ensures opened { (links self.new).opened ≡ (links self.old).opened }
+        ensures waited { waited self.new ≡ waited self.old }
         ensures failures { failures self.new ≡ failures self.old };
 }

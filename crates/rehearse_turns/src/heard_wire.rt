@@ -54,6 +54,8 @@ impl Wire for HeardWire {
 
     ghost failures = { λ w. w.wire.failed.count };
 
+    ghost waited = { λ w. w.wire.waited };
+
     fn wait(&mut self, millis: u64) -> Result<(), Failed> {
         self.wire.wait(millis)
     }

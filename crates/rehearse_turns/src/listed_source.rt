@@ -85,6 +85,8 @@ fn without_zeros(id: ReplId) -> ReplId
 }
 
 impl Source for ListedSource {
+    ghost clock = { λ s. s.last };
+
     fn now(&mut self) -> i64 {
         if let Some(millis) = self.moments.pop_front() {
             self.last = moment(millis);

@@ -8,14 +8,14 @@ use Rattle.mr_loop.proofs.host.Host.carry_out.Goals as goal
 
 pub loop-out-init : goal.loop-out-init
 loop-out-init g c = (
-  none_so_far (outs_of c.args.outs.now) c.into_iter-out-iterator.result (stage_in g.W.Wire.links g.F.LogFile.told g.F.LogFile.synced c.args.self.now) (c.into_iter-out-iterator.ensures.into_iter_gives ∙ c.iter-out-items.ensures),
+  none_so_far (outs_of c.args.outs.now) c.into_iter-out-iterator.result (stage_in g.W.Wire.links g.W.Wire.failures g.F.LogFile.told g.F.LogFile.synced c.args.self.now) (c.into_iter-out-iterator.ensures.into_iter_gives ∙ c.iter-out-items.ensures),
   refl,
   same_here c.args.self.now,
 )
 
 pub loop-out-preserved : goal.loop-out-preserved
 loop-out-preserved g c =
-    let on = stage_in g.W.Wire.links g.F.LogFile.told g.F.LogFile.synced in (
+    let on = stage_in g.W.Wire.links g.W.Wire.failures g.F.LogFile.told g.F.LogFile.synced in (
       one_so_far (outs_of c.args.outs.now) c.loop-out.out-iterator c.next.new.self (out_view c.in-Some.out) (on c.args.self.now) (on c.loop-out.self) (on c.carry.new.self) c.in-Some.ensures.steps c.loop-out.invariant.0 c.in_ok-carry.ensures.carried,
       c.carry.ensures.turn ∙ c.loop-out.invariant.1,
       same_on c.args.self.now c.loop-out.self c.carry.new.self c.loop-out.invariant.2 c.carry.ensures.same,
@@ -25,7 +25,7 @@ pub returns-in_err-carry-clause-carried : goal.returns-in_err-carry-clause-carri
 returns-in_err-carry-clause-carried g c =
     let why = c.in_err-carry.field-0.0 in
     let told : c.from_residual.result ≡ Err why = search rules in
-    let on = stage_in g.W.Wire.links g.F.LogFile.told g.F.LogFile.synced in
+    let on = stage_in g.W.Wire.links g.W.Wire.failures g.F.LogFile.told g.F.LogFile.synced in
     answers_so_far c.from_residual.result why (outs_of c.args.outs.now) c.loop-out.out-iterator c.next.new.self (out_view c.in-Some.out) (on c.args.self.now) (on c.loop-out.self) (on c.carry.new.self) told c.in-Some.ensures.steps c.loop-out.invariant.0 c.in_err-carry.ensures.carried
 
 pub returns-in_err-carry-clause-turn : goal.returns-in_err-carry-clause-turn
@@ -36,7 +36,7 @@ returns-in_err-carry-clause-same g c = same_on c.args.self.now c.loop-out.self c
 
 pub returns-clause-carried : goal.returns-clause-carried
 returns-clause-carried g c =
-    let on = stage_in g.W.Wire.links g.F.LogFile.told g.F.LogFile.synced in
+    let on = stage_in g.W.Wire.links g.W.Wire.failures g.F.LogFile.told g.F.LogFile.synced in
     all_so_far (outs_of c.args.outs.now) c.loop-out.out-iterator (on c.args.self.now) (on c.loop-out.self) c.in-None.ensures.steps.0 c.loop-out.invariant.0
 
 pub returns-clause-turn : goal.returns-clause-turn

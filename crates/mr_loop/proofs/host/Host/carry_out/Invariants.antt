@@ -7,5 +7,5 @@ use Rattle.mr_loop.proofs.host.Host.carry_out.Given as goal
 -- some outs are carried out, and the others are left
 abbrev pub invariant-loop-out : goal.invariant-loop-out
 invariant-loop-out g l =
-    let on = stage_in g.W.Wire.links g.F.LogFile.told g.F.LogFile.synced in
-    SoFar (outs_of l.fn.outs) l.out-iterator (on l.fn.self) (on l.self) × (l.self.moment.turn ≡ l.fn.self.moment.turn) × IsSame l.fn.self l.self
+    let on = stage_in g.W.Wire.links g.W.Wire.failures g.F.LogFile.told g.F.LogFile.synced in
+    SoFar (outs_of l.fn.outs) l.out-iterator (on l.fn.self) (on l.self) × (l.self.moment.turn ≡ l.fn.self.moment.turn) × IsSame g.W.Wire.waited g.S.Source.clock l.fn.self l.self

@@ -14,6 +14,7 @@ returns-in-Ok-clause-went g c = let turn = c.args.self.now.moment.turn in still_
   synced = c.in-Ok.ensures.synced;
   own = c.clear_batch.ensures;
   wire = refl;
+  failed = refl;
   node = refl;
 }) refl
 
@@ -22,5 +23,6 @@ returns-in-Err-clause-went g c = broke_one fails refl (record {
   written = subst (λ b. AppendsSome (g.F.LogFile.told c.args.self.now.log.now.file) (g.F.LogFile.told c.append.new.self.file) b) c.batch-2.ensures c.in-Err.ensures.err;
   own = refl;
   wire = refl;
+  failed = refl;
   node = refl;
 })

@@ -12,7 +12,10 @@ returns-in_default-link-clause-went g c = still_here _ _
 pub returns-then-is_full-clause-went : goal.returns-then-is_full-clause-went
 returns-then-is_full-clause-went g c =
     let s = c.args.self.now in
-    stays_still s.moment.turn s.moment.turn _ _ (ap (λ (o : LoopState). stage s.node.now o (g.W.Wire.links s.wire.now) (g.F.LogFile.told s.log.now.file) (g.F.LogFile.synced s.log.now.file)) c.narrow.ensures) refl
+    stays_still s.moment.turn s.moment.turn _ _ (ap (λ (o : LoopState). stage s.node.now o (g.W.Wire.links s.wire.now) (g.W.Wire.failures s.wire.now) (g.F.LogFile.told s.log.now.file) (g.F.LogFile.synced s.log.now.file)) c.narrow.ensures) refl
 
-pub returns-then-room-eq0-clause-went : goal.returns-then-room-eq0-clause-went
-returns-then-room-eq0-clause-went g c = still_here _ _
+pub returns-in_default-room-clause-went : goal.returns-in_default-room-clause-went
+returns-in_default-room-clause-went g c = still_here _ _
+
+pub returns-then-most-eq0-clause-went : goal.returns-then-most-eq0-clause-went
+returns-then-most-eq0-clause-went g c = still_here _ _

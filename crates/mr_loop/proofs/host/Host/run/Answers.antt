@@ -10,4 +10,4 @@ returns-in-Ok-clause-up g c = λ up. went_up c.in-Ok.ensures.went.went up
 
 pub returns-in-Err-clause-went : goal.returns-in-Err-clause-went
 returns-in-Err-clause-went g c = breaks_down c.in-Err.fault c.in-Err.ensures.went
-    (record { is = ap (λ (n : NodeState). record (stage_in g.W.Wire.links g.F.LogFile.told g.F.LogFile.synced c.go_on.new.self) { node = n }) c.file_failed.ensures.stops })
+    (record { is = ap (λ (n : NodeState). record (stage_in g.W.Wire.links g.W.Wire.failures g.F.LogFile.told g.F.LogFile.synced c.go_on.new.self) { node = n }) c.file_failed.ensures.stops })

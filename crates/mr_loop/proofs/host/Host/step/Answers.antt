@@ -9,8 +9,9 @@ use Rattle.mr_loop.specs.Carrying.{Carried, CarriesAs}
 use Rattle.mr_loop.specs.Counting.{taken}
 use Rattle.mr_loop.specs.Hosts.{stage_in}
 use Rattle.mr_loop.specs.Rows.{idles, is_refused, stops}
+use Rattle.mr_loop.proofs.Arrivals.{dropped_from}
 use Rattle.mr_loop.proofs.Linked.{carried_linked}
-use Rattle.mr_loop.proofs.Outs.{acts_less, counts_call, lacks_memory, never_closed, not_told, refused_all, same_stepped, steps_at, steps_once}
+use Rattle.mr_loop.proofs.Outs.{acts_less, counts_call, lacks_memory, never_closed, not_told, refused_all, steps_at, steps_once}
 use Rattle.mr_loop.proofs.Same.{same_on}
 use Rattle.mr_loop.proofs.Runs.{breaks, broke_one}
 use Rattle.mr_loop.proofs.Stepped.{done_others, idle_all}
@@ -19,8 +20,8 @@ use Rattle.mr_loop.proofs.host.Host.step.Goals as goal
 
 pub returns-in_err-take-in-Ok-Done-clause-went : goal.returns-in_err-take-in-Ok-Done-clause-went
 returns-in_err-take-in-Ok-Done-clause-went g c =
-    let s = stage_in g.W.Wire.links g.F.LogFile.told g.F.LogFile.synced c.args.self.now in
-    let t = stage_in g.W.Wire.links g.F.LogFile.told g.F.LogFile.synced c.take.new.self in
+    let s = stage_in g.W.Wire.links g.W.Wire.failures g.F.LogFile.told g.F.LogFile.synced c.args.self.now in
+    let t = stage_in g.W.Wire.links g.W.Wire.failures g.F.LogFile.told g.F.LogFile.synced c.take.new.self in
     let given = c.given-given.result in
     let fresh = c.fresh-fresh.result in
     let outs = c.in-Ok-Done.outs in
@@ -34,8 +35,8 @@ returns-in_err-take-in-Ok-Done-clause-went g c =
 
 pub returns-in_ok-take-in-Ok-Done-clause-went : goal.returns-in_ok-take-in-Ok-Done-clause-went
 returns-in_ok-take-in-Ok-Done-clause-went g c =
-    let s = stage_in g.W.Wire.links g.F.LogFile.told g.F.LogFile.synced c.args.self.now in
-    let t = stage_in g.W.Wire.links g.F.LogFile.told g.F.LogFile.synced c.take.new.self in
+    let s = stage_in g.W.Wire.links g.W.Wire.failures g.F.LogFile.told g.F.LogFile.synced c.args.self.now in
+    let t = stage_in g.W.Wire.links g.W.Wire.failures g.F.LogFile.told g.F.LogFile.synced c.take.new.self in
     let given = c.given-given.result in
     let fresh = c.fresh-fresh.result in
     let outs = c.in-Ok-Done.outs in
@@ -48,8 +49,8 @@ returns-in_ok-take-in-Ok-Done-clause-went g c =
 
 pub returns-in_ok-take-in-Ok-Done-clause-quiet : goal.returns-in_ok-take-in-Ok-Done-clause-quiet
 returns-in_ok-take-in-Ok-Done-clause-quiet g c = λ q.
-    let s = stage_in g.W.Wire.links g.F.LogFile.told g.F.LogFile.synced c.args.self.now in
-    let t = stage_in g.W.Wire.links g.F.LogFile.told g.F.LogFile.synced c.take.new.self in
+    let s = stage_in g.W.Wire.links g.W.Wire.failures g.F.LogFile.told g.F.LogFile.synced c.args.self.now in
+    let t = stage_in g.W.Wire.links g.W.Wire.failures g.F.LogFile.told g.F.LogFile.synced c.take.new.self in
     let given = c.given-given.result in
     let fresh = c.fresh-fresh.result in
     let outs = c.in-Ok-Done.outs in
@@ -60,15 +61,15 @@ returns-in_ok-take-in-Ok-Done-clause-quiet g c = λ q.
 
 pub returns-in_ok-take-in-Ok-Done-clause-linked : goal.returns-in_ok-take-in-Ok-Done-clause-linked
 returns-in_ok-take-in-Ok-Done-clause-linked g c = λ used.
-    let s = stage_in g.W.Wire.links g.F.LogFile.told g.F.LogFile.synced c.args.self.now in
-    let t = stage_in g.W.Wire.links g.F.LogFile.told g.F.LogFile.synced c.take.new.self in
+    let s = stage_in g.W.Wire.links g.W.Wire.failures g.F.LogFile.told g.F.LogFile.synced c.args.self.now in
+    let t = stage_in g.W.Wire.links g.W.Wire.failures g.F.LogFile.told g.F.LogFile.synced c.take.new.self in
     carried_linked c.args.socket c.args.link (outs_of c.in-Ok-Done.outs) (record s { node = c.step.new.self }) t
     (subst (λ (o : OutsState). Carried (outs_of o) (record s { node = c.step.new.self }) t) c.in-Ok-Done.outs-is c.in_ok-take-in-Ok-Done.ensures.carried) (has c.requires.has)
 
 pub returns-in_ok-take-in-Ok-Done-clause-uses : goal.returns-in_ok-take-in-Ok-Done-clause-uses
 returns-in_ok-take-in-Ok-Done-clause-uses g c = λ used.
-    let s = stage_in g.W.Wire.links g.F.LogFile.told g.F.LogFile.synced c.args.self.now in
-    let t = stage_in g.W.Wire.links g.F.LogFile.told g.F.LogFile.synced c.take.new.self in
+    let s = stage_in g.W.Wire.links g.W.Wire.failures g.F.LogFile.told g.F.LogFile.synced c.args.self.now in
+    let t = stage_in g.W.Wire.links g.W.Wire.failures g.F.LogFile.told g.F.LogFile.synced c.take.new.self in
     let given = c.given-given.result in
     let fresh = c.fresh-fresh.result in
     let outs = c.in-Ok-Done.outs in
@@ -103,6 +104,14 @@ returns-in-Ok-Closed-clause-went g c =
     let row = subst (λ r. Steps a c.args.link given fresh c.step.new.self r) (ap Ok c.in-Ok-Closed.field-0-is) c.in-Ok-Closed.ensures in
     absurd (never_closed a c.step.new.self c.args.link given fresh c.requires.input row)
 
+pub returns-in-Ok-Closed-clause-quiet : goal.returns-in-Ok-Closed-clause-quiet
+returns-in-Ok-Closed-clause-quiet g c = λ q.
+    let a = c.args.self.now.node.now in
+    let given = c.given-given.result in
+    let fresh = c.fresh-fresh.result in
+    let row = subst (λ r. Steps a c.args.link given fresh c.step.new.self r) (ap Ok c.in-Ok-Closed.field-0-is) c.in-Ok-Closed.ensures in
+    absurd (never_closed a c.step.new.self c.args.link given fresh c.requires.input row)
+
 pub returns-in-Err-Stopped-clause-went : goal.returns-in-Err-Stopped-clause-went
 returns-in-Err-Stopped-clause-went g c =
     let a = c.args.self.now.node.now in
@@ -110,7 +119,7 @@ returns-in-Err-Stopped-clause-went g c =
     let fresh = c.fresh-fresh.result in
     let row = subst (λ r. Steps a c.args.link given fresh c.step.new.self r) (ap Err c.in-Err-Stopped.field-0-is) c.in-Err-Stopped.ensures in
     let why : Stopping a c.step.new.self = stops_at c.args.link given fresh (record { input = c.requires.input; row = row }) in
-    broke_one stops refl (record { why = why; own = refl; wire = refl; file = (refl, refl) })
+    broke_one stops refl (record { why = why; own = refl; wire = refl; failed = refl; file = (refl, refl) })
 
 pub returns-in-Err : goal.returns-in-Err
 returns-in-Err g c =
@@ -122,8 +131,8 @@ returns-in-Err g c =
     let row = subst (λ e. Steps a c.args.link given fresh c.step.new.self (Err e)) memory c.in-Err.ensures in
     record {
       went = counts_call (is_refused c.args.socket c.args.link given fresh) c.args.self.now.moment.turn c.count_step.new.self.turn c.drop_connection.new.self.moment.turn refl refl refl refl refl refl
-          (record { has = c.requires.has; node = c.step.new.self; refused = record { input = c.requires.input; row = row }; dropped = c.drop_connection.ensures.dropped }) c.count_step.ensures.turn c.drop_connection.ensures.turn;
-      same = same_on c.args.self.now _ c.drop_connection.new.self (same_stepped c.args.self.now c.step.new.self c.word.new.self c.count_step.new.self c.count_step.ensures.time) c.drop_connection.ensures.same;
+          (record { has = c.requires.has; node = c.step.new.self; refused = record { input = c.requires.input; row = row }; dropped = dropped_from (record (stage_in g.W.Wire.links g.W.Wire.failures g.F.LogFile.told g.F.LogFile.synced c.args.self.now) { node = c.step.new.self }) _ c.step.new.self c.lack.new.self _ refl c.lack.ensures c.drop_connection.ensures.dropped }) c.count_step.ensures.turn c.drop_connection.ensures.turn;
+      same = same_on c.args.self.now _ c.drop_connection.new.self (record { node = refl; own = refl; wire = refl; log = refl; source = refl; time = c.count_step.ensures.time; mode = refl; wait_stays = refl; clock_stays = c.word.ensures.clock }) c.drop_connection.ensures.same;
       device = λ e. cc;
       quiet = refused_all a c.step.new.self c.drop_connection.new.self.node.now c.args.link given fresh c.requires.input row c.drop_connection.ensures.dropped.node;
       linked = λ e. cc;

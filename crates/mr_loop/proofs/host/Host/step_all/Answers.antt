@@ -6,7 +6,7 @@ use Rattle.mr_loop.proofs.Runs.{breaks, broke_moded, still_broke, still_here, st
 use Rattle.mr_loop.proofs.host.Host.step_all.Goals as goal
 
 pub loop-init : goal.loop-init
-loop-init g c = (still_here c.args.self.now.moment.turn (stage_in g.W.Wire.links g.F.LogFile.told g.F.LogFile.synced c.args.self.now), same_here c.args.self.now, λ q. q, c.requires)
+loop-init g c = (still_here c.args.self.now.moment.turn (stage_in g.W.Wire.links g.W.Wire.failures g.F.LogFile.told g.F.LogFile.synced c.args.self.now), same_here c.args.self.now, λ q. q, c.requires)
 
 pub step_next-requires : goal.step_next-requires
 step_next-requires g c = c.loop.invariant.3

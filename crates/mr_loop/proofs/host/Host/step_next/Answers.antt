@@ -11,10 +11,10 @@ returns-in_err-has_unread-clause-went g c =
     let why = c.in_err-has_unread.field-0.0 in
     let told : c.from_residual.result ≡ Err why = search rules in
     let fault = c.in_err-has_unread.ensures.fault in
-    breaks turn turn c.from_residual.result why told (broke_one stops (ap Some (sym fault.0)) (record { why = was_down fault.1 refl; own = refl; wire = refl; file = (refl, refl) }))
+    breaks turn turn c.from_residual.result why told (broke_one stops (ap Some (sym fault.0)) (record { why = was_down fault.1 refl; own = refl; wire = refl; failed = refl; file = (refl, refl) }))
 
 pub returns-then-not-branch-clause-went : goal.returns-then-not-branch-clause-went
-returns-then-not-branch-clause-went g c = still_here c.args.self.now.moment.turn (stage_in g.W.Wire.links g.F.LogFile.told g.F.LogFile.synced c.args.self.now)
+returns-then-not-branch-clause-went g c = still_here c.args.self.now.moment.turn (stage_in g.W.Wire.links g.W.Wire.failures g.F.LogFile.told g.F.LogFile.synced c.args.self.now)
 
 pub returns-in_err-used-clause-went : goal.returns-in_err-used-clause-went
 returns-in_err-used-clause-went g c =

@@ -6,9 +6,9 @@ use Rattle.mr_loop.proofs.host.Host.tick_all.Given as goal
 
 abbrev pub invariant-loop-left : goal.invariant-loop-left
 invariant-loop-left g l =
-    let on = stage_in g.W.Wire.links g.F.LogFile.told g.F.LogFile.synced in
+    let on = stage_in g.W.Wire.links g.W.Wire.failures g.F.LogFile.told g.F.LogFile.synced in
     PassesSoFar g.W.Wire.tells l.fn.self.log.now.mode l.fn.self.moment.time (most_ticks l.fn.self.moment.turn.done) l.left l.fn.self.moment.turn l.self.moment.turn (on l.fn.self) (on l.self)
-    × IsSame l.fn.self l.self × (AllWait l.fn.self.node.now → AllWait l.self.node.now)
+    × IsSame g.W.Wire.waited g.S.Source.clock l.fn.self l.self × (AllWait l.fn.self.node.now → AllWait l.self.node.now)
 
 abbrev pub decreases-loop-left : goal.decreases-loop-left
 decreases-loop-left g l = l.left

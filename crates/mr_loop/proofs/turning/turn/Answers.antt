@@ -1,0 +1,33 @@
+use Rattle.std.proofs.Common.{ap, subst, sym, ◌∙◌}
+use Rattle.mr_links.specs.Links.{Links}
+use Rattle.mr_wire.specs.Wire.{LinkState}
+use Rattle.mr_loop.specs.Outcomes.{Turns}
+use Rattle.mr_loop.specs.Rows.{HasWaited}
+use Rattle.mr_loop.specs.Stage.{stage}
+use Rattle.mr_loop.proofs.Runs.{waited_turns}
+use Rattle.mr_loop.proofs.turning.turn.Goals as goal
+
+pub returns-in-Ok-clause-went : goal.returns-in-Ok-clause-went
+returns-in-Ok-clause-went g c =
+    let log = c.args.log.now in
+    let wire = c.wait.new.wire in
+    let on = λ (w : Links LinkState). stage c.args.node.now c.args.links.now w (g.W.Wire.failures wire) (g.F.LogFile.told log.file) (g.F.LogFile.synced log.file) in
+    let s = stage c.args.node.now c.args.links.now (g.W.Wire.links c.args.wire.now) (g.W.Wire.failures c.args.wire.now) (g.F.LogFile.told log.file) (g.F.LogFile.synced log.file) in
+    let waited : HasWaited s (on (g.W.Wire.links wire)) = record { later = c.wait.ensures.later; is = ap on c.wait.ensures.same } in
+    let new = c.turn_at.new in
+    let t = stage new.node new.own (g.W.Wire.links new.wire) (g.W.Wire.failures new.wire) (g.F.LogFile.told new.log.file) (g.F.LogFile.synced new.log.file) in
+    waited_turns g.W.Wire.tells log.mode (g.S.Source.clock new.source) s (on (g.W.Wire.links wire)) t c.turn_at.result waited
+    (subst (λ now. Turns g.W.Wire.tells log.mode now c.turn_at.result (on (g.W.Wire.links wire)) t) (c.begun-moment.ensures.time ∙ sym c.turn_at.ensures.clock) c.turn_at.ensures.went)
+
+pub returns-in-Ok-clause-hurries : goal.returns-in-Ok-clause-hurries
+returns-in-Ok-clause-hurries g c = λ tells hurries. c.turn_at.ensures.waited ∙ c.wait.ensures.hurries tells hurries
+
+pub returns-in-Ok-clause-waits : goal.returns-in-Ok-clause-waits
+returns-in-Ok-clause-waits g c = λ tells calm. c.turn_at.ensures.waited ∙ c.wait.ensures.waits tells calm
+
+pub returns-in-Err-clause-went : goal.returns-in-Err-clause-went
+returns-in-Err-clause-went g c =
+    let log = c.args.log.now in record {
+      rose = c.in-Err.ensures.cause;
+      is = ap (λ (w : Links LinkState). stage c.args.node.now c.args.links.now w (g.W.Wire.failures c.wait.new.wire) (g.F.LogFile.told log.file) (g.F.LogFile.synced log.file)) c.wait.ensures.same;
+    }
