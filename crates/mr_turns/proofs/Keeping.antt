@@ -30,7 +30,7 @@ use Rattle.mr_loop.specs.Stage.{Stage, LoopState, lacking}
 use Rattle.mr_loop.specs.Carrying.{Carried, Spilled, Torn}
 use Rattle.mr_loop.specs.Causes.{Act, Calls, Dropped, TurnsOff, at_dial, at_step, at_tick, ended_at}
 use Rattle.mr_loop.specs.Rows.{Event, fault_of, Happens, IsAppended, Run, acts, appends, breaks, closes, fails, finds_none, hears_end, idles, is_deaf, is_refused, joins, loses, misses, misses_dial, misses_tick, settles, spills, stops, takes, tears, turns_away, waits, writes}
-use Rattle.mr_loop.specs.Outcomes.{Broke, Ends, Serves, TurnsOn}
+use Rattle.mr_loop.specs.Outcomes.{Broke, Fails, Serves, TurnsOn}
 use Rattle.mr_loop.proofs.Carried.{carried_core}
 use Rattle.mr_loop.proofs.Halting.{no_fault}
 use Rattle.mr_loop.proofs.Sending.{some_at}
@@ -207,11 +207,11 @@ module _ (tells : Bool) (mode : SyncMode) where
   kept (finds_none j) s t goes_on h k = stay s t h.file.0 (batch_of h.own) (node_of h.node) k
   kept (hears_end j x) s t goes_on h k = stay s t h.file.0 (batch_of h.own) (ap (λ (z : NodeState). z.core.held) h.node) k
   kept (loses j) s t goes_on h k = dropped j (Some h.link) (record s { wire = h.wire; failed = h.failed }) t h.dropped (stay s (record s { wire = h.wire; failed = h.failed }) refl refl refl k)
-  kept (misses j) s t goes_on h k = let called = record s { wire = h.wire; failed = h.failed; own = lacking s.own } in dropped j (Some h.link) called t h.dropped (stay s called refl refl refl k)
+  kept (misses j) s t goes_on h k =
+      dropped j (Some h.link) (record s { wire = h.wire; failed = h.failed; own = lacking s.own }) t h.dropped (stay s (record s { wire = h.wire; failed = h.failed; own = lacking s.own }) refl refl refl k)
   kept (is_refused j l given fresh) s t goes_on h k =
       let i = h.refused.input.unread in
-      let called = record s { node = h.node; own = lacking s.own } in
-      dropped j (Some l) called t h.dropped (stay s called refl refl (refused s.node h.node l given fresh i.bytes i.up i.agree h.refused.row) k)
+      dropped j (Some l) (record s { node = h.node; own = lacking s.own }) t h.dropped (stay s (record s { node = h.node; own = lacking s.own }) refl refl (refused s.node h.node l given fresh i.bytes i.up i.agree h.refused.row) k)
   kept (is_deaf j l) s t goes_on h k = dropped j (Some l) s t h.dropped k
   kept (idles j l given fresh) s t goes_on h k =
       let i = h.node.input.unread in
@@ -236,23 +236,23 @@ module _ (tells : Bool) (mode : SyncMode) where
 pub turns_keep : TurnsKeep
 turns_keep tells mode s t w k = run_kept tells mode w.events s t w.run k
 
--- turns one after another
-module _ (tells : Bool) (mode : SyncMode) where
-  on_kept : (n : ℕ) (s t : Stage) → TurnsOn tells mode n s t → IsKept s → IsKept t
-  on_kept zero s t h k = subst IsKept (sym h) k
-  on_kept (suc n) s t h k = turns_keep tells mode h.0 t h.2.tells_of.went (on_kept n s h.0 h.1 k)
+turns_on_keep : (tells : Bool) (mode : SyncMode) (count : ℕ) (s t : Stage) → TurnsOn tells mode count s t → IsKept s → IsKept t
+turns_on_keep tells mode zero s t same k = subst IsKept (sym same) k
+turns_on_keep tells mode (suc count) s t on k = turns_keep tells mode on.0 t on.2.tells_of.went (turns_on_keep tells mode count s on.0 on.1 k)
 
-  serves_kept : (turns : ℕ) (s t : Stage) → Serves tells mode turns (Ok tt) s t → IsKept s → IsKept t
-  serves_kept turns s t h k = by h.last where
-    before : IsKept h.before
-    before = on_kept h.count s h.before h.went k
-
-    by : Ends tells mode turns h.count (Ok tt) h.before t → IsKept t
-    by (inl all) = subst IsKept (sym all.1) before
-    by (inr halted) = turns_keep tells mode h.before t halted.1.tells_of.went before
+served : (tells : Bool) (mode : SyncMode) (turns : ℕ) (s t : Stage) → Serves tells mode turns (Ok tt) s t → IsKept s → IsKept t
+served tells mode turns s t h k =
+    let before : IsKept h.before = turns_on_keep tells mode h.count s h.before h.went k in
+    elim h.last [
+      | inl all ↦ subst IsKept (sym all.1) before
+      | inr halts ↦ turns_keep tells mode h.before t halts.1.tells_of.went before
+    ]
 
 pub turns_leave_whole : TurnsLeaveWhole
-turns_leave_whole tells mode s t none after w = (λ now turn h. kept_whole t after (turns_keep tells mode s t h.went (whole_kept s none w)), λ turns h. kept_whole t after (serves_kept tells mode turns s t h (whole_kept s none w)))
+turns_leave_whole tells mode s t none after w = (
+  λ now turn h. kept_whole t after (turns_keep tells mode s t h.went (whole_kept s none w)),
+  λ turns h. kept_whole t after (served tells mode turns s t h (whole_kept s none w)),
+)
 
 -- ---- behind a fault
 whole_torn : (t : Stage) (file : List ℕ) (d : Dataset) → t.told ≡ Some file → Makes file d → IsTorn t
@@ -313,7 +313,13 @@ module _ (tells : Bool) (mode : SyncMode) (why : LoopFault) where
 torn_same : (s t : Stage) → t.told ≡ s.told → IsTorn s → IsTorn t
 torn_same s t same i = record { front = i.front; torn = i.torn; told = same ∙ i.told; filed = i.filed; made = i.made; more = i.more; next = i.next; leads = i.leads }
 
+fault_tears : (tells : Bool) (mode : SyncMode) (why : LoopFault) (s t : Stage) → IsKept s → Fails tells mode why s t → IsTorn t
+fault_tears tells mode fault.Listener s t k c = whole_torn t k.file k.filed (ap (λ (z : Stage). z.told) c.is ∙ k.told) k.made
+fault_tears tells mode fault.File s t k b = torn_same b.behind t (ap (λ (z : Stage). z.told) b.stopped.is) (broke_torn tells mode fault.File s b.behind k b.broke)
+fault_tears tells mode fault.Stopped s t k b = torn_same b.behind t (ap (λ (z : Stage). z.told) b.stopped.is) (broke_torn tells mode fault.Stopped s b.behind k b.broke)
+
 pub faults_tear : FaultsTear
-faults_tear tells mode fault.Listener s t k same = whole_torn t k.file k.filed (ap (λ (z : Stage). z.told) same.is ∙ k.told) k.made
-faults_tear tells mode fault.File s t k b = torn_same b.behind t (ap (λ (z : Stage). z.told) b.stopped.is) (broke_torn tells mode fault.File s b.behind k b.broke)
-faults_tear tells mode fault.Stopped s t k b = torn_same b.behind t (ap (λ (z : Stage). z.told) b.stopped.is) (broke_torn tells mode fault.Stopped s b.behind k b.broke)
+faults_tear tells mode why s t k = (
+  fault_tears tells mode why s t k,
+  λ turns h. fault_tears tells mode why h.before t (turns_on_keep tells mode h.count s h.before h.went k) h.last.1,
+)

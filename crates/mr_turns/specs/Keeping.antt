@@ -1,5 +1,5 @@
 -- What the file says of its node in the event loop: within turns, between them, and behind a fault.
-use Rattle.std.specs.Prelude.{◌≡◌, ◌++◌, ℕ, ℤ, List, [], Bool, Some, Ok, length}
+use Rattle.std.specs.Prelude.{◌≡◌, ◌++◌, ℕ, ℤ, List, [], Bool, Some, Ok, Err, length}
 use Rattle.mr_entries.specs.Dataset.{Dataset}
 use Rattle.mr_replay.specs.Effects.{Leads, Loads, Makes}
 use Rattle.mr_file.specs.declared.sync_mode.SyncMode.{SyncMode}
@@ -50,6 +50,7 @@ abbrev pub TurnsLeaveWhole : Type 0
 TurnsLeaveWhole = (tells : Bool) (mode : SyncMode) (s t : Stage) → s.own.batch ≡ [] → t.own.batch ≡ [] → IsWhole s
     → ((now : ℤ) (turn : Turn) → Turns tells mode now (Ok turn) s t → IsWhole t) × ((turns : ℕ) → Serves tells mode turns (Ok tt) s t → IsWhole t)
 
--- ---- behind a fault
+-- ---- behind a fault, of one turn or of the last of some
 abbrev pub FaultsTear : Type 0
-FaultsTear = (tells : Bool) (mode : SyncMode) (why : LoopFault) (s t : Stage) → IsKept s → Fails tells mode why s t → IsTorn t
+FaultsTear = (tells : Bool) (mode : SyncMode) (why : LoopFault) (s t : Stage) → IsKept s
+    → (Fails tells mode why s t → IsTorn t) × ((turns : ℕ) → Serves tells mode turns (Err why) s t → IsTorn t)
