@@ -5,10 +5,10 @@ use Rattle.mr_script.specs.Said.{Said, nothing, starts, joins, sends, delivers, 
 use Rattle.mr_script.specs.declared.side.Side.{Side as SaidSide}
 use Rattle.mr_script.specs.declared.side.Side.TheVariants as said
 use Rattle.mr_seen.specs.State.{Slot, WorldState}
+use Rattle.mr_carrying.specs.declared.side.Side.{Side}
+use Rattle.mr_carrying.specs.declared.side.Side.TheVariants as side
 use Rattle.mr_world.specs.declared.event.Event.{Event}
 use Rattle.mr_world.specs.declared.event.Event.TheVariants as event
-use Rattle.mr_world.specs.declared.event.Side.{Side}
-use Rattle.mr_world.specs.declared.event.Side.TheVariants as side
 use Rattle.mr_player.specs.declared.asked.Asked.{Asked}
 use Rattle.mr_player.specs.declared.asked.Asked.TheVariants as asked
 

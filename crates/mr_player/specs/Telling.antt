@@ -4,11 +4,11 @@ use Rattle.mr_rows.specs.State.{shown}
 use Rattle.mr_script.specs.declared.answer.Answer.{Answer}
 use Rattle.mr_script.specs.declared.answer.Answer.TheVariants.{Node, Link, Done, Refused, Shows, Stopped, Bytes}
 use Rattle.mr_seen.specs.State.{Caller, a_client, a_node, Link as LinkState, Slot, WorldState}
+use Rattle.mr_carrying.specs.Lending.{taken_in}
 use Rattle.mr_world.specs.declared.refusal.Refusal.{Refusal}
 use Rattle.mr_world.specs.declared.refusal.Refusal.TheVariants as refusal
 use Rattle.mr_world.specs.declared.event.Event.{Event}
 use Rattle.mr_world.specs.declared.event.Event.TheVariants as event
-use Rattle.mr_world.specs.Lending.{taken_in}
 use Rattle.mr_world.specs.Running.{RunCall}
 
 -- of several causes the least is answered, but for that of memory

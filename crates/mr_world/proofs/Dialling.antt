@@ -13,13 +13,14 @@ use Rattle.mr_seen.specs.Worlds.{IsWorld}
 use Rattle.mr_seen.specs.Carrying.{put_node}
 use Rattle.mr_seen.proofs.Places.{is_within, some_is}
 use Rattle.mr_seen.proofs.Others.{served_end}
+use Rattle.mr_carrying.specs.AtNode.{IsFollowing}
+use Rattle.mr_carrying.proofs.Places.{stands}
 use Rattle.mr_world.specs.declared.refusal.Refusal.{Refusal}
 use Rattle.mr_world.specs.declared.refusal.Refusal.TheVariants as refusal
-use Rattle.mr_world.specs.Linking.{BreaksOff, DropCall, Drops, FollowerRests, FollowsAt, FollowsBy, IsDialler, IsFollowing, NoneFollows}
+use Rattle.mr_world.specs.Linking.{BreaksOff, DropCall, Drops, FollowerRests, FollowsAt, FollowsBy, IsDialler, NoneFollows}
 use Rattle.mr_world.proofs.Changing.{node_world}
 use Rattle.mr_world.proofs.Kept.{closed_end, follow_was, reads_without}
 use Rattle.mr_world.proofs.Feeding.{not_upstream}
-use Rattle.mr_world.proofs.Joins.{stands}
 
 module _ (w : WorldState) (l n : ℕ) (k : Link) (s : Slot) (name : LinkId) (f : FollowState) (is : IsWorld w) (v : FollowsBy w l n k s name f) where
   -- the caller of the link is this node, by this name

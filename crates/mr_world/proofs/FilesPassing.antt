@@ -7,9 +7,9 @@ use Rattle.mr_headline.specs.Runs.{last_of}
 use Rattle.mr_seen.proofs.Beginning.{worlds_begin}
 use Rattle.mr_filing.specs.Worlds.{FilesGoOn, GoOn}
 use Rattle.mr_filing.proofs.Worlds.{files_are_true}
+use Rattle.mr_carrying.specs.declared.side.Side.TheVariants as side
 use Rattle.mr_world.specs.declared.event.Event.{Event}
 use Rattle.mr_world.specs.declared.event.Event.TheVariants as event
-use Rattle.mr_world.specs.declared.event.Side.TheVariants as side
 use Rattle.mr_world.specs.declared.refusal.Refusal.{Refusal}
 use Rattle.mr_world.specs.Running.{AreMoments, EventCall, RunCall, TookAll, by_opener, is_between_nodes}
 use Rattle.mr_world.specs.Promises.{Ran, FilesAreDatasets}

@@ -20,7 +20,9 @@ use Rattle.mr_seen.proofs.Linking.{opens, open_stops, server_feeds, master_feeds
 use Rattle.mr_seen.proofs.ClientEnds.{commands, client_feeds, client_breaks}
 use Rattle.mr_seen.proofs.Times.{ticks, tick_stops}
 use Rattle.mr_headline.specs.Runs.{Happens, an_event, nothing_seen}
-use Rattle.mr_world.specs.Calls.{is_spent, AsksAt, BreakCall, Breaks, ClientCall, Clients, CommandCall, LeaveCall, StartCall, TakeCall}
+use Rattle.mr_carrying.specs.AtNode.{is_spent}
+use Rattle.mr_carrying.specs.declared.side.Side.TheVariants as side
+use Rattle.mr_world.specs.Calls.{AsksAt, BreakCall, Breaks, ClientCall, Clients, CommandCall, LeaveCall, StartCall, TakeCall}
 use Rattle.mr_world.specs.Linking.{BreaksOff, DeliverCall, Delivers, DropCall}
 use Rattle.mr_world.specs.Hearing.{ListenCall, Tells}
 use Rattle.mr_world.specs.Stepping.{TickCall, Ticks}
@@ -32,7 +34,6 @@ use Rattle.mr_world.proofs.Happening.{follows_happen}
 use Rattle.mr_world.proofs.ServedEvents.{step_is_event}
 use Rattle.mr_world.specs.declared.event.Event.{Event}
 use Rattle.mr_world.specs.declared.event.Event.TheVariants as event
-use Rattle.mr_world.specs.declared.event.Side.TheVariants as side
 use Rattle.mr_world.specs.Running.{EventCall, by_opener, is_between_nodes}
 
 -- what isn't spent isn't drawn

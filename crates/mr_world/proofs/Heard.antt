@@ -29,14 +29,14 @@ use Rattle.mr_seen.proofs.Places.{is_within, set_here, some_is}
 use Rattle.mr_seen.proofs.Masters.{counted}
 use Rattle.mr_seen.proofs.Following.{masters_keep, reads_by}
 use Rattle.mr_seen.proofs.Waiting.{agreed, lacks_alone, lacks_keep, waits_alone, waits_keep}
+use Rattle.mr_carrying.specs.AtLink.{heard_by}
+use Rattle.mr_carrying.proofs.Places.{stands, set_twice}
 use Rattle.mr_world.specs.declared.refusal.Refusal.{Refusal}
 use Rattle.mr_world.specs.declared.refusal.Refusal.TheVariants as refusal
 use Rattle.mr_world.specs.Linking.{IsDialler}
-use Rattle.mr_world.specs.Following.{FollowCall, Follows, HasHeard, HasLacked, HasSpent, HasWaited, IsFollower, heard_by}
+use Rattle.mr_world.specs.Following.{FollowCall, Follows, HasHeard, HasLacked, HasSpent, HasWaited, IsFollower}
 use Rattle.mr_world.proofs.Kept.{stops_world}
-use Rattle.mr_world.proofs.Joins.{stands}
 use Rattle.mr_world.proofs.Dialling.{follows_here, up_end}
-use Rattle.mr_world.proofs.Undone.{set_twice}
 
 no_some : {A : Type 0} (x : A) → ◌≡◌ {A = Option A} None (Some x) → ⊥
 no_some x e = cc

@@ -2,7 +2,6 @@
 use Rattle.std.proofs.Common.{◌≡◌, ◌+◌, ◌<◌, ◌≤◌, ℕ, List, [], ◌∷◌, ◌++◌, Bool, true, false, Some, length, get_or, refl, sym, ap, subst, ◌∙◌}
 use Rattle.std.specs.Prelude.{slice_get, slice_set}
 use Rattle.std.proofs.lemmas.List.{set-get_or}
-use Rattle.std.proofs.lemmas.Option.{slice_get-get_or}
 use Rattle.mr_links.specs.declared.link_id.LinkId.{LinkId}
 use Rattle.mr_rows.specs.State.{NodeState, stopped_as}
 use Rattle.mr_rows.specs.LinkRows.{Opens, closed_at}
@@ -13,10 +12,9 @@ use Rattle.mr_seen.specs.Carrying.{opened_link}
 use Rattle.mr_seen.specs.Worlds.{IsWorld}
 use Rattle.mr_seen.specs.Events.{IsRunning}
 use Rattle.mr_seen.proofs.Places.{is_within, some_is}
-use Rattle.mr_world.specs.Calls.{Breaks, Clients, Runs, AsksAt, IsAsking, NoneAsks, Sends, Takes, WereNotSent, Leaves, put_link}
-
-pub stands : {A : Type 0} (xs : List A) (i : ℕ) (x : A) → i < length xs → x ≡ get_or xs i x → slice_get xs i ≡ Some x
-stands xs i x h r = slice_get-get_or xs i x h ∙ ap (λ z. Some z) (sym r)
+use Rattle.mr_carrying.specs.AtLink.{IsAsking}
+use Rattle.mr_carrying.proofs.Places.{stands}
+use Rattle.mr_world.specs.Calls.{Breaks, Clients, Runs, AsksAt, NoneAsks, Sends, Takes, WereNotSent, Leaves, put_link}
 
 pub put_same : {A : Type 0} (xs : List A) (i : ℕ) (x t : A) → x ≡ get_or xs i x → t ≡ x → slice_set xs i t ≡ xs
 put_same xs i x t r e = ap (λ z. slice_set xs i z) (e ∙ r) ∙ set-get_or xs i x

@@ -15,10 +15,10 @@ use Rattle.mr_seen.specs.Worlds.{IsWorld}
 use Rattle.mr_seen.specs.Events.{IsRunning}
 use Rattle.mr_seen.specs.Carrying.{put_node}
 use Rattle.mr_seen.proofs.Places.{is_within, set_cases, set_here, set_there, some_is}
+use Rattle.mr_carrying.proofs.Places.{stands, set_twice}
 use Rattle.mr_world.specs.Connecting.{BothRun, CanDial, Counts, Dialled, DiallerStops, Lacks, counted_on}
 use Rattle.mr_world.proofs.Connects.{closed_again}
-use Rattle.mr_world.proofs.Joins.{put_same, stands}
-use Rattle.mr_world.proofs.Undone.{set_twice}
+use Rattle.mr_world.proofs.Joins.{put_same}
 
 -- what is read at a place where this was put
 read_put : (xs : List Slot) (i : ℕ) (x t y : Slot) → slice_get xs i ≡ Some x → y ≡ get_or (slice_set xs i t) i y → y ≡ t

@@ -1,14 +1,11 @@
 -- A node that begins anew: how the parts of it make it, and that what is true of each World stays.
-use Rattle.std.proofs.Common.{◌≡◌, ◌<◌, ◌≤◌, ◌==◌, ◌^◌, ℕ, List, Bool, true, false, not, Option, None, Some, Result, Ok, Err, length, map, get_or, take, refl, sym, ap, subst, ◌∙◌, arith}
+use Rattle.std.proofs.Common.{◌≡◌, ◌<◌, ◌≤◌, ◌==◌, ◌^◌, ℕ, List, Bool, true, false, not, Option, None, Some, Result, Ok, Err, length, map, get_or, refl, sym, ap, subst, ◌∙◌, arith}
 use Rattle.std.specs.Prelude.{slice_get, slice_set}
 use Rattle.std.specs.Option.{option_map}
 use Rattle.std.proofs.lemmas.Option.{slice_get-map}
 use Rattle.mr_links.specs.declared.link_id.LinkId.{LinkId}
 use Rattle.mr_repl.specs.ReplId.{IsId}
 use Rattle.mr_follow.specs.State.{FollowState, Agrees}
-use Rattle.mr_entries.specs.Dataset.{Dataset}
-use Rattle.mr_replay.specs.Effects.{Loads}
-use Rattle.mr_rows.specs.State.{NodeState, started}
 use Rattle.mr_rows.specs.Sound.{IsSound}
 use Rattle.mr_seen.specs.Way.{IsWay, unread}
 use Rattle.mr_seen.specs.State.{Entry, Link, Slot, WorldState}
@@ -16,11 +13,13 @@ use Rattle.mr_seen.specs.Worlds.{IsWorld, HasMaster, end_for}
 use Rattle.mr_seen.specs.Books.{begun}
 use Rattle.mr_seen.specs.Carrying.{restarted_with, shut_if}
 use Rattle.mr_seen.proofs.Places.{some_is}
+use Rattle.mr_carrying.specs.AtNode.{IsLoaded}
+use Rattle.mr_carrying.specs.AtLink.{shut_at}
+use Rattle.mr_carrying.proofs.Places.{stands}
 use Rattle.mr_world.specs.declared.refusal.Refusal.{Refusal}
 use Rattle.mr_world.specs.declared.refusal.Refusal.TheVariants as refusal
-use Rattle.mr_world.specs.Restarting.{IsLoaded, IsThere, RestartCall, Restarts, shut_at}
+use Rattle.mr_world.specs.Restarting.{IsThere, RestartCall, Restarts}
 use Rattle.mr_world.proofs.Changing.{changed_world}
-use Rattle.mr_world.proofs.Joins.{stands}
 use Rattle.mr_world.proofs.Kept.{started_sound}
 
 no_some : {A : Type 0} (x : A) → ◌≡◌ {A = Option A} None (Some x) → ⊥
@@ -106,17 +105,6 @@ restart_keeps w v n kept id port backlog (Err refusal.TooMuch) is named some few
 restart_keeps w v n kept id port backlog (Err refusal.InputFull) is named some few c = absurd c
 
 -- ---- how the parts of it make it
-pub loaded_here : (kept : List ℕ) (as_replica : Bool) (port backlog : ℕ) (id : List ℕ) (used : ℕ) (held : Dataset) (node : NodeState) (file : List ℕ)
-    → Loads kept used held → node ≡ started as_replica port backlog id held → file ≡ take used kept
-    → IsLoaded kept as_replica port backlog id (record { node = node; file = file; as_master = not as_replica; dialled = 0 })
-loaded_here kept as_replica port backlog id used held node file loads n f = record {
-  used = used;
-  held = held;
-  loads = loads;
-  is = ap (λ z. record { node = z; file = file; as_master = not as_replica; dialled = 0 }) n
-      ∙ ap (λ z. record { node = started as_replica port backlog id held; file = z; as_master = not as_replica; dialled = 0 }) f;
-}
-
 module _ (w : WorldState) (n : ℕ) (x : Slot) (within : n < length w.slots) (slot : x ≡ get_or w.slots n x) where
   pub there_is : IsThere w n
   there_is = record { slot = x; at = stands w.slots n x within slot }

@@ -1,5 +1,5 @@
 -- What each row of a step at a server's end leaves of the node, as its outs tell.
-use Rattle.std.proofs.Common.{◌≡◌, ◌≢◌, ℕ, List, [], ◌∷◌, ◌&&◌, Bool, true, false, cond, Option, None, Some, refl, sym, ap, ◌∙◌, length}
+use Rattle.std.proofs.Common.{◌≡◌, ◌≢◌, ℕ, List, [], ◌∷◌, true, false, cond, Option, None, Some, refl, sym, ap, ◌∙◌}
 use Rattle.mr_links.specs.Links.{Links}
 use Rattle.mr_links.specs.declared.link_id.LinkId.{LinkId}
 use Rattle.mr_data.specs.declared.given.Given.{Given}
@@ -17,10 +17,7 @@ use Rattle.mr_rows.specs.Telling.{Around}
 use Rattle.mr_rows.specs.Served.{Answered, Served}
 use Rattle.mr_rows.specs.ClientRows.{ClientRow}
 use Rattle.mr_rows.specs.ReplicaRows.{ReplicaRow}
-use Rattle.mr_node.specs.Calls.{IsUnread}
-use Rattle.mr_seen.specs.State.{Link}
-use Rattle.mr_seen.specs.Carrying.{fed_if, is_at, reached, shut_if, told}
-use Rattle.mr_world.specs.Answering.{EndsAs, IsBehind}
+use Rattle.mr_carrying.specs.Answering.{EndsAs, IsBehind}
 
 -- ---- the node runs on
 answered_up : (c d : Core) (around : Around) (words : List (List ℕ)) (given : Given) (out : Output) → Answered c around words given d out → d.up ≡ c.up
@@ -112,28 +109,3 @@ module _ (a b : NodeState) (name : LinkId) (u : List ℕ) (outs : OutsState) whe
     unfed = unnamed outs.fed name (ap (λ (o : OutsState). o.fed) r.outs_are);
     unclosed = unnamed outs.closed name (ap (λ (o : OutsState). o.closed) r.outs_are);
   }
-
--- ---- the link behind it
-both : (b : Bool) → b ≡ true → b ≡ false → ⊥
-both b p q = cc
-
-module _ (b : NodeState) (name : LinkId) (outs : OutsState) (h : IsBehind b name outs) where
-  pub some_unread : outs.closes ≡ false → IsUnread b name None → ⊥
-  some_unread stays i = elim h.end [
-    | EndsAs.closed e is ↦ both outs.closes e stays
-    | EndsAs.asks e u is ↦ none_is (length u) (i.at_client u h.up (record { is = is }))
-    | EndsAs.streams e u is ↦ none_is (length u) (i.at_replica u h.up (record { is = is }))
-  ]
-    where
-      none_is : (n : ℕ) → ◌≡◌ {A = Option ℕ} None (Some n) → ⊥
-      none_is n e = cc
-
-  -- nothing that goes to replicas goes there
-  pub unreached : (k : Link) (n : ℕ) (bytes : List ℕ) → name ≡ k.name → reached n outs (told bytes k) ≡ told bytes k
-  unreached k n bytes same =
-      ap (λ c. shut_if c (fed_if (is_at n k && is_named outs.fed k.name) outs.grown (told bytes k))) (none (is_at n k) (is_named outs.closed k.name) (ap (is_named outs.closed) (sym same) ∙ h.unclosed))
-      ∙ ap (λ c. fed_if c outs.grown (told bytes k)) (none (is_at n k) (is_named outs.fed k.name) (ap (is_named outs.fed) (sym same) ∙ h.unfed))
-    where
-      none : (p q : Bool) → q ≡ false → (p && q) ≡ false
-      none true q e = e
-      none false q e = refl

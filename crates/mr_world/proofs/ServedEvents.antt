@@ -17,7 +17,8 @@ use Rattle.mr_seen.specs.Carrying.{stepped}
 use Rattle.mr_seen.specs.Events.{Holds, IsEvent}
 use Rattle.mr_seen.proofs.Replicas.{idle_steps, replica_steps, stopped_steps}
 use Rattle.mr_seen.proofs.Roles.{client_steps}
-use Rattle.mr_world.specs.Calls.{IsDown, ServesAt, is_spent}
+use Rattle.mr_carrying.specs.AtNode.{is_spent}
+use Rattle.mr_world.specs.Calls.{IsDown, ServesAt}
 use Rattle.mr_world.specs.Serving.{HasServed, ServedRow, Serves}
 
 -- an id that may be drawn has no entry

@@ -1,8 +1,6 @@
 -- How the parts of a step at a server's end make it, and that what is true of each World stays.
-use Rattle.std.proofs.Common.{◌≡◌, ◌<◌, ◌⊎◌, inl, inr, ◌∙◌, ℕ, List, Bool, true, false, Some, Result, Ok, Err, length, map, get_or, refl, sym, ap, subst}
+use Rattle.std.proofs.Common.{◌≡◌, ◌<◌, ◌⊎◌, inl, inr, ◌∙◌, ℕ, List, Bool, true, false, Some, Result, Ok, Err, length, get_or, refl, sym, ap, subst}
 use Rattle.std.specs.Prelude.{slice_get, slice_set}
-use Rattle.std.specs.Option.{option_map}
-use Rattle.std.proofs.lemmas.Option.{slice_get-map}
 use Rattle.mr_links.specs.declared.link_id.LinkId.{LinkId}
 use Rattle.mr_data.specs.declared.given.Given.{Given}
 use Rattle.mr_outs.specs.Outs.{OutsState}
@@ -16,20 +14,18 @@ use Rattle.mr_node.specs.declared.step.Step.TheVariants as step
 use Rattle.mr_seen.specs.Way.{unread}
 use Rattle.mr_seen.specs.State.{Entry, Link, Slot, WorldState}
 use Rattle.mr_seen.specs.Worlds.{IsWorld, end_for}
-use Rattle.mr_seen.specs.Carrying.{behind, booked_as, filed, put_node, reached, settled, stepped, told}
+use Rattle.mr_seen.specs.Carrying.{behind, booked_as, filed, put_node, stepped}
 use Rattle.mr_seen.proofs.Places.{is_within, set_here, set_same, some_is}
 use Rattle.mr_seen.proofs.Turning.{clients_keep, replicas_keep}
+use Rattle.mr_carrying.specs.Answering.{Carries, IsBehind, IsServing, answered_links, carried_as}
+use Rattle.mr_carrying.proofs.Places.{stands, set_twice}
 use Rattle.mr_world.specs.declared.refusal.Refusal.{Refusal}
 use Rattle.mr_world.specs.declared.refusal.Refusal.TheVariants as refusal
 use Rattle.mr_world.specs.Serving.{HasServed, MayLackAt, NeedsMemory, ServedRow, Serves, StepCall}
-use Rattle.mr_world.specs.Undoing.{untold}
-use Rattle.mr_world.specs.Answering.{Carries, IsBehind, IsServing, answered_links, carried_as}
 use Rattle.mr_world.proofs.Feeding.{its_end}
-use Rattle.mr_world.proofs.Joins.{stands}
 use Rattle.mr_world.proofs.Kept.{stops_world}
-use Rattle.mr_world.proofs.Served.{client_behind, replica_behind, unreached}
+use Rattle.mr_world.proofs.Served.{client_behind, replica_behind}
 use Rattle.mr_world.proofs.Ticking.{shown_id, shown_offset}
-use Rattle.mr_world.proofs.Undone.{map_set, set_twice, untold_told}
 
 -- ---- what is true of each World stays
 served_keeps : (w : WorldState) (l : ℕ) (given : Given) (fresh : List ℕ) → IsWorld w → (t : HasServed w l given fresh) → IsWorld (stepped w t.link.to t.slot l t.link t.node t.outs)
@@ -52,40 +48,6 @@ step_keeps w v l given fresh (Err refusal.Nobody) is c = subst (λ (z : WorldSta
 step_keeps w v l given fresh (Err refusal.Memory) is c = subst (λ (z : WorldState). IsWorld z) (sym c.2) is
 step_keeps w v l given fresh (Err refusal.TooMuch) is c = absurd c
 step_keeps w v l given fresh (Err refusal.InputFull) is c = absurd c
-
--- ---- what goes to the links
-read_here : (links : List Link) (l : ℕ) (k m : Link) → slice_get links l ≡ Some k → m ≡ get_or links l m → m ≡ k
-read_here links l k m found again = some_is m k (sym (stands links l m (is_within links l k found) again) ∙ found)
-
-module _ (n l : ℕ) (outs : OutsState) (links there : List Link) (k t m : Link) (within : l < length links) (link : k ≡ get_or links l k) (said : t ≡ told outs.reply k) (again : m ≡ get_or there l m) where
-  found_link : slice_get links l ≡ Some k
-  found_link = stands links l k within link
-
-  -- it is taken back
-  pub untold_there : (count : ℕ) (u : Link) → there ≡ slice_set links l t → count ≡ length outs.reply → u ≡ untold count m → slice_set there l u ≡ links
-  untold_there count u gave counted back =
-      let one : m ≡ t = read_here there l t m (ap (λ z. slice_get z l) gave ∙ set_here links l t k found_link) again in
-      let was : u ≡ k = back ∙ (ap (untold count) (one ∙ said) ∙ (ap (λ i. untold i (told outs.reply k)) counted ∙ untold_told k outs.reply)) in
-      ap (λ z. slice_set z l u) gave ∙ (set_twice links l t u ∙ (ap (slice_set links l) was ∙ set_same links l k found_link))
-
-  -- what goes to replicas went to the others
-  module _ (b : NodeState) (h : (q : Link) → slice_get links l ≡ Some q → IsBehind b q.name outs) (gave : there ≡ map (reached n outs) (slice_set links l t)) where
-    all_reached : there ≡ slice_set (map (reached n outs) links) l (told outs.reply k)
-    all_reached = gave ∙ (ap (λ z. map (reached n outs) (slice_set links l z)) said
-        ∙ (map_set (reached n outs) links l (told outs.reply k) ∙ ap (slice_set (map (reached n outs) links) l) (unreached b k.name outs (h k found_link) k n outs.reply refl)))
-
-    told_there : m ≡ told outs.reply k
-    told_there = read_here there l (told outs.reply k) m
-        (ap (λ z. slice_get z l) all_reached ∙ set_here (map (reached n outs) links) l (told outs.reply k) (reached n outs k) (slice_get-map (reached n outs) links l ∙ ap (option_map (reached n outs)) found_link)) again
-
-    pub behind_told : (a : NodeState) → a ≡ b → IsBehind a m.name outs
-    behind_told a same = subst (λ (z : Link). IsBehind a z.name outs) (sym told_there) (subst (λ (z : NodeState). IsBehind z k.name outs) (sym same) (h k found_link))
-
-    pub answered_there : (a : NodeState) (f : Link) → a ≡ b → f ≡ settled (end_of a m.name) m → (q : Link) → slice_get links l ≡ Some q → slice_set there l f ≡ answered_links n l q b outs links
-    answered_there a f same settles q found =
-        let now : f ≡ settled (end_of b k.name) (told outs.reply k) = settles ∙ (ap (λ (z : Link). settled (end_of a z.name) z) told_there ∙ ap (λ (z : NodeState). settled (end_of z k.name) (told outs.reply k)) same) in
-        ap (λ z. slice_set z l f) all_reached ∙ (set_twice (map (reached n outs) links) l (told outs.reply k) f
-        ∙ (ap (slice_set (map (reached n outs) links) l) now ∙ ap (λ (z : Link). answered_links n l z b outs links) (some_is k q (sym found_link ∙ found))))
 
 -- ---- it is carried, or the node stops
 module _ (w : WorldState) (n l : ℕ) (s x : Slot) (k : Link) (within : n < length w.slots) (slot : x ≡ get_or w.slots n x) (at : slice_get w.slots n ≡ Some s) (found : slice_get w.links l ≡ Some k) where

@@ -10,13 +10,13 @@ use Rattle.mr_seen.specs.Worlds.{IsWorld}
 use Rattle.mr_seen.specs.Carrying.{booked_as, filed, reached, said_on}
 use Rattle.mr_seen.proofs.Places.{is_within, set_here, some_is}
 use Rattle.mr_seen.proofs.Kept.{ticks_keep}
+use Rattle.mr_carrying.proofs.Places.{stands, set_twice}
 use Rattle.mr_world.specs.declared.refusal.Refusal.{Refusal}
 use Rattle.mr_world.specs.declared.refusal.Refusal.TheVariants as refusal
 use Rattle.mr_world.specs.Calls.{Runs}
 use Rattle.mr_world.specs.Stepping.{HasTicked, TickCall, Ticks}
-use Rattle.mr_world.proofs.Joins.{put_same, stands}
+use Rattle.mr_world.proofs.Joins.{put_same}
 use Rattle.mr_world.proofs.Kept.{stops_world}
-use Rattle.mr_world.proofs.Undone.{set_twice}
 
 -- ---- what a node shows
 shows_none : (c : Core) → shown c ≡ None → c.up ≡ false

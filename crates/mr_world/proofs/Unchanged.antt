@@ -6,9 +6,9 @@ use Rattle.mr_seen.specs.Books.{IsBook}
 use Rattle.mr_seen.specs.Worlds.{IsWorld}
 use Rattle.mr_seen.proofs.Waiting.{lacks_keep}
 use Rattle.mr_headline.specs.Runs.{Happens, nothing_seen}
+use Rattle.mr_carrying.specs.declared.side.Side.TheVariants as side
 use Rattle.mr_world.specs.declared.event.Event.{Event}
 use Rattle.mr_world.specs.declared.event.Event.TheVariants as event
-use Rattle.mr_world.specs.declared.event.Side.TheVariants as side
 use Rattle.mr_world.specs.declared.refusal.Refusal.{Refusal}
 use Rattle.mr_world.specs.declared.refusal.Refusal.TheVariants as refusal
 use Rattle.mr_world.specs.Calls.{LeaveCall, TakeCall}

@@ -1,21 +1,17 @@
 -- What each event of a World comes to. A refusal leaves the World as it is; the order in which causes stand is that of the cases.
-use Rattle.std.specs.Prelude.{◌≡◌, ◌≤◌, ◌+◌, ◌^◌, ◌||◌, ℕ, List, [], Bool, true, false, None, Some, Result, Ok, Err, bytes_eq, is_some, length, slice_get, slice_set}
+use Rattle.std.specs.Prelude.{◌≡◌, ◌≤◌, ◌+◌, ◌^◌, ℕ, List, [], Bool, true, false, None, Some, Result, Ok, Err, length, slice_get, slice_set}
 use Rattle.std.specs.FinMap.{empty}
 use Rattle.mr_links.specs.declared.link_id.LinkId.{LinkId}
-use Rattle.mr_repl.specs.ReplId.{zero_id}
 use Rattle.mr_rows.specs.State.{NodeState, stopped_as}
 use Rattle.mr_rows.specs.LinkRows.{Opens, closed_at}
 use Rattle.mr_seen.specs.Way.{sent_on, taken_on}
-use Rattle.mr_seen.specs.State.{a_client, Link, Slot, Entry, WorldState}
-use Rattle.mr_seen.specs.Books.{entry_of}
+use Rattle.mr_seen.specs.State.{a_client, Link, Slot, WorldState}
 use Rattle.mr_seen.specs.Events.{IsRunning, IsServed}
 use Rattle.mr_seen.specs.Carrying.{begun_slot, broken, opened, put_node, started_with}
+use Rattle.mr_carrying.specs.AtLink.{IsAsking}
+use Rattle.mr_carrying.specs.AtNode.{is_spent}
 use Rattle.mr_world.specs.declared.refusal.Refusal.{Refusal}
 use Rattle.mr_world.specs.declared.refusal.Refusal.TheVariants as refusal
-
--- It was drawn before, or is that of zeros.
-abbrev pub is_spent : List Entry → List ℕ → Bool
-is_spent es id = bytes_eq id zero_id || is_some (entry_of es id)
 
 -- a node starts
 abbrev pub StartCall : WorldState → List ℕ → Bool → ℕ → ℕ → WorldState → Result (Unit {0}) Refusal → Type 0
@@ -66,11 +62,7 @@ ClientCall w n v (Err refusal.Drawn) = ⊥
 ClientCall w n v (Err refusal.TooMuch) = ⊥
 ClientCall w n v (Err refusal.InputFull) = ⊥
 
--- The link is a client's, whose end is open.
-abbrev pub IsAsking : Link → Type 0
-IsAsking k = k.caller ≡ a_client true
-
--- .. and stands at this place
+-- The link is a client's, whose end is open, and stands at this place.
 pub record AsksAt (w : WorldState) (l : ℕ) (k : Link) : Type 0 where
   pub found : slice_get w.links l ≡ Some k
   pub asking : IsAsking k

@@ -6,23 +6,12 @@ use Rattle.mr_outs.specs.Outs.{OutsState}
 use Rattle.mr_rows.specs.State.{NodeState, stopped_as}
 use Rattle.mr_rows.specs.Sound.{IsSound}
 use Rattle.mr_rows.specs.LinkRows.{Opens, Dials}
-use Rattle.mr_node.specs.Calls.{OpensNoMore}
-use Rattle.mr_node.specs.declared.fault.NodeFault.{NodeFault}
-use Rattle.mr_node.specs.declared.fault.NodeFault.TheVariants as fault
 use Rattle.mr_seen.specs.State.{Slot, WorldState}
 use Rattle.mr_seen.specs.Events.{IsRunning}
 use Rattle.mr_seen.specs.Carrying.{connected, put_node}
 use Rattle.mr_world.specs.declared.refusal.Refusal.{Refusal}
 use Rattle.mr_world.specs.declared.refusal.Refusal.TheVariants as refusal
 use Rattle.mr_world.specs.Calls.{IsDown}
-
--- The row of a node that dials, where what it says first isn't looked at.
-abbrev pub DialsBy : NodeState → NodeState → Result LinkId NodeFault → Type 0
-DialsBy a b (Ok l) = (outs : OutsState) × (a.core.up ≡ true) × Dials a l b outs
-DialsBy a b (Err fault.Memory) = (a.core.up ≡ true) × (b ≡ a)
-DialsBy a b (Err fault.Stopped) = OpensNoMore a b
-DialsBy a b (Err fault.NoLink) = ⊥
-DialsBy a b (Err fault.InputFull) = ⊥
 
 -- The node n is a replica that follows nobody, stopped or not; and m is there.
 pub record CanDial (w : WorldState) (n m : ℕ) : Type 0 where

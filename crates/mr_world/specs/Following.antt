@@ -1,6 +1,6 @@
 -- What a step comes to of the node that follows by a link, at that link. As in `Stepping`; but where the node itself lacks memory it may have taken what is
 -- there of a snapshot, and keeps that.
-use Rattle.std.specs.Prelude.{◌≡◌, ◌≢◌, ℕ, List, Option, None, Some, true, false, Result, Ok, Err}
+use Rattle.std.specs.Prelude.{◌≡◌, ◌≢◌, ℕ, List, None, true, false, Result, Ok, Err}
 use Rattle.mr_links.specs.declared.link_id.LinkId.{LinkId}
 use Rattle.mr_follow.specs.State.{FollowState}
 use Rattle.mr_course.specs.declared.upstream.UpstreamStep.{UpstreamStep}
@@ -9,12 +9,11 @@ use Rattle.mr_outs.specs.Outs.{OutsState, no_outs}
 use Rattle.mr_rows.specs.Sound.{IsSound}
 use Rattle.mr_rows.specs.State.{NodeState, stopped_as}
 use Rattle.mr_rows.specs.UpstreamRows as master
-use Rattle.mr_seen.specs.Way.{left_on, sent_on}
 use Rattle.mr_seen.specs.State.{Link, Slot, WorldState}
 use Rattle.mr_seen.specs.Carrying.{followed, put_node}
+use Rattle.mr_carrying.specs.AtNode.{is_spent}
 use Rattle.mr_world.specs.declared.refusal.Refusal.{Refusal}
 use Rattle.mr_world.specs.declared.refusal.Refusal.TheVariants as refusal
-use Rattle.mr_world.specs.Calls.{is_spent}
 use Rattle.mr_world.specs.Linking.{FollowsBy, NoneFollows, FollowerRests}
 
 -- The node n runs, and follows by the link l, which has this name there.
@@ -23,11 +22,6 @@ pub record IsFollower (w : WorldState) (l n : ℕ) (name : LinkId) : Type 0 wher
   pub slot : Slot
   pub reader : FollowState
   pub by : FollowsBy w l n link slot name reader
-
--- what the caller sends, and so many bytes that it leaves unread; nothing where it is there no more
-abbrev pub heard_by : Option ℕ → List ℕ → Link → Link
-heard_by None reply k = k
-heard_by (Some left) reply k = record k { ask = sent_on reply k.ask; tell = left_on left k.tell }
 
 -- It finds something whole there, and this is what it does.
 pub record HasHeard (w : WorldState) (l : ℕ) : Type 0 where

@@ -1,16 +1,12 @@
-pub mod Codes
 pub mod Calls
 pub mod Linking
-pub mod Undoing
 pub mod Stepping
 pub mod Running
 pub mod Promises
 pub mod Hearing
 pub mod Serving
-pub mod Answering
 pub mod Restarting
 pub mod Following
 pub mod Happening
-pub mod Lending
 pub mod Connecting
 pub mod DialEvents

@@ -1,5 +1,5 @@
 -- What the events between links and nodes come to: bytes that come at a node, and ends that a node closes. As in `Calls`.
-use Rattle.std.specs.Prelude.{◌≡◌, ◌≢◌, ◌≤◌, ◌+◌, ℕ, Result, Ok, Err, length, take, drop, false, Some, None, slice_get}
+use Rattle.std.specs.Prelude.{◌≡◌, ◌≢◌, ◌≤◌, ◌+◌, ℕ, Result, Ok, Err, length, take, drop, false, Some, slice_get}
 use Rattle.mr_links.specs.declared.link_id.LinkId.{LinkId}
 use Rattle.mr_follow.specs.State.{FollowState}
 use Rattle.mr_rows.specs.State.{NodeState, IsTooMuch}
@@ -9,6 +9,7 @@ use Rattle.mr_node.specs.Calls.{FitsMore}
 use Rattle.mr_seen.specs.State.{a_node, Link, Slot, WorldState}
 use Rattle.mr_seen.specs.Events.{IsFollowed, IsServed}
 use Rattle.mr_seen.specs.Carrying.{fed_server, put_node}
+use Rattle.mr_carrying.specs.AtNode.{IsFollowing}
 use Rattle.mr_world.specs.Calls.{IsDown, NoneServes, ServesAt}
 use Rattle.mr_world.specs.declared.refusal.Refusal.{Refusal}
 use Rattle.mr_world.specs.declared.refusal.Refusal.TheVariants as refusal
@@ -70,11 +71,6 @@ DeliverCall w l count v (Err refusal.Memory) = NeedsRoom w l count × (v ≡ w)
 DeliverCall w l count v (Err refusal.Drawn) = ⊥
 
 -- ---- the end of the node that dialled
--- The node follows by the link that it dialled last, which is l. It may be stopped.
-pub record IsFollowing (s : Slot) (l : ℕ) : Type 0 where
-  pub dialled : s.dialled ≡ l
-  pub follows : s.node.follow ≢ None
-
 -- The node n dialled the link l, which has this name there; and its end is open: n follows by it. It may be stopped.
 pub record FollowsAt (w : WorldState) (l n : ℕ) (name : LinkId) (k : Link) (s : Slot) : Type 0 where
   pub found : slice_get w.links l ≡ Some k

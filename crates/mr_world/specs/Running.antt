@@ -1,14 +1,15 @@
 -- A World as events happen, one after another.
 use Rattle.std.specs.Prelude.{◌≡◌, ℕ, List, [], ◌∷◌, Bool, true, false, Option, None, Some, Result, Ok, Err, take, slice_get}
 use Rattle.mr_data.specs.declared.given.Given.{Given}
-use Rattle.mr_seen.specs.State.{Caller, a_client, a_node, Link, WorldState}
+use Rattle.mr_seen.specs.State.{Link, WorldState}
 use Rattle.mr_seen.specs.Worlds.{IsWorld}
 use Rattle.mr_headline.specs.Runs.{last_of}
+use Rattle.mr_carrying.specs.declared.side.Side.{Side}
+use Rattle.mr_carrying.specs.declared.side.Side.TheVariants as side
+use Rattle.mr_carrying.specs.AtLink.{by_node}
 use Rattle.mr_world.specs.declared.refusal.Refusal.{Refusal}
 use Rattle.mr_world.specs.declared.event.Event.{Event}
 use Rattle.mr_world.specs.declared.event.Event.TheVariants as event
-use Rattle.mr_world.specs.declared.event.Side.{Side}
-use Rattle.mr_world.specs.declared.event.Side.TheVariants as side
 use Rattle.mr_world.specs.Calls.{BreakCall, ClientCall, CommandCall, LeaveCall, StartCall, TakeCall}
 use Rattle.mr_world.specs.Linking.{DeliverCall, DropCall}
 use Rattle.mr_world.specs.Hearing.{ListenCall}
@@ -20,11 +21,6 @@ use Rattle.mr_world.specs.Restarting.{RestartCall}
 
 abbrev pub Outcome : Type 0
 Outcome = Result (Unit {0}) Refusal
-
--- whether a node asked for the link
-abbrev pub by_node : Caller → Bool
-by_node (a_client b) = false
-by_node (a_node n name) = true
 
 abbrev pub is_between_nodes : Option Link → Bool
 is_between_nodes None = false

@@ -13,9 +13,10 @@ use Rattle.mr_seen.specs.Way.{unread}
 use Rattle.mr_seen.specs.State.{Link, Slot, WorldState}
 use Rattle.mr_seen.specs.Carrying.{put_node, stepped}
 use Rattle.mr_seen.specs.Events.{IsServed}
+use Rattle.mr_carrying.specs.AtNode.{is_spent}
 use Rattle.mr_world.specs.declared.refusal.Refusal.{Refusal}
 use Rattle.mr_world.specs.declared.refusal.Refusal.TheVariants as refusal
-use Rattle.mr_world.specs.Calls.{IsDown, NoneServes, ServesAt, is_spent}
+use Rattle.mr_world.specs.Calls.{IsDown, NoneServes, ServesAt}
 
 -- The step used something of the link's unread bytes, or closed the link: it is a row of a client's end, or of a replica's.
 pub data ServedRow (k : Link) (a : NodeState) (given : Given) (fresh : List ℕ) (b : NodeState) (outs : OutsState) : Type 0 where

@@ -1,16 +1,8 @@
 // What happens to a World.
+use mr_carrying::Side;
 use mr_data::Given;
 use mr_node::Config;
 use mr_repl::ReplId;
-
-/// An end of a link.
-#[derive(Clone, Copy, Debug, PartialEq, Eq)]
-pub enum Side {
-    /// That of the client, or of the node, which asked for the link.
-    Opener,
-    /// That of the node which serves it.
-    Server,
-}
 
 /// What happens to a World. Nodes and links are numbered from 0, in the order in which they came.
 #[derive(Drop)]

@@ -1,10 +1,10 @@
 // What a World shows.
 ghost use Rattle.std.specs.Prelude.{◌≡◌, length, slice_get};
 ghost use Rattle.std.specs.Option.{option_copied, option_map};
-ghost use Rattle.mr_world.specs.Lending.{file_in, node_in, took_at};
+ghost use Rattle.mr_carrying.specs.Lending.{file_in, node_in, took_at};
 
-use crate::event::Side;
 use crate::world::World;
+use mr_carrying::Side;
 use mr_node::Node;
 
 impl World {

@@ -11,10 +11,8 @@ mod linking;
 mod restarting;
 mod serving;
 
-use crate::entry::{Entry, is_spent};
-use crate::link::Link;
 use crate::refusal::Refusal;
-use crate::slot::Slot;
+use mr_carrying::{Entry, Link, Slot, is_spent};
 use mr_node::{Config, NodeFault};
 use mr_repl::ReplId;
 use std::alloc::Global;
@@ -31,7 +29,7 @@ pub(crate) struct Parts {
 
 impl Model for Parts {
     ghost use Rattle.mr_seen.specs.State.{WorldState};
-    ghost use Rattle.mr_world.specs.Codes.{world_code};
+    ghost use Rattle.mr_carrying.specs.Codes.{world_code};
 
     ghost Value = { WorldState };
 

@@ -2,9 +2,10 @@
 ghost use Rattle.mr_seen.specs.Worlds.{IsWorld};
 ghost use Rattle.mr_world.specs.Running.{BreakAt, DeliverAt, EventCall, RunCall, StepAt};
 
-use crate::event::{Event, Side};
+use crate::event::Event;
 use crate::refusal::Refusal;
 use crate::world::World;
+use mr_carrying::Side;
 use mr_data::Given;
 use mr_repl::ReplId;
 

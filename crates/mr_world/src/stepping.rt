@@ -2,9 +2,9 @@
 ghost use Rattle.std.specs.Prelude.{◌≡◌};
 ghost use Rattle.mr_world.specs.Stepping.{TickCall};
 
-use crate::carry::give_tick;
 use crate::parts::Parts;
 use crate::refusal::Refusal;
+use mr_carrying::give_tick;
 use mr_data::Given;
 use mr_node::NodeFault;
 use std::alloc::Global;

@@ -31,7 +31,7 @@ pub struct World {
 impl Model for World {
     ghost use Rattle.mr_seen.specs.State.{WorldState};
     ghost use Rattle.mr_seen.specs.Worlds.{IsWorld};
-    ghost use Rattle.mr_world.specs.Codes.{world_code};
+    ghost use Rattle.mr_carrying.specs.Codes.{world_code};
 
     ghost Value = { WorldState };
 

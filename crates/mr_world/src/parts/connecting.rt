@@ -2,10 +2,9 @@
 ghost use Rattle.mr_seen.specs.Worlds.{IsWorld};
 ghost use Rattle.mr_world.specs.Connecting.{BothRun, DialCall};
 
-use crate::link::Link;
 use crate::parts::Parts;
 use crate::refusal::Refusal;
-use crate::way::Way;
+use mr_carrying::{Link, Way};
 use mr_follow::Follower;
 use mr_node::NodeFault;
 use std::alloc::Global;

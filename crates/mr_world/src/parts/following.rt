@@ -1,20 +1,14 @@
 // A step of the node that follows by a link, at that link.
-ghost use Rattle.std.specs.Prelude.{◌≡◌, OnOk, OnErr};
-ghost use Rattle.mr_seen.specs.Carrying.{filed};
 ghost use Rattle.mr_seen.specs.Worlds.{IsWorld};
-ghost use Rattle.mr_world.specs.Following.{FollowCall, heard_by};
+ghost use Rattle.mr_world.specs.Following.{FollowCall};
 
-use crate::carry::copied;
-use crate::entry::is_spent;
-use crate::link::Link;
 use crate::parts::Parts;
 use crate::refusal::Refusal;
-use crate::slot::Slot;
+use mr_carrying::{give_heard, is_spent};
 use mr_data::Given;
 use mr_node::{NodeFault, Step};
-use mr_outs::Outs;
 use mr_repl::ReplId;
-use std::alloc::{AllocError, Global};
+use std::alloc::Global;
 
 impl Parts {
     /// The node that follows by a link makes a step there. What it gives out is carried; where memory runs out for that the node stops. At a
@@ -56,32 +50,4 @@ impl Parts {
             Err(NodeFault::InputFull) => unreachable!(),
         }
     }
-}
-
-/// What a step at the link to its master gave out goes to the node's file and to that link: all of it, or nothing. So many bytes are left
-/// unread there.
-fn give_heard(
-    alloc: Global,
-    slot: &mut Slot,
-    link: &mut Link,
-    left: Option<usize>,
-    outs: &Outs,
-) -> Result<(), AllocError>
-    ensures file { OnOk result (slot.new ≡ record slot.old { file = filed outs.now slot.old.file }) }
-    ensures link { OnOk result (link.new ≡ heard_by left outs.now.reply link.old) }
-    ensures no_file { OnErr result (slot.new ≡ slot.old) }
-    ensures no_link { OnErr result (link.new ≡ link.old) }
-{
-    let Ok(replaced) = copied(alloc, outs) else {
-        return Err(AllocError);
-    };
-    if slot.append(outs.appended()).is_err() {
-        return Err(AllocError);
-    }
-    if link.hear(outs.reply(), left).is_err() {
-        slot.shorten(outs.appended().len());
-        return Err(AllocError);
-    }
-    slot.replace(replaced);
-    Ok(())
 }

@@ -1,12 +1,11 @@
 // A node that begins anew with what a file holds.
 ghost use Rattle.std.specs.Prelude.{◌≡◌, map};
-ghost use Rattle.mr_world.specs.Restarting.{RestartCall, shut_at};
+ghost use Rattle.mr_carrying.specs.AtLink.{shut_at};
+ghost use Rattle.mr_world.specs.Restarting.{RestartCall};
 
-use crate::entry::{Entry, is_spent};
-use crate::link::Link;
 use crate::parts::Parts;
 use crate::refusal::Refusal;
-use crate::slot::Slot;
+use mr_carrying::{Entry, Link, Slot, is_spent};
 use mr_node::Config;
 use mr_repl::ReplId;
 use std::alloc::Global;

@@ -2,14 +2,13 @@
 ghost use Rattle.std.specs.Prelude.{◌≡◌, ◌<◌, Some, false, length, slice_get};
 ghost use Rattle.mr_seen.specs.State.{Link as LinkState, Slot as SlotState};
 ghost use Rattle.mr_seen.specs.Worlds.{IsWorld};
-ghost use Rattle.mr_world.specs.Calls.{is_spent};
+ghost use Rattle.mr_carrying.specs.AtNode.{is_spent};
+ghost use Rattle.mr_carrying.specs.Answering.{Carries, IsBehind, IsServing};
 ghost use Rattle.mr_world.specs.Serving.{StepCall};
-ghost use Rattle.mr_world.specs.Answering.{Carries, IsBehind, IsServing};
 
-use crate::carry::give_step;
-use crate::entry::is_spent;
 use crate::parts::Parts;
 use crate::refusal::Refusal;
+use mr_carrying::{give_step, is_spent};
 use mr_data::Given;
 use mr_links::LinkId;
 use mr_node::{NodeFault, Step};

@@ -2,8 +2,8 @@ use Rattle.std.proofs.Common.{rules, ◌≡◌, ◌<◌, inl, inr, ◌∙◌, So
 use Rattle.std.specs.Prelude.{slice_get, slice_set}
 use Rattle.mr_seen.specs.State.{Link, WorldState}
 use Rattle.mr_seen.specs.Carrying.{booked_as, filed}
-use Rattle.mr_world.specs.Answering.{Carries, answered_links}
-use Rattle.mr_world.proofs.Joins.{stands}
+use Rattle.mr_carrying.specs.Answering.{Carries, answered_links}
+use Rattle.mr_carrying.proofs.Places.{stands}
 use Rattle.mr_world.proofs.Servings.{carries_here, stops_here}
 use Rattle.mr_world.proofs.parts.Parts.carry_step.Goals as goal
 

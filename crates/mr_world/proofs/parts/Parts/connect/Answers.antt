@@ -6,7 +6,8 @@ use Rattle.mr_seen.specs.Way.{no_way, sent_on}
 use Rattle.mr_seen.specs.State.{Link, Slot, WorldState}
 use Rattle.mr_seen.specs.Worlds.{IsWorld}
 use Rattle.mr_seen.proofs.Places.{is_within}
-use Rattle.mr_world.specs.Connecting.{BothRun, Dialled, DialsBy, Lacks}
+use Rattle.mr_carrying.specs.AtNode.{DialsBy}
+use Rattle.mr_world.specs.Connecting.{BothRun, Dialled, Lacks}
 use Rattle.mr_world.proofs.Meeting.{connects_here, lacks_again, lacks_none, read_of, server_stops_here, set_within, stood, stops_again, waits_alone, waits_replica}
 use Rattle.mr_world.proofs.parts.Parts.connect.Goals as goal
 

@@ -4,8 +4,9 @@ use Rattle.mr_node.specs.Steps.{MasterStep}
 use Rattle.mr_seen.specs.State.{WorldState}
 use Rattle.mr_seen.specs.Worlds.{IsWorld}
 use Rattle.mr_seen.specs.Carrying.{filed}
-use Rattle.mr_world.specs.Calls.{is_spent}
-use Rattle.mr_world.specs.Following.{Follows, HasLacked, IsFollower, heard_by}
+use Rattle.mr_carrying.specs.AtNode.{is_spent}
+use Rattle.mr_carrying.specs.AtLink.{heard_by}
+use Rattle.mr_world.specs.Following.{Follows, HasLacked, IsFollower}
 use Rattle.mr_world.specs.Linking.{IsDialler}
 use Rattle.mr_world.proofs.Dialling.{rests_here, slot_within}
 use Rattle.mr_world.proofs.Heard.{carried, comes_to, failed, follower_here, lacks_here, spends_here, waits_here}

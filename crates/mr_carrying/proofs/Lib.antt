@@ -1,0 +1,6 @@
+pub mod Places
+mod Undone
+mod Behind
+mod Answered
+pub mod Room
+mod Loading

@@ -1,0 +1,14 @@
+use Rattle.std.proofs.Common.{rules, ◌≡◌, ◌∙◌, ap, map}
+use Rattle.mr_carrying.specs.Undoing.{fed_by, unfed_by, shut_by}
+use Rattle.mr_carrying.proofs.Undone.{reach_all, undone_all, unfed_fed}
+use Rattle.mr_carrying.proofs.carry.give.Goals as goal
+
+pub returns-then-is_err-3-clause-no_links : goal.returns-then-is_err-3-clause-no_links
+returns-then-is_err-3-clause-no_links c =
+    let fed : c.feed_in.new.links.items ≡ map (fed_by c.args.n c.args.outs.now) c.args.links.now.items = search rules in
+    c.unfeed_in.ensures ∙ (ap (map (unfed_by c.args.n c.args.outs.now)) fed ∙ undone_all (fed_by c.args.n c.args.outs.now) (unfed_by c.args.n c.args.outs.now) (unfed_fed c.args.n c.args.outs.now) c.args.links.now.items)
+
+pub returns-clause-links : goal.returns-clause-links
+returns-clause-links c =
+    let fed : c.feed_in.new.links.items ≡ map (fed_by c.args.n c.args.outs.now) c.args.links.now.items = search rules in
+    c.shut_in.ensures ∙ (ap (map (shut_by c.args.n c.args.outs.now)) fed ∙ reach_all c.args.n c.args.outs.now c.args.links.now.items)

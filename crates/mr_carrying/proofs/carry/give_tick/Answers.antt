@@ -1,0 +1,18 @@
+use Rattle.std.proofs.Common.{rules, ◌≡◌, ◌∙◌, ap, map, length}
+use Rattle.mr_seen.specs.Carrying.{reached, said_on}
+use Rattle.mr_carrying.specs.Undoing.{unsaid_on}
+use Rattle.mr_carrying.proofs.Undone.{reach_said, unsaid_said}
+use Rattle.mr_carrying.proofs.carry.give_tick.Goals as goal
+
+pub returns-then-is_err-2-clause-no_links : goal.returns-then-is_err-2-clause-no_links
+returns-then-is_err-2-clause-no_links c =
+    let said : c.say_in.new.links.items ≡ said_on c.args.outs.now.link c.dialled-l.result c.args.outs.now.reply c.args.links.now.items = search rules in
+    let same : c.give.new.links.items ≡ c.say_in.new.links.items = search rules in
+    c.unsay_in.ensures ∙ (ap (unsaid_on c.args.outs.now.link c.dialled-l.result (length c.args.outs.now.reply)) (same ∙ said) ∙ unsaid_said c.args.outs.now.link c.dialled-l.result c.args.outs.now.reply c.args.links.now.items)
+
+pub returns-clause-links : goal.returns-clause-links
+returns-clause-links c =
+    let said : c.say_in.new.links.items ≡ said_on c.args.outs.now.link c.dialled-l.result c.args.outs.now.reply c.args.links.now.items = search rules in
+    let given : c.give.new.links.items ≡ map (reached c.args.n c.args.outs.now) c.say_in.new.links.items = search rules in
+    given ∙ (ap (map (reached c.args.n c.args.outs.now)) said ∙ (reach_said c.args.n c.args.outs.now c.args.outs.now.link c.dialled-l.result c.args.outs.now.reply c.args.links.now.items
+    ∙ ap (λ l. said_on c.args.outs.now.link l c.args.outs.now.reply (map (reached c.args.n c.args.outs.now) c.args.links.now.items)) c.dialled-l.ensures))

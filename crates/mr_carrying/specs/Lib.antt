@@ -1,0 +1,6 @@
+pub mod Codes
+pub mod AtLink
+pub mod AtNode
+pub mod Lending
+pub mod Undoing
+pub mod Answering

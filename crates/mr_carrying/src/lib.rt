@@ -1,0 +1,18 @@
+//! What a World is made of, and what a node gives out, carried to it.
+#![tactic(auto)]
+
+mod carry;
+mod entry;
+mod heard;
+mod link;
+mod side;
+mod slot;
+mod way;
+
+pub use carry::{give_step, give_tick};
+pub use entry::{Entry, is_spent};
+pub use heard::give_heard;
+pub use link::Link;
+pub use side::Side;
+pub use slot::Slot;
+pub use way::Way;
