@@ -1,4 +1,4 @@
-.PHONY: build test test-all test-batched test-by-turns bench bench-serve bench-large instructions
+.PHONY: build test test-all test-batched test-by-turns bench bench-serve bench-replicas bench-large instructions instructions-replicas
 
 # The gate that `make test` runs: test-all, test-batched, or test-by-turns.
 GATE = test-by-turns
@@ -30,6 +30,10 @@ bench:
 bench-serve:
 	python3 bench/serving.py --plot docs/serving.svg $(RUNS)
 
+# What replicas cost, beside redis-server with as many: SETs, a copy of a million keys, a part, a promotion.
+bench-replicas:
+	python3 bench/replicating.py $(RUNS)
+
 # What single requests on large collections cost `serve`, beside redis-server.
 bench-large:
 	python3 bench/large.py
@@ -37,3 +41,7 @@ bench-large:
 # The runs of `make bench` by the instructions that they take, under callgrind, which must be installed.
 instructions:
 	python3 bench/instructions.py $(RUNS)
+
+# What a master takes for requests with no replica and with three, and for PSYNC, by instructions.
+instructions-replicas:
+	python3 bench/fanout.py $(RUNS)

@@ -12,7 +12,7 @@ import sys
 import tempfile
 import time
 
-from servers import KEYS, MIB, ROUNDS, VALUE, Minired, Redis, has_redis, is_chosen, medians, request, scrambled
+from servers import KEYS, MIB, ROUNDS, VALUE, Minired, Redis, has_redis, is_chosen, medians, request, scrambled, used_by_children
 
 OK = b"+OK\r\n"
 REWRITE = request(b"BGREWRITEAOF")
@@ -20,9 +20,6 @@ STARTED = b"+Background append only file rewriting started\r\n"
 ONE_BY_ONE, TOGETHER = 5_000, 20_000
 # never by itself, and as commands alone
 ALWAYS = ["--appendonly", "yes", "--appendfsync", "always", "--auto-aof-rewrite-percentage", "0", "--aof-use-rdb-preamble", "no"]
-TICKS_A_SECOND = os.sysconf("SC_CLK_TCK")
-# the fields of a process' statistics that tell the processor time of its children that ended, counted behind its name
-CHILDREN = slice(13, 15)
 
 
 def texts(count):
@@ -72,16 +69,11 @@ class OfRedis(Redis):
         return reply
 
     def rewrites(self):
-        before = self.used() + self.used_by_children()
+        before = self.used() + used_by_children(self.process.pid)
         self.asked("BGREWRITEAOF")
         while "aof_rewrite_in_progress:0" not in self.asked("INFO", "persistence"):
             time.sleep(0.01)
-        return self.used() + self.used_by_children() - before
-
-    def used_by_children(self):
-        with open(f"/proc/{self.process.pid}/stat") as it:
-            fields = it.read().rpartition(")")[2].split()
-        return sum(map(int, fields[CHILDREN])) * 1e9 / TICKS_A_SECOND
+        return self.used() + used_by_children(self.process.pid) - before
 
     def stop(self):
         self.client.close()

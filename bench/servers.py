@@ -22,6 +22,9 @@ LATE = 600
 # as large as the system lets a pipe be
 PIPE_SIZE = 1 << 20
 F_SETPIPE_SZ = 1031
+TICKS_A_SECOND = os.sysconf("SC_CLK_TCK")
+# the fields of a process' statistics that tell the processor time of its children that ended, counted behind its name
+CHILDREN = slice(13, 15)
 
 
 def has_redis():
@@ -67,6 +70,13 @@ def used_by(process):
         with open(f"{folder}/{thread}/schedstat") as it:
             total += int(it.read().split()[0])
     return total
+
+
+def used_by_children(process):
+    """Nanoseconds of processor time that the children of a process took that it has waited for."""
+    with open(f"/proc/{process}/stat") as it:
+        fields = it.read().rpartition(")")[2].split()
+    return sum(map(int, fields[CHILDREN])) * 1e9 / TICKS_A_SECOND
 
 
 def peak_of(process):
