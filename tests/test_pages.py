@@ -1,4 +1,4 @@
-"""The pages: each file that one of them links to or names is there, and so is each edit that docs/PROMISES.md names; lines of prose are short."""
+"""The pages: each file that one of them links to or names is there; each edit stands in its crate's table, and each named edit is one; lines of prose are short."""
 
 import glob
 import os
@@ -9,14 +9,16 @@ from program import ROOT
 
 # how many columns a line of prose has at most
 COLUMNS = 120
-# how many rows the page of a crate has at most, and what each says; rooms say some of it once
+# how many rows the page of a crate has at most before its table of promises, and what each says; rooms say some of it once
 ROWS = 60
+PROMISES = "\n## Promises\n"
 SAID = ("**A contract sees**", "**Claims**")
 LEFT_OPEN = ("ot claimed", "#what-all-rooms-share")
 LINK = re.compile(r"\]\(([^)#\s]+)?(#[^)\s]+)?\)")
 # a path of the repository, as it is named in a page
 NAMED = re.compile(r"`((?:crates/)?(?:mr_\w+|minired|rehearse\w*)/(?:src|specs|proofs|must-fail)/[\w/.-]+|(?:docs|tests|tools|bench)/[\w/.-]+\.\w+)`")
-EDIT = re.compile(r"(?<![\w`./:])([a-z][a-z0-9]*(?:_[a-z0-9]+)+)(?![\w*`])")
+# a crate whose edits are named behind it, or an edit; a star stands for all that begin so
+EDIT = re.compile(r"`(mr_\w+|minired)`|(?<![\w`./:])([a-z][a-z0-9]*(?:_[a-z0-9]+)*_\*|[a-z][a-z0-9]*(?:_[a-z0-9]+)+)(?![\w*`])")
 
 
 def found(pattern):
@@ -92,7 +94,8 @@ class Crates(unittest.TestCase):
         bad = []
         for root in found("crates/*/src/lib.rt"):
             page = os.path.join(os.path.dirname(os.path.dirname(root)), "README.md")
-            rows, text = texts.get(page, "").count("\n"), " ".join(texts.get(page, "").split())
+            said = texts.get(page, "").split(PROMISES)[0]
+            rows, text = said.count("\n"), " ".join(said.split())
             if not 0 < rows <= ROWS or any(it not in text for it in SAID) or not any(it in text for it in LEFT_OPEN):
                 bad.append(page)
         self.assertEqual(bad, [])
@@ -131,19 +134,68 @@ class Walk(unittest.TestCase):
         self.assertEqual([it for it in crates if not re.search(rf"{it}\b", drawing)], [])
 
 
+def tables_of_crates():
+    """The table of promises of each crate, as its rows."""
+    texts = {os.path.basename(os.path.dirname(page)): read(page) for page in found("crates/*/README.md")}
+    return {crate: [it for it in text.split(PROMISES)[1].split("\n") if it.startswith("|")] for crate, text in texts.items() if PROMISES in text}
+
+
+def named(crate, cell):
+    """The edits that a cell names, each with its crate: this one, or the one that is named before it. What tests show is none."""
+    edits = []
+    for other, edit in EDIT.findall(re.split(r"tests?:", cell)[0]):
+        crate = other or crate
+        if edit:
+            edits.append((crate, edit))
+    return edits
+
+
+class Promises(unittest.TestCase):
+    def test_each_library_has_a_table_of_promises(self):
+        crates = [it.split("/")[1] for it in found("crates/*/src/lib.rt")]
+        tables = tables_of_crates()
+        self.assertEqual([it for it in crates if len(tables.get(it, [])) < 3], [])
+
+    def test_each_row_has_a_promise_its_contract_and_wrong_bodies(self):
+        bad = [(crate, row) for crate, rows in tables_of_crates().items() for row in rows if len(re.findall(r"(?<!\\)\|", re.sub(r"`[^`]*`", "", row))) != 4]
+        self.assertEqual(bad, [])
+
+    def test_the_index_has_a_line_on_each_table(self):
+        lines = re.findall(r"^\| \[`(\w+)`\]\(\.\./crates/(\w+)/README\.md#promises\) \| .*[.] \|$", read("docs/PROMISES.md"), re.M)
+        self.assertEqual(sorted(lines), sorted((it, it) for it in tables_of_crates()))
+
+
 class Edits(unittest.TestCase):
     """The gate plays the tables in a copy without the edits: there nothing is looked up."""
 
-    def test_each_wrong_body_of_the_promises_is_an_edit(self):
-        edits = {os.path.basename(path)[:-5] for path in found("crates/*/must-fail/*.edit")}
-        lost = []
-        for line in pages()["docs/PROMISES.md"].split("\n"):
-            cells = re.split(r" \| ", line.strip().strip("|")) if line.startswith("|") else []
-            refused = cells[2] if len(cells) == 3 else ""
-            for name in EDIT.findall(refused.split("tests:")[0].split("test:")[0]):
-                if edits and name not in edits:
-                    lost.append(name)
+    def setUp(self):
+        self.edits = {(path.split("/")[1], os.path.basename(path)[:-5]) for path in found("crates/*/must-fail/*.edit")}
+
+    def is_there(self, crate, edit):
+        return not self.edits or any(it == crate and (name == edit or (edit.endswith("*") and name.startswith(edit[:-1]))) for it, name in self.edits)
+
+    def test_each_named_wrong_body_is_an_edit(self):
+        cells = [(crate, row.strip("| ").split(" | ")[-1]) for crate, rows in tables_of_crates().items() for row in rows if not row.endswith("| |")]
+        # what the specification names stands in the index, each edit behind its crate
+        specified = read("docs/PROMISES.md").split("\n## The wrong bodies that the specification names\n")[1].split("\n## ")[0]
+        cells += [("", row.split(" | ")[-1]) for row in re.findall(r"^\| .*$", specified, re.M)]
+        lost = [it for crate, cell in cells for it in named(crate, cell) if not self.is_there(*it)]
         self.assertEqual(lost, [])
+
+    def test_each_edit_stands_in_the_table_of_its_crate(self):
+        said = {(crate, edit) for crate, rows in tables_of_crates().items() for row in rows for it, edit in named(crate, row.split(" | ")[-1]) if it == crate}
+        begun = [(crate, edit[:-1]) for crate, edit in said if edit.endswith("*")]
+        unsaid = [it for it in sorted(self.edits) if it not in said and not any(crate == it[0] and it[1].startswith(edit) for crate, edit in begun)]
+        self.assertEqual(unsaid, [])
+
+    def test_what_a_cell_names(self):
+        for cell, edits in [
+            ("one_edit, another_one", [("a", "one_edit"), ("a", "another_one")]),
+            ("one_edit; `mr_b` its_edit, its_other", [("a", "one_edit"), ("mr_b", "its_edit"), ("mr_b", "its_other")]),
+            ("list_*, one_edit; tests: `test_x` a_test_of_it", [("a", "list_*"), ("a", "one_edit")]),
+            ("(law)", []),
+        ]:
+            self.assertEqual(named("a", cell), edits)
 
 
 if __name__ == "__main__":
