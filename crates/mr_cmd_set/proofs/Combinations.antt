@@ -35,7 +35,7 @@ module _ (p : Bytes → Bool) where
     | false ↦ kept es
   ]
 
-  alike : (q x : Bytes) → bytes_cmp q x ≡ Equal → p x ≡ p q
+  pub alike : (q x : Bytes) → bytes_cmp q x ≡ Equal → p x ≡ p q
   alike q x t = ap p (sym (exact_bytes q x t))
 
   pub keys_retain : (s : Members) → keys (retain_keys s p) ≡ filter p (keys s)

@@ -4,6 +4,7 @@ pub mod Pushing
 pub mod Single
 pub mod Draws
 pub mod Combinations
+pub mod Smallest
 pub mod Tells
 pub mod Groups
 pub mod Faithful

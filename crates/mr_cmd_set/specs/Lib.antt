@@ -4,6 +4,7 @@ pub mod Called
 pub mod Spelled
 pub mod Askable
 pub mod Members
+pub mod Smallest
 pub mod Sets
 pub mod Grouping
 pub mod Moving

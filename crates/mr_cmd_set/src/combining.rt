@@ -1,5 +1,5 @@
 // SINTER, SUNION, SDIFF: the members that several sets give.
-ghost use Rattle.std.specs.Prelude.{◌≡◌, ◌++◌, filter, IfOk, OnOk};
+ghost use Rattle.std.specs.Prelude.{◌≡◌, [], ◌∷◌, ◌++◌, filter, IfOk, OnOk};
 ghost use Rattle.std.specs.Option.{option_map};
 ghost use Rattle.std.specs.FinMap as map;
 ghost use Rattle.mr_resp.specs.ReplyView.{view};
@@ -9,6 +9,7 @@ ghost use Rattle.mr_planning.specs.Keys.{dels, expired};
 ghost use Rattle.mr_cmd_set.specs.Combining.{sets_at, combined, of_all};
 ghost use Rattle.mr_cmd_set.specs.Finding.{HasFound};
 ghost use Rattle.mr_cmd_set.specs.Members.{joined};
+ghost use Rattle.mr_cmd_set.specs.Smallest.{IsSmallest};
 ghost use Rattle.mr_cmd_set.specs.Grouping.{members_of, agrees, is_wanted};
 ghost use Rattle.mr_cmd_set.specs.Sets.{bulks};
 
@@ -94,27 +95,45 @@ pub fn combined(
 ) -> Result<Reply, AllocError>
     ensures { IfOk result (λ r. view r ≡ bulks (map.keys (combined operation (members_of sets.now.items.items)))) }
 {
-    let Some((first, others)) = sets.items.as_slice().split_first() else {
+    let all = sets.items.as_slice();
+    let Some((first, others)) = all.split_first() else {
         return Ok(Reply::Array(Vec::new(alloc)));
     };
     match operation {
-        SetOperation::Intersection => members_where(alloc, first, others, true),
+        SetOperation::Intersection => members_where(alloc, smallest(first, others), all, true),
         SetOperation::Union => union(alloc, first, others),
         SetOperation::Difference => members_where(alloc, first, others, false),
     }
 }
 
-// The members of the first set that each of the others has, or lacks.
+// The set with the fewest members: what is in all is in it, and it is the shortest to go over.
+fn smallest<'s>(first: &'s SetValue, others: &[&'s SetValue]) -> &'s SetValue
+    ensures { IsSmallest (first.now ∷ members_of others.now) result.now }
+{
+    let mut smallest = first;
+    for set in others {
+        smallest = smaller(smallest, set);
+    }
+    smallest
+}
+
+fn smaller<'s>(a: &'s SetValue, b: &'s SetValue) -> &'s SetValue
+    ensures { IsSmallest (a.now ∷ b.now ∷ []) result.now }
+{
+    if a.len() <= b.len() { a } else { b }
+}
+
+// The members of a set that each of some others has, or lacks.
 fn members_where(
     alloc: Global,
-    first: &SetValue,
+    set: &SetValue,
     others: &[&SetValue],
     wanted: bool,
 ) -> Result<Reply, AllocError>
-    ensures { IfOk result (λ r. view r ≡ bulks (filter (is_wanted wanted others.now) (map.keys first.now))) }
+    ensures { IfOk result (λ r. view r ≡ bulks (filter (is_wanted wanted others.now) (map.keys set.now))) }
 {
     let mut replies = Vec::new(alloc);
-    for member in first.members() {
+    for member in set.members() {
         if is_wanted(member, others, wanted) {
             replies.push(bulk(alloc, member)?)?;
         }

@@ -7,4 +7,4 @@ use Rattle.mr_cmd_set.specs.Grouping.{is_wanted}
 use Rattle.mr_cmd_set.proofs.combining.members_where.Given as goal
 
 abbrev pub invariant-loop-member : goal.invariant-loop-member
-invariant-loop-member l = map view l.replies.items ++ map reply.bytes (filter (is_wanted l.wanted l.others) l.member-iterator) ≡ map reply.bytes (filter (is_wanted l.wanted l.others) (keys l.first))
+invariant-loop-member l = map view l.replies.items ++ map reply.bytes (filter (is_wanted l.wanted l.others) l.member-iterator) ≡ map reply.bytes (filter (is_wanted l.wanted l.others) (keys l.set))
