@@ -21,12 +21,6 @@ test-batched:
 test-by-turns:
 	python3 -m tools.gate.run --by-turns
 
-# One file of tests, a class of it or a test, by the name that its failure has: T=tests.commands.test_strings.Strings. What is tested in
-# tools/gate/ isn't the program, and nothing is built for it.
-.PHONY: check-one
-check-one: $(if $(filter tests.%,$(T)),build)
-	python3 -m unittest --verbose $(or $(T),$(error say which: make check-one T=tests.commands.test_strings))
-
 # Processor time a request and peak memory, beside redis-server where it is installed. RUNS="SETEX tick" chooses runs by words of their
 # names; with ROUNDS=5 each is made five times, and the least told.
 bench:
