@@ -10,9 +10,11 @@ import subprocess
 import sys
 import tempfile
 
-from bench.bench import RUNS
-from bench.servers import LAUNCHER, Minired, Redis, has_redis, is_chosen
-from tests.support.program import PROGRAM
+from bench import RUNS
+from servers import LAUNCHER, ROOT, Minired, Redis, has_redis, is_chosen
+
+sys.path.insert(0, os.path.join(ROOT, "tests"))
+from program import PROGRAM  # noqa: E402
 
 COUNT = re.compile(r"^totals: (\d+)$", re.MULTILINE)
 

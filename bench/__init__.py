@@ -1,1 +1,0 @@
-"""What requests cost, beside redis-server."""

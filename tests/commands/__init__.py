@@ -1,1 +1,0 @@
-"""What each command is answered, and the effects that it has."""

@@ -1,1 +1,0 @@
-"""Plain models that the proved program is compared with."""

@@ -1,1 +1,0 @@
-"""Nodes that follow one another."""

@@ -1,1 +1,0 @@
-"""The program and the server: how they start, serve, keep their file, and end."""

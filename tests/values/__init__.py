@@ -1,1 +1,0 @@
-"""Values and datasets by themselves."""
