@@ -1,6 +1,8 @@
 pub mod SetLemmas
 pub mod Numbers
 pub mod Removals
+pub mod Passing
+pub mod Backwards
 pub mod Windows
 pub mod Uniform
 pub mod Places

@@ -12,6 +12,7 @@ mod list_value;
 mod matching;
 mod members;
 mod number;
+mod removing;
 mod set_value;
 mod word;
 

@@ -4,7 +4,7 @@ ghost use Rattle.mr_value.specs.Lists.{are_equal, first_place, count_of, with_be
 
 use crate::bytes::Bytes;
 use crate::items::Items;
-use crate::matching;
+use crate::{matching, removing};
 use std::alloc::{AllocError, Global};
 use std::collections::VecDeque;
 use std::marker::Model;
@@ -106,11 +106,14 @@ impl ListValue {
     pub fn count_removed(&self, count: i64, item: &[u8]) -> usize
         ensures { result ≡ removed_count count (count_of item.now self.now) }
     {
-        if count == 0 {
-            self.count(item)
-        } else {
-            matching::count_up_to(&self.items, count.unsigned_abs() as usize, item)
+        let most = count.unsigned_abs() as usize;
+        if count < 0 {
+            return matching::count_last(&self.items, most, item);
         }
+        if count == 0 {
+            return self.count(item);
+        }
+        matching::count_first(&self.items, most, item)
     }
 
     /// Puts an item in front.
@@ -249,13 +252,13 @@ impl ListValue {
     {
         let most = count.unsigned_abs() as usize;
         if count < 0 {
-            return matching::remove_last(&mut self.items, most, item);
+            return removing::remove_last(&mut self.items, most, item);
         }
         if count == 0 {
             let all = self.len();
-            return matching::remove_first(&mut self.items, all, item);
+            return removing::remove_first(&mut self.items, all, item);
         }
-        matching::remove_first(&mut self.items, most, item)
+        removing::remove_first(&mut self.items, most, item)
     }
 }
 

@@ -1,8 +1,8 @@
 // The items of a queue that equal one.
-ghost use Rattle.std.specs.Prelude.{◌≡◌, ◌<◌, min, IfSome};
+ghost use Rattle.std.specs.Prelude.{◌≡◌, ◌<◌, ◌≤◌, [], get_or, min, reverse, take, IfSome};
 ghost use Rattle.std.specs.Str.{bytes_eq};
 ghost use Rattle.std.specs.VecDeque.{deque_len};
-ghost use Rattle.mr_value.specs.Lists.{are_equal, first_place, count_of, without_first, without_last};
+ghost use Rattle.mr_value.specs.Lists.{are_equal, first_place, count_of};
 
 use crate::bytes::Bytes;
 use std::collections::VecDeque;
@@ -23,6 +23,38 @@ pub(crate) fn first_place(items: &VecDeque<Bytes>, item: &[u8]) -> Option<usize>
     items.iter().position(|other| matches(other, item))
 }
 
+/// The place of the first item that equals one, among so many in front.
+#[tactic(auto, unfolding(crate::specs::Lists::first_place))]
+pub(crate) fn place_in_front(items: &VecDeque<Bytes>, len: usize, item: &[u8]) -> Option<usize>
+    requires { len ≤ deque_len items.now }
+    ensures place { result ≡ first_place item.now (take len items.now.items) }
+    ensures within { IfSome result (λ place. place < len) }
+{
+    items.range(0..len).position(|other| matches(other, item))
+}
+
+/// How many stand behind the last item that equals one, among so many at the back.
+pub(crate) fn place_from_back(items: &VecDeque<Bytes>, len: usize, item: &[u8]) -> Option<usize>
+    requires { len ≤ deque_len items.now }
+    ensures place { result ≡ first_place item.now (take len (reverse items.now.items)) }
+    ensures within { IfSome result (λ place. place < len) }
+{
+    for behind in 0..len {
+        if matches_behind(items, behind, item) {
+            return Some(behind);
+        }
+    }
+    None
+}
+
+// Whether the item in front of so many at the back has these bytes.
+fn matches_behind(items: &VecDeque<Bytes>, behind: usize, item: &[u8]) -> bool
+    requires { behind < deque_len items.now }
+    ensures { result ≡ bytes_eq (get_or (reverse items.now.items) behind []) item.now }
+{
+    matches(&items[items.len() - 1 - behind], item)
+}
+
 /// How often an item stands there.
 pub(crate) fn count_of(items: &VecDeque<Bytes>, item: &[u8]) -> usize
     ensures { result ≡ count_of item.now items.now.items }
@@ -30,8 +62,8 @@ pub(crate) fn count_of(items: &VecDeque<Bytes>, item: &[u8]) -> usize
     items.iter().filter(|other| matches(other, item)).count()
 }
 
-/// How often an item stands there, at most so often. It goes on no longer than that.
-pub(crate) fn count_up_to(items: &VecDeque<Bytes>, most: usize, item: &[u8]) -> usize
+/// How often an item stands there, at most so often. It goes from the front, and on no longer than that.
+pub(crate) fn count_first(items: &VecDeque<Bytes>, most: usize, item: &[u8]) -> usize
     ensures { result ≡ min most (count_of item.now items.now.items) }
 {
     items
@@ -39,6 +71,22 @@ pub(crate) fn count_up_to(items: &VecDeque<Bytes>, most: usize, item: &[u8]) -> 
         .filter(|other| matches(other, item))
         .take(most)
         .count()
+}
+
+/// The same from the back.
+pub(crate) fn count_last(items: &VecDeque<Bytes>, most: usize, item: &[u8]) -> usize
+    ensures { result ≡ min most (count_of item.now items.now.items) }
+{
+    let mut counted = 0;
+    for behind in 0..items.len() {
+        if counted == most {
+            return counted;
+        }
+        if matches_behind(items, behind, item) {
+            counted += 1;
+        }
+    }
+    counted
 }
 
 /// Whether the items equal one another.
@@ -50,48 +98,4 @@ pub(crate) fn are_equal(items: &VecDeque<Bytes>) -> bool
         Some(first) => items.iter().all(|other| matches(other, first.as_slice())),
         None => true,
     }
-}
-
-/// Removes the first items that equal `item`, at most so many, and answers how many.
-pub(crate) fn remove_first(items: &mut VecDeque<Bytes>, most: usize, item: &[u8]) -> usize
-    ensures list { items.new.items ≡ without_first most item.now items.old.items }
-    ensures removed { result ≡ min most (count_of item.now items.old.items) }
-{
-    let mut removed = 0;
-    // Each item goes from the front to the back, apart from those that are removed.
-    for _ in 0..items.len() {
-        match items.pop_front() {
-            Some(other) => {
-                if removed < most && matches(&other, item) {
-                    removed += 1;
-                } else {
-                    items.push_back_reserved(other);
-                }
-            }
-            None => unreachable!(),
-        }
-    }
-    removed
-}
-
-/// Removes the last items that equal `item`, at most so many, and answers how many.
-pub(crate) fn remove_last(items: &mut VecDeque<Bytes>, most: usize, item: &[u8]) -> usize
-    ensures list { items.new.items ≡ without_last most item.now items.old.items }
-    ensures removed { result ≡ min most (count_of item.now items.old.items) }
-{
-    let mut removed = 0;
-    // Each item goes from the back to the front, apart from those that are removed.
-    for _ in 0..items.len() {
-        match items.pop_back() {
-            Some(other) => {
-                if removed < most && matches(&other, item) {
-                    removed += 1;
-                } else {
-                    items.push_front_reserved(other);
-                }
-            }
-            None => unreachable!(),
-        }
-    }
-    removed
 }
