@@ -1,8 +1,9 @@
 """Which crates' edits can't have another verdict than they had as the main line last landed: `landed.py COMMIT` writes down that this commit has landed.
 
 tests/landed.txt names the commit, the kit that it landed with, and the number of the run that comes next. A commit lands only where the gate passes on it: so of each
-of its edits it is known, from that run or one before, that the prover refuses it. An edit's verdict rests on its text, on the files of its crate, on what the crates below show to others,
-on the kit and on the scripts that try it. Where all of these are the same, the edits of a crate are tried in one run of ten, and in every run otherwise. docs/GATE.md says what that leaves open."""
+of its edits it is known, from that run or one before, that the prover refuses it. An edit's verdict rests on its text, on the files of its crate, on what these name of what the crates below
+show (tests/reach.py), on the kit and on the scripts that try it. Where all of these are the same, the edits of a crate are tried in one run of ten, and in every run otherwise. docs/GATE.md says
+what that leaves open."""
 
 import hashlib
 import os
@@ -10,6 +11,7 @@ import re
 import subprocess
 import sys
 
+from reach import NAMELESS, differences, pieces_of, spread, words
 from sources import without_bodies
 
 ROOT = os.path.dirname(os.path.dirname(os.path.abspath(__file__)))
@@ -17,9 +19,10 @@ NOTE = os.path.join("tests", "landed.txt")
 FIELD = re.compile(r"^(run|commit|kit): (\S.*)$", re.M)
 # in one run of so many the edits of a crate are tried though nothing has changed
 TURNS = 10
-# what says whether an edit is refused
-SCRIPTS = ("tests/edits.py", "tests/answers.py", "tests/sources.py", "tests/landed.py", "tools/kit.py")
-OWN_PARTS = ("src", "specs", "proofs", "must-fail")
+# what says whether an edit is refused; which are tried is another matter
+SCRIPTS = ("tests/edits.py", "tests/answers.py", "tests/sources.py", "tools/kit.py")
+SHOWN_PARTS = ("src", "specs", "proofs")
+OWN_PARTS = (*SHOWN_PARTS, "must-fail")
 # the proof of one function, which no other crate can cite
 OF_A_FUNCTION = re.compile(r"proofs/.*/(?:Answers|Invariants|Proof)\.antt$")
 
@@ -44,6 +47,8 @@ class Landed:
     def __init__(self, root, run, commit, blobs):
         self.root, self.run, self.commit, self.blobs = root, run, commit, blobs
         self.listed_then, self.listed_now = self.text("crates.txt"), read(os.path.join(root, "crates.txt")).decode()
+        # the names that have changed in a crate, by its name
+        self.changed = {}
 
     @classmethod
     def of(cls, root, kit):
@@ -91,23 +96,55 @@ class Landed:
         """Whether a crate's files are the same, its edits among them."""
         return all(self.has(it) for it in self.files(name, OWN_PARTS))
 
-    def shows_the_same(self, name):
-        """Whether a crate shows the same to those above it: all but its functions' bodies and the proofs of these."""
-        return all(self.has(it) or self.differs_in_bodies(it) for it in self.files(name, ("src", "specs", "proofs")))
-
     def differs_in_bodies(self, path):
+        """Whether a file that has changed shows the same to the crates above: all but its functions' bodies and the proofs of these."""
         if OF_A_FUNCTION.search(path):
             return True
-        file = os.path.join(self.root, path)
-        if not path.endswith(".rt") or path not in self.blobs or not os.path.isfile(file):
+        then, now = self.both(path)
+        if not path.endswith(".rt") or then is None or now is None:
             return False
-        return without_bodies(self.text(path)) == without_bodies(read(file).decode())
+        return without_bodies(then) == without_bodies(now)
+
+    def both(self, path):
+        """A file's text as it was and as it is. None stands for one that isn't there."""
+        file = os.path.join(self.root, path)
+        return self.text(path) if path in self.blobs else None, read(file).decode() if os.path.isfile(file) else None
+
+    def changed_in(self, crate):
+        """The names in a crate that mean something else than they did, by its own files or by those of the crates below it."""
+        if crate.name not in self.changed:
+            files = [it for it in self.files(crate.name, SHOWN_PARTS) if not OF_A_FUNCTION.search(it)]
+            changed = self.changed_itself(files) | self.changed_below(crate)
+            self.changed[crate.name] = spread(changed, self.pieces(files, 1)) if changed else changed
+        return self.changed[crate.name]
+
+    def changed_itself(self, files):
+        """The names that a crate had and has whose own text has changed: what has come or is gone, no file of another crate that is the same can mean."""
+        differ = [differences(it, *self.both(it)) for it in files if not self.has(it) and not self.differs_in_bodies(it)]
+        if not differ:
+            return set()
+        then, now = ({it.first for it in self.pieces(files, which)} for which in (0, 1))
+        changed = {it for pieces, _ in differ for it in pieces if it.first in then & now | {NAMELESS}}
+        return set().union(*(it.names for it in changed), *(handed_on for _, handed_on in differ))
+
+    def pieces(self, files, which):
+        """What files showed (0) or show (1)."""
+        texts = [(it, self.both(it)[which]) for it in files]
+        return [piece for path, text in texts if text is not None for piece in pieces_of(path, text)[0]]
+
+    def changed_below(self, crate):
+        return set().union(*(self.changed_in(it) for it in crate.below))
+
+    def names(self, crate, changed):
+        """Whether a file of a crate, a proof or an edit among them, names one of these."""
+        if not changed or NAMELESS in changed:
+            return bool(changed)
+        return any(words(self.both(it)[1] or "") & changed for it in self.files(crate.name, OWN_PARTS))
 
     def is_same(self, crate):
         """Whether the edits of a crate can't have another verdict than they had."""
-        stands_on = below(crate)
-        same_lines = all(line_of(it.name, self.listed_then) == line_of(it.name, self.listed_now) for it in [crate, *stands_on])
-        return same_lines and self.has_own(crate.name) and all(self.shows_the_same(it.name) for it in stands_on)
+        same_line = line_of(crate.name, self.listed_then) == line_of(crate.name, self.listed_now)
+        return same_line and self.has_own(crate.name) and not self.names(crate, self.changed_below(crate))
 
     def waits(self, crate, place):
         """Whether the edits of a crate needn't be tried in this run. Its place is that among all crates."""
@@ -122,14 +159,6 @@ def line_of(name, listed):
     """What crates.txt says of a crate, or None where it isn't listed there."""
     found = re.search(rf"^{name}\b[^#\n]*", listed, re.M)
     return found and found[0].split()
-
-
-def below(crate):
-    """The crates that a crate stands on, those further below among them, each once."""
-    found = {}
-    for it in crate.below:
-        found |= {it.name: it} | {that.name: that for that in below(it)}
-    return list(found.values())
 
 
 def write_down(root, commit, kit):

@@ -17,11 +17,18 @@ KIT = "a kit"
 LOW = """\
 //! Halves.
 ghost use Rattle.std.specs.Prelude.{◌≡◌};
+ghost use Rattle.low.specs.Halves.{halved};
 
 pub fn half(n: u8) -> u8
-    ensures { result ≡ n / 2 }
+    ensures { result ≡ halved n }
 {
     n / 2
+}
+
+fn rest(n: u8) -> u8
+    ensures { result ≡ n % 2 }
+{
+    n % 2
 }
 
 /// A number that is known when the crate is read.
@@ -33,8 +40,8 @@ HIGH = "use low::half;\n\npub fn quarter(n: u8) -> u8 {\n    half(half(n))\n}\n"
 FILES = {
     "crates.txt": "low:\nhigh: low\nbeside:\n",
     "crates/low/src/lib.rt": LOW,
-    "crates/low/specs/Halves.antt": "-- halves\n",
-    "crates/low/proofs/Sums.antt": "-- a lemma\n",
+    "crates/low/specs/Halves.antt": "-- halves\npub halved : ℕ → ℕ\nhalved n = n / 2\n",
+    "crates/low/proofs/Sums.antt": "pub sums : (n : ℕ) → halved n + halved n ≤ n\nsums n = omega arith\n",
     "crates/low/proofs/half/Answers.antt": "-- an answer\n",
     "crates/high/src/lib.rt": HIGH,
     "crates/high/must-fail/whole.edit": "file: src/lib.rt\nold: half(half(n))\nnew: half(n)\n",
@@ -99,23 +106,42 @@ class Same(Landing):
         self.change("crates/low/proofs/half/Answers.antt", "an answer", "another answer")
         self.assertEqual(self.same(), ["high", "beside"])
 
-    def test_what_a_crate_shows_concerns_all_above(self):
+    def test_what_a_crate_shows_concerns_who_names_it(self):
         for path, old, new in (
-            ("crates/low/src/lib.rt", "result ≡ n / 2", "result ≡ n / 2 + 0"),
-            ("crates/low/src/lib.rt", "    200\n", "    201\n"),
-            ("crates/low/specs/Halves.antt", "halves", "thirds"),
-            ("crates/low/proofs/Sums.antt", "a lemma", "another lemma"),
+            ("crates/low/src/lib.rt", "result ≡ halved n", "result ≡ halved n + 0"),
+            ("crates/low/src/lib.rt", "pub fn half(n: u8)", "pub fn half(m: u8)"),
+            # `half` is said by means of it
+            ("crates/low/specs/Halves.antt", "halved n = n / 2", "halved n = (n + 1) / 2"),
+            # of what has no name nobody knows whom it concerns
+            ("crates/low/src/lib.rt", "//! Halves.\n", "//! Halves.\n#![tactic(auto)]\n"),
         ):
             with self.subTest(path, new=new):
                 self.change(path, old, new)
                 self.assertEqual(self.same(), ["beside"])
                 self.change(path, new, old)
 
-    def test_a_file_that_comes_or_goes_concerns_all_above(self):
-        tiny.write(self.root, {"crates/low/specs/More.antt": "-- more\n"})
-        self.assertEqual(self.same(), ["beside"])
+    def test_what_nobody_names_concerns_nobody_above(self):
+        for path, old, new in (
+            ("crates/low/src/lib.rt", "    200\n", "    201\n"),
+            # hidden
+            ("crates/low/src/lib.rt", "result ≡ n % 2", "result < 2"),
+            ("crates/low/specs/Halves.antt", "-- halves", "-- the halves of numbers"),
+            ("crates/low/specs/Halves.antt", "-- halves\n", "-- halves\npub half_and_rest : ℕ → ℕ\nhalf_and_rest n = n\n\n"),
+            # of a lemma, what it says and how it is proved
+            ("crates/low/proofs/Sums.antt", "≤ n", "< n + 1"),
+            ("crates/low/proofs/Sums.antt", "omega arith", "grind arith"),
+        ):
+            with self.subTest(path, new=new):
+                self.change(path, old, new)
+                self.assertEqual(self.same(), ["high", "beside"])
+                self.change(path, new, old)
+
+    def test_a_file_that_comes_or_goes_concerns_who_names_what_it_had(self):
+        tiny.write(self.root, {"crates/low/specs/More.antt": "pub more : ℕ\nmore = 1\n"})
+        self.assertEqual(self.same(), ["high", "beside"])
         os.remove(os.path.join(self.root, "crates/low/specs/More.antt"))
-        os.remove(os.path.join(self.root, "crates/low/specs/Halves.antt"))
+        self.change("crates/low/specs/Halves.antt", "halved n = n / 2", "halved n = n")
+        os.rename(os.path.join(self.root, "crates/low/specs/Halves.antt"), os.path.join(self.root, "crates/low/specs/Parts.antt"))
         self.assertEqual(self.same(), ["beside"])
 
     def test_an_edit_concerns_its_crate(self):
@@ -129,6 +155,10 @@ class Same(Landing):
     def test_what_a_crate_stands_on_concerns_it(self):
         self.change("crates.txt", "high: low", "high: low beside")
         self.assertEqual(self.same(), ["low", "beside"])
+
+    def test_what_a_crate_below_stands_on_concerns_that_alone(self):
+        self.change("crates.txt", "low:\n", "low: beside\n")
+        self.assertEqual(self.same(), ["high", "beside"])
 
     def test_a_note_in_the_list_of_crates_concerns_none(self):
         self.change("crates.txt", "high: low\n", "# above\nhigh: low  # and low alone\n")
@@ -214,7 +244,7 @@ class Bodies(unittest.TestCase):
     """What is left of a file without its functions' bodies."""
 
     def test_bodies_go_and_all_else_stays(self):
-        self.assertEqual(without_bodies(LOW), LOW.replace("    n / 2\n", ""))
+        self.assertEqual(without_bodies(LOW), LOW.replace("    n / 2\n", "").replace("    n % 2\n", ""))
 
     def test_where_a_macro_is_made_all_stays(self):
         text = LOW + "macro_rules! twice { ($n:expr) => { $n + $n }; }\n"
