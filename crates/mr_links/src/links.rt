@@ -10,7 +10,7 @@ use std::marker::Model;
 use std::mem;
 
 /// Open links by their ids. Each link that was ever opened has an id of its own, which is not used again once the
-/// link is removed. Only `insert` takes memory.
+/// link is removed; one that is taken back counts as never opened. Only `insert` takes memory.
 #[derive(Drop)]
 pub struct Links<T, A: Allocator = Global> {
     rows: Rows<T, A>,
@@ -18,7 +18,7 @@ pub struct Links<T, A: Allocator = Global> {
 }
 
 impl<T, A: Allocator> Model for Links<T, A> {
-    ghost use Rattle.mr_links.specs.Links.{Links, links_code, AreBelow};
+    ghost use Rattle.mr_links.specs.Links.{Links, links_code, AreNumbered};
 
     ghost Value = { Links T };
 
@@ -26,7 +26,7 @@ impl<T, A: Allocator> Model for Links<T, A> {
 
     ghost view = { λ l. record { open_links = l.rows; opened = l.opened } };
 
-    ghost invariant = { λ l. AreBelow l.opened l.rows };
+    ghost invariant = { λ l. AreNumbered l.opened l.rows };
 }
 
 impl<T, A: Allocator> Links<T, A> {
@@ -108,6 +108,23 @@ impl<T, A: Allocator> Links<T, A> {
         ensures opened { self.new.opened ≡ self.old.opened }
     {
         self.rows.remove(id)
+    }
+
+    /// Undoes `insert`: takes out the link that was opened last, and counts it no more. What is left are the links from which
+    /// `insert` made these, so the id may be given again: nobody is to keep it.
+    pub fn take_back(&mut self, id: LinkId) -> T
+        requires open { IsSome (map.get self.old.open_links id) }
+        requires last { self.old.opened ≡ id.generation + 1 }
+        ensures generation { id.generation ≡ self.new.opened }
+        ensures fresh { map.get self.new.open_links id ≡ None }
+        ensures inserted { self.old.open_links ≡ map.insert self.new.open_links id result }
+        ensures opened { self.old.opened ≡ self.new.opened + 1 }
+    {
+        let Some(link) = self.rows.remove(id) else {
+            unreachable!()
+        };
+        self.opened -= 1;
+        link
     }
 
     /// Puts another link in the place of an open one, which is returned.
