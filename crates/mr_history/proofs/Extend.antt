@@ -19,7 +19,7 @@ use Rattle.mr_history.proofs.NodeMoves.{set_good}
 use Rattle.mr_history.proofs.LinkMoves.{loose_keeps}
 use Rattle.mr_history.proofs.Advance.{advanced}
 
-pub dial_keeps : {L : Language} (w v : World L) (n s l : ℕ) (a : Node L) (h : List ℕ) → L.asks h Handshake → Invariant w → w.node n ≡ Some a → a.master ≡ false → a.follow ≡ None → w.link l ≡ None
+pub dial_keeps : {L : Language} (w v : World L) (n s l : ℕ) (a : Node L) (h : List ℕ) → L.asks None h Handshake → Invariant w → w.node n ≡ Some a → a.master ≡ false → a.follow ≡ None → w.link l ≡ None
     → SetAt w.node v.node n (at_phase a l (Greet 0))
     → SetAt w.link v.link l (record {
       caller = Peer n;
@@ -28,6 +28,7 @@ pub dial_keeps : {L : Language} (w v : World L) (n s l : ℕ) (a : Node L) (h : 
       streams = false;
       ask = record { left = h; taken = 0 };
       tell = record { left = []; taken = 0 };
+      transaction = None;
     })
     → Same w.book v.book → Invariant v
 dial_keeps {L} w v n s l a h hh inv e em ef el sn sl sb =
@@ -37,13 +38,13 @@ dial_keeps {L} w v n s l a h hh inv e em ef el sn sl sb =
     (λ j k i post x y z o x' t. true_false a.master (t a (ap (λ z. w.node z) y ∙ e) x' o).0 em)
     (λ f x y.
     let i = some_is (record { link = l; phase = Greet 0 }) f y in
-    subst (λ z. LinkIsSound v n b z) i (record { link = k; found = sl.0; mine = refl; talk = greeting 0 refl refl hh refl }))
+    subst (λ z. LinkIsSound v n b z) i (record { link = k; found = sl.0; mine = refl; talk = greeting 0 refl (refl, refl) hh refl }))
   where
     b : Node L
     b = at_phase a l (Greet 0)
 
     k : Link
-    k = record { caller = Peer n; to = s; serving = true; streams = false; ask = record { left = h; taken = 0 }; tell = record { left = []; taken = 0 } }
+    k = record { caller = Peer n; to = s; serving = true; streams = false; ask = record { left = h; taken = 0 }; tell = record { left = []; taken = 0 }; transaction = None }
 
     u : World L
     u = record w { link = v.link }
@@ -276,11 +277,11 @@ extend_keeps {L} laws w v n a es m backlog h inv ea ua ma gd fx rx sn sl was sb 
         }
 
     loudly : (k : Link) (c : Node L) (p : Phase L.Id) → hears n k ≡ true → Talk w c p k → Talk v c p (told k (texts L es))
-    loudly k c p heard (greeting x e s y z) = true_false k.streams (hears_is n k heard).2 s
-    loudly k c p heard (greeted x t e s y z q) = true_false k.streams (hears_is n k heard).2 s
-    loudly k c p heard (asking e s y z) = true_false k.streams (hears_is n k heard).2 s
-    loudly k c p heard (asking_for e s y z) = true_false k.streams (hears_is n k heard).2 s
-    loudly k c p heard (refused t e s y z q) = true_false k.streams (hears_is n k heard).2 s
+    loudly k c p heard (greeting x e s y z) = true_false k.streams (hears_is n k heard).2 s.0
+    loudly k c p heard (greeted x t e s y z q) = true_false k.streams (hears_is n k heard).2 s.0
+    loudly k c p heard (asking e s y z) = true_false k.streams (hears_is n k heard).2 s.0
+    loudly k c p heard (asking_for e s y z) = true_false k.streams (hears_is n k heard).2 s.0
+    loudly k c p heard (refused t e s y z q) = true_false k.streams (hears_is n k heard).2 s.0
     loudly k c p heard (answered_full i o d bytes e y at f) =
         answered_full i o d (bytes ++ texts L es) e
         (ap (λ z. z ++ texts L es) y ∙ (append_assoc (d.line) (d.text ++ bytes) (texts L es) ∙ ap (λ z. d.line ++ z) (append_assoc (d.text) bytes (texts L es))))

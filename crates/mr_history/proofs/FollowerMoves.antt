@@ -9,7 +9,7 @@ use Rattle.mr_history.specs.Changes.{SetAt, Same}
 use Rattle.mr_history.specs.History.{Book, IsAt, Front, Agree, texts, fold}
 use Rattle.mr_history.specs.Node.{Phase, Follow, Node, at_phase, continued, EndsAs}
 use Rattle.mr_history.specs.Node.Phase.{Greet, Asked, Loading, Stream}
-use Rattle.mr_history.specs.World.{Link, World}
+use Rattle.mr_history.specs.World.{Link, World, IsPlain}
 use Rattle.mr_history.specs.Invariant.{IsGoodBook, NodeIsSound, AtTip, Flow, Talk, Invariant}
 use Rattle.mr_history.specs.Invariant.Talk.{greeting, greeted, asking, asking_for, refused, answered_full, answered_cont, loading, streaming}
 use Rattle.mr_history.proofs.Moves.{Follows, heard}
@@ -49,7 +49,7 @@ replica_ok {L} book a f g e o = record {
 -- the next line of the handshake
 next_line : {L : Language} (laws : Laws L) (w v : World L) (n l j : ℕ) (said : Line L.Id) (a : Node L) (q : Phase L.Id) (k : Link) (t rest bytes : List ℕ) → Invariant w → Follows w n a l (Greet j) k → L.says t said → k.tell.left ≡ t ++ rest
     → SetAt w.node v.node n (at_phase a l q) → SetAt w.link v.link l (heard k rest bytes) → Same w.book v.book
-    → (k.streams ≡ false → (heard k rest bytes).ask.left ≡ bytes → rest ≡ [] → Talk v (at_phase a l q) q (heard k rest bytes)) → Invariant v
+    → (IsPlain k → (heard k rest bytes).ask.left ≡ bytes → rest ≡ [] → Talk v (at_phase a l q) q (heard k rest bytes)) → Invariant v
 next_line {L} laws w v n l j said a q k t rest bytes inv fo say el sn sl sb then =
     follower_change w v n l a (at_phase a l q) (Greet j) q k (heard k rest bytes) inv fo sn sl sb refl refl refl refl
     (λ o y. replica_ok w.book a _ _ fo.follow o)
@@ -67,20 +67,20 @@ next_line {L} laws w v n l j said a q k t rest bytes inv fo say el sn sl sb then
     go (loading i o m b e y at f) = absurd (cc)
     go (streaming b e y f) = absurd (cc)
 
-pub go_on_keeps : {L : Language} (laws : Laws L) (w v : World L) (n l j : ℕ) (said : Line L.Id) (a : Node L) (k : Link) (t rest h : List ℕ) → L.asks h Handshake → Invariant w → Follows w n a l (Greet j) k → L.says t said → k.tell.left ≡ t ++ rest
+pub go_on_keeps : {L : Language} (laws : Laws L) (w v : World L) (n l j : ℕ) (said : Line L.Id) (a : Node L) (k : Link) (t rest h : List ℕ) → L.asks None h Handshake → Invariant w → Follows w n a l (Greet j) k → L.says t said → k.tell.left ≡ t ++ rest
     → SetAt w.node v.node n (at_phase a l (Greet (j + 1))) → SetAt w.link v.link l (heard k rest h) → Same w.book v.book → Invariant v
 go_on_keeps {L} laws w v n l j said a k t rest h hh inv fo say el sn sl sb =
-    next_line laws w v n l j said a (Greet (j + 1)) k t rest h inv fo say el sn sl sb (λ x y z. greeting (j + 1) refl x (subst (λ u. L.asks u Handshake) (sym y) hh) z)
+    next_line laws w v n l j said a (Greet (j + 1)) k t rest h inv fo say el sn sl sb (λ x y z. greeting (j + 1) refl x (subst (λ u. L.asks u (heard k rest h).ask.left Handshake) (sym x.1) (subst (λ u. L.asks None u Handshake) (sym y) hh)) z)
 
-pub ask_all_keeps : {L : Language} (laws : Laws L) (w v : World L) (n l j : ℕ) (said : Line L.Id) (a : Node L) (k : Link) (t rest h : List ℕ) → L.asks h (Psync None) → Invariant w → Follows w n a l (Greet j) k → L.says t said → k.tell.left ≡ t ++ rest
+pub ask_all_keeps : {L : Language} (laws : Laws L) (w v : World L) (n l j : ℕ) (said : Line L.Id) (a : Node L) (k : Link) (t rest h : List ℕ) → L.asks None h (Psync None) → Invariant w → Follows w n a l (Greet j) k → L.says t said → k.tell.left ≡ t ++ rest
     → SetAt w.node v.node n (at_phase a l Asked) → SetAt w.link v.link l (heard k rest h) → Same w.book v.book → Invariant v
 ask_all_keeps {L} laws w v n l j said a k t rest h hh inv fo say el sn sl sb =
-    next_line laws w v n l j said a Asked k t rest h inv fo say el sn sl sb (λ x y z. asking refl x (subst (λ u. L.asks u (Psync None)) (sym y) hh) z)
+    next_line laws w v n l j said a Asked k t rest h inv fo say el sn sl sb (λ x y z. asking refl x (subst (λ u. L.asks u (heard k rest h).ask.left (Psync None)) (sym x.1) (subst (λ u. L.asks None u (Psync None)) (sym y) hh)) z)
 
-pub ask_on_keeps : {L : Language} (laws : Laws L) (w v : World L) (n l j : ℕ) (said : Line L.Id) (a : Node L) (k : Link) (t rest h : List ℕ) → L.asks h (Psync (Some (a.id, a.offset + 1))) → Invariant w → Follows w n a l (Greet j) k → L.says t said → k.tell.left ≡ t ++ rest
+pub ask_on_keeps : {L : Language} (laws : Laws L) (w v : World L) (n l j : ℕ) (said : Line L.Id) (a : Node L) (k : Link) (t rest h : List ℕ) → L.asks None h (Psync (Some (a.id, a.offset + 1))) → Invariant w → Follows w n a l (Greet j) k → L.says t said → k.tell.left ≡ t ++ rest
     → SetAt w.node v.node n (at_phase a l Asked) → SetAt w.link v.link l (heard k rest h) → Same w.book v.book → Invariant v
 ask_on_keeps {L} laws w v n l j said a k t rest h hh inv fo say el sn sl sb =
-    next_line laws w v n l j said a Asked k t rest h inv fo say el sn sl sb (λ x y z. asking_for refl x (subst (λ u. L.asks u (Psync (Some (a.id, a.offset + 1)))) (sym y) hh) z)
+    next_line laws w v n l j said a Asked k t rest h inv fo say el sn sl sb (λ x y z. asking_for refl x (subst (λ u. L.asks u (heard k rest h).ask.left (Psync (Some (a.id, a.offset + 1)))) (sym x.1) (subst (λ u. L.asks None u (Psync (Some (a.id, a.offset + 1)))) (sym y) hh)) z)
 
 pub take_full_keeps : {L : Language} (laws : Laws L) (w v : World L) (n l : ℕ) (i : L.Id) (o : ℕ) (a : Node L) (k : Link) (t rest : List ℕ) → Invariant w → Follows w n a l Asked k → L.says t (FullResync i o) → k.tell.left ≡ t ++ rest
     → SetAt w.node v.node n (at_phase a l (Loading i o)) → SetAt w.link v.link l (heard k rest []) → Same w.book v.book → Invariant v

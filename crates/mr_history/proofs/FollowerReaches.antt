@@ -27,11 +27,11 @@ follower_reaches {L} laws w v n l a p k ek ea ef u row = go row
     last : (r : HearsLastReply w v n l a p k) → (b : Bool) → a.offers ≡ b → Reaches w v
     last r true q =
         then_counts w v l (heard k r.hears.left.left r.request) (asked k r.hears.left r.request) r.becomes.links refl
-        (ask_on n l 2 r.line a k r.hears.text r.hears.left.left r.request (subst (λ z. L.asks r.request (Psync (cond z (Some (a.id, a.offset + 1)) None))) q r.asks)
+        (ask_on n l 2 r.line a k r.hears.text r.hears.left.left r.request (subst (λ z. L.asks None r.request (Psync (cond z (Some (a.id, a.offset + 1)) None))) q r.asks)
         (at (Greet 2) r.phase) r.hears.says (reads_left k.tell r.hears.left r.hears.text r.hears.reads) r.becomes.nodes (put_before w.link v.link l _ _ r.becomes.links) r.becomes.book)
     last r false q =
         then_counts w v l (heard k r.hears.left.left r.request) (asked k r.hears.left r.request) r.becomes.links refl
-        (ask_all n l 2 r.line a k r.hears.text r.hears.left.left r.request (subst (λ z. L.asks r.request (Psync (cond z (Some (a.id, a.offset + 1)) None))) q r.asks)
+        (ask_all n l 2 r.line a k r.hears.text r.hears.left.left r.request (subst (λ z. L.asks None r.request (Psync (cond z (Some (a.id, a.offset + 1)) None))) q r.asks)
         (at (Greet 2) r.phase) r.hears.says (reads_left k.tell r.hears.left r.hears.text r.hears.reads) r.becomes.nodes (put_before w.link v.link l _ _ r.becomes.links) r.becomes.book)
 
     go : FollowerRow w v n l a p k → Reaches w v

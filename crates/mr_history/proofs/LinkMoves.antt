@@ -1,7 +1,7 @@
 -- The moves that change a link and no node keep the invariant.
 use Rattle.std.proofs.Common.{ℕ, List, [], ◌∷◌, ◌++◌, ◌≡◌, ◌+◌, Option, None, Some, Bool, true, false, refl, sym, ◌∙◌, ap, subst}
 use Rattle.std.proofs.lemmas.List.{append_cancel_left}
-use Rattle.mr_history.specs.Language.{Language, Laws, Request}
+use Rattle.mr_history.specs.Language.{Language, Laws, Transaction, Request}
 use Rattle.mr_history.specs.Language.Line.{FullResync, Continue, Plain, Refusal}
 use Rattle.mr_history.specs.Language.Request.{Handshake, Psync, Ack, Command, ReplicaOfNoOne, ReplicaOf, Empty, Quit}
 use Rattle.mr_history.specs.Changes.{SetAt, Same}
@@ -35,7 +35,7 @@ close_keeps {L} w v f inv sn sl sb = record {
     link = shut (f g.link o.link) o.link;
     found = sl g.link o.link o.found;
     mine = o.mine;
-    talk = talk_keeps w v a a g.phase o.link (shut (f g.link o.link) o.link) keeps refl refl refl refl refl
+    talk = talk_keeps w v a a g.phase o.link (shut (f g.link o.link) o.link) keeps refl refl refl refl refl refl
         (same_tip w v o.link (shut (f g.link o.link) o.link) sn refl (shut_open (f g.link o.link) o.link)) o.talk;
   };
 }
@@ -49,7 +49,7 @@ carry_keeps {L} w v l x y k inv e sn sl sb =
     link_change w v l k' inv sn sl sb (λ m c p z ec uc fc ez fz t.
     let i = some_is z k (sym ez ∙ e) in (
       ap (λ z. z.caller) (sym i) ∙ fz,
-      talk_keeps w v c c p k k' (same_keeps L w.book v.book sb) refl refl refl refl refl
+      talk_keeps w v c c p k k' (same_keeps L w.book v.book sb) refl refl refl refl refl refl
           (same_tip w v k k' sn refl (λ o. o))
           (subst (λ z. Talk w c p z) i t),
     ))
@@ -64,20 +64,20 @@ loose_keeps {L} w v l k inv free sn sl sb =
     link_change w v l k inv sn sl sb (λ m c p z ec uc fc ez fz t. absurd (free m c p ec uc fc))
 
 -- what is read of a text that is there whole is that text
-pub whole_ask : (L : Language) (laws : Laws L) (s t rest : List ℕ) (a b : Request L.Id) → L.asks s a → L.asks t b → s ≡ t ++ rest → (rest ≡ []) × (a ≡ b)
-whole_ask L laws s t rest a b x y e =
-    let h = laws.asks_cut s t a b [] rest x y (append_nil s ∙ e) in
+pub whole_ask : (L : Language) (laws : Laws L) (n : Option Transaction) (s t rest : List ℕ) (a b : Request L.Id) → L.asks n s a → L.asks n t b → s ≡ t ++ rest → (rest ≡ []) × (a ≡ b)
+whole_ask L laws n s t rest a b x y e =
+    let h = laws.asks_cut n s t a b [] rest x y (append_nil s ∙ e) in
     (append_cancel_left t rest [] (sym e ∙ (h.0 ∙ sym (append_nil t))), h.1)
 
 -- the stages in which the server may read a request that isn't answered yet
-pub stage_left : {P : Type 0} (L : Language) (laws : Laws L) (t rest : List ℕ) (a : Request L.Id) (xs : List ℕ) → L.asks t a → xs ≡ t ++ rest → xs ≡ [] → P
-stage_left L laws t rest a xs h e n = absurd (nothing t rest (laws.asks_some t a h) (sym e ∙ n))
+pub stage_left : {P : Type 0} (L : Language) (laws : Laws L) (m : Option Transaction) (t rest : List ℕ) (a : Request L.Id) (xs : List ℕ) → L.asks m t a → xs ≡ t ++ rest → xs ≡ [] → P
+stage_left L laws m t rest a xs h e n = absurd (nothing t rest (laws.asks_some m t a h) (sym e ∙ n))
   where
     nothing : (t rest : List ℕ) → (t ≡ [] → ⊥) → t ++ rest ≡ [] → ⊥
     nothing [] rest f g = f refl
     nothing (x ∷ t) rest f g = cc
 
-pub greet_keeps : {L : Language} (laws : Laws L) (w v : World L) (l : ℕ) (k : Link) (s : Node L) (t rest r : List ℕ) → Invariant w → Serves w s l k → k.streams ≡ false → L.asks t Handshake → L.says r Plain
+pub greet_keeps : {L : Language} (laws : Laws L) (w v : World L) (l : ℕ) (k : Link) (s : Node L) (t rest r : List ℕ) → Invariant w → Serves w s l k → k.streams ≡ false → L.asks k.transaction t Handshake → L.says r Plain
     → k.ask.left ≡ t ++ rest → Same w.node v.node → SetAt w.link v.link l (used k rest r) → Same w.book v.book → Invariant v
 greet_keeps {L} laws w v l k s t rest r inv se st ask say el sn sl sb =
     link_change w v l (used k rest r) inv sn sl sb (λ m c p x ec uc fc ex fx y.
@@ -86,17 +86,17 @@ greet_keeps {L} laws w v l k s t rest r inv se st ask say el sn sl sb =
   where
     go : (c : Node L) (p : Phase L.Id) → Talk w c p k → Talk v c p (used k rest r)
     go c p (greeting n e x y z) =
-        greeted n r e x (whole_ask L laws k.ask.left t rest Handshake Handshake y ask el).0 (ap (λ q. q ++ r) z) say
-    go c p (greeted n q e x y z g) = stage_left L laws t rest Handshake k.ask.left ask el y
-    go c p (asking e x y z) = absurd (let h = (whole_ask L laws k.ask.left t rest (Psync None) Handshake y ask el).1 in cc)
-    go c p (asking_for e x y z) = absurd (let q = Some (c.id, c.offset + 1) in let h = (whole_ask L laws k.ask.left t rest (Psync q) Handshake y ask el).1 in cc)
-    go c p (refused q e x y z g) = stage_left L laws t rest Handshake k.ask.left ask el y
+        greeted n r e x (whole_ask L laws k.transaction k.ask.left t rest Handshake Handshake y ask el).0 (ap (λ q. q ++ r) z) say
+    go c p (greeted n q e x y z g) = stage_left L laws k.transaction t rest Handshake k.ask.left ask el y
+    go c p (asking e x y z) = absurd (let h = (whole_ask L laws k.transaction k.ask.left t rest (Psync None) Handshake y ask el).1 in cc)
+    go c p (asking_for e x y z) = absurd (let q = Some (c.id, c.offset + 1) in let h = (whole_ask L laws k.transaction k.ask.left t rest (Psync q) Handshake y ask el).1 in cc)
+    go c p (refused q e x y z g) = stage_left L laws k.transaction t rest Handshake k.ask.left ask el y
     go c p (answered_full i o m bytes e y at f) = true_false k.streams f.streams st
     go c p (answered_cont i bytes e y g f) = true_false k.streams f.streams st
     go c p (loading i o m bytes e y at f) = true_false k.streams f.streams st
     go c p (streaming bytes e y f) = true_false k.streams f.streams st
 
-pub refuse_keeps : {L : Language} (laws : Laws L) (w v : World L) (l : ℕ) (k : Link) (s : Node L) (q : Option (L.Id × ℕ)) (t rest r : List ℕ) → Invariant w → Serves w s l k → k.streams ≡ false → L.asks t (Psync q) → L.says r Refusal
+pub refuse_keeps : {L : Language} (laws : Laws L) (w v : World L) (l : ℕ) (k : Link) (s : Node L) (q : Option (L.Id × ℕ)) (t rest r : List ℕ) → Invariant w → Serves w s l k → k.streams ≡ false → L.asks k.transaction t (Psync q) → L.says r Refusal
     → k.ask.left ≡ t ++ rest → Same w.node v.node → SetAt w.link v.link l (used k rest r) → Same w.book v.book → Invariant v
 refuse_keeps {L} laws w v l k s q t rest r inv se st ask say el sn sl sb =
     link_change w v l (used k rest r) inv sn sl sb (λ m c p x ec uc fc ex fx y.
@@ -104,13 +104,13 @@ refuse_keeps {L} laws w v l k s q t rest r inv se st ask say el sn sl sb =
     (ap (λ z. z.caller) (sym i) ∙ fx, go c p (subst (λ z. Talk w c p z) i y)))
   where
     go : (c : Node L) (p : Phase L.Id) → Talk w c p k → Talk v c p (used k rest r)
-    go c p (greeting n e x y z) = absurd (let h = (whole_ask L laws k.ask.left t rest Handshake (Psync q) y ask el).1 in cc)
-    go c p (greeted n z e x y u g) = stage_left L laws t rest (Psync q) k.ask.left ask el y
+    go c p (greeting n e x y z) = absurd (let h = (whole_ask L laws k.transaction k.ask.left t rest Handshake (Psync q) y ask el).1 in cc)
+    go c p (greeted n z e x y u g) = stage_left L laws k.transaction t rest (Psync q) k.ask.left ask el y
     go c p (asking e x y z) =
-        refused r e x (whole_ask L laws k.ask.left t rest (Psync None) (Psync q) y ask el).0 (ap (λ u. u ++ r) z) say
+        refused r e x (whole_ask L laws k.transaction k.ask.left t rest (Psync None) (Psync q) y ask el).0 (ap (λ u. u ++ r) z) say
     go c p (asking_for e x y z) = let a = Some (c.id, c.offset + 1) in
-        refused r e x (whole_ask L laws k.ask.left t rest (Psync a) (Psync q) y ask el).0 (ap (λ u. u ++ r) z) say
-    go c p (refused z e x y u g) = stage_left L laws t rest (Psync q) k.ask.left ask el y
+        refused r e x (whole_ask L laws k.transaction k.ask.left t rest (Psync a) (Psync q) y ask el).0 (ap (λ u. u ++ r) z) say
+    go c p (refused z e x y u g) = stage_left L laws k.transaction t rest (Psync q) k.ask.left ask el y
     go c p (answered_full i o m bytes e y at f) = true_false k.streams f.streams st
     go c p (answered_cont i bytes e y g f) = true_false k.streams f.streams st
     go c p (loading i o m bytes e y at f) = true_false k.streams f.streams st
@@ -133,7 +133,7 @@ psync_is a b e = some_is a b (ap of_psync e)
 serves_is : {L : Language} (w v : World L) (l : ℕ) (k : Link) (s x : Node L) → Serves w s l k → Same w.node v.node → v.node k.to ≡ Some x → s ≡ x
 serves_is w v l k s x se sn e = some_is s x (sym se.node ∙ (sym (sn k.to) ∙ e))
 
-pub answer_full_keeps : {L : Language} (laws : Laws L) (w v : World L) (l : ℕ) (k : Link) (s : Node L) (q : Option (L.Id × ℕ)) (t rest x y : List ℕ) → L.loads x s.held → L.says y (FullResync s.id s.offset) → Invariant w → Serves w s l k → k.streams ≡ false → s.master ≡ true → L.asks t (Psync q)
+pub answer_full_keeps : {L : Language} (laws : Laws L) (w v : World L) (l : ℕ) (k : Link) (s : Node L) (q : Option (L.Id × ℕ)) (t rest x y : List ℕ) → L.loads x s.held → L.says y (FullResync s.id s.offset) → Invariant w → Serves w s l k → k.streams ≡ false → s.master ≡ true → L.asks k.transaction t (Psync q)
     → k.ask.left ≡ t ++ rest → Same w.node v.node
     → SetAt w.link v.link l (record (used k rest (y ++ x)) { streams = true }) → Same w.book v.book → Invariant v
 answer_full_keeps {L} laws w v l k s q t rest snap line ld ls inv se st ms ask el sn sl sb =
@@ -163,17 +163,17 @@ answer_full_keeps {L} laws w v l k s q t rest snap line ld ls inv se st ms ask e
         })
 
     go : (c : Node L) (p : Phase L.Id) → Talk w c p k → Talk v c p k'
-    go c p (greeting n e x y z) = absurd (let h = (whole_ask L laws k.ask.left t rest Handshake (Psync q) y ask el).1 in cc)
-    go c p (greeted n z e x y u g) = stage_left L laws t rest (Psync q) k.ask.left ask el y
+    go c p (greeting n e x y z) = absurd (let h = (whole_ask L laws k.transaction k.ask.left t rest Handshake (Psync q) y ask el).1 in cc)
+    go c p (greeted n z e x y u g) = stage_left L laws k.transaction t rest (Psync q) k.ask.left ask el y
     go c p (asking e x y z) = answered c p e z
     go c p (asking_for e x y z) = answered c p e z
-    go c p (refused z e x y u g) = stage_left L laws t rest (Psync q) k.ask.left ask el y
+    go c p (refused z e x y u g) = stage_left L laws k.transaction t rest (Psync q) k.ask.left ask el y
     go c p (answered_full i o m bytes e y at f) = true_false k.streams f.streams st
     go c p (answered_cont i bytes e y g f) = true_false k.streams f.streams st
     go c p (loading i o m bytes e y at f) = true_false k.streams f.streams st
     go c p (streaming bytes e y f) = true_false k.streams f.streams st
 
-pub answer_cont_keeps : {L : Language} (laws : Laws L) (w v : World L) (l : ℕ) (i : L.Id) (o : ℕ) (k : Link) (s : Node L) (t rest y : List ℕ) → L.says y (Continue s.id) → Invariant w → Serves w s l k → k.streams ≡ false → s.master ≡ true → L.asks t (Psync (Some (i, o)))
+pub answer_cont_keeps : {L : Language} (laws : Laws L) (w v : World L) (l : ℕ) (i : L.Id) (o : ℕ) (k : Link) (s : Node L) (t rest y : List ℕ) → L.says y (Continue s.id) → Invariant w → Serves w s l k → k.streams ≡ false → s.master ≡ true → L.asks k.transaction t (Psync (Some (i, o)))
     → k.ask.left ≡ t ++ rest → Continues s i o → Same w.node v.node
     → SetAt w.link v.link l (record (used k rest (y ++ tail s o)) { streams = true }) → Same w.book v.book → Invariant v
 answer_cont_keeps {L} laws w v l i o k s t rest line ls inv se st ms ask el co sn sl sb =
@@ -209,17 +209,17 @@ answer_cont_keeps {L} laws w v l i o k s t rest line ls inv se st ms ask el co s
         })
 
     go : (c : Node L) (p : Phase L.Id) → NodeIsSound w.book c → Talk w c p k → Talk v c p k'
-    go c p oc (greeting n e x y z) = absurd (let h = (whole_ask L laws k.ask.left t rest Handshake (Psync q) y ask el).1 in cc)
-    go c p oc (greeted n z e x y u g) = stage_left L laws t rest (Psync q) k.ask.left ask el y
-    go c p oc (asking e x y z) = absurd (let h = (whole_ask L laws k.ask.left t rest (Psync None) (Psync q) y ask el).1 in cc)
+    go c p oc (greeting n e x y z) = absurd (let h = (whole_ask L laws k.transaction k.ask.left t rest Handshake (Psync q) y ask el).1 in cc)
+    go c p oc (greeted n z e x y u g) = stage_left L laws k.transaction t rest (Psync q) k.ask.left ask el y
+    go c p oc (asking e x y z) = absurd (let h = (whole_ask L laws k.transaction k.ask.left t rest (Psync None) (Psync q) y ask el).1 in cc)
     go c p oc (asking_for e x y z) =
         let a : Option (L.Id × ℕ) = Some (c.id, c.offset + 1) in
-        let h = psync_is (c.id, c.offset + 1) (i, o) (whole_ask L laws k.ask.left t rest (Psync a) (Psync q) y ask el).1 in
+        let h = psync_is (c.id, c.offset + 1) (i, o) (whole_ask L laws k.transaction k.ask.left t rest (Psync a) (Psync q) y ask el).1 in
         let ei : i ≡ c.id = sym (ap (λ x. x.0) h) in
         let eo : o ≡ c.offset + 1 = sym (ap (λ x. x.1) h) in
         let co' = subst (λ x. Continues s x (c.offset + 1)) ei (subst (λ x. Continues s i x) eo co) in
         answered c p e z oc (subst (λ x. Continuing L w.book s c (tail s x)) (sym eo) (continues laws w.book s c ok oc ms co'))
-    go c p oc (refused z e x y u g) = stage_left L laws t rest (Psync q) k.ask.left ask el y
+    go c p oc (refused z e x y u g) = stage_left L laws k.transaction t rest (Psync q) k.ask.left ask el y
     go c p oc (answered_full i o m bytes e y at f) = true_false k.streams f.streams st
     go c p oc (answered_cont i bytes e y g f) = true_false k.streams f.streams st
     go c p oc (loading i o m bytes e y at f) = true_false k.streams f.streams st
@@ -242,11 +242,11 @@ noted_keeps {L} w v l k b inv se st sn sl sb =
     flow i o bytes f = flow_keeps w v k k' i o bytes keeps refl (same_tip w v k k' sn refl (λ z. z)) f
 
     go : (c : Node L) (p : Phase L.Id) → Talk w c p k → Talk v c p k'
-    go c p (greeting n e x y z) = true_false k.streams st x
-    go c p (greeted n z e x y u g) = true_false k.streams st x
-    go c p (asking e x y z) = true_false k.streams st x
-    go c p (asking_for e x y z) = true_false k.streams st x
-    go c p (refused z e x y u g) = true_false k.streams st x
+    go c p (greeting n e x y z) = true_false k.streams st x.0
+    go c p (greeted n z e x y u g) = true_false k.streams st x.0
+    go c p (asking e x y z) = true_false k.streams st x.0
+    go c p (asking_for e x y z) = true_false k.streams st x.0
+    go c p (refused z e x y u g) = true_false k.streams st x.0
     go c p (answered_full i o m bytes e y at f) = answered_full i o m bytes e y (at_grows L w.book v.book i o m.held (keeps_grows L w.book v.book keeps) at) (flow i o bytes f)
     go c p (answered_cont i bytes e y g f) = answered_cont i bytes e y (agree_grows L w.book v.book c.id i.id c.offset (keeps_grows L w.book v.book keeps) g) (flow i.id c.offset bytes f)
     go c p (loading i o m bytes e y at f) = loading i o m bytes e y (at_grows L w.book v.book i o m.held (keeps_grows L w.book v.book keeps) at) (flow i o bytes f)

@@ -67,7 +67,7 @@ pub data Move {L : Language} (w v : World L) : Type 0 where
   demote : (n : ℕ) (a : Node L) (h : List ℕ) → w.node n ≡ Some a → a.follow ≡ None
       → ((l : ℕ) (k : Link) → w.link l ≡ Some k → k.to ≡ n → k.serving ≡ true → k.streams ≡ false)
       → SetAt w.node v.node n (record a { master = false; offers = true; upstream = h }) → Same w.link v.link → Same w.book v.book → Move w v
-  dial : (n s l : ℕ) (a : Node L) (h : List ℕ) → L.asks h Handshake → w.node n ≡ Some a → a.master ≡ false → a.follow ≡ None → w.link l ≡ None
+  dial : (n s l : ℕ) (a : Node L) (h : List ℕ) → L.asks None h Handshake → w.node n ≡ Some a → a.master ≡ false → a.follow ≡ None → w.link l ≡ None
       → SetAt w.node v.node n (at_phase a l (Greet 0))
       → SetAt w.link v.link l (record {
         caller = Peer n;
@@ -76,31 +76,32 @@ pub data Move {L : Language} (w v : World L) : Type 0 where
         streams = false;
         ask = record { left = h; taken = 0 };
         tell = record { left = []; taken = 0 };
+        transaction = None;
       })
       → Same w.book v.book → Move w v
   -- the server reads a line of the handshake
-  greet : (l : ℕ) (k : Link) (s : Node L) (t rest r : List ℕ) → Serves w s l k → k.streams ≡ false → L.asks t Handshake → L.says r Plain
+  greet : (l : ℕ) (k : Link) (s : Node L) (t rest r : List ℕ) → Serves w s l k → k.streams ≡ false → L.asks k.transaction t Handshake → L.says r Plain
       → k.ask.left ≡ t ++ rest → Same w.node v.node → SetAt w.link v.link l (used k rest r) → Same w.book v.book → Move w v
   -- a replica is asked for its stream
-  refuse : (l : ℕ) (k : Link) (s : Node L) (q : Option (L.Id × ℕ)) (t rest r : List ℕ) → Serves w s l k → k.streams ≡ false → L.asks t (Psync q) → L.says r Refusal
+  refuse : (l : ℕ) (k : Link) (s : Node L) (q : Option (L.Id × ℕ)) (t rest r : List ℕ) → Serves w s l k → k.streams ≡ false → L.asks k.transaction t (Psync q) → L.says r Refusal
       → k.ask.left ≡ t ++ rest → Same w.node v.node → SetAt w.link v.link l (used k rest r) → Same w.book v.book → Move w v
   -- a master answers by a snapshot
-  answer_full : (l : ℕ) (k : Link) (s : Node L) (q : Option (L.Id × ℕ)) (t rest x y : List ℕ) → L.loads x s.held → L.says y (FullResync s.id s.offset) → Serves w s l k → k.streams ≡ false → s.master ≡ true → L.asks t (Psync q)
+  answer_full : (l : ℕ) (k : Link) (s : Node L) (q : Option (L.Id × ℕ)) (t rest x y : List ℕ) → L.loads x s.held → L.says y (FullResync s.id s.offset) → Serves w s l k → k.streams ≡ false → s.master ≡ true → L.asks k.transaction t (Psync q)
       → k.ask.left ≡ t ++ rest → Same w.node v.node
       → SetAt w.link v.link l (record (used k rest (y ++ x)) { streams = true }) → Same w.book v.book → Move w v
   -- a master continues
-  answer_cont : (l : ℕ) (i : L.Id) (o : ℕ) (k : Link) (s : Node L) (t rest y : List ℕ) → L.says y (Continue s.id) → Serves w s l k → k.streams ≡ false → s.master ≡ true → L.asks t (Psync (Some (i, o)))
+  answer_cont : (l : ℕ) (i : L.Id) (o : ℕ) (k : Link) (s : Node L) (t rest y : List ℕ) → L.says y (Continue s.id) → Serves w s l k → k.streams ≡ false → s.master ≡ true → L.asks k.transaction t (Psync (Some (i, o)))
       → k.ask.left ≡ t ++ rest → Continues s i o → Same w.node v.node
       → SetAt w.link v.link l (record (used k rest (y ++ tail s o)) { streams = true }) → Same w.book v.book → Move w v
   -- the server reads on a link that it streams to, or the follower of such a link says something
   noted : (l : ℕ) (k : Link) (bytes : List ℕ) → w.link l ≡ Some k → k.streams ≡ true → Same w.node v.node
       → SetAt w.link v.link l (record k { ask = record k.ask { left = bytes } }) → Same w.book v.book → Move w v
   -- a replica reads a line before the answer, and sends the next one
-  go_on : (n l j : ℕ) (said : Line L.Id) (a : Node L) (k : Link) (t rest h : List ℕ) → L.asks h Handshake → Follows w n a l (Greet j) k → L.says t said → k.tell.left ≡ t ++ rest
+  go_on : (n l j : ℕ) (said : Line L.Id) (a : Node L) (k : Link) (t rest h : List ℕ) → L.asks None h Handshake → Follows w n a l (Greet j) k → L.says t said → k.tell.left ≡ t ++ rest
       → SetAt w.node v.node n (at_phase a l (Greet (j + 1))) → SetAt w.link v.link l (heard k rest h) → Same w.book v.book → Move w v
-  ask_all : (n l j : ℕ) (said : Line L.Id) (a : Node L) (k : Link) (t rest h : List ℕ) → L.asks h (Psync None) → Follows w n a l (Greet j) k → L.says t said → k.tell.left ≡ t ++ rest
+  ask_all : (n l j : ℕ) (said : Line L.Id) (a : Node L) (k : Link) (t rest h : List ℕ) → L.asks None h (Psync None) → Follows w n a l (Greet j) k → L.says t said → k.tell.left ≡ t ++ rest
       → SetAt w.node v.node n (at_phase a l Asked) → SetAt w.link v.link l (heard k rest h) → Same w.book v.book → Move w v
-  ask_on : (n l j : ℕ) (said : Line L.Id) (a : Node L) (k : Link) (t rest h : List ℕ) → L.asks h (Psync (Some (a.id, a.offset + 1))) → Follows w n a l (Greet j) k → L.says t said → k.tell.left ≡ t ++ rest
+  ask_on : (n l j : ℕ) (said : Line L.Id) (a : Node L) (k : Link) (t rest h : List ℕ) → L.asks None h (Psync (Some (a.id, a.offset + 1))) → Follows w n a l (Greet j) k → L.says t said → k.tell.left ≡ t ++ rest
       → SetAt w.node v.node n (at_phase a l Asked) → SetAt w.link v.link l (heard k rest h) → Same w.book v.book → Move w v
   -- a replica reads the answer
   take_full : (n l : ℕ) (i : L.Id) (o : ℕ) (a : Node L) (k : Link) (t rest : List ℕ) → Follows w n a l Asked k → L.says t (FullResync i o) → k.tell.left ≡ t ++ rest

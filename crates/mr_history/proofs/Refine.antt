@@ -3,7 +3,7 @@ use Rattle.std.proofs.Common.{ℕ, zero, suc, List, [], ◌∷◌, ◌++◌, ◌
 use Rattle.std.proofs.lemmas.Bool.Decides.{eqb_tells}
 use Rattle.std.proofs.lemmas.List.{take-append-drop}
 use Rattle.std.proofs.Math.Seq.{drop-append_seam}
-use Rattle.mr_history.specs.Language.{Language, Laws, Request}
+use Rattle.mr_history.specs.Language.{Language, Laws, Request, Transaction}
 use Rattle.mr_history.specs.Language.Request.{Handshake, Psync, Ack, Command, ReplicaOfNoOne, ReplicaOf, Empty, Quit}
 use Rattle.mr_history.specs.Changes.{SetAt}
 use Rattle.mr_history.specs.Node.{Phase, Node}
@@ -69,10 +69,10 @@ pub one : {L : Language} (w v : World L) → Move w v → Reaches w v
 one w v m = by_moves [] m
 
 -- what a follower of a link that doesn't stream yet has asked
-abbrev pub Asking : Language → List ℕ → Type 0
-Asking L xs = (xs ≡ []) ⊎ ((b : Request L.Id) × L.asks xs b × ((b ≡ Handshake) ⊎ ((q : Option (L.Id × ℕ)) × (b ≡ Psync q))))
+abbrev pub Asking : Language → Option Transaction → List ℕ → Type 0
+Asking L n xs = (xs ≡ []) ⊎ ((b : Request L.Id) × L.asks n xs b × ((b ≡ Handshake) ⊎ ((q : Option (L.Id × ℕ)) × (b ≡ Psync q))))
 
-pub asked_of : {L : Language} (laws : Laws L) (w : World L) (c : Node L) (p : Phase L.Id) (k : Link) → k.streams ≡ false → Talk w c p k → Asking L k.ask.left
+pub asked_of : {L : Language} (laws : Laws L) (w : World L) (c : Node L) (p : Phase L.Id) (k : Link) → k.streams ≡ false → Talk w c p k → Asking L k.transaction k.ask.left
 asked_of {L} laws w c p k st (greeting n e s y z) = inr (Handshake, y, inl refl)
 asked_of {L} laws w c p k st (greeted n t e s y z h) = inl y
 asked_of {L} laws w c p k st (asking e s y z) = inr (Psync None, y, inr (None, refl))
@@ -88,28 +88,28 @@ asked_of {L} laws w c p k st (streaming b e y f) = true_false k.streams f.stream
 pub IsElse : {I : Type 0} → Request I → Type 0
 IsElse {I} a = (a ≢ Handshake) × ((q : Option (I × ℕ)) → a ≢ Psync q)
 
-pub not_asking : {L : Language} (laws : Laws L) (xs t rest : List ℕ) (a : Request L.Id) → L.asks t a → IsElse a → xs ≡ t ++ rest → Asking L xs → ⊥
+pub not_asking : {L : Language} (laws : Laws L) (n : Option Transaction) (xs t rest : List ℕ) (a : Request L.Id) → L.asks n t a → IsElse a → xs ≡ t ++ rest → Asking L n xs → ⊥
 unfolding IsElse
-not_asking {L} laws xs t rest a h ne e (inl x) = empty t (laws.asks_some t a h) (sym e ∙ x)
+not_asking {L} laws n xs t rest a h ne e (inl x) = empty t (laws.asks_some n t a h) (sym e ∙ x)
   where
     empty : (t : List ℕ) → t ≢ [] → t ++ rest ≡ [] → ⊥
     empty [] f g = f refl
     empty (y ∷ t) f g = cc
-not_asking {L} laws xs t rest a h ne e (inr x) =
-    let r = laws.asks_cut xs t x.0 a [] rest x.1 h (append_nil xs ∙ e) in
+not_asking {L} laws n xs t rest a h ne e (inr x) =
+    let r = laws.asks_cut n xs t x.0 a [] rest x.1 h (append_nil xs ∙ e) in
     elim x.2 [ inl y ↦ ne.0 (sym r.1 ∙ y) | inr y ↦ ne.1 y.0 (sym r.1 ∙ y.1) ]
 
 abbrev pub Free : {L : Language} → World L → ℕ → Type 0
 Free {L} w l = (n : ℕ) (a : Node L) (p : Phase L.Id) → w.node n ≡ Some a → a.up ≡ true → a.follow ≡ Some (record { link = l; phase = p }) → ⊥
 
-pub free_by : {L : Language} (laws : Laws L) (w : World L) (l : ℕ) (k : Link) → Invariant w → w.link l ≡ Some k → k.streams ≡ false → (Asking L k.ask.left → ⊥) → Free w l
+pub free_by : {L : Language} (laws : Laws L) (w : World L) (l : ℕ) (k : Link) → Invariant w → w.link l ≡ Some k → k.streams ≡ false → (Asking L k.transaction k.ask.left → ⊥) → Free w l
 free_by {L} laws w l k inv e st h n c p ec uc fc =
     let o = inv.links n c (record { link = l; phase = p }) ec uc fc in
     let i = some_is o.link k (sym o.found ∙ e) in
     h (asked_of laws w c p k st (subst (λ z. Talk w c p z) i o.talk))
 
-pub free_ask : {L : Language} (laws : Laws L) (w : World L) (l : ℕ) (k : Link) (t : List ℕ) (a : Request L.Id) (way : Way) → Invariant w → w.link l ≡ Some k → k.streams ≡ false → L.asks t a → IsElse a → Reads k.ask t way → Free w l
-free_ask {L} laws w l k t a way inv e st h ne r = free_by laws w l k inv e st (not_asking laws k.ask.left t way.left a h ne (reads_left k.ask way t r))
+pub free_ask : {L : Language} (laws : Laws L) (w : World L) (l : ℕ) (k : Link) (t : List ℕ) (a : Request L.Id) (way : Way) → Invariant w → w.link l ≡ Some k → k.streams ≡ false → L.asks k.transaction t a → IsElse a → Reads k.ask t way → Free w l
+free_ask {L} laws w l k t a way inv e st h ne r = free_by laws w l k inv e st (not_asking laws k.transaction k.ask.left t way.left a h ne (reads_left k.ask way t r))
 
 pub free_doomed : {L : Language} (laws : Laws L) (w : World L) (l : ℕ) (k : Link) → Invariant w → w.link l ≡ Some k → k.streams ≡ false → L.doomed (take k.ask.taken k.ask.left) → Free w l
 free_doomed {L} laws w l k inv e st d = free_by laws w l k inv e st go
@@ -117,12 +117,12 @@ free_doomed {L} laws w l k inv e st d = free_by laws w l k inv e st go
     all : take k.ask.taken k.ask.left ++ drop k.ask.taken k.ask.left ≡ k.ask.left
     all = take-append-drop k.ask.taken k.ask.left
 
-    go : Asking L k.ask.left → ⊥
+    go : Asking L k.transaction k.ask.left → ⊥
     go (inl x) = laws.doomed_some (subst (λ z. L.doomed z) (none k.ask.taken k.ask.left x) d)
       where
         none : (n : ℕ) (xs : List ℕ) → xs ≡ [] → take n xs ≡ []
         none n xs e = ap (λ z. take n z) e ∙ take_none n
-    go (inr x) = laws.doomed_cut _ k.ask.left x.0 (drop k.ask.taken k.ask.left) [] d x.1 (all ∙ sym (append_nil k.ask.left))
+    go (inr x) = laws.doomed_cut k.transaction _ k.ask.left x.0 (drop k.ask.taken k.ask.left) [] d x.1 (all ∙ sym (append_nil k.ask.left))
 
 -- the links after something at each
 abbrev pub each : (ℕ → Link → Link) → ℕ → Option Link → Option Link
@@ -200,7 +200,7 @@ pub quiet_else : {L : Language} (s : Node L) (a : Request L.Id) → IsQuiet s a 
 quiet_else {L} s Handshake q = absurd q
 quiet_else {L} s (Psync p) q = absurd q
 quiet_else {L} s Ack q = other_ack L.Id
-quiet_else {L} s Command q = other_command L.Id
+quiet_else {L} s Command q = absurd q
 quiet_else {L} s ReplicaOfNoOne q = other_promote L.Id
 quiet_else {L} s (ReplicaOf h) q = other_obey L.Id h
 quiet_else {L} s Empty q = absurd q

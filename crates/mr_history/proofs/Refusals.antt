@@ -40,6 +40,7 @@ server_books w v l k s given fresh e u (ServerRow.refuses r) = BookChange.stays 
 server_books w v l k s given fresh e u (ServerRow.resynchronizes r) = BookChange.stays r.becomes.book
 server_books w v l k s given fresh e u (ServerRow.goes_on r) = BookChange.stays r.becomes.book
 server_books w v l k s given fresh e u (ServerRow.replies r) = BookChange.stays r.becomes.book
+server_books w v l k s given fresh e u (ServerRow.answers r) = BookChange.stays r.becomes.book
 server_books w v l k s given fresh e u (ServerRow.passes_limit r) = BookChange.stays r.becomes.book
 server_books w v l k s given fresh e u (ServerRow.runs r) = BookChange.extends k.to s r.effects e u r.master r.grown.book
 server_books w v l k s given fresh e u (ServerRow.quits r) = BookChange.stays r.becomes.book
@@ -148,6 +149,7 @@ masters_take_new_ids {L} w v e row n a b ea ma eb ub mb = go e row
     at_server l k s given fresh es (ServerRow.resynchronizes r) = same r.becomes.nodes
     at_server l k s given fresh es (ServerRow.goes_on r) = same r.becomes.nodes
     at_server l k s given fresh es (ServerRow.replies r) = same r.becomes.nodes
+    at_server l k s given fresh es (ServerRow.answers r) = same r.becomes.nodes
     at_server l k s given fresh es (ServerRow.passes_limit r) = same r.becomes.nodes
     at_server l k s given fresh es (ServerRow.runs r) = as_it_was k.to _ s r.grown.nodes es refl
     at_server l k s given fresh es (ServerRow.quits r) = same r.becomes.nodes
@@ -246,6 +248,7 @@ answers {L} w v l k k' s given fresh ek row st ek' st' = go row
         joins r.query (r.line ++ r.snapshot) _ r.master r.uses r.becomes.nodes r.becomes.links.0 refl (Answer.resynchronizes r.line r.snapshot r.apart r.says r.loads refl)
     go (ServerRow.goes_on r) = joins (Some (r.id, r.from)) (r.line ++ tail s r.from) _ r.master r.uses r.becomes.nodes r.becomes.links.0 refl (Answer.continues r.id r.from r.line refl r.continues r.says refl)
     go (ServerRow.replies r) = no _ r.becomes.links.0 refl
+    go (ServerRow.answers r) = no _ r.becomes.links.0 refl
     go (ServerRow.passes_limit r) = no _ r.becomes.links.0 refl
     go (ServerRow.runs r) = no _ r.link refl
     go (ServerRow.quits r) = no _ r.becomes.links.0 refl
@@ -261,7 +264,7 @@ asks_from_where_it_stands {L} w v n l a b k k' ea row offers eb ub ek' ek = go r
     number_is : (j : ℕ) → ◌≡◌ {A = Phase L.Id} (Greet 2) (Greet j) → 2 ≡ j
     number_is j e = cc
 
-    go : FollowerRow w v n l a (Greet 2) k → (k' ≡ k) ⊎ ((request : List ℕ) × L.asks request (Psync (Some (a.id, a.offset + 1))) × (k'.ask.left ≡ k.ask.left ++ request))
+    go : FollowerRow w v n l a (Greet 2) k → (k' ≡ k) ⊎ ((request : List ℕ) × L.asks None request (Psync (Some (a.id, a.offset + 1))) × (k'.ask.left ≡ k.ask.left ++ request))
     go (FollowerRow.idles r) = inl (some_is k' k (sym ek' ∙ (r.still.links l ∙ ek)))
     go (FollowerRow.stops r) = let i = some_is r.wreck b (sym r.becomes.nodes.0 ∙ eb) in true_false b.up ub (ap (λ z. z.up) (sym i) ∙ r.down)
     go (FollowerRow.leaves (Leaves.at_an_answer x r)) = inl (some_is k' k (sym ek' ∙ (r.links l ∙ ek)))
@@ -269,7 +272,7 @@ asks_from_where_it_stands {L} w v n l a b k k' ea row offers eb ub ek' ek = go r
     go (FollowerRow.hears_reply r) = absurd (let e = number_is r.number r.phase in omega (arith, r.not_last, e))
     go (FollowerRow.hears_last_reply r) =
         let i = some_is k' _ (sym ek' ∙ r.becomes.links.0) in
-        inr (r.request, subst (λ z. L.asks r.request (Psync (cond z (Some (a.id, a.offset + 1)) None))) offers r.asks, ap (λ z. z.ask.left) i)
+        inr (r.request, subst (λ z. L.asks None r.request (Psync (cond z (Some (a.id, a.offset + 1)) None))) offers r.asks, ap (λ z. z.ask.left) i)
     go (FollowerRow.hears_full_resync r) = let e = r.phase in absurd (cc)
     go (FollowerRow.hears_continue r) = let e = r.phase in absurd (cc)
     go (FollowerRow.loads r) = let e = r.phase in absurd (cc)

@@ -6,7 +6,7 @@ use Rattle.mr_history.specs.Changes.{SetAt}
 use Rattle.mr_history.specs.History.{texts}
 use Rattle.mr_history.specs.Node.{Node, tail}
 use Rattle.mr_history.specs.World.{Link, World, hears, shut, told, told_if}
-use Rattle.mr_history.specs.ServerRows.{answered, joined, Skips, Runs, Promotes, Demotes, Turns, ServerRow}
+use Rattle.mr_history.specs.ServerRows.{answered, joined, Skips, Runs, Promotes, Demotes, Turns, ServerRow, concluded}
 use Rattle.mr_history.specs.Invariant.{Invariant}
 use Rattle.mr_history.proofs.Moves.{Move, Serves, used, Reaches}
 use Rattle.mr_history.proofs.Moves.Move.{still, stop, leave, close, loose, extend, promote, demote, greet, refuse, answer_full, answer_cont, noted}
@@ -16,7 +16,7 @@ use Rattle.mr_history.proofs.Refine.{put, put_here, put_sets, put_before, put_ov
 
 runs_reach : {L : Language} (laws : Laws L) (w v : World L) (l : ℕ) (k : Link) (s : Node L) (given : L.Given) → Invariant w → w.link l ≡ Some k → w.node k.to ≡ Some s → s.up ≡ true
     → Runs w v l k s given → Reaches w v
-runs_reach {L} laws w v l k s given inv ek en u r = by_moves (mid ∷ []) (first, loose l (answered k r.uses.left r.reply) free (λ j. refl) last (λ i. refl))
+runs_reach {L} laws w v l k s given inv ek en u r = by_moves (mid ∷ []) (first, loose l (concluded k r.uses.left r.reply r.transaction) free (λ j. refl) last (λ i. refl))
   where
     bytes : List ℕ
     bytes = texts L r.effects
@@ -31,8 +31,8 @@ runs_reach {L} laws w v l k s given inv ek en u r = by_moves (mid ∷ []) (first
     first = extend k.to s r.effects r.grown.held r.grown.backlog r.grown.book.history en u r.master r.grown.good r.grown.folds r.grown.last_bytes r.grown.nodes
         (λ j y e. ap (λ z. each tell_it j z) e) r.grown.book.found r.grown.book.book
 
-    last : SetAt mid.link v.link l (answered k r.uses.left r.reply)
-    last = each_link w v tell_it l (answered k r.uses.left r.reply) r.no_links r.links r.link
+    last : SetAt mid.link v.link l (concluded k r.uses.left r.reply r.transaction)
+    last = each_link w v tell_it l (concluded k r.uses.left r.reply r.transaction) r.no_links r.links r.link
 
     same : mid.link l ≡ Some k
     same = ap (λ z. each tell_it l z) ek ∙ ap (λ z. Some (told_if z k bytes)) (mute k.to k r.client)
@@ -159,8 +159,11 @@ server_reaches {L} laws w v l k s given fresh inv ek en eo u row = go row
     go (ServerRow.replies r) =
         one w v (loose l (answered k r.uses.left r.reply) (free_ask laws w l k r.uses.text r.request r.uses.left inv ek r.client r.uses.asks (quiet_else s r.request r.quiet) r.uses.reads)
         r.becomes.nodes r.becomes.links r.becomes.book)
+    go (ServerRow.answers r) =
+        one w v (loose l (concluded k r.uses.left r.reply r.transaction) (free_ask laws w l k r.uses.text Command r.uses.left inv ek r.client r.uses.asks (other_command L.Id) r.uses.reads)
+        r.becomes.nodes r.becomes.links r.becomes.book)
     go (ServerRow.passes_limit r) =
-        one w v (loose l (answered k r.uses.left r.reply) (free_ask laws w l k r.uses.text Command r.uses.left inv ek r.client r.uses.asks (other_command L.Id) r.uses.reads)
+        one w v (loose l (concluded k r.uses.left r.reply r.transaction) (free_ask laws w l k r.uses.text Command r.uses.left inv ek r.client r.uses.asks (other_command L.Id) r.uses.reads)
         r.becomes.nodes r.becomes.links r.becomes.book)
     go (ServerRow.runs r) = runs_reach laws w v l k s given inv ek en u r
     go (ServerRow.quits r) =

@@ -35,7 +35,7 @@ still_keeps {L} w v inv sn sl sb = record {
     link = o.link;
     found = sl f.link ∙ o.found;
     mine = o.mine;
-    talk = talk_keeps w v a a f.phase o.link o.link keeps refl refl refl refl refl (λ i post t s e' u' z. t s (sym (sn o.link.to) ∙ e') u' z) o.talk;
+    talk = talk_keeps w v a a f.phase o.link o.link keeps refl refl refl refl refl refl (λ i post t s e' u' z. t s (sym (sn o.link.to) ∙ e') u' z) o.talk;
   };
 }
   where
@@ -159,11 +159,11 @@ caught_up {L} laws w l a s inv c =
         (All-head L.IsGood x (mid ++ post) (all_back L.IsGood earlier ((x ∷ mid) ++ post) (inv.good a.id _ f.found))) e))
 
     go : (p : Phase L.Id) → p ≡ c.phase → Talk w a p c.link → (a.id ≡ s.id) × (a.offset ≡ s.offset)
-    go p q (greeting x e st y z) = true_false c.link.streams c.streams st
-    go p q (greeted x t e st y z h) = true_false c.link.streams c.streams st
-    go p q (asking e st y z) = true_false c.link.streams c.streams st
-    go p q (asking_for e st y z) = true_false c.link.streams c.streams st
-    go p q (refused t e st y z h) = true_false c.link.streams c.streams st
+    go p q (greeting x e st y z) = true_false c.link.streams c.streams st.0
+    go p q (greeted x t e st y z h) = true_false c.link.streams c.streams st.0
+    go p q (asking e st y z) = true_false c.link.streams c.streams st.0
+    go p q (asking_for e st y z) = true_false c.link.streams c.streams st.0
+    go p q (refused t e st y z h) = true_false c.link.streams c.streams st.0
     go p q (answered_full i o d bytes e y at f) = absurd (nothing (an_answer d.line _ (FullResync i o) (sym q ∙ e) d.says y))
     go p q (answered_cont i bytes e y g f) = absurd (nothing (an_answer i.line _ (Continue i.id) (sym q ∙ e) i.says y))
     go p q (loading i o d bytes e y at f) = absurd (nothing (a_snapshot i o d.text _ d.held (sym q ∙ e) d.loads y))

@@ -83,7 +83,7 @@ AnswersAreOfOneMoment L = (w v : World L) (l : ℕ) (k k' : Link) (s : Node L) (
 abbrev pub AsksFromWhereItStands : Language → Type 0
 AsksFromWhereItStands L = (w v : World L) (n l : ℕ) (a b : Node L) (k k' : Link) → w.node n ≡ Some a → FollowerRow w v n l a (Greet 2) k → a.offers ≡ true
     → v.node n ≡ Some b → b.up ≡ true → v.link l ≡ Some k' → w.link l ≡ Some k
-    → (k' ≡ k) ⊎ ((request : List ℕ) × L.asks request (Psync (Some (a.id, a.offset + 1))) × (k'.ask.left ≡ k.ask.left ++ request))
+    → (k' ≡ k) ⊎ ((request : List ℕ) × L.asks None request (Psync (Some (a.id, a.offset + 1))) × (k'.ask.left ≡ k.ask.left ++ request))
 
 -- While what is unread may still become an effect that applies, a replica in its stream phase keeps its link.
 abbrev pub StreamsAreFollowed : Language → Type 0

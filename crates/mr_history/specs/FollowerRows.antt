@@ -85,7 +85,7 @@ pub record HearsReply {L : Language} (w v : World L) (n l : ℕ) (a : Node L) (p
   pub plus : line ≢ Refusal
   pub hears : Hears L k line
   pub request : List ℕ
-  pub asks : L.asks request Handshake
+  pub asks : L.asks None request Handshake
   pub becomes : FollowerBecomes w v n l (at_phase a l (Greet (number + 1))) (asked k hears.left request)
 
 -- .. and this is where it is: PSYNC with the node's id and the byte after its last, or with neither
@@ -96,7 +96,7 @@ pub record HearsLastReply {L : Language} (w v : World L) (n l : ℕ) (a : Node L
   pub plus : line ≢ Refusal
   pub hears : Hears L k line
   pub request : List ℕ
-  pub asks : L.asks request (Psync (wanted a))
+  pub asks : L.asks None request (Psync (wanted a))
   pub becomes : FollowerBecomes w v n l (at_phase a l Asked) (asked k hears.left request)
 
 -- A snapshot is announced. All stays until its last byte.

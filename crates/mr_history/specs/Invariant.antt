@@ -6,7 +6,7 @@ use Rattle.mr_history.specs.Language.Request.{Handshake, Psync}
 use Rattle.mr_history.specs.History.{Book, History, IsAt, Front, Agree, texts, fold}
 use Rattle.mr_history.specs.Node.{Phase, Follow, Node}
 use Rattle.mr_history.specs.Node.Phase.{Greet, Asked, Loading, Stream}
-use Rattle.mr_history.specs.World.{Link, World}
+use Rattle.mr_history.specs.World.{Link, World, IsPlain}
 use Rattle.mr_history.specs.World.Caller.{Peer}
 
 -- one snapshot, and what it loads
@@ -63,11 +63,11 @@ pub record Flow {L : Language} (w : World L) (k : Link) (i : L.Id) (o : ℕ) (by
 
 -- What was sent on a follower's link and not used, by the stages of the handshake.
 pub data Talk {L : Language} (w : World L) (a : Node L) (p : Phase L.Id) (k : Link) : Type 0 where
-  greeting : (n : ℕ) → p ≡ Greet n → k.streams ≡ false → L.asks k.ask.left Handshake → k.tell.left ≡ [] → Talk w a p k
-  greeted : (n : ℕ) (t : List ℕ) → p ≡ Greet n → k.streams ≡ false → k.ask.left ≡ [] → k.tell.left ≡ t → L.says t Plain → Talk w a p k
-  asking : p ≡ Asked → k.streams ≡ false → L.asks k.ask.left (Psync None) → k.tell.left ≡ [] → Talk w a p k
-  asking_for : p ≡ Asked → k.streams ≡ false → L.asks k.ask.left (Psync (Some (a.id, a.offset + 1))) → k.tell.left ≡ [] → Talk w a p k
-  refused : (t : List ℕ) → p ≡ Asked → k.streams ≡ false → k.ask.left ≡ [] → k.tell.left ≡ t → L.says t Refusal → Talk w a p k
+  greeting : (n : ℕ) → p ≡ Greet n → IsPlain k → L.asks k.transaction k.ask.left Handshake → k.tell.left ≡ [] → Talk w a p k
+  greeted : (n : ℕ) (t : List ℕ) → p ≡ Greet n → IsPlain k → k.ask.left ≡ [] → k.tell.left ≡ t → L.says t Plain → Talk w a p k
+  asking : p ≡ Asked → IsPlain k → L.asks k.transaction k.ask.left (Psync None) → k.tell.left ≡ [] → Talk w a p k
+  asking_for : p ≡ Asked → IsPlain k → L.asks k.transaction k.ask.left (Psync (Some (a.id, a.offset + 1))) → k.tell.left ≡ [] → Talk w a p k
+  refused : (t : List ℕ) → p ≡ Asked → IsPlain k → k.ask.left ≡ [] → k.tell.left ≡ t → L.says t Refusal → Talk w a p k
   answered_full : (i : L.Id) (o : ℕ) (m : FullAnswer L i o) (bytes : List ℕ) → p ≡ Asked → k.tell.left ≡ m.line ++ (m.text ++ bytes)
       → IsAt L w.book i o m.held → Flow w k i o bytes → Talk w a p k
   answered_cont : (m : ContinueAnswer L) (bytes : List ℕ) → p ≡ Asked → k.tell.left ≡ m.line ++ bytes

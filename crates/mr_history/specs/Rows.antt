@@ -39,6 +39,7 @@ fresh_link caller to bytes = record {
   streams = false;
   ask = record { left = bytes; taken = 0 };
   tell = no_bytes;
+  transaction = None;
 }
 
 -- A new node, to which no link leads yet.
@@ -76,7 +77,7 @@ pub record Connects {L : Language} (w v : World L) (n s : ℕ) (a : Node L) : Ty
   pub link : ℕ
   pub new_link : w.link link ≡ None
   pub request : List ℕ
-  pub asks : L.asks request Handshake
+  pub asks : L.asks None request Handshake
   pub nodes : SetAt w.node v.node n (at_phase a link (Greet 0))
   pub links : SetAt w.link v.link link (fresh_link (Peer n) s request)
   pub book : Same w.book v.book

@@ -1,6 +1,6 @@
 -- What a step at the server's end of a link may do, one row for each.
-use Rattle.std.specs.Prelude.{ℕ, List, [], ◌++◌, ◌+◌, ◌<◌, ◌≡◌, ◌≢◌, Option, None, Some, true, false, length}
-use Rattle.mr_history.specs.Language.{Language, Request}
+use Rattle.std.specs.Prelude.{ℕ, List, [], ◌++◌, ◌+◌, ◌-◌, ◌<◌, ◌≡◌, ◌≢◌, Option, None, Some, true, false, length}
+use Rattle.mr_history.specs.Language.{Language, Transaction, Request}
 use Rattle.mr_history.specs.Language.Line.{FullResync, Continue, Plain, Refusal}
 use Rattle.mr_history.specs.Language.Request.{Handshake, Psync, Ack, Command, ReplicaOfNoOne, ReplicaOf, Empty, Quit}
 use Rattle.mr_history.specs.Changes.{SetAt, Same}
@@ -12,7 +12,7 @@ use Rattle.mr_history.specs.Changing.{Still, LinkBecomes, Stops, Reads, Grown}
 -- The unread bytes begin with a request that asks this, and it is used.
 pub record Uses (L : Language) (k : Link) (request : Request L.Id) : Type 0 where
   pub text : List ℕ
-  pub asks : L.asks text request
+  pub asks : L.asks k.transaction text request
   pub left : Way
   pub reads : Reads k.ask text left
 
@@ -20,13 +20,17 @@ pub record Uses (L : Language) (k : Link) (request : Request L.Id) : Type 0 wher
 abbrev pub answered : Link → Way → List ℕ → Link
 answered k left bytes = record k { ask = left; tell = record k.tell { left = k.tell.left ++ bytes } }
 
+-- the server used a command, says bytes, and has this open from now on
+abbrev pub concluded : Link → Way → List ℕ → Option Transaction → Link
+concluded k left bytes transaction = record (answered k left bytes) { transaction = transaction }
+
 -- the server's answer to PSYNC: the link is in its stream phase from now on
 abbrev pub joined : Link → Way → List ℕ → Link
 joined k left bytes = record (answered k left bytes) { streams = true }
 
 -- Nothing whole is there.
 pub record Idles {L : Language} (w v : World L) (k : Link) : Type 0 where
-  pub none : (text rest : List ℕ) (request : Request L.Id) → L.asks text request → unread k.ask ≡ text ++ rest → ⊥
+  pub none : (text rest : List ℕ) (request : Request L.Id) → L.asks k.transaction text request → unread k.ask ≡ text ++ rest → ⊥
   pub hopeful : L.doomed (unread k.ask) → ⊥
   pub still : Still w v
 
@@ -102,9 +106,9 @@ pub record GoesOn {L : Language} (w v : World L) (l : ℕ) (k : Link) (s : Node 
   pub says : L.says line (Continue s.id)
   pub becomes : LinkBecomes w v l (joined k uses.left (line ++ tail s from))
 
--- the requests that are answered and change nothing
+-- the requests other than commands that are answered and change nothing
 abbrev pub IsQuiet : {L : Language} → Node L → Request L.Id → Type 0
-IsQuiet s Command = s.master ≡ false
+IsQuiet s Command = ⊥
 IsQuiet s ReplicaOfNoOne = s.master ≡ true
 IsQuiet s (ReplicaOf host) = (s.master ≡ false) × (s.upstream ≡ host)
 IsQuiet s Ack = Unit {0}
@@ -121,27 +125,42 @@ pub record Replies {L : Language} (w v : World L) (l : ℕ) (k : Link) (s : Node
   pub reply : List ℕ
   pub becomes : LinkBecomes w v l (answered k uses.left reply)
 
+-- A replica answers a command and changes nothing, or puts it aside for the end of its transaction.
+pub record Answers {L : Language} (w v : World L) (l : ℕ) (k : Link) (s : Node L) : Type 0 where
+  pub client : k.streams ≡ false
+  pub replica : s.master ≡ false
+  pub uses : Uses L k Command
+  pub transaction : Option Transaction
+  pub leads : L.leads false k.transaction uses.text transaction
+  pub reply : List ℕ
+  pub becomes : LinkBecomes w v l (concluded k uses.left reply transaction)
+
 -- A command whose effects would carry the offset past its limit is told so, and changes nothing.
 pub record PassesLimit {L : Language} (w v : World L) (l : ℕ) (k : Link) (s : Node L) (given : L.Given) : Type 0 where
   pub client : k.streams ≡ false
   pub master : s.master ≡ true
   pub uses : Uses L k Command
   pub effects : List L.Effect
-  pub of_request : L.effects uses.text s.held given effects
+  pub of_request : L.effects (L.limit - s.offset) k.transaction uses.text s.held given effects
   pub beyond : L.limit < s.offset + length (texts L effects)
+  pub transaction : Option Transaction
+  pub leads : L.leads true k.transaction uses.text transaction
   pub reply : List ℕ
-  pub becomes : LinkBecomes w v l (answered k uses.left reply)
+  pub becomes : LinkBecomes w v l (concluded k uses.left reply transaction)
 
--- A master applies a command's effects, puts them behind its stream, and sends them to every replica in its stream phase.
+-- A master applies a command's effects, puts them behind its stream, and sends them to every replica in its stream phase. One
+-- that waits for the end of its transaction has none, and the end has those of all that waited.
 pub record Runs {L : Language} (w v : World L) (l : ℕ) (k : Link) (s : Node L) (given : L.Given) : Type 0 where
   pub client : k.streams ≡ false
   pub master : s.master ≡ true
   pub uses : Uses L k Command
   pub effects : List L.Effect
-  pub of_request : L.effects uses.text s.held given effects
+  pub of_request : L.effects (L.limit - s.offset) k.transaction uses.text s.held given effects
   pub grown : Grown w v k.to s effects
+  pub transaction : Option Transaction
+  pub leads : L.leads true k.transaction uses.text transaction
   pub reply : List ℕ
-  pub link : v.link l ≡ Some (answered k uses.left reply)
+  pub link : v.link l ≡ Some (concluded k uses.left reply transaction)
   pub no_links : (j : ℕ) → j ≢ l → w.link j ≡ None → v.link j ≡ None
   pub links : (j : ℕ) (x : Link) → j ≢ l → w.link j ≡ Some x → v.link j ≡ Some (told_if (hears k.to x) x (texts L effects))
 
@@ -200,6 +219,7 @@ pub data ServerRow {L : Language} (w v : World L) (l : ℕ) (k : Link) (s : Node
   resynchronizes : Resynchronizes w v l k s → ServerRow w v l k s given fresh
   goes_on : GoesOn w v l k s → ServerRow w v l k s given fresh
   replies : Replies w v l k s → ServerRow w v l k s given fresh
+  answers : Answers w v l k s → ServerRow w v l k s given fresh
   passes_limit : PassesLimit w v l k s given → ServerRow w v l k s given fresh
   runs : Runs w v l k s given → ServerRow w v l k s given fresh
   quits : Quits w v l k → ServerRow w v l k s given fresh

@@ -1,6 +1,6 @@
 -- Nodes, the links between them and to clients, and the book of histories.
-use Rattle.std.specs.Prelude.{ℕ, List, [], ◌++◌, ◌≡◌, Option, Some, Bool, true, false, take, cond, ◌==◌, ◌&&◌}
-use Rattle.mr_history.specs.Language.{Language}
+use Rattle.std.specs.Prelude.{ℕ, List, [], ◌++◌, ◌≡◌, Option, None, Some, Bool, true, false, take, cond, ◌==◌, ◌&&◌}
+use Rattle.mr_history.specs.Language.{Language, Transaction}
 use Rattle.mr_history.specs.History.{Book}
 use Rattle.mr_history.specs.Node.{Node}
 
@@ -27,11 +27,16 @@ pub record Link : Type 0 where
   pub streams : Bool  -- the server has answered PSYNC by CONTINUE or FULLRESYNC
   pub ask : Way  -- to the server
   pub tell : Way  -- from the server
+  pub transaction : Option Transaction  -- what the requests that the server used have left open
 
 pub record World (L : Language) : Type 0 where
   pub node : ℕ → Option (Node L)
   pub link : ℕ → Option Link
   pub book : Book L
+
+-- The server hasn't answered PSYNC, and no transaction is open: what a handshake finds.
+abbrev pub IsPlain : Link → Type 0
+IsPlain k = (k.streams ≡ false) × (k.transaction ≡ None)
 
 -- the link carries the stream of node n
 abbrev pub hears : ℕ → Link → Bool

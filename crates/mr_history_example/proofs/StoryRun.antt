@@ -249,7 +249,7 @@ step_23 : Row (moment_22) (Event.Deliver 0 Server 1) moment_23
 step_23 = record { at = record { link = link0_1; found = refl; serving = refl; node = node0_0; node_found = refl }; sent = let h : 1 ≤ 1 = omega arith in h; does = Unless.acts refl (record { nodes = λ m. refl; links = set_link_0 _ _ _ _ _; book = λ m. refl }) }
 
 step_24 : Row (moment_23) (Event.Step 0 Server tt 2) moment_24
-step_24 = record { at = record { link = link0_2; found = refl; serving = refl; node = node0_0; node_found = refl }; does = Unless.acts refl (ServerRow.runs (record { client = refl; master = refl; uses = record { text = 10 ∷ []; asks = refl; left = record { left = []; taken = 0 }; reads = record { rest = []; begins = refl; new_is = refl } }; effects = 7 ∷ []; of_request = tt; grown = record { good = All-cons tiny.IsGood 7 [] tt (All-nil tiny.IsGood); within = let h : 2 ≤ 6 = omega arith in h; held = 7 ∷ []; folds = refl; backlog = 1 ∷ 7 ∷ []; last_bytes = ([], refl); nodes = set_node_0 _ _ _; book = record { history = history0_0; found = refl; book = set_id_0 _ _ _ _ } }; reply = 99 ∷ []; link = refl; no_links = told_links_0_none; links = told_links_0 })) }
+step_24 = record { at = record { link = link0_2; found = refl; serving = refl; node = node0_0; node_found = refl }; does = Unless.acts refl (ServerRow.runs (record { client = refl; master = refl; uses = record { text = 10 ∷ []; asks = refl; left = record { left = []; taken = 0 }; reads = record { rest = []; begins = refl; new_is = refl } }; effects = 7 ∷ []; of_request = tt; transaction = None; leads = refl; grown = record { good = All-cons tiny.IsGood 7 [] tt (All-nil tiny.IsGood); within = let h : 2 ≤ 6 = omega arith in h; held = 7 ∷ []; folds = refl; backlog = 1 ∷ 7 ∷ []; last_bytes = ([], refl); nodes = set_node_0 _ _ _; book = record { history = history0_0; found = refl; book = set_id_0 _ _ _ _ } }; reply = 99 ∷ []; link = refl; no_links = told_links_0_none; links = told_links_0 })) }
 
 step_25 : Row (moment_24) (Event.Deliver 1 Dialler 2) moment_25
 step_25 = inl (record { at = record { link = link1_10; found = refl; n = 1; node = node1_6; node_found = refl; phase = Stream; follow = refl }; sent = let h : 2 ≤ 2 = omega arith in h; does = Unless.acts refl (record { nodes = λ m. refl; links = set_link_1 _ _ _ _ _; book = λ m. refl }) })
@@ -276,7 +276,7 @@ step_32 : Row (moment_31) (Event.Deliver 2 Server 1) moment_32
 step_32 = record { at = record { link = link2_4; found = refl; serving = refl; node = node1_8; node_found = refl }; sent = let h : 1 ≤ 1 = omega arith in h; does = Unless.acts refl (record { nodes = λ m. refl; links = set_link_2 _ _ _ _ _; book = λ m. refl }) }
 
 step_33 : Row (moment_32) (Event.Step 2 Server tt 2) moment_33
-step_33 = record { at = record { link = link2_5; found = refl; serving = refl; node = node1_8; node_found = refl }; does = Unless.acts refl (ServerRow.runs (record { client = refl; master = refl; uses = record { text = 10 ∷ []; asks = refl; left = record { left = []; taken = 0 }; reads = record { rest = []; begins = refl; new_is = refl } }; effects = 8 ∷ []; of_request = tt; grown = record { good = All-cons tiny.IsGood 8 [] tt (All-nil tiny.IsGood); within = let h : 4 ≤ 6 = omega arith in h; held = 8 ∷ 7 ∷ []; folds = refl; backlog = 1 ∷ 7 ∷ 1 ∷ 8 ∷ []; last_bytes = ([], refl); nodes = set_node_1 _ _ _; book = record { history = history2_0; found = refl; book = set_id_2 _ _ _ _ } }; reply = 99 ∷ []; link = refl; no_links = told_links_1_none; links = told_links_1 })) }
+step_33 = record { at = record { link = link2_5; found = refl; serving = refl; node = node1_8; node_found = refl }; does = Unless.acts refl (ServerRow.runs (record { client = refl; master = refl; uses = record { text = 10 ∷ []; asks = refl; left = record { left = []; taken = 0 }; reads = record { rest = []; begins = refl; new_is = refl } }; effects = 8 ∷ []; of_request = tt; transaction = None; leads = refl; grown = record { good = All-cons tiny.IsGood 8 [] tt (All-nil tiny.IsGood); within = let h : 4 ≤ 6 = omega arith in h; held = 8 ∷ 7 ∷ []; folds = refl; backlog = 1 ∷ 7 ∷ 1 ∷ 8 ∷ []; last_bytes = ([], refl); nodes = set_node_1 _ _ _; book = record { history = history2_0; found = refl; book = set_id_2 _ _ _ _ } }; reply = 99 ∷ []; link = refl; no_links = told_links_1_none; links = told_links_1 })) }
 
 step_34 : Row (moment_33) (Event.Command 0 (13 ∷ 1 ∷ 5 ∷ [])) moment_34
 step_34 = record { link = link0_3; found = refl; client = refl; becomes = record { nodes = λ m. refl; links = set_link_0 _ _ _ _ _; book = λ m. refl } }

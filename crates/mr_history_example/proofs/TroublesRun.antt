@@ -121,7 +121,7 @@ step_31 : Row moment_30 (Event.Step 0 Server tt 3) moment_31
 step_31 = record { at = record { link = link0_2; found = refl; serving = refl; node = node0_1; node_found = refl }; does = Unless.acts refl (ServerRow.skips (record { uses = record { text = 14 ∷ []; asks = refl; left = record { left = 10 ∷ []; taken = 1 }; reads = record { rest = 10 ∷ []; begins = refl; new_is = refl } }; becomes = record { nodes = λ m. refl; links = changed links_17 0 _ link0_3 refl; book = λ m. refl } })) }
 
 step_32 : Row moment_31 (Event.Step 0 Server tt 3) moment_32
-step_32 = record { at = record { link = link0_3; found = refl; serving = refl; node = node0_1; node_found = refl }; does = Unless.acts refl (ServerRow.passes_limit (record { client = refl; master = refl; uses = record { text = 10 ∷ []; asks = refl; left = record { left = []; taken = 0 }; reads = record { rest = []; begins = refl; new_is = refl } }; effects = 1 ∷ 2 ∷ 3 ∷ []; of_request = tt; beyond = let h : 6 < 8 = omega arith in h; reply = 96 ∷ []; becomes = record { nodes = λ m. refl; links = changed links_18 0 _ link0_4 refl; book = λ m. refl } })) }
+step_32 = record { at = record { link = link0_3; found = refl; serving = refl; node = node0_1; node_found = refl }; does = Unless.acts refl (ServerRow.passes_limit (record { client = refl; master = refl; uses = record { text = 10 ∷ []; asks = refl; left = record { left = []; taken = 0 }; reads = record { rest = []; begins = refl; new_is = refl } }; effects = 1 ∷ 2 ∷ 3 ∷ []; of_request = tt; transaction = None; leads = refl; beyond = let h : 6 < 8 = omega arith in h; reply = 96 ∷ []; becomes = record { nodes = λ m. refl; links = changed links_18 0 _ link0_4 refl; book = λ m. refl } })) }
 
 step_33 : Row moment_32 (Event.Command 0 (0 ∷ [])) moment_33
 step_33 = record { link = link0_4; found = refl; client = refl; becomes = record { nodes = λ m. refl; links = changed links_19 0 _ link0_5 refl; book = λ m. refl } }

@@ -88,15 +88,15 @@ tiny_laws = record {
   text_cut = λ e f x y p q h. cc;
   says_cut = λ s t a b x y p q h.
       let e = line_cut a b x y (ap (λ z. z ++ x) (sym p) ∙ (h ∙ ap (λ z. z ++ y) q)) in (p ∙ (ap (λ z. line_text z) e ∙ sym q), e);
-  asks_cut = λ s t a b x y p q h.
+  asks_cut = λ n s t a b x y p q h.
       let e = request_cut a b x y (ap (λ z. z ++ x) (sym p) ∙ (h ∙ ap (λ z. z ++ y) q)) in (p ∙ (ap (λ z. request_text z) e ∙ sym q), e);
   loads_cut = λ s t a b x y p q h.
       let f = ap (λ z. z ++ x) (sym p) ∙ (h ∙ ap (λ z. z ++ y) q) in
       let e : a ≡ b = same_length a b x y (cc) (cc) in (p ∙ (ap (λ z. snapshot_text z) e ∙ sym q), e);
   text_some = λ e h. cc;
   says_some = λ t a p e. line_some a (sym p ∙ e);
-  asks_some = λ t a p e. request_some a (sym p ∙ e);
+  asks_some = λ n t a p e. request_some a (sym p ∙ e);
   loads_some = λ t m p e. absurd (let h = sym p ∙ e in cc);
-  doomed_cut = λ s t a x y d p e. doomed_apart s a x y d (e ∙ ap (λ z. z ++ y) p);
+  doomed_cut = λ n s t a x y d p e. doomed_apart s a x y d (e ∙ ap (λ z. z ++ y) p);
   doomed_some = λ d. d;
 }
