@@ -1,5 +1,5 @@
--- The language of minired's replicas.
-use Rattle.std.specs.Prelude.{ℕ, List, bytes_eq}
+-- The language of minired's replicas. No request begins a transaction.
+use Rattle.std.specs.Prelude.{◌≡◌, ℕ, List, bytes_eq}
 use Rattle.std.specs.FinMap.{empty}
 use Rattle.mr_inline.specs.Language.{IsDoomed}
 use Rattle.mr_resp.specs.Request.{IsText}
@@ -29,10 +29,11 @@ minired = record {
   IsGood = IsGoodEffect;
   limit = most_counted;
   Given = Given;
-  effects = HasEffects;
+  effects = λ room transaction. HasEffects;
   due = IsDue;
+  leads = λ master transaction text new. new ≡ transaction;
   says = Says;
-  asks = IsAsked;
+  asks = λ transaction. IsAsked;
   loads = IsSnapshot;
   doomed = IsDoomed (IsText usual);
   restores = IsReadAs;

@@ -124,6 +124,17 @@ module _ (w : WorldState) (book : Book minired) (l : ℕ) (k : Link) (s : Slot) 
     becomes = becomes request u;
   })) u.quiet
 
+  answers : s.node.core.master ≡ false → Uses Command → Event
+  answers replica u = event (ServerRow.answers (record {
+    client = plain;
+    replica = replica;
+    uses = steps.uses_of w book l k s given fresh b outs holds served u.words u.rest u.asks Command u.kind;
+    transaction = None;
+    leads = refl;
+    reply = outs.reply;
+    becomes = becomes Command u;
+  })) u.quiet
+
   greets : Says outs.reply Plain → Uses Handshake → Event
   greets says u = event (ServerRow.greets (record {
     client = plain;
@@ -152,6 +163,8 @@ module _ (w : WorldState) (book : Book minired) (l : ℕ) (k : Link) (s : Slot) 
     effects = effects;
     of_request = record { words = u.words; request = u.asks.request; reply = reply; plan = plan };
     beyond = past;
+    transaction = None;
+    leads = refl;
     reply = outs.reply;
     becomes = becomes Command u;
   })) u.quiet
@@ -161,7 +174,7 @@ module _ (w : WorldState) (book : Book minired) (l : ℕ) (k : Link) (s : Slot) 
   unchanged reply u plan closed kind = go s.node.core.master refl
     where
       go : (c : Bool) → s.node.core.master ≡ c → Event
-      go false e = replies Command e u
+      go false e = answers e u
       go true e =
           let place : s.node.core.lineage.stream.offset ≡ s.node.core.lineage.stream.offset + 0 = omega arith in
           let countable = window.countable in
@@ -227,7 +240,7 @@ module _ (w : WorldState) (book : Book minired) (l : ℕ) (k : Link) (s : Slot) 
             greets (subst (λ z. Says z Plain) (sym (said ∙ (told ∙ ap reply_text p.0))) says_pong) (used Handshake words asks (kind_asks words handshake Handshake (ap kind_by ping) refl) t.0 t.1)
         go false e (inl kind) =
             let t = still (none_on_replica (not s.node.core.master) words given s.node.core.held reply effects (ap not e) plan.planned) in
-            replies Command e (used Command words asks (kind_asks words command Command kind refl) t.0 t.1)
+            answers e (used Command words asks (kind_asks words command Command kind refl) t.0 t.1)
         go true e (inl kind) =
             let mine : HasPlan false s.node.core.held words given reply effects = subst (λ c. HasPlan c s.node.core.held words given reply effects) (ap not e) plan in
             steps.runs w book l k s given fresh b outs holds served words r.rest asks effects reply (left_of s.node.core words given) (last_of s.node.core.lineage.stream.capacity (s.node.core.lineage.stream.held ++ texts effects)) plain e kind mine r.leaves.is (record {

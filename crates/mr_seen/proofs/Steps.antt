@@ -175,6 +175,8 @@ module _ (w : WorldState) (book : Book minired) (l : ℕ) (k : Link) (s : Slot) 
           nodes = node_becomes (record (seen_node s) { held = held; offset = s.node.core.lineage.stream.offset + length (texts effects); backlog = backlog }) g.node;
           book = extends w.book book s.node.core.lineage.id effects (record { start = node.start; effects = node.earlier ++ node.later }) there;
         };
+        transaction = None;
+        leads = refl;
         reply = outs.reply;
         link = here (reached k.to outs) w.links l m k served.found ∙ ap (λ z. Some z) (here_client a.text rest c is a.begins);
         no_links = λ j ne e. fed_there j ne ∙ ap (option_map (λ y. told_if (hears k.to y) y outs.grown)) e;

@@ -56,7 +56,7 @@ seen_caller (a_client b) = Client b
 seen_caller (a_node n name) = Peer n
 
 abbrev pub seen_link : Link → history.Link
-seen_link k = record { caller = seen_caller k.caller; to = k.to; serving = k.serving; streams = k.streams; ask = seen_way k.ask; tell = seen_way k.tell }
+seen_link k = record { caller = seen_caller k.caller; to = k.to; serving = k.serving; streams = k.streams; ask = seen_way k.ask; tell = seen_way k.tell; transaction = None }
 
 -- The book is related to the entries, not computed from them: see `Books`.
 abbrev pub seen : WorldState → Book minired → history.World minired
