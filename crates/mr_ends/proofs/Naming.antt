@@ -79,6 +79,14 @@ put_lists ns m l e h same = record {
   once = h.once;
 }
 
+-- an end that the stream isn't sent to was put where there was none
+pub unput_lists : (ns : List LinkId) (m : FinMap id_cmp EndState) (l : LinkId) (e : EndState) → get m l ≡ None → streams (Some e) ≡ false → Lists ns (insert m l e) → Lists ns m
+unput_lists ns m l e none quiet h = record {
+  each = λ x. h.each x ∙ (ap streams (get-insert ids_total m l e x)
+      ∙ at_or_not x l (λ b. streams (cond b (Some e) (get m x)) ≡ streams (get m x)) (λ is. quiet ∙ sym (ap (λ z. streams (get m z)) is ∙ ap streams none)) refl);
+  once = h.once;
+}
+
 -- one that is the same
 pub same_lists : (ns : List LinkId) (m : FinMap id_cmp EndState) (l : LinkId) (e f : EndState) → Lists ns m → get m l ≡ Some e → f ≡ e → Lists ns (insert m l f)
 same_lists ns m l e f h here is = put_lists ns m l f h (ap (λ (z : EndState). streams (Some z)) is ∙ sym (ap streams here))

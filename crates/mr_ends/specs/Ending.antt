@@ -1,5 +1,5 @@
 -- What one end does.
-use Rattle.std.specs.Prelude.{◌≡◌, ◌≤◌, ◌+◌, ◌++◌, ℕ, List, Bool, true, false, Option, None, Some, length, drop}
+use Rattle.std.specs.Prelude.{◌≡◌, ◌≤◌, ◌+◌, ◌++◌, ℕ, List, length, drop}
 use Rattle.mr_resp.specs.declared.progress.Progress.{Progress}
 use Rattle.mr_ends.specs.State.{EndState, full}
 use Rattle.mr_ends.specs.State.EndState.{client, replica, upstream, shut}

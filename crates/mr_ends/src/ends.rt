@@ -1,4 +1,4 @@
-ghost use Rattle.std.specs.Prelude.{◌≡◌, ◌<◌, ◌^◌, None, Some, [], length, false, IfOk, not, filter, OnOk, OnErr, IsSome, option_copied};
+ghost use Rattle.std.specs.Prelude.{◌≡◌, ◌+◌, ◌<◌, ◌^◌, None, Some, [], length, false, IfOk, not, filter, OnOk, OnErr, IsSome, option_copied};
 ghost use Rattle.std.specs.FinMap as map;
 ghost use Rattle.std.specs.Ordering.{eq_by_cmp};
 ghost use Rattle.mr_links.specs.LinkId.{id_cmp};
@@ -99,6 +99,17 @@ impl Ends {
         ensures err { OnErr result (self.new ≡ self.old) }
     {
         self.insert(End::client(self.alloc))
+    }
+
+    /// Undoes `open`: takes out a client's end that was opened last, and of which nothing is unread, as if it had never been opened.
+    pub fn take_back(&mut self, link: LinkId)
+        requires open { end_at self.old link ≡ Some (client []) }
+        requires last { self.old.opened ≡ link.generation + 1 }
+        ensures fresh { end_at self.new link ≡ None }
+        ensures generation { link.generation ≡ self.new.opened }
+        ensures opens { self.old ≡ opened_as self.new link (client []) }
+    {
+        let _ = self.links.take_back(link);
     }
 
     /// Opens the end of a link to a master under a new name. Where memory is lacking nothing has changed.

@@ -1,4 +1,4 @@
-use Rattle.std.proofs.Common.{List, ℕ, drop, length, sym, subst, arith}
+use Rattle.std.proofs.Common.{List, ℕ, drop, sym, subst, arith}
 use Rattle.std.proofs.lemmas.List.{length-drop}
 use Rattle.mr_ends.specs.Progresses.{Fits}
 use Rattle.mr_ends.proofs.Progressing.{fresh_along}

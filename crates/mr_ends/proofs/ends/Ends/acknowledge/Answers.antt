@@ -1,7 +1,5 @@
-use Rattle.std.proofs.Common.{◌≡◌, Some, sym, ap, ◌∙◌, rules}
+use Rattle.std.proofs.Common.{◌≡◌, Some, sym, ◌∙◌}
 use Rattle.std.specs.FinMap.{get}
-use Rattle.mr_links.specs.Links.{Links}
-use Rattle.mr_ends.specs.State.{EndState}
 use Rattle.mr_ends.proofs.Naming.{same_lists}
 use Rattle.mr_ends.proofs.Places.{same_links}
 use Rattle.mr_ends.proofs.ends.Ends.acknowledge.Goals as goal

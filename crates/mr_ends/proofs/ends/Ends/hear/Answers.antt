@@ -1,5 +1,4 @@
-use Rattle.std.proofs.Common.{◌≡◌, Some, Ok, Err, OnErr, Result, sym, ap, ◌∙◌}
-use Rattle.std.specs.FinMap.{get}
+use Rattle.std.proofs.Common.{Some, Ok, Err, OnErr, Result, sym, ap, ◌∙◌}
 use Rattle.mr_ends.specs.State.{EndState, streams}
 use Rattle.mr_ends.proofs.Naming.{same_lists, put_lists, heard_streams}
 use Rattle.mr_ends.proofs.Places.{same_links}

@@ -1,6 +1,6 @@
-use Rattle.std.proofs.Common.{◌≡◌, Some, None, sym, ap, subst, ◌∙◌, rules}
+use Rattle.std.proofs.Common.{◌≡◌, None, sym, ap, subst, ◌∙◌, rules}
 use Rattle.std.specs.FinMap.{get}
-use Rattle.mr_ends.specs.State.{EndState, streams}
+use Rattle.mr_ends.specs.State.{streams}
 use Rattle.mr_ends.specs.Replicas.{Lists}
 use Rattle.mr_ends.proofs.Naming.{put_lists}
 use Rattle.mr_ends.proofs.ends.Ends.insert.Goals as goal

@@ -3,7 +3,7 @@ use Rattle.std.specs.FinMap.{get, insert}
 use Rattle.mr_links.specs.Links.{Links}
 use Rattle.mr_ends.specs.State.{EndState, streams}
 use Rattle.mr_ends.specs.Replicas.{Lists}
-use Rattle.mr_ends.specs.State.EndState.{client, replica}
+use Rattle.mr_ends.specs.State.EndState.{replica}
 use Rattle.mr_ends.proofs.Naming.{turned_lists}
 use Rattle.mr_ends.proofs.ends.Ends.turn.Goals as goal
 
