@@ -21,19 +21,19 @@ use crate::config::Config;
 use mr_course::Course;
 use mr_data::Dataset;
 use mr_links::LinkId;
-use mr_outs::Outs;
+use mr_outs::{Buffers, Outs};
 use mr_repl::{Lineage, ReplId};
 use mr_state::State;
 use std::alloc::{AllocError, Global};
 use std::marker::Model;
 use std::mem;
 
-/// A node: what it holds, and the room of its outs.
+/// A node: what it holds, and buffers for its outs.
 #[derive(Drop)]
 pub struct Node {
     alloc: Global,
     state: State,
-    spare: Outs,
+    spare: Buffers,
 }
 
 impl Model for Node {
@@ -64,7 +64,7 @@ impl Node {
         Ok(Node {
             alloc,
             state: State::new(alloc, config.port, course, held),
-            spare: Outs::new(alloc),
+            spare: Buffers::new(alloc),
         })
     }
 
@@ -87,21 +87,20 @@ impl Node {
         self.state.sound();
     }
 
-    /// Takes outs back, to use their room again.
+    /// Takes outs back, to use their buffers again.
     pub fn reuse(&mut self, outs: Outs)
         ensures { self.new ≡ self.old }
     {
-        self.spare = outs;
+        self.spare = outs.into_buffers();
     }
 
-    /// The outs kept for the next step, emptied.
+    /// Outs for the next step, with nothing in them.
     fn fresh_outs(&mut self, link: Option<LinkId>) -> Outs
         ensures outs { result ≡ record no_outs { link = link } }
         ensures same { self.new ≡ self.old }
     {
-        let mut outs = mem::replace(&mut self.spare, Outs::new(self.alloc));
-        outs.reset(link);
-        outs
+        let buffers = mem::replace(&mut self.spare, Buffers::new(self.alloc));
+        Outs::begin(buffers, link)
     }
 
     /// Uses so many unread bytes of a client's or of a replica's link.

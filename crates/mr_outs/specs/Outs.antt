@@ -1,5 +1,5 @@
 -- What a call on a node gives out.
-use Rattle.std.specs.Prelude.{ℕ, List, [], ◌∷◌, ◌++◌, Bool, true, false, Option, Some, None, map, refl}
+use Rattle.std.specs.Prelude.{ℕ, List, [], ◌∷◌, ◌++◌, Bool, true, false, Option, Some, None, refl}
 use Rattle.std.specs.Coded.{Coded, code_by, coded×, coded_ℕ, coded_bool, coded_list, coded_option}
 use Rattle.mr_links.specs.LinkId.{coded_id}
 use Rattle.mr_links.specs.declared.link_id.LinkId.{LinkId}

@@ -2,9 +2,11 @@
 #![tactic(auto)]
 
 mod address;
+mod buffers;
 mod out;
 mod outs;
 
 pub use address::Address;
+pub use buffers::Buffers;
 pub use out::{Out, OutsIter};
 pub use outs::Outs;

@@ -8,6 +8,7 @@ ghost use Rattle.mr_effect.specs.declared.effect.Effect.TheVariants as effect;
 ghost use Rattle.mr_outs.specs.Outs.{no_outs, outs_of};
 
 use crate::address::Address;
+use crate::buffers::Buffers;
 use crate::out::OutsIter;
 use mr_effect::{Effect, encode, encode_all};
 use mr_links::LinkId;
@@ -17,7 +18,7 @@ use std::alloc::{AllocError, Global};
 use std::marker::Model;
 use std::mem;
 
-/// What a step gives out. A node uses its room again.
+/// What a step gives out. A node uses its buffers again.
 pub struct Outs {
     alloc: Global,
     link: Option<LinkId>,
@@ -25,15 +26,16 @@ pub struct Outs {
     texts: Vec<u8>,
     /// How many of them go behind the append-only file: those in front.
     filed: usize,
-    /// Whether a master's stream grew by them.
-    grows: bool,
-    replaced: Option<Vec<u8>>,
     fed: Vec<LinkId>,
     reply: Vec<u8>,
-    closes: bool,
     closed: Vec<LinkId>,
-    used: Option<ReplId>,
+    replaced: Option<Vec<u8>>,
     follows: Option<Address>,
+    // the small ones side by side: each request moves all of it
+    used: Option<ReplId>,
+    /// Whether a master's stream grew by the texts.
+    grows: bool,
+    closes: bool,
     halts: bool,
 }
 
@@ -45,14 +47,14 @@ impl Drop for Outs {
             link: _,
             texts: _,
             filed: _,
-            grows: _,
-            replaced: _,
             fed: _,
             reply: _,
-            closes: _,
             closed: _,
-            used: _,
+            replaced: _,
             follows: _,
+            used: _,
+            grows: _,
+            closes: _,
             halts: _,
         } = self;
     }
@@ -177,47 +179,66 @@ impl Outs {
     }
 }
 
-// What is put into it. Where memory is lacking it may hold anything.
+// Where it comes from, and what is left of it.
 impl Outs {
-    /// Nothing. It takes no memory.
-    pub fn new(alloc: Global) -> Outs
-        ensures { result ≡ no_outs }
+    /// Outs of a step on this link, none where it is a tick, in these buffers. Nothing is put into them yet. It takes no memory.
+    pub fn begin(buffers: Buffers, link: Option<LinkId>) -> Outs
+        ensures { result ≡ record no_outs { link = link } }
     {
+        let Buffers {
+            alloc,
+            mut texts,
+            mut fed,
+            mut reply,
+        } = buffers;
+        texts.clear();
+        fed.clear();
+        reply.clear();
         Outs {
             alloc,
-            link: None,
-            texts: Vec::new(alloc),
+            link,
+            texts,
             filed: 0,
-            grows: false,
-            replaced: None,
-            fed: Vec::new(alloc),
-            reply: Vec::new(alloc),
-            closes: false,
+            fed,
+            reply,
             closed: Vec::new(alloc),
-            used: None,
+            replaced: None,
             follows: None,
+            used: None,
+            grows: false,
+            closes: false,
             halts: false,
         }
     }
 
-    /// Empties it, for a step on this link. It keeps its room.
-    pub fn reset(&mut self, link: Option<LinkId>)
-        ensures { self.new ≡ record no_outs { link = link } }
-    {
-        self.link = link;
-        self.filed = 0;
-        self.texts.clear();
-        self.grows = false;
-        self.replaced = None;
-        self.fed.clear();
-        self.reply.clear();
-        self.closes = false;
-        self.closed.clear();
-        self.used = None;
-        self.follows = None;
-        self.halts = false;
+    /// Its buffers, for others.
+    pub fn into_buffers(self) -> Buffers {
+        let Outs {
+            alloc,
+            link: _,
+            texts,
+            filed: _,
+            fed,
+            reply,
+            closed: _,
+            replaced: _,
+            follows: _,
+            used: _,
+            grows: _,
+            closes: _,
+            halts: _,
+        } = self;
+        Buffers {
+            alloc,
+            texts,
+            fed,
+            reply,
+        }
     }
+}
 
+// What is put into it. Where memory is lacking it may hold anything.
+impl Outs {
     /// A master's stream grows by these effects, and so does the file.
     pub fn grow(&mut self, effects: &[Effect<'_>]) -> Result<(), AllocError>
         requires { (self.old.grown ≡ []) × (self.old.appended ≡ []) }
