@@ -1,3 +1,4 @@
 pub mod Looking
 pub mod StoryRun
 pub mod TroublesRun
+pub mod TransferRun

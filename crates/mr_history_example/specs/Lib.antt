@@ -3,3 +3,4 @@ pub mod TinyLaws
 pub mod Looks
 pub mod Story
 pub mod Troubles
+pub mod Transfer

@@ -1,7 +1,8 @@
 -- A language of numbers: an effect puts its number in front of a list, and each text is a byte for its kind and the numbers behind it. Streams
--- have six bytes at most, so that a run can come to the end of one.
-use Rattle.std.specs.Prelude.{ℕ, zero, suc, List, [], ◌∷◌, ◌≡◌, Option, None, Some, length, ◌==◌}
-use Rattle.mr_history.specs.Language.{Language, Line, Request}
+-- have six bytes at most, so that a run can come to the end of one. A client may begin a transaction, in which its requests wait for the end:
+-- each has one effect there.
+use Rattle.std.specs.Prelude.{ℕ, zero, suc, List, [], ◌∷◌, ◌++◌, ◌≡◌, Option, None, Some, Bool, true, false, cond, length, ◌==◌}
+use Rattle.mr_history.specs.Language.{Language, Line, Request, Transaction}
 use Rattle.mr_history.specs.Language.Line.{FullResync, Continue, Plain, Refusal}
 use Rattle.mr_history.specs.Language.Request.{Handshake, Psync, Ack, Command, ReplicaOfNoOne, ReplicaOf, Empty, Quit}
 
@@ -25,6 +26,46 @@ request_text (ReplicaOf host) = 13 ∷ length host ∷ host
 request_text Empty = 14 ∷ []
 request_text Quit = 15 ∷ []
 
+-- what a text says by itself
+pub data Said : Type 0 where
+  Asks : Request ℕ → Said
+  Begin : Said
+  End : Said
+
+abbrev pub said_text : Said → List ℕ
+said_text (Asks request) = request_text request
+said_text Begin = 16 ∷ []
+said_text End = 17 ∷ []
+
+-- within a transaction all but a goodbye and nothing is a command
+abbrev pub meant : Option Transaction → Said → Request ℕ
+meant None (Asks request) = request
+meant None _ = Command
+meant (Some transaction) (Asks Quit) = Quit
+meant (Some transaction) (Asks Empty) = Empty
+meant (Some transaction) _ = Command
+
+abbrev pub IsAsked : Option Transaction → List ℕ → Request ℕ → Type 0
+IsAsked transaction text request = (said : Said) × (text ≡ said_text said) × (request ≡ meant transaction said)
+
+abbrev pub kind_of : List ℕ → ℕ
+kind_of [] = 0
+kind_of (kind ∷ rest) = kind
+
+-- what is open behind a command
+abbrev pub left_open : Option Transaction → List ℕ → Option Transaction
+left_open None text = cond (kind_of text == 16) (Some (record { queued = []; marked = false })) None
+left_open (Some transaction) text = cond (kind_of text == 17) None (Some (record transaction { queued = transaction.queued ++ text ∷ [] }))
+
+abbrev pub AreNone : Bool → List ℕ → Type 0
+AreNone true effects = effects ≡ []
+AreNone false effects = Unit {0}
+
+-- A command has any effects, but none where it begins a transaction or waits in one. The end has one for each that waited.
+abbrev pub HasEffects : Option Transaction → List ℕ → List ℕ → Type 0
+HasEffects None text effects = AreNone (kind_of text == 16) effects
+HasEffects (Some transaction) text effects = length effects ≡ cond (kind_of text == 17) (length transaction.queued) 0
+
 abbrev pub snapshot_text : List ℕ → List ℕ
 snapshot_text numbers = 12 ∷ length numbers ∷ numbers
 
@@ -46,11 +87,11 @@ tiny = record {
   IsGood = λ e. Unit {0};
   limit = 6;
   Given = Unit {0};
-  effects = λ room transaction request m given effects. Unit {0};
+  effects = λ room transaction text m given effects. HasEffects transaction text effects;
   due = λ room m given effects. Unit {0};
-  leads = λ master old request new. new ≡ old;
+  leads = λ master old text new. new ≡ left_open old text;
   says = λ text line. text ≡ line_text line;
-  asks = λ transaction text request. text ≡ request_text request;
+  asks = IsAsked;
   loads = λ text m. text ≡ snapshot_text m;
   doomed = BeginsWithZero;
   restores = λ file m. m ≡ [];

@@ -1,10 +1,11 @@
 -- The tiny language keeps the laws.
-use Rattle.std.proofs.Common.{ℕ, zero, suc, List, [], ◌∷◌, ◌++◌, ◌≡◌, ◌≢◌, Option, None, Some, refl, sym, ◌∙◌, ap, length, arith}
+use Rattle.std.proofs.Common.{ℕ, zero, suc, List, [], ◌∷◌, ◌++◌, ◌≡◌, ◌≢◌, ◌<◌, Option, None, Some, refl, sym, ◌∙◌, ap, length, arith}
 use Rattle.std.proofs.lemmas.Bool.Decides.{Decides-eqb}
 use Rattle.mr_history.specs.Language.{Laws, Line, Request}
 use Rattle.mr_history.specs.Language.Line.{FullResync, Continue, Plain, Refusal}
 use Rattle.mr_history.specs.Language.Request.{Handshake, Psync, Ack, Command, ReplicaOfNoOne, ReplicaOf, Empty, Quit}
-use Rattle.mr_history_example.specs.Tiny.{tiny, BeginsWithZero, line_text, wanted_text, request_text, snapshot_text}
+use Rattle.mr_history_example.specs.Tiny.{tiny, BeginsWithZero, Said, line_text, wanted_text, request_text, said_text, meant, snapshot_text}
+use Rattle.mr_history_example.specs.Tiny.Said.{Asks, Begin, End}
 
 same_length : (h k x y : List ℕ) → length h ≡ length k → h ++ x ≡ k ++ y → h ≡ k
 same_length [] [] x y n e = refl
@@ -54,12 +55,6 @@ request_cut Empty _ x y e = cc
 request_cut Quit Quit x y e = refl
 request_cut Quit _ x y e = cc
 
-line_some : (a : Line ℕ) → line_text a ≢ []
-line_some (FullResync i o) e = cc
-line_some (Continue i) e = cc
-line_some Plain e = cc
-line_some Refusal e = cc
-
 request_some : (a : Request ℕ) → request_text a ≢ []
 request_some Handshake e = cc
 request_some (Psync q) e = cc
@@ -69,6 +64,39 @@ request_some ReplicaOfNoOne e = cc
 request_some (ReplicaOf h) e = cc
 request_some Empty e = cc
 request_some Quit e = cc
+
+-- the kinds of requests are below those of what begins and ends a transaction
+below : (a : Request ℕ) (kind : ℕ) (x y : List ℕ) → 15 < kind → request_text a ++ x ≡ kind ∷ y → ⊥
+below Handshake kind x y h e = let f : 6 ≡ kind = cc in omega (arith, h, f)
+below (Psync q) kind x y h e = let f : 7 ≡ kind = cc in omega (arith, h, f)
+below Ack kind x y h e = let f : 9 ≡ kind = cc in omega (arith, h, f)
+below Command kind x y h e = let f : 10 ≡ kind = cc in omega (arith, h, f)
+below ReplicaOfNoOne kind x y h e = let f : 11 ≡ kind = cc in omega (arith, h, f)
+below (ReplicaOf host) kind x y h e = let f : 13 ≡ kind = cc in omega (arith, h, f)
+below Empty kind x y h e = let f : 14 ≡ kind = cc in omega (arith, h, f)
+below Quit kind x y h e = let f : 15 ≡ kind = cc in omega (arith, h, f)
+
+said_cut : (a b : Said) (x y : List ℕ) → said_text a ++ x ≡ said_text b ++ y → a ≡ b
+said_cut (Asks r) (Asks q) x y e = ap (λ z. Asks z) (request_cut r q x y e)
+said_cut (Asks r) Begin x y e = absurd (below r 16 x y (omega arith) e)
+said_cut (Asks r) End x y e = absurd (below r 17 x y (omega arith) e)
+said_cut Begin (Asks q) x y e = absurd (below q 16 y x (omega arith) (sym e))
+said_cut Begin Begin x y e = refl
+said_cut Begin End x y e = cc
+said_cut End (Asks q) x y e = absurd (below q 17 y x (omega arith) (sym e))
+said_cut End Begin x y e = cc
+said_cut End End x y e = refl
+
+said_some : (a : Said) → said_text a ≢ []
+said_some (Asks r) e = request_some r e
+said_some Begin e = cc
+said_some End e = cc
+
+line_some : (a : Line ℕ) → line_text a ≢ []
+line_some (FullResync i o) e = cc
+line_some (Continue i) e = cc
+line_some Plain e = cc
+line_some Refusal e = cc
 
 doomed_apart : (s : List ℕ) (a : Request ℕ) (x y : List ℕ) → BeginsWithZero s → s ++ x ≡ request_text a ++ y → ⊥
 doomed_apart [] a x y d e = d
@@ -82,6 +110,13 @@ doomed_apart (zero ∷ s) (ReplicaOf h) x y d e = cc
 doomed_apart (zero ∷ s) Empty x y d e = cc
 doomed_apart (zero ∷ s) Quit x y d e = cc
 
+said_apart : (s : List ℕ) (a : Said) (x y : List ℕ) → BeginsWithZero s → s ++ x ≡ said_text a ++ y → ⊥
+said_apart s (Asks r) x y d e = doomed_apart s r x y d e
+said_apart [] _ x y d e = d
+said_apart (suc n ∷ s) _ x y d e = d
+said_apart (zero ∷ s) Begin x y d e = cc
+said_apart (zero ∷ s) End x y d e = cc
+
 pub tiny_laws : Laws tiny
 tiny_laws = record {
   same_decides = Decides-eqb;
@@ -89,14 +124,15 @@ tiny_laws = record {
   says_cut = λ s t a b x y p q h.
       let e = line_cut a b x y (ap (λ z. z ++ x) (sym p) ∙ (h ∙ ap (λ z. z ++ y) q)) in (p ∙ (ap (λ z. line_text z) e ∙ sym q), e);
   asks_cut = λ n s t a b x y p q h.
-      let e = request_cut a b x y (ap (λ z. z ++ x) (sym p) ∙ (h ∙ ap (λ z. z ++ y) q)) in (p ∙ (ap (λ z. request_text z) e ∙ sym q), e);
+      let e = said_cut p.0 q.0 x y (ap (λ z. z ++ x) (sym p.1) ∙ (h ∙ ap (λ z. z ++ y) q.1)) in
+      (p.1 ∙ (ap (λ z. said_text z) e ∙ sym q.1), p.2 ∙ (ap (λ z. meant n z) e ∙ sym q.2));
   loads_cut = λ s t a b x y p q h.
       let f = ap (λ z. z ++ x) (sym p) ∙ (h ∙ ap (λ z. z ++ y) q) in
       let e : a ≡ b = same_length a b x y (cc) (cc) in (p ∙ (ap (λ z. snapshot_text z) e ∙ sym q), e);
   text_some = λ e h. cc;
   says_some = λ t a p e. line_some a (sym p ∙ e);
-  asks_some = λ n t a p e. request_some a (sym p ∙ e);
+  asks_some = λ n t a p e. said_some p.0 (sym p.1 ∙ e);
   loads_some = λ t m p e. absurd (let h = sym p ∙ e in cc);
-  doomed_cut = λ n s t a x y d p e. doomed_apart s a x y d (e ∙ ap (λ z. z ++ y) p);
+  doomed_cut = λ n s t a x y d p e. said_apart s p.0 x y d (e ∙ ap (λ z. z ++ y) p.1);
   doomed_some = λ d. d;
 }

@@ -3,6 +3,8 @@ ghost use Rattle.mr_history.specs.Promises.{NoSilentDifference};
 ghost use Rattle.mr_history.specs.Runs.{Moments, nowhere};
 ghost use Rattle.mr_history_example.specs.Story.{EndsLevel, events, moments};
 ghost use Rattle.mr_history_example.specs.Tiny.{tiny};
+ghost use Rattle.mr_history_example.specs.Transfer.{ActsAtItsEnd};
+ghost use Rattle.mr_history_example.specs.Transfer as transfer;
 ghost use Rattle.mr_history_example.specs.Troubles.{EndsAnew};
 ghost use Rattle.mr_history_example.specs.Troubles as troubles;
 
@@ -29,6 +31,16 @@ pub fn trouble_is_a_run()
 /// At its end the node that stopped and started again shows its new id at offset 0, and nothing else.
 pub fn trouble_ends_anew()
     ensures { EndsAnew }
+{}
+
+/// A client begins a transaction, two requests wait in it, and its end comes: that is a run.
+pub fn a_transaction_is_a_run()
+    ensures { Moments (nowhere tiny) transfer.events transfer.moments }
+{}
+
+/// Nothing of it shows before its end, and all of it at once then.
+pub fn a_transaction_acts_at_its_end()
+    ensures { ActsAtItsEnd }
 {}
 
 /// The headline of every language is that of the tiny one.
