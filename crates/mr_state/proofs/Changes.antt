@@ -16,12 +16,12 @@ use Rattle.mr_ends.specs.Ending.{HasUnread, Takes, heard_of, used_of}
 use Rattle.mr_ends.specs.Parts.{HasAhead, HasRoom, HearsAt, IsClient, TurnsAt, UsesAt}
 use Rattle.mr_ends.proofs.Naming.{heard_streams, used_streams}
 use Rattle.mr_outs.specs.Address.{AddressState}
-use Rattle.mr_rows.specs.State.{IsNode, NodeState}
+use Rattle.mr_rows.specs.State.{Agrees, IsNode, NodeState}
 use Rattle.mr_rows.specs.LinkRows.{Opens, follow_without}
 use Rattle.mr_rows.specs.Growing.{grown_by}
 use Rattle.mr_state.specs.Parts.{Commits, node_of, with_ends, without_one}
 use Rattle.mr_state.specs.Listening.{is_name}
-use Rattle.mr_state.proofs.Nodes.{alone_node, closed_node, dialled_node, get_put, opened_node, put_node}
+use Rattle.mr_state.proofs.Nodes.{alone_node, closed_node, dialled_node, get_put, opened_node, put_node, unopened_node}
 
 -- ---- an end that the node serves goes on as one
 takes_not : (n : ℕ) (e : EndState) → Takes n e → e ≡ upstream → ⊥
@@ -103,6 +103,13 @@ opens_row a b ends (Ok l) same fresh generation opens =
       node = ap (with_ends a) opens;
     })
 opens_row a b ends (Err x) same fresh generation opens = opens
+
+-- .. that is taken back
+pub taken_back_node : (a : NodeState) (l : LinkId) (ends : Links EndState) → IsNode a → end_at ends l ≡ None → a.ends ≡ opened_as ends l (client []) → IsNode (with_ends a ends)
+taken_back_node a l ends i fresh opens = unopened_node (with_ends a ends) l [] fresh (subst (λ z. IsNode (with_ends a z)) opens i)
+
+pub taken_back_row : (a b : NodeState) (l : LinkId) (ends : Links EndState) → a ≡ b → Agrees b l [] → end_at ends l ≡ None → l.generation ≡ ends.opened → a.ends ≡ opened_as ends l (client []) → Opens (with_ends a ends) l b
+taken_back_row a b l ends same agrees fresh generation opens = record { fresh = fresh; generation = generation; agrees = agrees; node = sym same ∙ ap (with_ends a) opens }
 
 module _ (up : Bool) (port : ℕ) (told : Option AddressState) (mark : Option ℤ) (c : CourseState) (m : Dataset) (ends : Links EndState) (i : IsNode (node_of up port told mark c m ends)) where
   pub dials_node : (l : LinkId) (d : CourseState) (after : Links EndState) → c.follow ≡ None → c.master ≡ false → d ≡ dialled l port c → after ≡ opened_as ends l upstream → IsNode (node_of up port told mark d m after)

@@ -63,6 +63,25 @@ opened_node a l u i fresh = record {
     no_client : ◌≡◌ {A = Option EndState} (Some (client u)) (Some upstream) → ⊥
     no_client e = cc
 
+-- .. that is taken back
+un_opened : (m : Links EndState) (l : LinkId) (u : List ℕ) (r : Option (LinkId × FollowState)) → FollowedAt (opened_as m l (client u)) r → FollowedAt m r
+un_opened m l u None h = tt
+un_opened m l u (Some r) h = at_or_not r.0 l (λ b. cond b (Some (client u)) (get m.open_links r.0) ≡ Some upstream → get m.open_links r.0 ≡ Some upstream) (λ is q. absurd (no_client q)) (λ q. q)
+    (sym (get-insert ids_total m.open_links l (client u) r.0) ∙ h)
+  where
+    no_client : ◌≡◌ {A = Option EndState} (Some (client u)) (Some upstream) → ⊥
+    no_client e = cc
+
+pub unopened_node : (a : NodeState) (l : LinkId) (u : List ℕ) → end_at a.ends l ≡ None → IsNode (record a { ends = opened_as a.ends l (client u) }) → IsNode a
+unopened_node a l u fresh i = record {
+  followed = un_opened a.ends l u a.follow i.followed;
+  only = λ x h. i.only x (get-insert ids_total a.ends.open_links l (client u) x
+      ∙ at_or_not x l (λ b. cond b (Some (client u)) (get a.ends.open_links x) ≡ Some upstream) (λ same. absurd (none_some upstream (sym fresh ∙ (ap (get a.ends.open_links) (sym same) ∙ h)))) h);
+  sends = λ x h. i.sends x (ap streams (get-insert ids_total a.ends.open_links l (client u) x)
+      ∙ at_or_not x l (λ b. streams (cond b (Some (client u)) (get a.ends.open_links x)) ≡ true) (λ same. absurd (no_true (sym (ap streams fresh) ∙ (ap (λ z. streams (get a.ends.open_links z)) (sym same) ∙ h)))) h);
+  nobody = i.nobody;
+}
+
 -- .. of the link to a master
 pub dialled_node : (a : NodeState) (l : LinkId) (f : FollowState) → IsNode a → a.follow ≡ None → a.core.master ≡ false → IsNode (record a { ends = opened_as a.ends l upstream; follow = Some (l, f) })
 dialled_node a l f i alone follows = record {

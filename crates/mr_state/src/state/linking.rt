@@ -1,9 +1,9 @@
 // Links that come, are fed and go.
-ghost use Rattle.std.specs.Prelude.{◌≡◌, ◌<◌, ◌^◌, true, false, not, length, None, Some, IfOk, OnOk, OnErr};
+ghost use Rattle.std.specs.Prelude.{◌≡◌, ◌+◌, ◌<◌, ◌^◌, [], true, false, not, length, None, Some, IfOk, OnOk, OnErr};
 ghost use Rattle.mr_ends.specs.State.{EndState, end_at, put_end, serves};
 ghost use Rattle.mr_ends.specs.State.EndState.{shut};
 ghost use Rattle.mr_ends.specs.Parts.{HasAhead, HasRoom, KeepsOn, IsClient, UsesAt, HearsAt, TurnsAt};
-ghost use Rattle.mr_rows.specs.State.{end_of};
+ghost use Rattle.mr_rows.specs.State.{Agrees, end_of};
 ghost use Rattle.mr_rows.specs.LinkRows.{Opens, closed_at};
 ghost use Rattle.mr_state.specs.Listening.{is_name};
 ghost use Rattle.mr_state.specs.Parts.{OnlyEnds, with_ends, dialled_as, fed_as};
@@ -24,6 +24,15 @@ impl State {
         ensures err { OnErr result (self.new ≡ self.old) }
     {
         self.ends.open()
+    }
+
+    /// Undoes `open`: takes out a client's end that was opened last, and of which nothing is unread, as if it had never been opened.
+    pub fn take_back(&mut self, link: LinkId)
+        requires open { Agrees self.old link [] }
+        requires last { self.old.ends.opened ≡ link.generation + 1 }
+        ensures { Opens self.new link self.old }
+    {
+        self.ends.take_back(link);
     }
 
     /// Opens the end of a link to the master. The datasets of snapshots have this seed, which changes no answer.
