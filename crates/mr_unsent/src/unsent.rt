@@ -6,17 +6,28 @@ use std::marker::Model;
 /// A client on whose link more bytes wait is closed in place of its next step.
 pub const MOST_UNSENT: usize = 67_108_864;
 
-/// What an emptied buffer keeps of its room at most.
-const KEPT_ROOM: usize = 65_536;
+/// No more room than this is ever given back.
+const LEAST_ROOM: usize = 65_536;
+
+/// As many bytes as a turn of the event loop reads of one connection. More room is given back as soon as nothing waits.
+const MOST_ROOM: usize = 4_194_304;
+
+/// Room that this many rests in succession found unneeded is given back.
+const RESTS: u8 = 8;
 
 /// The bytes that wait to be sent on a link, in order. Bytes that were moved make room only when more come and they are more
-/// than what waits, so that fewer bytes are shifted than were moved.
+/// than what waits, so that fewer bytes are shifted than were moved. Room is kept for what comes next as long as about as much of
+/// it is needed now and then: growing copies what waits.
 #[derive(Drop)]
 pub struct Unsent {
     alloc: Global,
     bytes: Vec<u8>,
     /// How many of the bytes were moved.
     moved: usize,
+    /// How many bytes there were at most since the last rest, those included that were moved.
+    needed: usize,
+    /// How many rests in succession found most of the room unneeded.
+    unneeded: u8,
 }
 
 impl Model for Unsent {
@@ -38,6 +49,8 @@ impl Unsent {
             alloc,
             bytes: Vec::new(alloc),
             moved: 0,
+            needed: 0,
+            unneeded: 0,
         }
     }
 
@@ -69,6 +82,7 @@ impl Unsent {
     {
         self.compact();
         self.bytes.extend_from_slice(bytes)?;
+        self.needed = self.needed.max(self.bytes.len());
         Ok(())
     }
 
@@ -78,6 +92,9 @@ impl Unsent {
         ensures { self.new ≡ drop count self.old }
     {
         self.moved += count;
+        if self.is_empty() {
+            self.clear();
+        }
     }
 
     /// Drops what waits.
@@ -85,11 +102,34 @@ impl Unsent {
         ensures { self.new ≡ [] }
     {
         self.moved = 0;
-        if self.bytes.capacity() > KEPT_ROOM {
+        if self.bytes.capacity() > MOST_ROOM {
             self.bytes = Vec::new(self.alloc);
         } else {
             self.bytes.clear();
         }
+    }
+
+    /// A while has passed. Where nothing waits, and only little of the room was needed for several of them, it is given back.
+    pub fn rest(&mut self)
+        ensures { self.new ≡ self.old }
+    {
+        if self.has_spare_room() {
+            self.unneeded = self.unneeded.saturating_add(1);
+        } else {
+            self.unneeded = 0;
+        }
+        self.needed = self.bytes.len();
+        if self.unneeded >= RESTS && self.is_empty() {
+            self.unneeded = 0;
+            self.moved = 0;
+            self.bytes = Vec::new(self.alloc);
+        }
+    }
+
+    /// Whether there is much room, and most of it wasn't needed since the last rest.
+    fn has_spare_room(&self) -> bool {
+        let room = self.bytes.capacity();
+        room > LEAST_ROOM && self.needed <= room / 4
     }
 
     /// Bytes that were moved go where they are more than what waits.
@@ -97,10 +137,6 @@ impl Unsent {
         ensures { self.new ≡ self.old }
     {
         let left = self.bytes.len() - self.moved;
-        if left == 0 {
-            self.clear();
-            return;
-        }
         if left < self.moved {
             self.bytes.copy_within(self.moved.., 0);
             self.bytes.truncate(left);
