@@ -12,10 +12,10 @@ use Rattle.mr_links.proofs.LinkRows.{ids_total, exact_ids}
 use Rattle.mr_connections.specs.State.{AreToldApart, ConnectionState, HasLink, IsIndexed, NoneHas, Rows, begun, changed, left, without, without_link}
 use Rattle.mr_connections.proofs.Changed.{get-changed, len-changed}
 
-same_some : {A : Type 0} (x y : A) → Some x ≡ Some y → x ≡ y
+pub same_some : {A : Type 0} (x y : A) → Some x ≡ Some y → x ≡ y
 same_some x y e = ap (λ o. unwrap_or o x) e
 
-never : {A P : Type 0} (x : A) → ◌≡◌ {A = Option A} None (Some x) → P
+pub never : {A P : Type 0} (x : A) → ◌≡◌ {A = Option A} None (Some x) → P
 never x e = absurd (let wrong : false ≡ true = ap is_some e in cc)
 
 pub alike : (q k : LinkId) → q ≡ k → eq_by_cmp id_cmp q k ≡ true

@@ -1,5 +1,5 @@
 -- What a contract sees of the connections of an event loop.
-use Rattle.std.specs.Prelude.{◌≡◌, ℕ, List, [], ◌++◌, Bool, false, cond, map, drop, Option, None, Some, refl}
+use Rattle.std.specs.Prelude.{◌≡◌, ◌≤◌, ℕ, List, [], ◌∷◌, ◌++◌, Bool, false, true, ◌||◌, cond, map, drop, Option, None, Some, refl}
 use Rattle.std.specs.Coded.{Coded, code_by, coded×, coded_ℕ, coded_list, coded_option}
 use Rattle.std.specs.FinMap.{FinMap, from_entries, entries, get, insert, len, remove}
 use Rattle.std.specs.Ordering.{eq_by_cmp}
@@ -69,6 +69,41 @@ sent link bytes m = at_link link (pushed bytes) m
 -- the node's end of this link is closed
 abbrev pub parted : LinkId → Rows → Rows
 parted link m = at_link link left m
+
+-- who is done
+
+-- the node's end is closed, and nothing waits any more
+abbrev pub is_nothing : Option LinkId → List ℕ → Bool
+is_nothing None [] = true
+is_nothing None (b ∷ rest) = false
+is_nothing (Some link) bytes = false
+
+abbrev pub is_done_at : Option ConnectionState → Bool
+is_done_at None = false
+is_done_at (Some c) = is_nothing c.link c.waiting
+
+-- **No connection is done**: of each of them the node has an end, or something waits.
+pub record NoneDone (m : Rows) : Type 0 where
+  pub none : (socket : LinkId) (c : ConnectionState) → get m socket ≡ Some c → c.link ≡ None → c.waiting ≡ [] → ⊥
+
+abbrev pub is_among : LinkId → List LinkId → Bool
+is_among socket [] = false
+is_among socket (s ∷ rest) = eq_by_cmp id_cmp socket s || is_among socket rest
+
+-- none of these stands there twice
+abbrev pub AreOnce : List LinkId → Type 0
+AreOnce [] = Unit {0}
+AreOnce (s ∷ rest) = (is_among s rest ≡ false) × AreOnce rest
+
+-- Those that are done are listed, each once, and nobody else is. There is room for all connections.
+pub record IsListed (m : Rows) (list : List LinkId) (room : ℕ) : Type 0 where
+  pub listed : (socket : LinkId) → is_among socket list ≡ is_done_at (get m socket)
+  pub once : AreOnce list
+  pub fits : len m ≤ room
+
+-- a list with one more, where it is to be listed
+abbrev pub listing : Bool → LinkId → List LinkId → List LinkId
+listing is socket list = cond is (list ++ socket ∷ []) list
 
 -- who has which link
 

@@ -96,7 +96,7 @@ impl Connection {
     }
 
     /// Whether its end is closed and nothing waits any more.
-    pub fn is_done(&self) -> bool
+    pub(crate) fn is_done(&self) -> bool
         ensures { IsTrue result ↔ ((self.now.link ≡ None) × (self.now.waiting ≡ [])) }
     {
         self.link.is_none() && self.unsent.is_empty()
@@ -132,11 +132,11 @@ impl Connection {
         }
     }
 
-    /// Whether it is written to next, and wasn't before: something waits, or the node's end is closed.
+    /// Whether it is written to next, and wasn't before: something waits.
     pub(crate) fn note(&mut self) -> bool
         ensures { self.new ≡ self.old }
     {
-        let is_new = !self.noted && (!self.unsent.is_empty() || self.link.is_none());
+        let is_new = !self.noted && !self.unsent.is_empty();
         self.noted = self.noted || is_new;
         is_new
     }
@@ -166,6 +166,13 @@ impl Connection {
         ensures { self.new ≡ wrote count self.old }
     {
         self.unsent.advance(count);
+    }
+
+    /// A while has passed: room for what waits that isn't needed any more is given back.
+    pub(crate) fn rest(&mut self)
+        ensures { self.new ≡ self.old }
+    {
+        self.unsent.rest();
     }
 
     /// The node's end is closed.

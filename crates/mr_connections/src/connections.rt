@@ -1,6 +1,9 @@
-ghost use Rattle.std.specs.Prelude.{◌≡◌, ◌≤◌, ◌↔◌, length, IfNone, IfSome, IsTrue, None, OnErr, OnOk, option_copied};
+ghost use Rattle.std.specs.Prelude.{◌≡◌, ◌≤◌, ◌<◌, ◌-◌, ◌↔◌, [], cond, false, true, length, IfNone, IfSome, IsTrue, None, not, OnErr, OnOk, Some, option_copied, slice_index_or, vec_capacity};
 ghost use Rattle.std.specs.FinMap as map;
-ghost use Rattle.mr_connections.specs.State.{AreToldApart, HasLink, NoneHas, begun, changed, left, parted, pushed, sent, wrote};
+ghost use Rattle.std.specs.List.{filter};
+ghost use Rattle.std.specs.Ordering.{eq_by_cmp};
+ghost use Rattle.mr_links.specs.LinkId.{id_cmp};
+ghost use Rattle.mr_connections.specs.State.{AreOnce, AreToldApart, HasLink, NoneDone, NoneHas, begun, changed, is_among, is_done_at, left, listing, parted, pushed, sent, wrote};
 
 use crate::connection::Connection;
 use crate::one;
@@ -20,6 +23,10 @@ pub struct Connections {
     ready: Vec<LinkId>,
     /// Who is written to next, in order.
     noted: Vec<LinkId>,
+    /// Those whose end the node has closed and for which nothing waits, each once. There is room for all.
+    done: Vec<LinkId>,
+    /// In this place who rests next is looked for.
+    resting: usize,
     /// How many connections there are.
     count: usize,
 }
@@ -27,7 +34,8 @@ pub struct Connections {
 impl Model for Connections {
     ghost use Rattle.std.specs.FinMap as map;
     ghost use Rattle.mr_links.specs.LinkId.{id_cmp, coded_id};
-    ghost use Rattle.mr_connections.specs.State.{ConnectionState, IsIndexed, connection_code};
+    ghost use Rattle.std.specs.Prelude.{vec_capacity};
+    ghost use Rattle.mr_connections.specs.State.{ConnectionState, IsIndexed, IsListed, connection_code};
 
     ghost Value = { map.FinMap id_cmp ConnectionState };
 
@@ -35,7 +43,7 @@ impl Model for Connections {
 
     ghost view = { λ c. c.rows };
 
-    ghost invariant = { λ c. IsIndexed c.rows c.sockets c.count };
+    ghost invariant = { λ c. IsIndexed c.rows c.sockets c.count × IsListed c.rows c.done.items (vec_capacity c.done) };
 }
 
 impl Connections {
@@ -49,6 +57,8 @@ impl Connections {
             sockets: Table::new(alloc),
             ready: Vec::new(alloc),
             noted: Vec::new(alloc),
+            done: Vec::new(alloc),
+            resting: 0,
             count: 0,
         }
     }
@@ -101,6 +111,7 @@ impl Connections {
         };
         self.ready.reserve(count)?;
         self.noted.reserve(count)?;
+        self.done.reserve(count)?;
         self.sockets.put(link, socket)?;
         let connection = Connection::new(self.alloc, link);
         if self.rows.put(socket, connection).is_err() {
@@ -123,12 +134,22 @@ impl Connections {
         self.note(socket);
     }
 
-    /// The node's end of a connection is closed.
+    /// The node's end of a connection is closed, which wasn't before.
     fn leave(&mut self, socket: LinkId)
+        requires { is_done_at (map.get self.old socket) ≡ false }
         ensures { self.new ≡ changed socket left self.old }
     {
         one::forget_link(&self.rows, &mut self.sockets, socket);
         one::leave(&mut self.rows, socket);
+        list_done(&self.rows, &mut self.done, socket);
+    }
+
+    /// A connection whose end the node has closed and for which nothing waits, if there is one.
+    pub fn next_done(&self) -> Option<LinkId>
+        ensures some { IfSome result (λ socket. map.get self.now socket ≡ Some (record { link = None; waiting = [] })) }
+        ensures none { IfNone result (NoneDone self.now) }
+    {
+        self.done.last().copied()
     }
 
     /// Takes a connection out.
@@ -139,6 +160,7 @@ impl Connections {
             return;
         }
         one::forget_link(&self.rows, &mut self.sockets, socket);
+        unlist(&mut self.done, socket);
         self.rows.remove(socket);
         self.count = self.count.saturating_sub(1);
     }
@@ -159,8 +181,9 @@ impl Connections {
         Ok(())
     }
 
-    /// Puts bytes behind what waits for a connection.
+    /// Puts bytes behind what waits for a connection that isn't done.
     fn push(&mut self, socket: LinkId, bytes: &[u8]) -> Result<(), AllocError>
+        requires { is_done_at (map.get self.old socket) ≡ false }
         ensures ok { OnOk result (self.new ≡ changed socket (pushed bytes.now) self.old) }
         ensures err { OnErr result (self.new ≡ self.old) }
     {
@@ -172,7 +195,11 @@ impl Connections {
         requires { IfSome (map.get self.old socket) (λ c. count ≤ length c.waiting) }
         ensures { self.new ≡ changed socket (wrote count) self.old }
     {
+        if one::is_done(&self.rows, socket) {
+            return;
+        }
         one::advance(&mut self.rows, socket, count);
+        list_done(&self.rows, &mut self.done, socket);
     }
 
     /// The replies of a connection were large: less of it is read at once.
@@ -215,8 +242,7 @@ impl Connections {
         self.ready.get(index).copied()
     }
 
-    /// A connection is written to next, behind the others, where something waits for it or the node's end is closed. Its room was
-    /// taken as it joined.
+    /// A connection is written to next, behind the others, where something waits for it. Its room was taken as it joined.
     pub fn note(&mut self, socket: LinkId)
         ensures { self.new ≡ self.old }
     {
@@ -235,12 +261,73 @@ impl Connections {
         self.noted.get(index).copied()
     }
 
-    /// Nobody is written to next any more.
+    /// Nobody is written to next any more. One connection after another rests: each time another.
     pub fn forget_noted(&mut self)
         ensures { self.new ≡ self.old }
     {
         forget_each(&mut self.rows, &self.noted);
         self.noted.clear();
+        self.rest_next();
+    }
+
+    /// The connection in the next place rests, if there is one.
+    fn rest_next(&mut self)
+        ensures { self.new ≡ self.old }
+    {
+        if let Some(socket) = self.rows.name_at(self.resting) {
+            one::rest(&mut self.rows, socket);
+        }
+        self.resting = self.rows.place_behind(self.resting);
+    }
+}
+
+/// Lists a connection that is done.
+fn list_done(rows: &Table<Connection>, done: &mut Vec<LinkId>, socket: LinkId)
+    requires { is_done_at (map.get rows.now socket) ≡ true → length done.old.items < vec_capacity done.old }
+    ensures items { done.new.items ≡ listing (is_done_at (map.get rows.now socket)) socket done.old.items }
+    ensures room { vec_capacity done.old ≤ vec_capacity done.new }
+{
+    if one::is_done(rows, socket) {
+        let _room = done.push(socket);
+    }
+}
+
+/// Takes a connection out of those that are done.
+fn unlist(done: &mut Vec<LinkId>, socket: LinkId)
+    requires { AreOnce done.old.items }
+    ensures others { (k : LinkId) → is_among k done.new.items ≡ cond (eq_by_cmp id_cmp k socket) false (is_among k done.old.items) }
+    ensures once { AreOnce done.new.items }
+    ensures room { vec_capacity done.new ≡ vec_capacity done.old }
+{
+    if is_last(done, socket) {
+        let _last = done.pop();
+    } else {
+        drop_socket(done, socket);
+    }
+}
+
+/// Drops a socket, wherever it stands.
+fn drop_socket(sockets: &mut Vec<LinkId>, socket: LinkId)
+    ensures items { sockets.new.items ≡ filter (λ s. not (eq_by_cmp id_cmp s socket)) sockets.old.items }
+    ensures room { vec_capacity sockets.new ≡ vec_capacity sockets.old }
+{
+    sockets.retain(|name| is_other(*name, socket));
+}
+
+/// Whether two sockets differ.
+fn is_other(name: LinkId, socket: LinkId) -> bool
+    ensures { result ≡ not (eq_by_cmp id_cmp name socket) }
+{
+    name != socket
+}
+
+/// Whether this is the last of some sockets.
+fn is_last(sockets: &[LinkId], socket: LinkId) -> bool
+    ensures { result ≡ true → (0 < length sockets.now) × (slice_index_or sockets.now (length sockets.now - 1) socket ≡ socket) }
+{
+    match sockets.last() {
+        Some(last) => *last == socket,
+        None => false,
     }
 }
 

@@ -1,7 +1,7 @@
 //! What is done with one connection of a table.
 ghost use Rattle.std.specs.Prelude.{◌≡◌, ◌≤◌, ◌↔◌, length, IfSome, IsTrue, OnErr, OnOk};
 ghost use Rattle.std.specs.FinMap as map;
-ghost use Rattle.mr_connections.specs.State.{HasLink, changed, left, pushed, without, wrote};
+ghost use Rattle.mr_connections.specs.State.{HasLink, changed, is_done_at, left, pushed, without, wrote};
 
 use crate::connection::Connection;
 use crate::table::Table;
@@ -37,6 +37,26 @@ pub(crate) fn leave(rows: &mut Table<Connection>, socket: LinkId)
 {
     match rows.get_mut(socket) {
         Some(connection) => connection.leave(),
+        None => {}
+    }
+}
+
+/// Whether a connection is there that is done.
+pub(crate) fn is_done(rows: &Table<Connection>, socket: LinkId) -> bool
+    ensures { result ≡ is_done_at (map.get rows.now socket) }
+{
+    match rows.get(socket) {
+        Some(connection) => connection.is_done(),
+        None => false,
+    }
+}
+
+/// A while has passed.
+pub(crate) fn rest(rows: &mut Table<Connection>, socket: LinkId)
+    ensures { rows.new ≡ rows.old }
+{
+    match rows.get_mut(socket) {
+        Some(connection) => connection.rest(),
         None => {}
     }
 }

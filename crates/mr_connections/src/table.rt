@@ -77,6 +77,27 @@ impl<T: Drop> Table<T> {
         }
     }
 
+    /// The name of the value in a place, if there is one.
+    pub(crate) fn name_at(&self, place: usize) -> Option<LinkId> {
+        match entry_at(&self.places, place) {
+            Some(entry) => Some(LinkId {
+                index: place,
+                generation: entry.generation,
+            }),
+            None => None,
+        }
+    }
+
+    /// The place behind this one, behind the last the first.
+    pub(crate) fn place_behind(&self, place: usize) -> usize {
+        let behind = place.saturating_add(1);
+        if behind < self.places.len() {
+            behind
+        } else {
+            0
+        }
+    }
+
     /// The value under a name, if there is one, to be changed in place.
     pub(crate) fn get_mut(&mut self, id: LinkId) -> Option<&mut T>
         ensures* writes_back { sem 𝓛 (lends_value_if_there T.row self.entry id result) }

@@ -1,5 +1,6 @@
 use Rattle.std.proofs.Common.{◌∙◌}
 use Rattle.mr_connections.specs.State.{pushed}
+use Rattle.mr_connections.proofs.Listed.{linked_not}
 use Rattle.mr_connections.proofs.Sent.{linked-none, linked-one, nil_of, sent-nil}
 use Rattle.mr_connections.proofs.connections.Connections.send.Goals as goal
 
@@ -8,6 +9,9 @@ returns-then-is_empty-clause-ok c = sent-nil c.args.link c.args.bytes.now c.args
 
 pub returns-in_default-clause-ok : goal.returns-in_default-clause-ok
 returns-in_default-clause-ok c = linked-none c.args.link (pushed c.args.bytes.now) c.args.self.now c.in_default.ensures.none
+
+pub push-requires : goal.push-requires
+push-requires c = linked_not c.args.self.now c.in-Some.socket c.args.link c.in-Some.ensures.some
 
 pub returns-clause-ok : goal.returns-clause-ok
 returns-clause-ok c =
