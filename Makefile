@@ -11,37 +11,37 @@ test: $(GATE)
 
 # Every proof and test of the crates and each edit by itself, by `rt ci`, and then the tests of the built program.
 test-all:
-	python3 tests/run.py
+	python3 -m tests.gate.run
 
 # The same, with the edits of different functions of a crate tried in one check.
 test-batched:
-	python3 tests/run.py --batched
+	python3 -m tests.gate.run --batched
 
 # The same, without the edits of crates that are the same as they landed, but for a tenth of these crates by turns.
 test-by-turns:
-	python3 tests/run.py --by-turns
+	python3 -m tests.gate.run --by-turns
 
 # Processor time a request and peak memory, beside redis-server where it is installed. RUNS="SETEX tick" chooses runs by words of their
 # names; with ROUNDS=5 each is made five times, and the least told.
 bench:
-	python3 bench/bench.py $(RUNS)
+	python3 -m bench.bench $(RUNS)
 
 # What a request costs `serve`, beside redis-server over TCP, as a table and a plot.
 bench-serve:
-	python3 bench/serving.py --plot docs/serving.svg $(RUNS)
+	python3 -m bench.serving --plot docs/serving.svg $(RUNS)
 
 # What replicas cost, beside redis-server with as many: SETs, a copy of a million keys, a part, a promotion.
 bench-replicas:
-	python3 bench/replicating.py $(RUNS)
+	python3 -m bench.replicating $(RUNS)
 
 # What single requests on large collections cost `serve`, beside redis-server.
 bench-large:
-	python3 bench/large.py
+	python3 -m bench.large
 
 # The runs of `make bench` by the instructions that they take, under callgrind, which must be installed.
 instructions:
-	python3 bench/instructions.py $(RUNS)
+	python3 -m bench.instructions $(RUNS)
 
 # What a master takes for requests with no replica and with three, and for PSYNC, by instructions.
 instructions-replicas:
-	python3 bench/fanout.py $(RUNS)
+	python3 -m bench.fanout $(RUNS)

@@ -20,12 +20,9 @@ import sys
 import tempfile
 import time
 
-from servers import KEYS, LAUNCHER, MIB, OTHER, ROOT, ROUNDS, VALUE, Minired, Redis, bulk, has_redis, is_chosen, key, least, request, scrambled, timed
-
-import files
-
-sys.path.insert(0, os.path.join(ROOT, "tests"))
-from program import built  # noqa: E402
+from bench import files
+from bench.servers import KEYS, LAUNCHER, MIB, OTHER, ROUNDS, VALUE, Minired, Redis, bulk, has_redis, is_chosen, key, least, request, scrambled, timed
+from tests.support.program import built
 
 PAIRS = 500_000
 

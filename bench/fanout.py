@@ -8,11 +8,11 @@ import os
 import sys
 import tempfile
 
-from instructions import COUNT, control
-from nodes import OK, RedisNode, are_in_step, build, team, wait
-from program import PROGRAM
-from replicas import Node
-from servers import MIB, has_redis, is_chosen, key, request
+from bench.instructions import COUNT, control
+from bench.nodes import OK, RedisNode, are_in_step, build, team, wait
+from bench.servers import MIB, has_redis, is_chosen, key, request
+from tests.support.program import PROGRAM
+from tests.support.replicas import Node
 
 CALLGRIND = ("valgrind", "--quiet", "--tool=callgrind", "--instr-atstart=no")
 REPLICAS = (0, 3)

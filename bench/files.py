@@ -12,7 +12,7 @@ import sys
 import tempfile
 import time
 
-from servers import KEYS, MIB, ROUNDS, VALUE, Minired, Redis, has_redis, is_chosen, medians, request, scrambled, used_by_children
+from bench.servers import KEYS, MIB, ROUNDS, VALUE, Minired, Redis, has_redis, is_chosen, medians, request, scrambled, used_by_children
 
 OK = b"+OK\r\n"
 REWRITE = request(b"BGREWRITEAOF")

@@ -10,11 +10,9 @@ import subprocess
 import sys
 import tempfile
 
-from bench import RUNS
-from servers import LAUNCHER, ROOT, Minired, Redis, has_redis, is_chosen
-
-sys.path.insert(0, os.path.join(ROOT, "tests"))
-from program import PROGRAM  # noqa: E402
+from bench.bench import RUNS
+from bench.servers import LAUNCHER, Minired, Redis, has_redis, is_chosen
+from tests.support.program import PROGRAM
 
 COUNT = re.compile(r"^totals: (\d+)$", re.MULTILINE)
 

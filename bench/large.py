@@ -4,14 +4,11 @@
 
 import os
 import random
-import sys
 import tempfile
 import time
 
-sys.path.insert(0, os.path.join(os.path.dirname(os.path.dirname(os.path.abspath(__file__))), "tests"))
-
-import server
-from program import request
+from tests.support import server
+from tests.support.program import request
 
 MEMBERS, MANY, NEW = 100_000, 1_000_000, 300_000
 # so many words of one request, so many requests that are sent together, and how long a reply may take, in seconds

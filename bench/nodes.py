@@ -1,17 +1,13 @@
 """Masters and replicas of both servers for the benches, on loopback and without files: how they are started, filled, and come to be in step."""
 
 import contextlib
-import os
 import subprocess
-import sys
 import tempfile
 import time
 
-from servers import LAUNCHER, ROOT, key, request
-
-sys.path.insert(0, os.path.join(ROOT, "tests"))
-from replicas import Node  # noqa: E402
-from server import HOST, LATE, RedisServer  # noqa: E402
+from bench.servers import LAUNCHER, key, request
+from tests.support.replicas import Node
+from tests.support.server import HOST, LATE, RedisServer
 
 OK = b"+OK\r\n"
 # so many requests of a client that fills a node are sent together

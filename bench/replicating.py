@@ -19,11 +19,11 @@ import sys
 import threading
 import time
 
-from nodes import OK, RARELY, RedisNode, are_in_step, build, fill, running, team, wait
-from replicas import Node
-from server import HOST
-from servers import KEYS as COPIED
-from servers import MIB, OTHER, ROUNDS, VALUE, has_redis, is_chosen, key, least, medians, peak_of, request, used_by, used_by_children
+from bench.nodes import OK, RARELY, RedisNode, are_in_step, build, fill, running, team, wait
+from bench.servers import KEYS as COPIED
+from bench.servers import MIB, OTHER, ROUNDS, VALUE, has_redis, is_chosen, key, least, medians, peak_of, request, used_by, used_by_children
+from tests.support.replicas import Node
+from tests.support.server import HOST
 
 KINDS = {"minired": Node, "Redis": RedisNode}
 # of so many keys some are set to others of so many values

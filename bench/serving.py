@@ -15,7 +15,7 @@ import sys
 import tempfile
 import time
 
-from servers import KEYS, LAUNCHER, ROUNDS, has_redis, is_chosen, medians, used_by
+from bench.servers import KEYS, LAUNCHER, ROUNDS, has_redis, is_chosen, medians, used_by
 
 # SPOP and ZPOPMIN aren't among them: each run begins with an empty dataset, in which they find nothing
 TESTS = ("ping_mbulk", "set", "get", "incr", "lpush", "lpop", "sadd", "hset", "zadd")

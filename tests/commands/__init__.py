@@ -1,0 +1,1 @@
+"""What each command is answered, and the effects that it has."""

@@ -1,0 +1,1 @@
+"""Plain models that the proved program is compared with."""

@@ -1,0 +1,1 @@
+"""What the pages say, beside the files that they speak of."""

@@ -1,0 +1,203 @@
+"""The pages: each file that one of them links to or names is there; each edit stands in its crate's table, and each named edit is one; lines of prose are short."""
+
+import glob
+import os
+import re
+import unittest
+
+from tests.support.program import ROOT
+
+# how many columns a line of prose has at most
+COLUMNS = 120
+# how many rows the page of a crate has at most before its table of promises, and what each says; rooms say some of it once
+ROWS = 60
+PROMISES = "\n## Promises\n"
+SAID = ("**A contract sees**", "**Claims**")
+LEFT_OPEN = ("ot claimed", "#what-all-rooms-share")
+LINK = re.compile(r"\]\(([^)#\s]+)?(#[^)\s]+)?\)")
+# a path of the repository, as it is named in a page
+NAMED = re.compile(r"`((?:crates/)?(?:mr_\w+|minired|rehearse\w*)/(?:src|specs|proofs|must-fail)/[\w/.-]+|(?:docs|tests|tools|bench)/[\w/.-]+\.\w+)`")
+# a crate whose edits are named behind it, or an edit; a star stands for all that begin so
+EDIT = re.compile(r"`(mr_\w+|minired)`|(?<![\w`./:])([a-z][a-z0-9]*(?:_[a-z0-9]+)*_\*|[a-z][a-z0-9]*(?:_[a-z0-9]+)+)(?![\w*`])")
+
+
+def found(pattern):
+    return [os.path.relpath(path, ROOT) for path in sorted(glob.glob(os.path.join(ROOT, pattern)))]
+
+
+def read(page):
+    with open(os.path.join(ROOT, page), encoding="utf-8") as it:
+        return it.read()
+
+
+def pages():
+    """The text of each page."""
+    return {page: read(page) for page in ["README.md", "tests/README.md", *found("docs/*.md"), *found("crates/*/README.md")]}
+
+
+def without_code(text):
+    """The text without blocks and pieces of code."""
+    return re.sub(r"`[^`\n]*`", "", re.sub(r"^```.*?^```", "", text, flags=re.M | re.S))
+
+
+def prose(text):
+    """The lines of a page, by their numbers, without tables and blocks of code."""
+    lines, is_fenced, is_code, before = {}, False, False, ""
+    for number, line in enumerate(text.split("\n"), 1):
+        is_fence = line.lstrip().startswith("```")
+        # a block without fences stands behind an empty line; what goes on in a list doesn't
+        is_code = line.startswith("    ") and (is_code or not before.strip())
+        if not (is_fenced or is_fence or is_code or line.lstrip().startswith("|")):
+            lines[number] = line
+        is_fenced, before = is_fenced != is_fence, line
+    return lines
+
+
+def anchors(text):
+    """The places of a page that a link can name, by their heads."""
+    heads = re.findall(r"^#+ (.*)$", re.sub(r"^```.*?^```", "", text, flags=re.M | re.S), re.M)
+    return {"#" + re.sub(r"[^\w\- ]", "", head.lower()).replace(" ", "-") for head in heads}
+
+
+def there(path):
+    return os.path.exists(os.path.join(ROOT, path))
+
+
+class Links(unittest.TestCase):
+    def test_each_link_leads_to_a_file_and_a_head_of_it(self):
+        texts = pages()
+        lost = []
+        for page, text in texts.items():
+            for path, head in LINK.findall(without_code(text)):
+                if path.startswith(("http:", "https:")):
+                    continue
+                to = os.path.normpath(os.path.join(os.path.dirname(page), path)) if path else page
+                if not there(to) or (head and head not in anchors(texts.get(to, ""))):
+                    lost.append((page, path + head))
+        self.assertEqual(lost, [])
+
+    def test_each_file_that_is_named_by_its_path_is_there(self):
+        lost = []
+        for page, text in pages().items():
+            for path in NAMED.findall(text):
+                whole = os.path.join("crates", path) if path.startswith(("mr_", "minired", "rehearse")) else path
+                if "*" not in path and "NAME" not in path and "must-fail" not in path and not there(whole):
+                    lost.append((page, path))
+        self.assertEqual(lost, [])
+
+
+class Crates(unittest.TestCase):
+    """Each library has a page of its own, of one page at most, that says the same things of it."""
+
+    def test_each_library_has_a_short_page(self):
+        texts = pages()
+        bad = []
+        for root in found("crates/*/src/lib.rt"):
+            page = os.path.join(os.path.dirname(os.path.dirname(root)), "README.md")
+            said = texts.get(page, "").split(PROMISES)[0]
+            rows, text = said.count("\n"), " ".join(said.split())
+            if not 0 < rows <= ROWS or any(it not in text for it in SAID) or not any(it in text for it in LEFT_OPEN):
+                bad.append(page)
+        self.assertEqual(bad, [])
+
+
+class Tests(unittest.TestCase):
+    def test_each_file_of_the_tests_is_told_of(self):
+        text = read("tests/README.md")
+        folders = ("tests", "tests/*")
+        files = {os.path.basename(it) for folder in folders for kind in ("py", "c", "txt") for it in found(f"{folder}/*.{kind}")} - {"__init__.py"}
+        self.assertEqual([it for it in sorted(files) if f"`{it}`" not in text], [])
+
+
+class Prose(unittest.TestCase):
+    def test_no_line_is_longer_than_120_columns(self):
+        long = [(page, number, len(line)) for page, text in pages().items() for number, line in prose(text).items() if len(line) > COLUMNS]
+        self.assertEqual(long, [])
+
+    def test_tables_and_code_are_no_prose(self):
+        text = "one\n\n    code\n    more\n\n- two\n    goes on\n\n| a |\n|---|\n\n```text\nthree\n```\nfour"
+        self.assertEqual([line for line in prose(text).values() if line], ["one", "- two", "    goes on", "four"])
+
+
+class Walk(unittest.TestCase):
+    """The way of a byte, in docs/ARCHITECTURE.md."""
+
+    def test_it_has_as_many_files_and_crates_as_it_says(self):
+        walk, said = re.search(r"^## The way of a byte$(.*?)^These are (\d+ files of \d+ crates)", read("docs/ARCHITECTURE.md"), re.M | re.S).groups()
+        files = re.findall(r"`(\w+/src/[\w/]+\.rt)`", walk)
+        self.assertEqual(sorted(set(files)), sorted(files))
+        self.assertEqual(f"{len(files)} files of {len({it.split('/')[0] for it in files})} crates", said)
+
+    def test_the_drawing_has_each_crate(self):
+        drawing = re.search(r"^```text$(.*?)^```$", read("docs/ARCHITECTURE.md"), re.M | re.S)[1]
+        # rooms stand there without what all their names begin with
+        crates = [os.path.basename(it).replace("mr_cmd_", "_") for it in found("crates/*")]
+        self.assertEqual([it for it in crates if not re.search(rf"{it}\b", drawing)], [])
+
+
+def tables_of_crates():
+    """The table of promises of each crate, as its rows."""
+    texts = {os.path.basename(os.path.dirname(page)): read(page) for page in found("crates/*/README.md")}
+    return {crate: [it for it in text.split(PROMISES)[1].split("\n") if it.startswith("|")] for crate, text in texts.items() if PROMISES in text}
+
+
+def named(crate, cell):
+    """The edits that a cell names, each with its crate: this one, or the one that is named before it. What tests show is none."""
+    edits = []
+    for other, edit in EDIT.findall(re.split(r"tests?:", cell)[0]):
+        crate = other or crate
+        if edit:
+            edits.append((crate, edit))
+    return edits
+
+
+class Promises(unittest.TestCase):
+    def test_each_library_has_a_table_of_promises(self):
+        crates = [it.split("/")[1] for it in found("crates/*/src/lib.rt")]
+        tables = tables_of_crates()
+        self.assertEqual([it for it in crates if len(tables.get(it, [])) < 3], [])
+
+    def test_each_row_has_a_promise_its_contract_and_wrong_bodies(self):
+        bad = [(crate, row) for crate, rows in tables_of_crates().items() for row in rows if len(re.findall(r"(?<!\\)\|", re.sub(r"`[^`]*`", "", row))) != 4]
+        self.assertEqual(bad, [])
+
+    def test_the_index_has_a_line_on_each_table(self):
+        lines = re.findall(r"^\| \[`(\w+)`\]\(\.\./crates/(\w+)/README\.md#promises\) \| .*[.] \|$", read("docs/PROMISES.md"), re.M)
+        self.assertEqual(sorted(lines), sorted((it, it) for it in tables_of_crates()))
+
+
+class Edits(unittest.TestCase):
+    """The gate plays the tables in a copy without the edits: there nothing is looked up."""
+
+    def setUp(self):
+        self.edits = {(path.split("/")[1], os.path.basename(path)[:-5]) for path in found("crates/*/must-fail/*.edit")}
+
+    def is_there(self, crate, edit):
+        return not self.edits or any(it == crate and (name == edit or (edit.endswith("*") and name.startswith(edit[:-1]))) for it, name in self.edits)
+
+    def test_each_named_wrong_body_is_an_edit(self):
+        cells = [(crate, row.strip("| ").split(" | ")[-1]) for crate, rows in tables_of_crates().items() for row in rows if not row.endswith("| |")]
+        # what the specification names stands in the index, each edit behind its crate
+        specified = read("docs/PROMISES.md").split("\n## The wrong bodies that the specification names\n")[1].split("\n## ")[0]
+        cells += [("", row.split(" | ")[-1]) for row in re.findall(r"^\| .*$", specified, re.M)]
+        lost = [it for crate, cell in cells for it in named(crate, cell) if not self.is_there(*it)]
+        self.assertEqual(lost, [])
+
+    def test_each_edit_stands_in_the_table_of_its_crate(self):
+        said = {(crate, edit) for crate, rows in tables_of_crates().items() for row in rows for it, edit in named(crate, row.split(" | ")[-1]) if it == crate}
+        begun = [(crate, edit[:-1]) for crate, edit in said if edit.endswith("*")]
+        unsaid = [it for it in sorted(self.edits) if it not in said and not any(crate == it[0] and it[1].startswith(edit) for crate, edit in begun)]
+        self.assertEqual(unsaid, [])
+
+    def test_what_a_cell_names(self):
+        for cell, edits in [
+            ("one_edit, another_one", [("a", "one_edit"), ("a", "another_one")]),
+            ("one_edit; `mr_b` its_edit, its_other", [("a", "one_edit"), ("mr_b", "its_edit"), ("mr_b", "its_other")]),
+            ("list_*, one_edit; tests: `test_x` a_test_of_it", [("a", "list_*"), ("a", "one_edit")]),
+            ("(law)", []),
+        ]:
+            self.assertEqual(named("a", cell), edits)
+
+
+if __name__ == "__main__":
+    unittest.main()

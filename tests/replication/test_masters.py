@@ -1,0 +1,279 @@
+"""Servers that follow what is no master, what a master knows of its replicas, and masters that redis-cli names."""
+
+import os
+import random
+import shutil
+import socket
+import subprocess
+import time
+import unittest
+
+from tests.clients.test_clients import ABSENT
+from tests.replication.test_replicas import PART, Replicating, WHOLE, leads
+from tests.server.test_serve import PONG
+from tests.support.program import LATE, request
+from tests.support.replicas import closes, garbage
+from tests.support.replies import OK, READONLY, array, array_of, bulk, number
+from tests.support.server import HOST, until
+
+# how long after the last write a master knows how far its replicas are, in seconds
+ACKNOWLEDGED = 2
+# dials in a second, at most
+MOST_DIALS = 50
+
+
+class WrongMasters(Replicating):
+    """A node that is told to follow what is no master: it serves reads, doesn't spin, and follows again once there is one."""
+
+    def setUp(self):
+        super().setUp()
+        self.replica = self.node()
+        self.writes.play(self.replica, 50)
+        self.assertEqual(self.replica.asks("SET", "k", "v"), OK)
+        self.held = self.looks(self.replica)[0].held
+
+    def serves_reads(self, host, port, link="connect"):
+        """It holds what it held, and says whom it follows and how far it has come."""
+        self.assertEqual(self.replica.asks("GET", "k"), bulk("v"))
+        self.assertEqual(self.replica.asks("SET", "k", "w"), READONLY)
+        self.assertEqual(self.looks(self.replica)[0].held, self.held)
+        role = [array_of(bulk("slave"), bulk(host), number(port), bulk(it), number(self.replica.said().offset)) for it in (link, "sync")]
+        self.assertIn(self.replica.asks("ROLE"), role)
+
+    def does_not_spin(self, seconds=1):
+        """It takes little of the processor's time while it waits."""
+        before, end = self.replica.used(), time.monotonic() + seconds
+        self.comes(lambda: time.monotonic() >= end)
+        self.assertLess(self.replica.used() - before, 0.3 * seconds)
+
+    def follows_again(self, master):
+        """The peer is a master now."""
+        self.writes.play(master, 20)
+        self.assertEqual(master.asks("SET", "right", "v"), OK)
+        self.assertNotEqual(self.caught_up(master, self.replica).held, self.held)
+        self.assertEqual(self.replica.asks("GET", "right"), bulk("v"))
+
+    def test_a_port_where_nobody_listens(self):
+        """It dials again by itself, and follows who listens there at last."""
+        with socket.socket() as it:
+            # nobody else gets it meanwhile, and nobody listens on it
+            it.bind((HOST, 0))
+            port = it.getsockname()[1]
+            self.assertTrue(self.replica.follow(port))
+            self.serves_reads(HOST, port)
+            self.does_not_spin()
+            self.serves_reads(HOST, port)
+        self.follows_again(self.node(port=port))
+
+    def test_hosts_that_are_no_address(self):
+        """No name is looked up."""
+        for host in ("nowhere.invalid", "", "256.1.1.1", "127.0.0.1 ", "::1", "x" * 300):
+            self.assertTrue(self.replica.follow(6379, host))
+            self.serves_reads(host, 6379)
+        self.does_not_spin()
+        master = self.node()
+        self.assertTrue(self.replica.follow(master.port, "localhost"))
+        self.follows_again(master)
+        self.follows(self.replica, master.port, host="localhost")
+
+    def test_a_peer_that_closes_at_once(self):
+        """It is dialled again and again, but not often."""
+        fake = self.fake(closes)
+        self.assertTrue(self.replica.follow(fake.port))
+        self.comes(lambda: fake.dials > 2)
+        before, began = fake.dials, time.monotonic()
+        self.does_not_spin()
+        dials, took = fake.dials - before, time.monotonic() - began
+        self.assertTrue(0 < dials < MOST_DIALS * took, dials)
+        self.serves_reads(HOST, fake.port)
+        fake.close()
+        self.follows_again(self.node(port=fake.port))
+
+    def test_a_peer_that_speaks_nonsense(self):
+        """Whatever is wrong in what a master says, what is held stays."""
+        for at, said in enumerate(NONSENSE):
+            with self.subTest(said=said[:60]):
+                fake = self.fake(garbage(said))
+                self.assertTrue(self.replica.follow(fake.port))
+                self.comes(lambda: fake.dials > 1)
+                self.serves_reads(HOST, fake.port)
+                self.assertLess(fake.dials, MOST_DIALS)
+                fake.close()
+        master = self.node()
+        self.assertTrue(self.replica.follow(master.port))
+        self.follows_again(master)
+
+    def test_a_peer_that_speaks_random_bytes(self):
+        chance = random.Random(16)
+
+        def does(link):
+            link.sendall(chance.choice((b"", GREETED, GREETED + WHOLE + b"a" * 40 + b" 5\r\n$1000\r\n")) + chance.randbytes(chance.choice((1, 100, 2000))))
+
+        fake = self.fake(does)
+        self.assertTrue(self.replica.follow(fake.port))
+        self.comes(lambda: fake.dials > 10)
+        self.serves_reads(HOST, fake.port)
+        fake.close()
+        self.follows_again(self.node(port=fake.port))
+
+    def test_nonsense_in_the_stream(self):
+        """Behind a whole copy and one effect: what was applied is held, under the id of that stream, and nothing else is."""
+        id = "a" * 40
+        snapshot, effect = request("SET", "k", "v"), request("SET", "l", "w")
+        text = GREETED + WHOLE + id.encode() + b" 100\r\n$27\r\n" + snapshot + effect
+        for bad in (b"garbage\r\n", request("NOTHING"), request("GET", "k"), request("LPUSH", "k", "x"), b"*0\r\n"):
+            with self.subTest(bad=bad):
+                fake = self.fake(garbage(text + bad))
+                self.assertTrue(self.replica.follow(fake.port))
+                self.comes(lambda: fake.dials > 1)
+                self.comes(lambda: self.replica.said().shows == (id, 127))
+                self.assertEqual(self.replica.asks("MGET", "k", "l"), array("v", "w"))
+                self.assertEqual(self.replica.asks("DBSIZE"), number(2))
+                fake.close()
+        master = self.node()
+        self.assertTrue(self.replica.follow(master.port))
+        self.follows_again(master)
+
+    def test_a_peer_that_never_answers(self):
+        """Reads are served, and another master may be named."""
+        fake = self.fake(garbage(b""))
+        self.assertTrue(self.replica.follow(fake.port))
+        self.comes(lambda: fake.dials > 0)
+        self.serves_reads(HOST, fake.port, "sync")
+        self.does_not_spin()
+        master = self.node()
+        self.assertTrue(self.replica.follow(master.port))
+        self.follows_again(master)
+
+    def test_itself(self):
+        """A node that follows itself is answered that replicas aren't chained: it serves reads, and doesn't spin."""
+        self.assertTrue(self.replica.follow(self.replica.port))
+        self.does_not_spin()
+        self.serves_reads(HOST, self.replica.port)
+        self.assertTrue(self.replica.promote())
+        self.assertEqual(self.replica.asks("SET", "k", "w"), OK)
+
+    def test_two_that_follow_each_other(self):
+        """Neither sends the other anything; once one is promoted the other goes on by a part."""
+        master, other = self.followed()
+        proxy = self.proxy(master)
+        self.assertTrue(other.follow(proxy.port))
+        self.caught_up(master, other)
+        self.assertTrue(master.follow(other.port))
+        self.comes(lambda: len(proxy.links) > 3)
+        held = self.looks(master, other)
+        self.assertEqual(held[0], held[1])
+        self.assertLess(master.used() + other.used(), 1)
+        new = self.promoted(master)
+        self.assertEqual(master.asks("SET", "k", "v"), OK)
+        self.caught_up(master, other)
+        self.assertIn(PART + new.id.encode(), proxy.heard()[-1])
+
+    def test_a_replica_as_a_master(self):
+        """Replicas aren't chained; who waits at one follows it once it is promoted."""
+        master, between = self.followed()
+        self.assertTrue(self.replica.follow(between.port))
+        self.does_not_spin()
+        self.serves_reads(HOST, between.port)
+        self.promoted(between)
+        self.follows_again(between)
+
+
+# a handshake's answers before that to PSYNC
+GREETED = PONG + OK + OK
+NONSENSE = [
+    b"\0",
+    b"HTTP/1.1 400 Bad Request\r\n\r\n",
+    b"-ERR no\r\n",
+    b"+" + b"x" * 2000,
+    b"$5\r\n",
+    GREETED + b"-LOADING\r\n",
+    GREETED + PART + b"a" * 40 + b" 7\r\n",
+    GREETED + WHOLE + b"a" * 39 + b" 0\r\n$0\r\n",
+    GREETED + WHOLE + b"a" * 40 + b" -1\r\n$0\r\n",
+    GREETED + WHOLE + b"a" * 40 + b" 0\r\n$-1\r\n",
+    GREETED + WHOLE + b"a" * 40 + b" 0\r\n$9223372036854775807\r\n",
+    GREETED + WHOLE + b"a" * 40 + b" 0\r\n$20\r\nREDIS0009garbagegarb",
+    # a command that is cut by the snapshot's end, one that is none, and one that can't be applied
+    GREETED + WHOLE + b"a" * 40 + b" 0\r\n$26\r\n" + request("SET", "k", "w"),
+    GREETED + WHOLE + b"a" * 40 + b" 0\r\n$23\r\n" + request("FOO", "k"),
+    GREETED + WHOLE + b"a" * 40 + b" 0\r\n$54\r\n" + request("SET", "k", "w") + request("INCRBY", "k", "1"),
+]
+
+
+class Acknowledgements(Replicating):
+    def test_a_replica_may_leave_as_much_unread_as_comes(self):
+        """The limit of 64 MiB is for clients: a replica that takes nothing for a while has its link, and then all of the stream, in order."""
+        master = self.node()
+        deaf, value = self.client(master, room=1 << 18), bytes(1 << 20)
+        self.assertEqual(master.asks("SET", "k", value), OK)
+        deaf.send(request("PSYNC", "?", "-1"))
+        self.comes(lambda: master.said().followers == 1)
+        for at in range(80):
+            self.assertEqual(master.asks("SET", "k", b"%02d" % at + value[2:]), OK)
+        self.assertEqual(master.said().followers, 1)
+        last = request("SET", "k", b"79" + value[2:])
+        while deaf.kept.find(last, max(0, len(deaf.kept) - 2 * len(last))) < 0:
+            self.assertTrue(deaf.more())
+        begun = [deaf.kept.find(b"\r\n%02d" % at + value[2:10]) for at in range(80)]
+        self.assertEqual(begun, sorted(begun))
+        self.assertGreater(begun[0], 0)
+
+    def test_a_master_knows_how_far_its_replicas_are(self):
+        """Two seconds after the writes stop ROLE tells each replica's port with the master's offset, in the order in which they came."""
+        master, first, second = self.followed(2)
+        for _ in range(2):
+            self.writes.play(master, 50)
+            self.comes(self.writes.are_calm)
+            self.assertEqual(master.asks("SET", "last", "v"), OK)
+            self.acknowledged(master, first, second)
+        second.kill()
+        self.comes(lambda: master.said().followers == 1)
+        self.acknowledged(master, first)
+
+    def acknowledged(self, master, *nodes):
+        stopped = time.monotonic()
+
+        def are_there():
+            offset = master.said().offset
+            told = master.asks("ROLE")
+            return any(told == leads(offset, *((it, offset) for it in order)) for order in (nodes, nodes[::-1]))
+
+        self.assertTrue(until(are_there, ACKNOWLEDGED), master.asks("ROLE"))
+        self.assertLess(time.monotonic() - stopped, ACKNOWLEDGED + 1)
+
+
+class OfRedisCli(Replicating):
+    def setUp(self):
+        super().setUp()
+        if not shutil.which("redis-cli"):
+            if os.environ.get("ABSENT_CLIENTS") == "named":
+                self.skipTest(ABSENT + "redis-tools")
+            self.fail("the Debian package redis-tools isn't installed")
+
+    def tells(self, node, *words):
+        ran = subprocess.run(["redis-cli", "-p", str(node.port), "--no-raw", *words], capture_output=True, text=True, timeout=LATE)
+        self.assertEqual((ran.returncode, ran.stderr), (0, ""))
+        return ran.stdout
+
+    def test_redis_cli_changes_roles(self):
+        """REPLICAOF and SLAVEOF as redis-cli sends them, and ROLE and INFO as it prints them."""
+        master, replica = self.node(), self.node()
+        self.assertEqual(self.tells(master, "SET", "k", "v"), "OK\n")
+        self.assertEqual(self.tells(replica, "REPLICAOF", HOST, str(master.port)), "OK\n")
+        self.caught_up(master, replica)
+        role = '1) "slave"\n2) "%s"\n3) (integer) %d\n4) "connected"\n5) (integer) 27\n'
+        self.assertEqual(self.tells(replica, "ROLE"), role % (HOST, master.port))
+        self.assertEqual(self.tells(replica, "GET", "k"), '"v"\n')
+        self.assertEqual(self.tells(replica, "SET", "k", "w"), "(error) " + READONLY[1:-2].decode() + "\n")
+        self.assertIn("role:slave", self.tells(replica, "INFO", "replication"))
+        self.assertEqual(self.tells(replica, "SLAVEOF", "no", "one"), "OK\n")
+        self.assertEqual(self.tells(replica, "SET", "k", "w"), "OK\n")
+        self.assertEqual(self.tells(replica, "ROLE"), '1) "master"\n2) (integer) 54\n3) (empty array)\n')
+        self.assertEqual(self.tells(master, "REPLICAOF", HOST, str(replica.port)), "OK\n")
+        self.caught_up(replica, master)
+        self.assertEqual(self.tells(master, "GET", "k"), '"w"\n')
+
+
+if __name__ == "__main__":
+    unittest.main()

@@ -1,0 +1,168 @@
+"""A node's course: its role, its stream, and what becomes of both by what its master sends."""
+
+import unittest
+
+from tests.replication.test_follower import ALL, ANSWERS, CAPABILITIES, PORT, WHOLE
+from tests.support.program import request
+from tests.support.rehearsal import effect
+from tests.support.values import Playing, spelled
+
+A, B, C = (letter * 40 for letter in "abc")
+CAPACITY = 1_048_576
+FIRST, SECOND, THIRD = (effect("SET k " + word) for word in "vwx")
+
+
+def fed(data):
+    return ("feed " + spelled(data), "fed")
+
+
+def heard(what, said=b""):
+    return ("listen", what + " " + spelled(said))
+
+
+def stands(role, has, digits, end, first, before="", reads="", unread=0):
+    """What a course shows: role, whether there is something to continue, its stream, the id before, and who is followed."""
+    names = [role, has, digits, str(end), str(first), before, reads, str(unread)]
+    return ("shows", "shows " + " ".join(name for name in names if name))
+
+
+def holds(texts):
+    return ("commands", "commands " + spelled(texts))
+
+
+def dialled(link, wanted):
+    """The steps of a handshake up to its last line, on the link that was opened as this one."""
+    return [
+        ("dial 0 %d 0" % link, "dialled"),
+        fed(b"".join(ANSWERS[:3])),
+        *[heard("says", line) for line in (PORT, CAPABILITIES, wanted)],
+    ]
+
+
+def asking(digits, end):
+    return request("PSYNC", digits, str(end + 1))
+
+
+def taking(digits, offset, texts):
+    """The steps of a whole snapshot."""
+    return [
+        fed(b"+FULLRESYNC %s %d\r\n$%d\r\n" % (digits.encode(), offset, len(texts)) + texts),
+        heard("announced"),
+        heard("loads", texts),
+    ]
+
+
+def synchronized(link=0):
+    """The steps to a replica at (A, 27), in its stream."""
+    return [
+        ("replica %s %d 0" % (B, CAPACITY), "begun"),
+        *dialled(link, ALL),
+        *taking(A, 27, FIRST),
+        stands("replica", "offers", A, 27, 28, reads="at 0 %d stream" % link),
+        holds(FIRST),
+    ]
+
+
+class Following(Playing):
+    def test_a_snapshot_is_shown_with_its_last_byte_alone(self):
+        """Before it the replica shows its own id and offset, and has nothing to continue."""
+        sent, steps = ANSWERS[4], [("replica %s %d 0" % (B, CAPACITY), "begun"), *dialled(0, ALL), fed(ANSWERS[3]), heard("announced")]
+        for at, byte in enumerate(sent):
+            steps += [heard("idle"), stands("replica", "bare", B, 0, 1, reads="at 0 0 snapshot", unread=at), holds(b"")]
+            steps.append(fed(bytes([byte])))
+        self.plays("course", [*steps, heard("loads", FIRST), stands("replica", "offers", A, 27, 28, reads="at 0 0 stream"), holds(FIRST)])
+
+    def test_a_broken_link_leaves_what_was_applied(self):
+        """A half effect is asked for again, from the byte behind the last whole one."""
+        courses = []
+        for cut in range(len(SECOND)):
+            broken = [fed(SECOND[:cut]), heard("idle"), stands("replica", "offers", A, 27, 28, reads="at 0 0 stream", unread=cut), ("leave", "left")]
+            again = [stands("replica", "offers", A, 27, 28), *dialled(1, asking(A, 27)), fed(b"+CONTINUE %s\r\n" % A.encode() + SECOND)]
+            after = [heard("continues"), heard("applies", SECOND), stands("replica", "offers", A, 54, 28, reads="at 0 1 stream"), holds(SECOND)]
+            courses.append([*synchronized(), *broken, *again, *after])
+        self.plays("course", *courses)
+
+    def test_a_link_that_breaks_within_a_snapshot_leaves_nothing_of_it(self):
+        courses, sent = [], WHOLE[len(b"".join(ANSWERS[:3])) :]
+        begin = [("replica %s %d 0" % (B, CAPACITY), "begun"), *dialled(0, ALL)]
+        for cut in range(len(sent)):
+            first = [heard("announced")] if cut >= len(ANSWERS[3]) else []
+            broken = [fed(sent[:cut]), *first, heard("idle"), ("leave", "left"), stands("replica", "bare", B, 0, 1), holds(b"")]
+            courses.append([*begin, *broken, *dialled(1, ALL), *taking(A, 27, FIRST), stands("replica", "offers", A, 27, 28, reads="at 0 1 stream")])
+        self.plays("course", *courses)
+
+    def test_what_is_applied_is_counted_and_kept(self):
+        """As of a heartbeat too, which changes no key."""
+        ping, steps = effect("PING"), []
+        steps = [*synchronized(), fed(SECOND + ping), heard("applies", SECOND), heard("applies", ping), heard("idle")]
+        self.plays("course", [*steps, stands("replica", "offers", A, 27 + 27 + 14, 28, reads="at 0 0 stream"), holds(SECOND)])
+
+
+class Refusing(Playing):
+    """The master is followed no longer, and what was held stays."""
+
+    def refuses(self, sent, what, wanted, *before):
+        left = [fed(sent), *before, heard(what)]
+        has = "offers" if what == "left" else "bare"
+        self.plays("course", [*synchronized(), *left, stands("replica", has, A, 27, 28), holds(FIRST), *dialled(1, wanted)])
+
+    def test_what_is_no_effect_here_spoils_what_there_is_to_continue(self):
+        self.refuses(request("FOO"), "spoiled", ALL)
+        self.refuses(effect("LPOP k 1"), "spoiled", ALL)
+
+    def synchronizing(self, answer, what, wanted, *before):
+        """The same of what a master sends in place of the stream that was asked for."""
+        has = "offers" if what == "left" else "bare"
+        steps = [*synchronized(), ("leave", "left"), *dialled(1, asking(A, 27)), fed(answer), *before, heard(what)]
+        self.plays("course", [*steps, stands("replica", has, A, 27, 28), holds(FIRST), *dialled(2, wanted)])
+
+    def test_a_bad_line_and_a_refusal_leave_what_there_is_to_continue(self):
+        self.synchronizing(b"+CONTINUE %s\r\n" % (b"a" * 39), "left", asking(A, 27))
+        self.synchronizing(b"-ERR replicas are not chained\r\n", "left", asking(A, 27))
+
+    def test_a_bad_snapshot_spoils_it(self):
+        self.synchronizing(b"+FULLRESYNC %s 5\r\n$3\r\nabc" % B.encode(), "spoiled", ALL, heard("announced"))
+
+
+class Turning(Playing):
+    """A replica is promoted, and masters come back."""
+
+    def promoted(self):
+        """The steps to a master at (B, 54) that was a replica at (A, 27)."""
+        turned = [("promote " + B, "promoted"), stands("master", "offers", B, 27, 28, A + " 28"), ("grow " + spelled(SECOND), "grown")]
+        return [*synchronized(), *turned, stands("master", "offers", B, 54, 28, A + " 28")]
+
+    def test_a_promoted_replica_goes_on_under_a_fresh_id(self):
+        self.plays("course", self.promoted())
+
+    def test_another_replica_goes_on_with_the_promoted_one(self):
+        goes_on = [fed(b"+CONTINUE %s\r\n" % B.encode() + SECOND), heard("continues"), heard("applies", SECOND)]
+        steps = [*synchronized(), ("leave", "left"), *dialled(1, asking(A, 27)), *goes_on]
+        self.plays("course", [*steps, stands("replica", "offers", B, 54, 28, A + " 28", "at 0 1 stream"), holds(SECOND)])
+
+    def test_the_old_master_comes_back(self):
+        """It wrote what nobody took: it is given all, and knows no id before."""
+        old = [("master %s %d 27" % (A, CAPACITY), "begun"), ("grow " + spelled(THIRD), "grown"), ("obey", "obeys"), stands("replica", "offers", A, 54, 28)]
+        taken = [*dialled(0, asking(A, 54)), *taking(B, 54, SECOND)]
+        self.plays("course", [*old, *taken, stands("replica", "offers", B, 54, 55, reads="at 0 0 stream"), holds(SECOND)])
+
+    def test_the_promoted_one_comes_back_and_is_promoted_again(self):
+        """Its second id goes with the snapshot, and the next is the id that it took."""
+        back = [("obey", "obeys"), *dialled(1, asking(B, 54)), *taking(A, 54, THIRD), stands("replica", "offers", A, 54, 55, reads="at 0 1 stream")]
+        again = [("promote " + C, "promoted"), stands("master", "offers", C, 54, 55, A + " 55"), holds(THIRD)]
+        self.plays("course", [*self.promoted(), *back, *again])
+
+    def test_who_has_all_goes_on_without_bytes(self):
+        old = [("master %s %d 27" % (A, CAPACITY), "begun"), ("grow " + spelled(THIRD), "grown"), ("obey", "obeys"), *dialled(0, asking(A, 54))]
+        goes_on = [fed(b"+CONTINUE %s\r\n" % C.encode()), heard("continues"), heard("idle")]
+        self.plays("course", [*old, *goes_on, stands("replica", "offers", C, 54, 28, A + " 55", "at 0 0 stream")])
+
+    def test_a_spoiled_course_asks_for_all(self):
+        self.plays("course", [*synchronized(), ("spoil", "spoiled"), stands("replica", "bare", A, 27, 28), *dialled(1, ALL)])
+
+    def test_a_replica_that_has_something_offers_it_at_once(self):
+        self.plays("course", [("offering %s %d 27" % (A, CAPACITY), "begun"), *dialled(0, asking(A, 27))])
+
+
+if __name__ == "__main__":
+    unittest.main()

@@ -1,0 +1,744 @@
+"""The append-only file of `minired pipe --aof PATH`: what was answered is in it, and a start has the longest good beginning of it."""
+
+import os
+import random
+import resource
+import shutil
+import socket as connection
+import stat
+import subprocess
+import tempfile
+import time
+import unittest
+
+from tests.support.program import LATE, LAUNCHER, PROGRAM, SUPPORT, compiler, notices, request, run
+
+SET_V, SET_W, SET_X = (request("SET", "k", value) for value in "vwx")
+OK = b"+OK\r\n"
+TORN = b"*3\r\n$3\r\nSE"
+# how often the program is killed in the middle of a stream of writes
+KILLS = 200
+NIL = b"$-1\r\n"
+STARTED = b"+Background append only file rewriting started\r\n"
+REWRITE = request("BGREWRITEAOF")
+# how often it is killed in the middle of a rewriting, of a file of so many keys
+REWRITING_KILLS, REWRITTEN_KEYS = 60, 10_000
+# in the year 2100
+FAR = 4_102_444_800_000
+
+
+def bulk(value):
+    return b"$%d\r\n%s\r\n" % (len(value), value)
+
+
+def array(items):
+    return b"*%d\r\n" % len(items) + b"".join(map(bulk, items))
+
+
+def may_grow_to(size):
+    """Has a program that is started behind this write no file past so many bytes. The system sends it a signal where it tries."""
+    return lambda: resource.setrlimit(resource.RLIMIT_FSIZE, (size, size))
+
+
+class OfFile(unittest.TestCase):
+    """Tests on a file of their own in a folder of their own."""
+
+    def setUp(self):
+        folder = tempfile.TemporaryDirectory()
+        self.addCleanup(folder.cleanup)
+        self.folder, self.path = folder.name, os.path.join(folder.name, "data.aof")
+
+    def write(self, data):
+        with open(self.path, "wb") as file:
+            file.write(data)
+
+    def bytes(self):
+        with open(self.path, "rb") as file:
+            return file.read()
+
+    def asked(self, data, *words, **how):
+        """The program's run over the file."""
+        return run(data, "pipe", "--aof", self.path, *words, **how)
+
+    def answers(self, data, wanted, *words, cut=None):
+        """All goes well, and nothing is said, or that these bytes at the file's end were cut off."""
+        was = os.path.getsize(self.path) if cut is not None else 0
+        ran = self.asked(data, *words)
+        said, rest = notices(ran.stderr)
+        self.assertEqual((ran.returncode, rest, ran.stdout), (0, b"", wanted))
+        if cut is None:
+            self.assertEqual(said, [])
+        else:
+            self.was_cut(said, was, cut)
+
+    def was_cut(self, said, was, cut):
+        """These last bytes of so many stand in a copy beside the file, as the one notice says."""
+        copy = self.copies()[-1]
+        self.assertEqual(said, [b"%s: cut off %d bytes from offset %d on, copied to %s before" % (os.fsencode(self.path), len(cut), was - len(cut), os.fsencode(copy))])
+        with open(copy, "rb") as file:
+            self.assertTrue(file.read() == cut)
+
+    def copies(self):
+        """The copies of what was cut off, the first one first."""
+        copies = [it for it in os.listdir(self.folder) if it.startswith("data.aof.cut-")]
+        return [os.path.join(os.path.realpath(self.folder), it) for it in sorted(copies, key=lambda it: int(it.rsplit("-")[-1]))]
+
+    def fails(self, ran, wanted):
+        """The file failed, as the first line says; the second names the file. This was answered until then."""
+        first, second, rest = ran.stderr.split(b"\n")
+        self.assertEqual((ran.returncode, ran.stdout, first, rest), (3, wanted, b"minired: file failed", b""))
+        self.assertIn(os.fsencode(self.path), second)
+
+
+class Starting(OfFile):
+    def test_what_was_answered_is_there_after_the_next_start(self):
+        self.answers(SET_V + SET_W + request("RPUSH", "l", "a", "b"), OK + OK + b":2\r\n")
+        self.answers(request("GET", "k") + request("LRANGE", "l", "0", "-1"), bulk(b"w") + array([b"a", b"b"]))
+
+    def test_the_file_is_the_texts_of_the_effects(self):
+        self.answers(SET_V + SET_W, OK + OK)
+        self.assertEqual(self.bytes(), SET_V + SET_W)
+        self.assertEqual(len(self.bytes()), 54)
+
+    def test_what_changes_nothing_is_not_in_the_file(self):
+        asked = request("PING") + request("GET", "k") + request("SET", "k") + SET_V + SET_V + request("LPUSH", "k", "v") + request("DEL", "none")
+        ran = self.asked(asked)
+        self.assertEqual((ran.returncode, ran.stderr), (0, b""))
+        self.assertEqual(self.bytes(), SET_V)
+
+    def test_a_torn_end_is_cut_off(self):
+        self.write(SET_V + TORN)
+        self.answers(request("GET", "k"), bulk(b"v"), cut=TORN)
+        self.assertEqual(self.bytes(), SET_V)
+        self.answers(SET_W, OK)
+        self.assertEqual(self.bytes(), SET_V + SET_W)
+
+    def test_a_command_that_cannot_be_applied_ends_what_is_loaded(self):
+        for bad in (request("LPOP", "k", "1"), request("FOO"), request("GET", "k"), b"\0", b"SET k w\r\n"):
+            with self.subTest(bad=bad):
+                self.write(SET_V + bad + SET_W)
+                self.answers(request("GET", "k"), bulk(b"v"), cut=bad + SET_W)
+                self.assertEqual(self.bytes(), SET_V)
+
+    def test_any_beginning_of_a_file_loads_its_whole_texts(self):
+        texts = [SET_V, request("HSET", "h", "f", "v"), request("RPUSH", "l", "a"), request("SADD", "s", "m"), request("ZADD", "z", "1", "m")]
+        whole, sizes = b"".join(texts), [sum(map(len, texts[:count])) for count in range(len(texts) + 1)]
+        for cut in range(sizes[2], sizes[5] + 1):
+            with self.subTest(cut=cut):
+                self.write(whole[:cut])
+                count = max(count for count, size in enumerate(sizes) if size <= cut)
+                self.answers(request("DBSIZE"), b":%d\r\n" % count, cut=whole[sizes[count] : cut] or None)
+                self.assertEqual(self.bytes(), whole[: sizes[count]])
+
+    def test_random_bytes_load_nothing(self):
+        data = random.Random(16).randbytes(100_000)
+        self.write(data)
+        self.answers(request("DBSIZE"), b":0\r\n", cut=data)
+        self.assertEqual(self.bytes(), b"")
+
+    def test_deadlines_outlive_a_start(self):
+        self.answers(request("SET", "k", "v", "PX", "500"), OK, "--now", "1000")
+        self.answers(request("GET", "k"), bulk(b"v"), "--now", "1499")
+        self.answers(request("GET", "k"), NIL, "--now", "1500")
+
+    def test_a_large_value_outlives_a_start(self):
+        value = random.Random(5).randbytes(1 << 24)
+        self.answers(request("SET", "k", value), OK)
+        self.answers(request("GET", "k"), bulk(value))
+
+
+class Rewriting(OfFile):
+    """BGREWRITEAOF: the file is then the commands that make the dataset again, and as short as it."""
+
+    def rewrites(self, asked, wanted, *words):
+        """What is asked leaves this file, once it is written anew. A start has the same dataset, so it is written anew as the same."""
+        for data in (b"".join(request(*it.split(" ")) for it in asked), b""):
+            ran = self.asked(data + REWRITE, *words)
+            self.assertEqual((ran.returncode, ran.stderr, ran.stdout[-len(STARTED) :]), (0, b"", STARTED))
+            self.assertEqual(self.bytes(), b"".join(request(*it.split(" ")) for it in wanted))
+
+    def test_the_file_is_as_short_as_the_dataset_before_the_reply(self):
+        program = subprocess.Popen([LAUNCHER, "pipe", "--aof", self.path], stdin=subprocess.PIPE, stdout=subprocess.PIPE, bufsize=0)
+        self.addCleanup(program.communicate)
+        for data, wanted, size in ((SET_V, OK, 27), (SET_W, OK, 54), (REWRITE, STARTED, 27)):
+            program.stdin.write(data)
+            self.assertEqual(program.stdout.read(len(wanted)), wanted)
+            self.assertEqual(len(self.bytes()), size)
+        self.assertEqual(self.bytes(), SET_W)
+
+    def test_the_next_start_has_the_same_dataset(self):
+        made = Made(random.Random(16))
+        self.asked(made.commands() + request("DEL", "none"))
+        before = self.asked(made.questions())
+        self.assertEqual((before.returncode, before.stdout.count(NIL)), (0, 0))
+        long = os.path.getsize(self.path)
+        self.answers(REWRITE, STARTED)
+        self.assertLess(os.path.getsize(self.path), long)
+        self.answers(made.questions(), before.stdout)
+
+    def test_keys_in_byte_order_by_one_command_each(self):
+        self.rewrites(
+            ["SET b x", "SET b y", "RPUSH a 2 1 0", "LPOP a", "SADD c y x z", "SREM c z", "ZADD d 2 m 1 n", "ZINCRBY d 5 n", "HSET e g 2 f 1", "HDEL e g", "INCR f", "INCR f", "SET B z"],
+            ["SET B z", "RPUSH a 1 0", "SET b y", "SADD c x y", "ZADD d 2 m 6 n", "HSET e f 1", "SET f 2"],
+        )
+
+    def test_deadlines_stand_behind_their_keys(self):
+        self.rewrites(
+            ["SET b x PX 500", "RPUSH a 1", "PEXPIRE a 7", "HSET c f 1", "EXPIRE c 2", "PERSIST c", "SETEX d 3 w", "SET d v KEEPTTL"],
+            ["RPUSH a 1", "PEXPIREAT a 1007", "SET b x", "PEXPIREAT b 1500", "HSET c f 1", "SET d v", "PEXPIREAT d 4000"],
+            "--now", "1000",
+        )
+        self.answers(request("PEXPIRETIME", "a") + request("PTTL", "b") + request("TTL", "c"), b":1007\r\n:494\r\n:-1\r\n", "--now", "1006")
+
+    def test_expired_keys_stay_until_they_are_named(self):
+        self.answers(request("SET", "k", "v", "PX", "500") + request("SET", "l", "v"), OK + OK, "--now", "1000")
+        self.answers(REWRITE + request("GET", "k"), STARTED + NIL, "--now", "2000")
+        self.assertEqual(self.bytes(), SET_V + request("PEXPIREAT", "k", "1500") + request("SET", "l", "v") + request("DEL", "k"))
+        self.answers(REWRITE, STARTED)
+        self.assertEqual(self.bytes(), request("SET", "l", "v"))
+
+    def test_large_collections_are_cut_into_64(self):
+        words = ["%03d" % number for number in range(130)]
+        groups = [words[at : at + 64] for at in range(0, 130, 64)]
+
+        def paired(group):
+            return " ".join(it + " " + it for it in group)
+
+        def each_by(name):
+            return [name + " " + " ".join(group) for group in groups]
+
+        def each_paired(name):
+            return [name + " " + paired(group) for group in groups]
+
+        def scored(group):
+            return " ".join("%d %s" % (int(it), it) for it in group)
+
+        backwards = words[::-1]
+        self.rewrites(
+            ["HSET h " + paired(backwards), "RPUSH l " + " ".join(words), "SADD s " + " ".join(backwards), "ZADD z " + scored(backwards)],
+            each_paired("HSET h") + each_by("RPUSH l") + each_by("SADD s") + ["ZADD z " + scored(group) for group in groups],
+        )
+
+    def test_an_empty_dataset_leaves_an_empty_file(self):
+        self.answers(SET_V + request("DEL", "k") + REWRITE, OK + b":1\r\n" + STARTED)
+        self.assertEqual(self.bytes(), b"")
+        self.answers(request("DBSIZE") + SET_W, b":0\r\n" + OK)
+        self.assertEqual(self.bytes(), SET_W)
+
+    def test_what_follows_is_appended_behind_it(self):
+        self.answers(SET_V + SET_W + REWRITE + SET_X + request("GET", "k"), OK + OK + STARTED + OK + bulk(b"x"))
+        self.assertEqual(self.bytes(), SET_W + SET_X)
+        self.answers(request("GET", "k") + REWRITE + REWRITE + SET_V + REWRITE + SET_W, bulk(b"x") + STARTED + STARTED + OK + STARTED + OK)
+        self.assertEqual(self.bytes(), SET_V + SET_W)
+
+    def test_in_any_case_and_without_more_words(self):
+        refused = b"-ERR wrong number of arguments for 'bgrewriteaof' command\r\n"
+        self.answers(SET_V + SET_W + request("BGREWRITEAOF", "now"), OK + OK + refused)
+        self.assertEqual(self.bytes(), SET_V + SET_W)
+        self.answers(b"bgRewriteAof\r\n", STARTED)
+        self.assertEqual(self.bytes(), SET_W)
+
+    def test_without_a_file_it_is_answered_alike(self):
+        ran = run(SET_V + REWRITE + request("GET", "k"), "pipe")
+        self.assertEqual((ran.returncode, ran.stderr, ran.stdout), (0, b"", OK + STARTED + bulk(b"v")))
+
+    def test_a_path_without_a_folder(self):
+        ran = run(SET_V + SET_W + REWRITE + SET_X, "pipe", "--aof", "data.aof", cwd=self.folder)
+        self.assertEqual((ran.returncode, ran.stderr, ran.stdout), (0, b"", OK + OK + STARTED + OK))
+        self.assertEqual(self.bytes(), SET_W + SET_X)
+
+    def test_what_an_earlier_rewriting_left_does_not_matter(self):
+        with open(self.path + ".new", "wb") as file:
+            file.write(1000 * TORN)
+        self.answers(SET_V + SET_W, OK + OK)
+        self.assertEqual(sorted(os.listdir(self.folder)), ["data.aof", "data.aof.lock"])
+        self.answers(REWRITE, STARTED)
+        self.assertEqual(self.bytes(), SET_W)
+        self.assertEqual(sorted(os.listdir(self.folder)), ["data.aof", "data.aof.lock"])
+
+    def test_a_second_program_is_kept_away_still(self):
+        first = subprocess.Popen([LAUNCHER, "pipe", "--aof", self.path], stdin=subprocess.PIPE, stdout=subprocess.PIPE, bufsize=0)
+        first.stdin.write(SET_V + REWRITE)
+        self.assertEqual(first.stdout.read(len(OK)) + first.stdout.read(len(STARTED)), OK + STARTED)
+        self.fails(self.asked(SET_W), b"")
+        rest, _ = first.communicate(SET_X, timeout=LATE)
+        self.assertEqual((first.returncode, rest, self.bytes()), (0, OK, SET_V + SET_X))
+
+    def test_no_place_beside_the_file(self):
+        os.mkdir(self.path + ".new")
+        self.fails(self.asked(SET_V + SET_W + REWRITE + SET_X), OK + OK)
+        self.assertEqual(self.bytes(), SET_V + SET_W)
+
+    def test_a_full_disk(self):
+        texts = b"".join(request("SET", "key%02d" % number, "v") for number in range(100))
+        self.write(texts)
+
+        self.fails(self.asked(REWRITE, preexec_fn=may_grow_to(1000)), b"")
+        self.assertEqual(self.bytes(), texts)
+        self.assertEqual(sorted(os.listdir(self.folder)), ["data.aof", "data.aof.lock"])
+        self.answers(request("DBSIZE") + REWRITE, b":100\r\n" + STARTED)
+        self.assertEqual(self.bytes(), texts)
+
+
+class OfFailing(OfFile):
+    """Calls on the file fail, one at a time."""
+
+    @classmethod
+    def setUpClass(cls):
+        cls.room = tempfile.TemporaryDirectory()
+        cls.addClassCleanup(cls.room.cleanup)
+        cls.shim = os.path.join(cls.room.name, "failing_file.so")
+        source = os.path.join(SUPPORT, "failing_file.c")
+        subprocess.run([*compiler(), "-shared", "-fPIC", "-O1", "-nostdlib", "-o", cls.shim, source], check=True)
+
+    def run_with(self, data=SET_V + SET_W + SET_X, **variables):
+        env = {**os.environ, "LD_PRELOAD": self.shim, **variables}
+        words = [PROGRAM, "pipe", "--aof", self.path]
+        return subprocess.run(words, input=data, capture_output=True, timeout=LATE, env=env)
+
+
+class Failing(OfFailing):
+    def setUp(self):
+        super().setUp()
+        self.write(b"")
+
+    def test_the_second_write_fails(self):
+        self.fails(self.run_with(FAIL_WRITE="2"), OK)
+        self.assertEqual(self.bytes(), SET_V)
+
+    def test_the_sync_of_the_folder_of_a_file_that_was_made_fails(self):
+        os.remove(self.path)
+        self.fails(self.run_with(FAIL_SYNC="1"), b"")
+        self.assertEqual(self.bytes(), b"")
+
+    def test_the_second_sync_fails(self):
+        self.fails(self.run_with(FAIL_SYNC="2"), OK)
+        self.assertEqual(self.bytes(), SET_V + SET_W)
+
+    def test_short_writes_are_gone_on_with(self):
+        ran = self.run_with(SHORT_WRITE="1")
+        self.assertEqual((ran.returncode, ran.stdout, ran.stderr), (0, 3 * OK, b""))
+        self.assertEqual(self.bytes(), SET_V + SET_W + SET_X)
+
+    def test_each_call_fails_in_turn(self):
+        texts = [SET_V, SET_W, SET_X]
+        for call in range(1, 100):
+            self.write(b"")
+            ran = self.run_with(FAIL_CALL=str(call))
+            if ran.returncode == 0:
+                break
+            with self.subTest(call=call):
+                count = len(ran.stdout) // len(OK)
+                self.fails(ran, count * OK)
+                # all that was answered is there, and of what wasn't at most the next text
+                self.assertIn(self.bytes(), [b"".join(texts[:count]), b"".join(texts[: count + 1])])
+        # a read at the start, and a write and a sync for each request
+        self.assertGreater(call, 6)
+        self.assertEqual((ran.stdout, self.bytes()), (3 * OK, b"".join(texts)))
+
+    def test_a_full_disk(self):
+        ran = self.asked(SET_V + SET_W + SET_X, preexec_fn=may_grow_to(40))
+        self.fails(ran, OK)
+        self.assertIn(b"could not be written: ", ran.stderr)
+        torn = (SET_V + SET_W)[:40]
+        self.assertEqual(self.bytes(), torn)
+        self.answers(request("GET", "k"), bulk(b"v"), cut=torn[len(SET_V) :])
+
+
+class FailingRewriting(OfFailing):
+    ASKED = SET_V + SET_W + REWRITE + SET_X
+    REPLIES = [OK, OK, STARTED, OK]
+    # the file before each request, and behind the last
+    FILES = [b"", SET_V, SET_V + SET_W, SET_W, SET_W + SET_X]
+
+    def fails_somewhere(self, ran):
+        """The file failed: it is what it was before the request or behind it, and nothing that isn't there was answered."""
+        answered = next(count for count in range(5) if len(ran.stdout) <= len(b"".join(self.REPLIES[:count])))
+        self.fails(ran, b"".join(self.REPLIES[:answered]))
+        self.assertIn(self.bytes(), self.FILES[answered : answered + 2])
+        self.assertIn(sorted(os.listdir(self.folder)), [["data.aof"], ["data.aof", "data.aof.lock"]])
+        # who comes next goes on from there
+        held = {b"": NIL, SET_V: bulk(b"v")}.get(self.bytes(), bulk(b"x" if self.bytes().endswith(SET_X) else b"w"))
+        self.answers(request("GET", "k") + SET_W + SET_X + REWRITE, held + OK + OK + STARTED)
+        self.assertEqual(self.bytes(), SET_X)
+        return answered
+
+    def test_each_call_fails_in_turn(self):
+        places = []
+        for call in range(1, 100):
+            self.write(b"")
+            ran = self.run_with(self.ASKED, FAIL_CALL=str(call), FAIL_NAMES="1")
+            if ran.returncode == 0:
+                break
+            with self.subTest(call=call):
+                places.append(self.fails_somewhere(ran))
+        self.assertEqual((ran.stdout, self.bytes()), (b"".join(self.REPLIES), self.FILES[4]))
+        # the new file is made, given its mode, locked, written, synced and renamed, and its folder opened and synced
+        self.assertGreaterEqual(places.count(2), 8)
+        self.assertEqual(places, sorted(places))
+
+    def test_the_old_file_stands_until_the_new_one_is_synced(self):
+        # the third sync is that of the new file, the fourth that of its folder
+        for sync, wanted in (("3", SET_V + SET_W), ("4", SET_W)):
+            with self.subTest(sync=sync):
+                self.write(b"")
+                self.fails(self.run_with(self.ASKED, FAIL_SYNC=sync), OK + OK)
+                self.assertEqual(self.bytes(), wanted)
+
+    def test_short_writes_are_gone_on_with(self):
+        ran = self.run_with(self.ASKED, SHORT_WRITE="1")
+        self.assertEqual((ran.returncode, ran.stdout, ran.stderr), (0, b"".join(self.REPLIES), b""))
+        self.assertEqual(self.bytes(), SET_W + SET_X)
+
+
+class Opening(OfFile):
+    def test_two_programs_never_write_one_file(self):
+        first = subprocess.Popen([LAUNCHER, "pipe", "--aof", self.path], stdin=subprocess.PIPE, stdout=subprocess.PIPE)
+        first.stdin.write(SET_V)
+        first.stdin.flush()
+        self.assertEqual(first.stdout.read(len(OK)), OK)
+        self.fails(self.asked(SET_W), b"")
+        self.assertEqual(self.bytes(), SET_V)
+        rest, _ = first.communicate(SET_X, timeout=LATE)
+        self.assertEqual((first.returncode, rest, self.bytes()), (0, OK, SET_V + SET_X))
+
+    def test_a_folder(self):
+        os.mkdir(self.path)
+        self.fails(self.asked(SET_V), b"")
+
+    def test_a_folder_that_is_not_there(self):
+        self.path = os.path.join(self.folder, "none", "data.aof")
+        self.fails(self.asked(SET_V), b"")
+
+    def test_the_empty_path(self):
+        ran = run(SET_V, "pipe", "--aof", "")
+        self.assertEqual((ran.returncode, ran.stdout), (3, b""))
+
+    def test_a_lock_that_cannot_be_made_is_named(self):
+        os.mkdir(self.path + ".lock")
+        ran = self.asked(SET_V)
+        self.fails(ran, b"")
+        self.assertIn(os.fsencode(self.path + ".lock"), ran.stderr)
+        self.assertEqual(self.bytes(), b"")
+
+    def writing(self):
+        """A program that writes the file."""
+        first = subprocess.Popen([LAUNCHER, "pipe", "--aof", self.path], stdin=subprocess.PIPE, stdout=subprocess.PIPE, bufsize=0)
+        self.addCleanup(first.communicate)
+        first.stdin.write(SET_V)
+        self.assertEqual(first.stdout.read(len(OK)), OK)
+        return first
+
+    def test_a_second_program_is_kept_away_under_another_name(self):
+        others = tempfile.TemporaryDirectory()
+        self.addCleanup(others.cleanup)
+        first = self.writing()
+        names = [os.path.join(others.name, it) for it in ("hard", "symbolic", "folder")]
+        os.link(self.path, names[0])
+        os.symlink(self.path, names[1])
+        os.symlink(self.folder, names[2])
+        for name in (names[0], names[1], os.path.join(names[2], "data.aof")):
+            for asked in (None, REWRITE + SET_X):
+                with self.subTest(name=name, asked=asked):
+                    if asked:
+                        first.stdin.write(asked)
+                        self.assertEqual(first.stdout.read(len(STARTED + OK)), STARTED + OK)
+                    if asked and name == names[0]:
+                        # a replaced file has this name no more
+                        continue
+                    held = self.bytes()
+                    ran = run(SET_W, "pipe", "--aof", name)
+                    self.assertEqual((ran.returncode, ran.stdout), (3, b""))
+                    self.assertEqual(ran.stderr, b"minired: file failed\n%s: in use\n" % os.fsencode(name))
+                    self.assertEqual(self.bytes(), held)
+
+    def test_a_rewriting_keeps_links_and_the_mode(self):
+        link = os.path.join(self.folder, "link")
+        os.symlink("data.aof", link)
+        for mode in (0o600, 0o640, 0o666):
+            with self.subTest(mode=mode):
+                self.write(SET_V + SET_W)
+                os.chmod(self.path, mode)
+                if os.geteuid() == 0:
+                    os.chown(self.path, 4321, 4322)
+                ran = run(REWRITE + SET_X, "pipe", "--aof", link)
+                self.assertEqual((ran.returncode, ran.stderr, ran.stdout), (0, b"", STARTED + OK))
+                self.assertEqual((os.readlink(link), self.bytes()), ("data.aof", SET_W + SET_X))
+                now = os.stat(self.path)
+                self.assertEqual(stat.S_IMODE(now.st_mode), mode)
+                if os.geteuid() == 0:
+                    self.assertEqual((now.st_uid, now.st_gid), (4321, 4322))
+                self.assertEqual(sorted(os.listdir(self.folder)), ["data.aof", "data.aof.lock", "link"])
+
+    def test_a_link_to_a_file_that_is_not_there_has_it_made(self):
+        link = os.path.join(self.folder, "link")
+        os.symlink("data.aof", link)
+        ran = run(SET_V, "pipe", "--aof", link)
+        self.assertEqual((ran.returncode, ran.stderr, ran.stdout), (0, b"", OK))
+        self.assertEqual(self.bytes(), SET_V)
+
+
+# files that aren't lists of commands: what they begin with is loaded, and the rest stands beside them
+WRONG_FILES = {
+    "a text": (b"", b"Dear reader,\n\nthis is no file of commands.\n"),
+    "an RDB file": (b"", b"REDIS0010\xfa\tredis-ver\x067.0.15\xfa\nredis-bits\xc0@\xfe\0\xfb\1\0\0\1k\1v\xff" + bytes(range(8))),
+    "another server's file": (b"", request("SELECT", "0") + SET_V + request("SET", "l", "w")),
+    "another server's file, in part": (SET_V, request("INCRBYFLOAT", "f", "1.5") + SET_W),
+    "zeros": (SET_V + SET_W, bytes(5000)),
+}
+
+
+class Setting(OfFile):
+    """What can't be loaded is set aside before it is cut off."""
+
+    def test_each_kind_of_wrong_file_is_kept_beside_it(self):
+        for at, (name, (good, rest)) in enumerate(WRONG_FILES.items()):
+            with self.subTest(name=name):
+                self.write(good + rest)
+                self.answers(request("DBSIZE"), b":%d\r\n" % (1 if good else 0), cut=rest)
+                self.assertEqual((self.bytes(), len(self.copies())), (good, at + 1))
+                # the next start has nothing to say
+                self.answers(request("DBSIZE"), b":%d\r\n" % (1 if good else 0))
+
+    def test_one_flipped_bit_in_the_middle(self):
+        texts = [request("SET", "key%05d" % it, "value%d" % it) for it in range(10_000)]
+        for at in (100, 5000, 9999):
+            with self.subTest(at=at):
+                good, rest = b"".join(texts[:at]), bytearray(b"".join(texts[at:]))
+                # the first byte of the second word's head
+                rest[13] ^= 1
+                self.write(good + rest)
+                self.answers(request("DBSIZE"), b":%d\r\n" % at, cut=bytes(rest))
+                self.assertEqual(self.bytes(), good)
+
+    def test_a_copy_is_for_those_that_the_file_is_for(self):
+        self.write(SET_V + TORN)
+        os.chmod(self.path, 0o640)
+        self.answers(b"", b"", cut=TORN)
+        self.assertEqual(stat.S_IMODE(os.stat(self.copies()[0]).st_mode), 0o640)
+
+    def test_a_name_that_is_taken_is_left_alone(self):
+        for taken in ("data.aof.cut-1", "data.aof.cut-2"):
+            with open(os.path.join(self.folder, taken), "wb") as file:
+                file.write(b"old")
+        self.write(SET_V + TORN)
+        self.answers(request("GET", "k"), bulk(b"v"), cut=TORN)
+        self.assertEqual([os.path.basename(it) for it in self.copies()], ["data.aof.cut-%d" % it for it in (1, 2, 3)])
+        self.assertEqual([os.path.getsize(it) for it in self.copies()], [3, 3, len(TORN)])
+
+    def test_a_large_rest_is_copied_whole(self):
+        rest = random.Random(7).randbytes(20_000_000)
+        self.write(SET_V + rest)
+        self.answers(request("GET", "k"), bulk(b"v"), cut=rest)
+
+    def test_without_room_for_the_copy_the_file_stays_as_it_is(self):
+        data = SET_V + bytes(5000)
+        self.write(data)
+        for room in (0, 1000, 4999):
+            with self.subTest(room=room):
+                ran = self.asked(request("GET", "k"), preexec_fn=may_grow_to(room))
+                self.fails(ran, b"")
+                self.assertEqual(self.bytes(), data)
+                self.assertEqual(sorted(os.listdir(self.folder)), ["data.aof", "data.aof.lock"])
+        self.answers(request("GET", "k"), bulk(b"v"), cut=bytes(5000))
+
+
+class FailingSetting(OfFailing):
+    def test_each_call_fails_in_turn(self):
+        data, before = SET_V + bytes(70_000), 0
+        for call in range(1, 100):
+            self.write(data)
+            ran = self.run_with(request("GET", "k"), FAIL_CALL=str(call), FAIL_NAMES="1")
+            if ran.returncode == 0:
+                break
+            with self.subTest(call=call):
+                self.fails(ran, b"")
+                # nothing of it is lost, and a copy is there whole or not at all
+                self.assertEqual(self.bytes(), data)
+                for copy in self.copies():
+                    self.assertEqual(os.path.getsize(copy), 70_000)
+                    os.remove(copy)
+                before += 1
+        # the copy is made, given its mode, read, written, synced, and its folder opened and synced
+        self.assertGreater(before, 10)
+        self.assertEqual((ran.stdout, self.bytes()), (bulk(b"v"), SET_V))
+
+
+class Killing(OfFile):
+    def stream(self, sent, seconds):
+        """Pushes numbers from `sent` on until so many seconds are over and the program is killed: how many were sent and answered."""
+        words = [PROGRAM, "pipe", "--aof", self.path]
+        started = subprocess.Popen(words, stdin=subprocess.PIPE, stdout=subprocess.PIPE)
+        end, count = time.monotonic() + seconds, 0
+        while time.monotonic() < end:
+            os.write(started.stdin.fileno(), request("RPUSH", "l", str(sent + count)))
+            count += 1
+        started.kill()
+        out, _ = started.communicate(timeout=LATE)
+        return count, out.count(b"\n")
+
+    def test_what_was_answered_is_there_after_a_kill(self):
+        chance, kept = random.Random(9), 0
+        for _ in range(KILLS):
+            sent, answered = self.stream(kept, chance.uniform(0, 0.03))
+            ran = self.asked(request("LLEN", "l") + request("LRANGE", "l", "-3", "-1"))
+            count = int(ran.stdout.split(b"\r\n")[0][1:])
+            self.assertTrue(kept + answered <= count <= kept + sent, (kept, answered, count, sent))
+            last = [b"%d" % number for number in range(max(0, count - 3), count)]
+            self.assertEqual(ran.stdout, b":%d\r\n" % count + array(last))
+            kept = count
+        self.answers(request("LRANGE", "l", "0", "-1"), array([b"%d" % number for number in range(kept)]))
+        self.assertGreater(kept, 0)
+
+
+class KillingRewriting(OfFile):
+    def rewriting(self, seconds):
+        """A program that is asked to write its file anew, and is killed so many seconds later; how long it took where it isn't."""
+        words = [PROGRAM, "pipe", "--aof", self.path]
+        program = subprocess.Popen(words, stdin=subprocess.PIPE, stdout=subprocess.PIPE, bufsize=0)
+        program.stdin.write(request("PING"))
+        self.assertEqual(program.stdout.read(7), b"+PONG\r\n")
+        began = time.monotonic()
+        program.stdin.write(REWRITE)
+        if seconds is None:
+            self.assertEqual(program.stdout.read(len(STARTED)), STARTED)
+        else:
+            time.sleep(seconds)
+            program.kill()
+        took = time.monotonic() - began
+        out, _ = program.communicate(timeout=LATE)
+        return took, out
+
+    def test_a_kill_leaves_the_old_file_or_the_new_one(self):
+        sets = [b"".join(request("SET", "key%06d" % key, value) for key in range(REWRITTEN_KEYS)) for value in "vw"]
+        old, new = b"".join(sets), sets[1]
+        self.write(old)
+        took, _ = self.rewriting(None)
+        self.assertEqual(self.bytes(), new)
+        chance, found = random.Random(16), []
+        for _ in range(REWRITING_KILLS):
+            self.write(old)
+            _, out = self.rewriting(chance.uniform(0, 1.2 * took))
+            found.append(self.bytes())
+            self.assertIn(found[-1], (old, new))
+            if out:
+                self.assertEqual((out, found[-1]), (STARTED, new))
+        # the last of them is gone on from
+        self.answers(request("DBSIZE") + request("GET", "key000000") + REWRITE, b":%d\r\n" % REWRITTEN_KEYS + bulk(b"w") + STARTED)
+        self.assertEqual(self.bytes(), new)
+
+
+class Leaving(OfFile):
+    """redis-server loads the file, where it is installed: a user can always leave."""
+
+    def served(self):
+        """The socket of a redis-server that has loaded the file, and moved it into a folder of its own."""
+        socket = os.path.join(self.folder, "redis")
+        words = ["--port", "0", "--unixsocket", socket, "--dir", self.folder, "--appendonly", "yes", "--appendfilename", "data.aof", "--save", ""]
+        server = subprocess.Popen(["redis-server", *words], stdout=subprocess.DEVNULL)
+        self.addCleanup(server.wait)
+        self.addCleanup(server.kill)
+        late = time.monotonic() + LATE
+        while self.told(socket, "PING") != "PONG\n" and time.monotonic() < late:
+            time.sleep(0.01)
+        return socket
+
+    def told(self, socket, *words):
+        return subprocess.run(["redis-cli", "-s", socket, "--no-raw", *words], capture_output=True, text=True, timeout=LATE).stdout
+
+    def test_redis_server_loads_the_file(self):
+        if not shutil.which("redis-server"):
+            return
+        asked = [
+            ("SET", "text", "a value\r\n"), ("HSET", "hash", "f", "1", "g", "2"), ("RPUSH", "list", "a", "b", "c"), ("LPOP", "list"),
+            ("SADD", "set", "m", "n"), ("SREM", "set", "m"), ("ZADD", "zset", "3", "x", "-1", "y"), ("ZINCRBY", "zset", "5", "y"),
+            ("SET", "late", "v", "PX", str(FAR)), ("INCR", "count"), ("APPEND", "text", "more"), ("RENAME", "count", "number"),
+        ]
+        self.asked(b"".join(request(*words) for words in asked), "--now", "0")
+        socket = self.served()
+        for words, wanted in WANTED.items():
+            with self.subTest(words=words):
+                self.assertEqual(self.told(socket, *words), wanted)
+
+    def test_redis_server_loads_a_file_written_anew(self):
+        if not shutil.which("redis-server"):
+            return
+        made = Made(random.Random(17))
+        self.asked(made.commands() + REWRITE + request("SET", "last", "v"))
+        questions = made.questions() + request("GET", "last") + request("DBSIZE")
+        ran = self.asked(questions)
+        self.assertEqual((ran.returncode, ran.stderr, ran.stdout.count(NIL)), (0, b"", 0))
+        with connection.socket(connection.AF_UNIX) as client:
+            client.settimeout(LATE)
+            client.connect(self.served())
+            client.sendall(questions)
+            told = client.makefile("rb").read(len(ran.stdout))
+        self.assertEqual(told, ran.stdout)
+
+
+class Made:
+    """Keys of every kind and size, of any bytes: what writes them, and what asks for all of them, in an order that any server has."""
+
+    def __init__(self, chance):
+        self.chance, self.written, self.read = chance, [], []
+        for kind in 12 * [self.text, self.hash, self.list, self.set, self.zset]:
+            key = self.bytes()
+            kind(key)
+            self.read.append(("TYPE", key))
+            if chance.random() < 0.5:
+                self.written.append(("PEXPIREAT", key, str(FAR + chance.randrange(1000))))
+            self.read.append(("PEXPIRETIME", key))
+
+    def commands(self):
+        return b"".join(request(*words) for words in self.written)
+
+    def questions(self):
+        return b"".join(request(*words) for words in self.read)
+
+    def bytes(self):
+        return self.chance.randbytes(self.chance.choice((4, 12, 100)))
+
+    def members(self):
+        return [self.bytes() for _ in range(self.chance.choice((1, 2, 63, 64, 65, 200, 700)))]
+
+    def text(self, key):
+        self.written.append(("SET", key, self.bytes()))
+        self.read.append(("GET", key))
+
+    def hash(self, key):
+        for field in self.members():
+            self.written += [("HSET", key, field, value) for value in (self.bytes(), self.bytes())]
+            self.read.append(("HGET", key, field))
+        self.read.append(("HLEN", key))
+
+    def list(self, key):
+        self.written.append(("RPUSH", key, *self.members()))
+        self.read.append(("LRANGE", key, "0", "-1"))
+
+    def set(self, key):
+        members = self.members()
+        self.written.append(("SADD", key, *members))
+        self.read += [("SCARD", key), *(("SISMEMBER", key, member) for member in members)]
+
+    def zset(self, key):
+        for member in self.members():
+            self.written.append(("ZADD", key, str(self.chance.randrange(-(2**53), 2**53)), member))
+        self.read.append(("ZRANGE", key, "0", "-1", "WITHSCORES"))
+
+
+# as redis-cli prints them
+WANTED = {
+    ("GET", "text"): '"a value\\r\\nmore"\n',
+    ("HGET", "hash", "f"): '"1"\n',
+    ("HGET", "hash", "g"): '"2"\n',
+    ("LRANGE", "list", "0", "-1"): '1) "b"\n2) "c"\n',
+    ("SMEMBERS", "set"): '1) "n"\n',
+    ("ZRANGE", "zset", "0", "-1", "WITHSCORES"): '1) "x"\n2) "3"\n3) "y"\n4) "4"\n',
+    ("PEXPIRETIME", "late"): "(integer) 4102444800000\n",
+    ("GET", "number"): '"1"\n',
+    ("DBSIZE",): "(integer) 7\n",
+}
+
+
+if __name__ == "__main__":
+    unittest.main()

@@ -1,0 +1,91 @@
+"""Runs the built program, as the tests do."""
+
+import array
+import fcntl
+import glob
+import os
+import re
+import subprocess
+import sys
+import termios
+import time
+
+# the folder of this file, and of what the tests put before the C library
+SUPPORT = os.path.dirname(os.path.abspath(__file__))
+ROOT = os.path.dirname(os.path.dirname(SUPPORT))
+# starts the program as a user does; it ignores SIGPIPE for the program
+LAUNCHER = os.path.join(ROOT, "minired")
+# the program itself
+PROGRAM = os.path.join(ROOT, "crates", "minired", "out", "minired")
+# a line on standard error that says what the program does, with the time in front
+NOTICE = re.compile(rb"(\d{4}-\d\d-\d\dT\d\d:\d\d:\d\d\.\d{3}Z) minired: ([^\n]*)\n")
+# no run of a test takes this long, in seconds: one that does hangs
+LATE = 60
+
+
+def request(*words):
+    """The array form of a request."""
+    words = [word if isinstance(word, bytes) else word.encode() for word in words]
+    return b"*%d\r\n" % len(words) + b"".join(b"$%d\r\n%s\r\n" % (len(word), word) for word in words)
+
+
+def run(data, *words, **how):
+    """Runs the program on these bytes, and returns how it ended and what it wrote."""
+    return subprocess.run([LAUNCHER, *words], input=data, capture_output=True, timeout=LATE, **how)
+
+
+def notices(said):
+    """What the lines say that have the time in front, and the other lines of standard error."""
+    return [text for _, text in NOTICE.findall(said)], NOTICE.sub(b"", said)
+
+
+def built(name):
+    """The program of a crate, built first where it isn't or a source is newer."""
+    program = os.path.join(ROOT, "crates", name, "out", name)
+    sources = glob.glob(os.path.join(ROOT, "crates", "*", "src", "**", "*.rt"), recursive=True)
+    if not os.path.exists(program) or os.path.getmtime(program) < max(map(os.path.getmtime, sources)):
+        folder = os.path.join(ROOT, "crates", name)
+        # rt runs what it has built, on the input that stands beside its sources
+        with open(os.path.join(folder, "stdin"), "rb") as usual:
+            if subprocess.run(["rt", "run"], cwd=folder, stdin=usual, capture_output=True).returncode:
+                sys.exit(f"minired's tests: the program {name} cannot be built")
+        os.utime(program)
+    return program
+
+
+def waiting(pipe):
+    """How many bytes of a pipe nobody has read."""
+    count = array.array("i", [0])
+    fcntl.ioctl(pipe, termios.FIONREAD, count)
+    return count[0]
+
+
+def run_in_pieces(pieces, *words):
+    """Runs the program, and hands it each piece once it has read all of the one before."""
+    started = subprocess.Popen([LAUNCHER, *words], stdin=subprocess.PIPE, stdout=subprocess.PIPE, stderr=subprocess.PIPE)
+    late = time.monotonic() + LATE
+    for piece in pieces:
+        try:
+            os.write(started.stdin.fileno(), piece)
+        except BrokenPipeError:
+            # the program has ended, as it does after a fault
+            break
+        while waiting(started.stdin) and started.poll() is None and time.monotonic() < late:
+            time.sleep(0.0001)
+    out, err = started.communicate(timeout=LATE)
+    return subprocess.CompletedProcess(words, started.returncode, out, err)
+
+
+def compiler():
+    """A C compiler with what it needs to make a shared library: the kit's, which is always there."""
+    kit = os.path.dirname(os.path.dirname(os.path.realpath(_path_of("rt"))))
+    tools = os.path.join(kit, "toolchain", "bin")
+    return [os.path.join(tools, "clang"), "-fuse-ld=" + os.path.join(tools, "ld.lld")]
+
+
+def _path_of(command):
+    for folder in os.environ.get("PATH", "").split(os.pathsep):
+        path = os.path.join(folder, command)
+        if os.access(path, os.X_OK):
+            return path
+    sys.exit(f"minired's tests: the command {command} is not on PATH")

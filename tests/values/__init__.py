@@ -1,0 +1,1 @@
+"""Values and datasets by themselves."""
