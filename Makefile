@@ -1,4 +1,4 @@
-.PHONY: build test test-all test-batched test-by-turns bench bench-serve bench-replicas bench-large instructions instructions-replicas
+.PHONY: build test check-one test-all test-batched test-by-turns bench bench-serve bench-replicas bench-large instructions instructions-replicas
 
 # The gate that `make test` runs: test-all, test-batched, or test-by-turns.
 GATE = test-by-turns
@@ -20,6 +20,12 @@ test-batched:
 # The same, without the edits of crates that are the same as they landed, but for a tenth of these crates by turns.
 test-by-turns:
 	python3 -m tests.gate.run --by-turns
+
+# A folder of tests, a file, a class of it or a test, by the name that its failure has: T=tests.commands.test_strings.Strings. For what
+# tests/gate and tests/pages test nothing is built.
+check-one: $(if $(filter-out tests.gate% tests.pages%,$(T)),build)
+	$(if $(T),,$(error say which: make check-one T=tests.commands))
+	python3 -m unittest $(if $(wildcard $(subst .,/,$(T))/.),discover -t . $(subst .,/,$(T)),$(T)) --verbose
 
 # Processor time a request and peak memory, beside redis-server where it is installed. RUNS="SETEX tick" chooses runs by words of their
 # names; with ROUNDS=5 each is made five times, and the least told.

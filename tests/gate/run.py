@@ -1,5 +1,5 @@
 """The gate: `run.py` proves, tries and tests everything by `rt ci` and plays the tables; `run.py --batched` tries the edits in batches; `run.py --by-turns` does so too, and
-leaves out, in nine runs of ten, those of crates that are the same as they landed; `run.py --tables` only plays the tables.
+leaves out, in nine runs of ten, those of crates that are the same as they landed; `run.py --tables` only plays the tables. It is run at the top, by `python3 -m tests.gate.run`.
 
 Each stops at the first part that fails. The last line is `N passed, M failed`, and stands alone. docs/GATE.md says what each shows."""
 
