@@ -7,7 +7,7 @@ import time
 
 from bench.servers import LAUNCHER, key, request
 from tests.support.replicas import Node
-from tests.support.server import HOST, LATE, RedisServer
+from tests.support.server import LATE, RedisServer
 
 OK = b"+OK\r\n"
 # so many requests of a client that fills a node are sent together

@@ -1,6 +1,4 @@
-"""Clients that others wrote, as Debian packages them: each has a session with the server, and another when it was started again.
-
-A client that isn't installed fails its test, or is told as absent where ABSENT_CLIENTS is `named`."""
+"""Clients that others wrote, as Debian packages them: each has a session with the server, and another when it was started again."""
 
 import os
 import re
@@ -11,12 +9,10 @@ import tempfile
 import unittest
 
 from tests.support import server
-from tests.support.program import LATE, request
+from tests.support.program import LATE, needs, request
 
 HERE = os.path.dirname(os.path.abspath(__file__))
 DEBIANS_PYTHON = "/usr/bin/python3"
-# what a test of a client that isn't installed is told by
-ABSENT = "absent: "
 BENCHES = ["ping", "set", "get", "incr", "lpush", "rpush", "lpop", "rpop", "sadd", "hset", "spop", "zadd", "zpopmin", "lrange", "mset"]
 # of so many requests, sixteen at a time
 BENCHED = 20_000
@@ -66,13 +62,6 @@ class Talking(unittest.TestCase):
         self.server.kill()
         self.start(self.server.port)
 
-    def needs(self, is_there, package):
-        """The rest of the test needs what this package of Debian has."""
-        if not is_there:
-            if os.environ.get("ABSENT_CLIENTS") == "named":
-                self.skipTest(ABSENT + package)
-            self.fail("the Debian package %s isn't installed" % package)
-
     def tells(self, words, said=b""):
         ran = subprocess.run(words, input=said, capture_output=True, timeout=5 * LATE)
         self.assertEqual((ran.returncode, ran.stderr), (0, b""), ran.stdout)
@@ -92,7 +81,7 @@ class Talking(unittest.TestCase):
 
 class RedisTools(Talking):
     def setUp(self):
-        self.needs(shutil.which("redis-cli") and shutil.which("redis-benchmark"), "redis-tools")
+        needs(self, shutil.which("redis-cli") and shutil.which("redis-benchmark"), "redis-tools")
         super().setUp()
         self.cli = ["redis-cli", "-p", self.port]
 
@@ -146,24 +135,24 @@ class RedisTools(Talking):
 class Libraries(Talking):
     def test_redis_py(self):
         python = next(filter(has_module, (sys.executable, DEBIANS_PYTHON)), None)
-        self.needs(python, "python3-redis")
+        needs(self, python, "python3-redis")
         self.plays(python, os.path.join(HERE, "session.py"))
 
     def test_hiredis(self):
-        self.needs(shutil.which("cc"), "gcc")
-        self.needs(os.path.exists("/usr/include/hiredis/hiredis.h"), "libhiredis-dev")
+        needs(self, shutil.which("cc"), "gcc")
+        needs(self, os.path.exists("/usr/include/hiredis/hiredis.h"), "libhiredis-dev")
         program = os.path.join(self.folder, "session")
         subprocess.run(["cc", "-O1", "-o", program, os.path.join(HERE, "session.c"), "-lhiredis"], check=True)
         self.plays(program)
 
     def test_perl(self):
         there = shutil.which("perl") and not subprocess.run(["perl", "-MRedis", "-e", "1"], capture_output=True, timeout=LATE).returncode
-        self.needs(there, "libredis-perl")
+        needs(self, there, "libredis-perl")
         self.plays("perl", os.path.join(HERE, "session.pl"))
 
     def test_php(self):
         ran = subprocess.run(["php", "-m"], capture_output=True, timeout=LATE) if shutil.which("php") else None
-        self.needs(ran and b"\nredis\n" in ran.stdout, "php-redis")
+        needs(self, ran and b"\nredis\n" in ran.stdout, "php-redis")
         self.plays("php", os.path.join(HERE, "session.php"))
 
 

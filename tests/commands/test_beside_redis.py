@@ -10,7 +10,7 @@ from unittest import mock
 
 from tests.commands import test_collections, test_sorted_sets, test_strings
 from tests.support import differences, server
-from tests.support.program import ROOT
+from tests.support.program import ROOT, needs
 from tests.support.replies import OK, number, read
 
 CASES = [test_strings.Strings, test_collections.Collections, test_sorted_sets.SortedSets]
@@ -92,8 +92,7 @@ class SideBySide(unittest.TestCase):
                     self.assertEqual(client.asks_line(line), reply, line)
 
     def test_on_redis_server(self):
-        if not server.has_redis():
-            return
+        needs(self, server.has_redis(), "redis-server")
         it = server.RedisServer()
         self.addCleanup(it.stop)
         used = set()

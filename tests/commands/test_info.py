@@ -4,41 +4,14 @@ import shutil
 import subprocess
 import unittest
 
-from tests.server.test_node import SET, fed
-from tests.server.test_serve import GET, PING, PONG, SET_V, SET_W, Serving
-from tests.support.program import LATE, request, run, run_in_pieces
-from tests.support.rehearsal import ID, Rehearsing, done
-from tests.support.replies import OK, SYNTAX, Answering, arity, array, array_of, bulk, number
+from tests.support.program import LATE, USUAL_BACKLOG, needs, request, run, run_in_pieces
+from tests.support.rehearsal import ID, Rehearsing, done, fed
+from tests.support.replies import OK, PONG, SYNTAX, Answering, arity, bulk, information, number, role_of_master, role_of_replica
+from tests.support.requests import GET, PING, SET, SET_W
+from tests.support.serving import Serving
 from tests.support.values import Playing, spelled
 
-BACKLOG = 1_048_576
 EMPTY = bulk("")
-
-
-def information(offset, role="master", first=1, held=None, followers=0, name=ID, second=("0" * 40, -1)):
-    """INFO's text of a node, under the tests' id if no other is named."""
-    lines = [
-        "# Replication",
-        "role:" + role,
-        "connected_slaves:%d" % followers,
-        "master_replid:" + name,
-        "master_replid2:" + second[0],
-        "master_repl_offset:%d" % offset,
-        "second_repl_offset:%d" % second[1],
-        "repl_backlog_active:1",
-        "repl_backlog_size:%d" % BACKLOG,
-        "repl_backlog_first_byte_offset:%d" % first,
-        "repl_backlog_histlen:%d" % (offset if held is None else held),
-    ]
-    return "".join(line + "\r\n" for line in lines)
-
-
-def master(offset):
-    """ROLE's reply of a master."""
-    return array_of(bulk("master"), number(offset), array())
-
-
-REPLICA = array_of(bulk("slave"), EMPTY, number(0), bulk("connect"), number(0))
 
 
 class TellingOfReplicas(Playing):
@@ -48,11 +21,11 @@ class TellingOfReplicas(Playing):
 
     def tells(self, *steps):
         """Steps on a stream that stood at 54 under one id and was then promoted, each with the text that it tells."""
-        begun = [("new %s %d 54" % (self.A, BACKLOG), "begun"), ("promote " + self.C, "promoted")]
+        begun = [("new %s %d 54" % (self.A, USUAL_BACKLOG), "begun"), ("promote " + self.C, "promoted")]
         self.plays("lineage", begun + [(step, "text " + spelled(text)) for step, text in steps])
 
     def test_the_id_before_ends_behind_the_last_byte_that_it_had(self):
-        told = {"first": 55, "held": 0, "name": self.C, "second": (self.A, 55)}
+        told = {"first": 55, "name": self.C, "second": (self.A, 55)}
         self.tells(
             ("informs master 0", information(54, **told)),
             ("informs master 3", information(54, followers=3, **told)),
@@ -60,15 +33,14 @@ class TellingOfReplicas(Playing):
         )
 
     def test_a_master_tells_of_each_replica_what_it_told(self):
-        told, silent = array("10.0.0.7", "6380", "41"), array("", "0", "0")
         self.tells(
-            ("alone", master(54)),
-            ("leads %s %s 41" % (spelled("10.0.0.7"), spelled("6380")), array_of(bulk("master"), number(54), array_of(told, silent))),
+            ("alone", role_of_master(54)),
+            ("leads %s %s 41" % (spelled("10.0.0.7"), spelled("6380")), role_of_master(54, ("10.0.0.7", "6380", "41"), ("", "0", "0"))),
         )
 
     def test_a_replica_tells_whom_it_follows_and_how_far_it_has_come(self):
         self.tells(*[
-            ("follows %s 6379 %s" % (spelled("node"), link), array_of(bulk("slave"), bulk("node"), number(6379), bulk(link), number(54)))
+            ("follows %s 6379 %s" % (spelled("node"), link), role_of_replica("node", 6379, link, 54))
             for link in ("connect", "sync", "connected")
         ])
 
@@ -91,22 +63,22 @@ class Telling(Answering):
 
     def test_what_is_told_goes_with_the_stream(self):
         self.answers([
-            ("ROLE", master(0)),
+            ("ROLE", role_of_master(0)),
             ("SET k v", OK),
-            ("ROLE", master(27)),
+            ("ROLE", role_of_master(27)),
             ("GET k", bulk("v")),
             ("SET k v", OK),
             ("INFO", bulk(information(27))),
             ("DEL k", number(1)),
             ("INFO", bulk(information(47))),
-            ("role", master(47)),
+            ("role", role_of_master(47)),
         ], "--id", ID)
 
     def test_a_full_backlog_begins_behind_what_it_dropped(self):
-        value, texts = "v" * (BACKLOG - 100), 0
+        value, texts = "v" * (USUAL_BACKLOG - 100), 0
         for key in "ab":
             texts += len(request("SET", key, value))
-        rows = [("SET a " + value, OK), ("SET b " + value, OK), ("INFO", bulk(information(texts, first=texts + 1 - BACKLOG, held=BACKLOG)))]
+        rows = [("SET a " + value, OK), ("SET b " + value, OK), ("INFO", bulk(information(texts, first=texts + 1 - USUAL_BACKLOG)))]
         self.answers(rows, "--id", ID)
 
     def test_a_word_too_many(self):
@@ -120,15 +92,15 @@ class Ending(Serving):
             self.assertEqual((ran.returncode, ran.stdout, ran.stderr), (0, PONG, b""), line)
 
     def test_however_the_input_is_cut(self):
-        text = SET_V + request("SHUTDOWN") + GET
+        text = SET + request("SHUTDOWN") + GET
         for cut in range(1, len(text)):
             ran = run_in_pieces([text[:cut], text[cut:]], "pipe")
             self.assertEqual((ran.returncode, ran.stdout, ran.stderr), (0, OK, b""), cut)
 
     def test_the_file_has_what_was_answered(self):
-        ran = run(SET_V + request("SHUTDOWN") + SET_W, "pipe", "--aof", self.path)
+        ran = run(SET + request("SHUTDOWN") + SET_W, "pipe", "--aof", self.path)
         self.assertEqual((ran.returncode, ran.stdout, ran.stderr), (0, OK, b""))
-        self.assertEqual(self.bytes(), SET_V)
+        self.assertEqual(self.bytes(), SET)
 
     def test_a_server_ends_with_status_0(self):
         it = self.serve(aof=self.path)
@@ -138,15 +110,15 @@ class Ending(Serving):
         self.assertEqual((second.rest(), first.rest()), (b"", b""))
         ended = it.ended()
         self.assertEqual((ended.returncode, ended.stdout, ended.stderr), (0, b"", b""))
-        self.assertEqual(self.bytes(), SET_V)
+        self.assertEqual(self.bytes(), SET)
 
     def test_replies_before_it_are_sent_and_their_writes_kept(self):
         it = self.serve(aof=self.path)
         client = self.client(it)
-        client.send(SET_V + GET + request("SHUTDOWN", "NOSAVE"))
+        client.send(SET + GET + request("SHUTDOWN", "NOSAVE"))
         self.assertEqual(client.rest(), OK + bulk("v"))
         self.assertEqual(it.ended().returncode, 0)
-        self.assertEqual(self.bytes(), SET_V)
+        self.assertEqual(self.bytes(), SET)
         again = self.client(self.serve(aof=self.path))
         self.assertEqual(again.asks("GET", "k"), bulk("v"))
 
@@ -156,8 +128,7 @@ class Ending(Serving):
         self.goes_on(it)
 
     def test_redis_cli_asks_and_ends(self):
-        if not shutil.which("redis-cli"):
-            return
+        needs(self, shutil.which("redis-cli"), "redis-tools")
         it = self.serve()
         asked = subprocess.run(["redis-cli", "-p", str(it.port), "INFO", "replication"], capture_output=True, timeout=LATE)
         self.assertIn(b"role:master\r\n", asked.stdout)
@@ -173,7 +144,7 @@ class Stepping(Rehearsing):
             fed(0, SET + request("INFO") + request("ROLE") + request("SHUTDOWN") + PING),
             ("step 0", done(OK, SET)),
             ("step 0", done(bulk(information(27)))),
-            ("step 0", done(master(27))),
+            ("step 0", done(role_of_master(27))),
             ("step 0", "done h - -"),
             ("shows", "shows %s 27" % ID),
             ("step 0", done(PONG)),
@@ -186,7 +157,7 @@ class Stepping(Rehearsing):
             ("open", "opened"),
             fed(0, request("INFO") + request("ROLE") + request("SHUTDOWN")),
             ("step 0", done(bulk(information(0, role="slave")))),
-            ("step 0", done(REPLICA)),
+            ("step 0", done(role_of_replica("", 0, "connect", 0))),
             ("step 0", "done h - -"),
             ("shows", "shows %s 0" % ID),
         ])

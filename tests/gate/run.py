@@ -15,11 +15,9 @@ import unittest
 
 from following import proved_in
 from kit import OF_A_CHECK, Kit, NoKit
-from tests.support.program import LAUNCHER, ROOT
+from tests.support.program import ABSENT, LAUNCHER, ROOT
 
 COUNT = re.compile(r"(\d+) passed, (\d+) failed\s*\Z")
-# how the reason begins for which a test of a client is skipped that the machine doesn't have
-ABSENT = "absent: "
 # what a clone of the repository doesn't have, and the edits
 NOT_COPIED = (".git", "out", "__pycache__", "*.pyc", "must-fail")
 

@@ -17,6 +17,10 @@ LEFT_OPEN = ("ot claimed", "#what-all-rooms-share")
 LINK = re.compile(r"\]\(([^)#\s]+)?(#[^)\s]+)?\)")
 # a path of the repository, as it is named in a page
 NAMED = re.compile(r"`((?:crates/)?(?:mr_\w+|minired|rehearse\w*)/(?:src|specs|proofs|must-fail)/[\w/.-]+|(?:docs|tests|tools|bench)/[\w/.-]+\.\w+)`")
+# a file of tests by its name alone, and behind it classes, and tests without what all their names begin with
+NAMED_TESTS = re.compile(r"`(test_\w+)`((?:,? (?:`[A-Z]\w+`|[a-z]+_\w+(?:\.\.)?))*)")
+# what of the tests is named as Python finds it
+DOTTED = re.compile(r"\btests((?:\.\w+)+)")
 # a crate whose edits are named behind it, or an edit; a star stands for all that begin so
 EDIT = re.compile(r"`(mr_\w+|minired)`|(?<![\w`./:])([a-z][a-z0-9]*(?:_[a-z0-9]+)*_\*|[a-z][a-z0-9]*(?:_[a-z0-9]+)+)(?![\w*`])")
 
@@ -107,6 +111,31 @@ class Tests(unittest.TestCase):
         folders = ("tests", "tests/*")
         files = {os.path.basename(it) for folder in folders for kind in ("py", "c", "txt") for it in found(f"{folder}/*.{kind}")} - {"__init__.py"}
         self.assertEqual([it for it in sorted(files) if f"`{it}`" not in text], [])
+
+    def test_each_test_that_a_page_names_is_there(self):
+        texts = {os.path.basename(path)[: -len(".py")]: read(path) for path in found("tests/*/test_*.py")}
+        lost = []
+        for page, text in pages().items():
+            for file, names in NAMED_TESTS.findall(text):
+                lost += [(page, file)] if file not in texts else [(page, file, it) for it in re.findall(r"\w+(?:\.\.)?", names) if not defines(texts[file], it)]
+        self.assertEqual(lost, [])
+
+    def test_each_test_that_is_named_with_its_folders_is_there(self):
+        self.assertEqual([(page, it) for page, text in pages().items() for it in DOTTED.findall(text) if not leads_somewhere(it)], [])
+
+
+def defines(text, name):
+    """Whether a file of tests has a class of this name, or a test; two dots stand for the rest of its name."""
+    begins, end = name.removesuffix(".."), "" if name.endswith("..") else r"\b"
+    return bool(re.search(rf"^ *(?:class |def (?:test_)?){begins}{end}", text, re.M))
+
+
+def leads_somewhere(dotted):
+    """Whether this names a folder of tests, a file, or what a file defines."""
+    path, names = "tests", dotted.split(".")[1:]
+    while names and os.path.isdir(os.path.join(ROOT, path)):
+        path = os.path.join(path, names.pop(0))
+    return there(path) if not there(path + ".py") else all(defines(read(path + ".py"), it) for it in names)
 
 
 class Prose(unittest.TestCase):

@@ -3,29 +3,19 @@
 import unittest
 
 from tests.models.follower import PlainFollower
+from tests.support.handshake import ANSWERS, CAPABILITIES, GREETED, NOTHING_TO_CONTINUE, PORT
 from tests.support.program import request
 from tests.support.rehearsal import effect
-from tests.support.values import Playing, spelled
+from tests.support.replies import CHAINED
+from tests.support.requests import PING, SET
+from tests.support.values import Playing, fed, spelled
 
 A, B = "a" * 40, "b" * 40
 MOST = 2**62
-
-PING = request("PING")
-PORT = request("REPLCONF", "listening-port", "0")
-CAPABILITIES = request("REPLCONF", "capa", "eof", "capa", "psync2")
-ALL = request("PSYNC", "?", "-1")
-
-SET = effect("SET k v")
-# a master's answers to the handshake of a replica without anything to go on from, and its snapshot
-ANSWERS = [b"+PONG\r\n", b"+OK\r\n", b"+OK\r\n", b"+FULLRESYNC %s 27\r\n" % A.encode(), b"$27\r\n" + SET]
 WHOLE = b"".join(ANSWERS)
 PHASES = ["ping", "port", "capabilities", "psync", "snapshot", "stream"]
 # what each of them is answered
-HEARD = ["says " + PORT.hex(), "says " + CAPABILITIES.hex(), "says " + ALL.hex(), "announces %s 27" % A, "installs"]
-
-
-def fed(data):
-    return ("feed " + spelled(data), "fed")
+HEARD = ["says " + PORT.hex(), "says " + CAPABILITIES.hex(), "says " + NOTHING_TO_CONTINUE.hex(), "announces %s 27" % A, "installs"]
 
 
 def begun():
@@ -45,7 +35,7 @@ def asking(digits, offset):
     """The steps of a handshake up to its last line, of a replica that offers to go on."""
     wanted = request("PSYNC", digits, str(offset + 1))
     said = ["says " + line.hex() for line in (PORT, CAPABILITIES, wanted)]
-    return [("offer %s 0" % digits, "says " + PING.hex()), fed(b"".join(ANSWERS[:3])), *[("step", line) for line in said]]
+    return [("offer %s 0" % digits, "says " + PING.hex()), fed(GREETED), *[("step", line) for line in said]]
 
 
 def refuses(why):
@@ -55,7 +45,7 @@ def refuses(why):
 
 class Synchronizing(Playing):
     def test_each_line_is_answered_by_the_next(self):
-        self.assertEqual([len(line) for line in (PING, PORT, CAPABILITIES, ALL)], [14, 46, 59, 30])
+        self.assertEqual([len(line) for line in (PING, PORT, CAPABILITIES, NOTHING_TO_CONTINUE)], [14, 46, 59, 30])
         self.assertEqual([len(line) for line in ANSWERS], [7, 5, 5, 57, 5 + 27])
         steps = [begun()]
         for answer, heard in zip(ANSWERS, HEARD, strict=True):
@@ -96,7 +86,7 @@ class Synchronizing(Playing):
         full = b"+FULLRESYNC %s 1000\r\n$%d\r\n" % (B.encode(), len(snapshot)) + snapshot
         texts = effect("HSET h f v") + effect("PEXPIREAT h 5") + effect("RPUSH l a b")
         self.plays("follower", [
-            *synchronized(), begun(), fed(b"".join(ANSWERS[:3]) + full), *[("step", heard) for heard in HEARD[:3]],
+            *synchronized(), begun(), fed(GREETED + full), *[("step", heard) for heard in HEARD[:3]],
             ("step", "announces %s 1000" % B), shown("snapshot", 27, full[full.index(b"$") :], SET), ("step", "installs"), shown("stream", 1000, b"", texts),
         ])
 
@@ -120,7 +110,7 @@ class Synchronizing(Playing):
     def test_an_empty_snapshot_is_one(self):
         empty = b"+FULLRESYNC %s 0\r\n$0\r\n" % A.encode()
         heard = [*HEARD[:3], "announces %s 0" % A, "installs", "idle"]
-        self.plays("follower", [begun(), fed(b"".join(ANSWERS[:3]) + empty), *[("step", it) for it in heard], shown("stream", 0)])
+        self.plays("follower", [begun(), fed(GREETED + empty), *[("step", it) for it in heard], shown("stream", 0)])
 
 
 class Streaming(Playing):
@@ -137,7 +127,7 @@ class Streaming(Playing):
         self.assertEqual(len(texts), 64)
         snapshot = b"+FULLRESYNC %s 64\r\n$64\r\n" % A.encode() + texts
         heard = [*HEARD[:3], "announces %s 64" % A, "installs"]
-        steps = [begun(), fed(b"".join(ANSWERS[:3]) + snapshot), *[("step", it) for it in heard], shown("stream", 64, b"", texts)]
+        steps = [begun(), fed(GREETED + snapshot), *[("step", it) for it in heard], shown("stream", 64, b"", texts)]
         deleted = effect("DEL k")
         self.plays("follower", [*steps, fed(deleted), ("step", "applies " + deleted.hex()), shown("stream", 84)])
 
@@ -197,7 +187,6 @@ NO_ANSWERS = [
     b"+FULLRESYNC %s %d\r\n" % (b"a" * 40, MOST + 1),
     b"+FULLRESYNC %s 27\r\n" % (b"a" * 39),
 ]
-REFUSAL = b"-ERR replicas are not chained\r\n"
 # what no snapshot is
 NO_SNAPSHOTS = [
     b"abc",
@@ -289,7 +278,7 @@ class Refusing(Playing):
 
     def test_a_refusal_is_one_wherever_a_line_is_waited_for(self):
         for phase in ("ping", "port", "capabilities", "psync", "snapshot"):
-            self.refuses_each(phase, [REFUSAL, b"-\r\n"], "refused by the master")
+            self.refuses_each(phase, [CHAINED, b"-\r\n"], "refused by the master")
 
     def test_any_answer_brings_the_next_line_of_the_handshake_but_a_length(self):
         for phase, heard in zip(("ping", "port", "capabilities"), HEARD):

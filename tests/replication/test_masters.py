@@ -1,6 +1,5 @@
 """Servers that follow what is no master, what a master knows of its replicas, and masters that redis-cli names."""
 
-import os
 import random
 import shutil
 import socket
@@ -8,12 +7,11 @@ import subprocess
 import time
 import unittest
 
-from tests.clients.test_clients import ABSENT
-from tests.replication.test_replicas import PART, Replicating, WHOLE, leads
-from tests.server.test_serve import PONG
-from tests.support.program import LATE, request
+from tests.support.handshake import GREETED, PART, WHOLE
+from tests.support.program import LATE, needs, request
 from tests.support.replicas import closes, garbage
-from tests.support.replies import OK, READONLY, array, array_of, bulk, number
+from tests.support.replicating import Replicating, leads
+from tests.support.replies import OK, READONLY, array, bulk, number, role_of_replica
 from tests.support.server import HOST, until
 
 # how long after the last write a master knows how far its replicas are, in seconds
@@ -37,7 +35,7 @@ class WrongMasters(Replicating):
         self.assertEqual(self.replica.asks("GET", "k"), bulk("v"))
         self.assertEqual(self.replica.asks("SET", "k", "w"), READONLY)
         self.assertEqual(self.looks(self.replica)[0].held, self.held)
-        role = [array_of(bulk("slave"), bulk(host), number(port), bulk(it), number(self.replica.said().offset)) for it in (link, "sync")]
+        role = [role_of_replica(host, port, it, self.replica.said().offset) for it in (link, "sync")]
         self.assertIn(self.replica.asks("ROLE"), role)
 
     def does_not_spin(self, seconds=1):
@@ -180,7 +178,6 @@ class WrongMasters(Replicating):
 
 
 # a handshake's answers before that to PSYNC
-GREETED = PONG + OK + OK
 NONSENSE = [
     b"\0",
     b"HTTP/1.1 400 Bad Request\r\n\r\n",
@@ -246,10 +243,7 @@ class Acknowledgements(Replicating):
 class OfRedisCli(Replicating):
     def setUp(self):
         super().setUp()
-        if not shutil.which("redis-cli"):
-            if os.environ.get("ABSENT_CLIENTS") == "named":
-                self.skipTest(ABSENT + "redis-tools")
-            self.fail("the Debian package redis-tools isn't installed")
+        needs(self, shutil.which("redis-cli"), "redis-tools")
 
     def tells(self, node, *words):
         ran = subprocess.run(["redis-cli", "-p", str(node.port), "--no-raw", *words], capture_output=True, text=True, timeout=LATE)

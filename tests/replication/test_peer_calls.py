@@ -2,14 +2,14 @@
 
 import unittest
 
-from tests.support.peers import CHAINED, DEL, GREETED, IDLE, NOTHING_TO_CONTINUE, PING, PONG, SET, SET_W, PeerFault, Playing, announces, asks_from, continues, role_of_master, sent, shape, tells_info
+from tests.support.handshake import GREETED, NOTHING_TO_CONTINUE, announces, asks_from, continues
+from tests.support.peers import IDLE, PeerFault, Playing, sent, shape, tells_info
 from tests.support.program import request
-from tests.support.replies import INTEGER, NIL, OK, READONLY, SYNTAX, UNKNOWN, arity, bulk, number
+from tests.support.replies import BULK_LENGTH, CHAINED, INTEGER, NIL, OK, PONG, READONLY, STARTED, SYNTAX, TOO_LONG, UNKNOWN, arity, bulk, no_dollar, number, role_of_master
+from tests.support.requests import DEL, PING, SET, SET_W
 
 LIMIT = b"-ERR offset limit\r\n"
-STARTED = b"+Background append only file rewriting started\r\n"
 MOST_OFFSET = 2**62
-BAD_LENGTH, BAD_BULK = b"-ERR Protocol error: invalid bulk length\r\n", b"-ERR Protocol error: expected '$', got ':'\r\n"
 # requests that change no dataset, with their replies, of a master and of a replica
 UNCHANGING = [
     ("*0\r\n", b""),
@@ -73,7 +73,7 @@ class Asking(Playing):
 
     def test_a_client_that_leaves_or_lies_is_answered_once(self):
         for node in (self.master(), self.replica()):
-            for line, reply in [("QUIT\r\nPING\r\n", OK), ("*1\r\n$-5\r\nPING\r\n", BAD_LENGTH), ("*1\r\n:3\r\n", BAD_BULK)]:
+            for line, reply in [("QUIT\r\nPING\r\n", OK), ("*1\r\n$-5\r\nPING\r\n", BULK_LENGTH), ("*1\r\n:3\r\n", no_dollar(":"))]:
                 client = node.open()
                 self.assertEqual(node.asks(client, line), [("send", client, reply), ("close", client)])
                 self.assertTrue(node.is_closed(client))
@@ -516,7 +516,7 @@ class Lasting(Playing):
         for _ in range(32):
             master.feed(client, 1_048_576 * b"x")
         self.assertEqual(master.room(client), 0)
-        self.assertEqual(master.does(client), [("send", client, b"-ERR Protocol error: too big inline request\r\n"), ("close", client)])
+        self.assertEqual(master.does(client), [("send", client, TOO_LONG), ("close", client)])
 
     def test_a_master_may_send_without_end(self):
         replica = self.replica()

@@ -12,7 +12,6 @@ import os
 import random
 import sys
 import time
-import unittest
 from collections import Counter
 
 from tests.models.dataset import Given, load, texts
@@ -20,8 +19,10 @@ from tests.models.node import LIMIT, MASTER, MOST_OFFSET, REPLICA, UNDECODABLE, 
 from tests.models.request import Wanted
 from tests.models.world import Place, World, answer
 from tests.models.world_scripts import Scripter
-from tests.support.peers import FRESH, GREETED, PING, Peer, PeerFault, Playing, Program
+from tests.support.handshake import GREETED
+from tests.support.peers import FRESH, Peer, PeerFault, Playing, Program
 from tests.support.program import request
+from tests.support.requests import PING
 from tests.support.world_rows import Rows
 
 SECONDS = int(os.environ.get("PEER_SECONDS", "20"))

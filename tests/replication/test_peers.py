@@ -2,9 +2,11 @@
 
 import unittest
 
-from tests.support.peers import CHAINED, DEL, IDLE, NOTHING_TO_CONTINUE, PING, PONG, SET, SET_W, SET_X, Playing, announces, asks_from, continues, role_of_master, role_of_replica, sent, shape, tells_info
+from tests.support.handshake import CAPABILITIES, NOTHING_TO_CONTINUE, PORT, announces, asks_from, continues
+from tests.support.peers import IDLE, Playing, sent, shape, tells_info
 from tests.support.program import request
-from tests.support.replies import NIL, OK, READONLY, arity, bulk, number
+from tests.support.replies import CHAINED, NIL, OK, PONG, READONLY, arity, bulk, number, role_of_master, role_of_replica
+from tests.support.requests import DEL, PING, SET, SET_W, SET_X
 
 # what a master with one key sends to a replica without anything to continue, and what that sends
 PONG_TO_SNAPSHOT, PING_TO_PSYNC = 7 + 5 + 5 + 57 + 5 + 27, 14 + 46 + 59 + 30
@@ -27,7 +29,7 @@ class Following(Playing):
         self.assertEqual((replica.waits(), master.waits(), master.dial()), (True, False, None))
         below, above, line = self.dialled(replica), master.open(), PING
         self.assertFalse(replica.waits())
-        for says, hears in [(PING, PONG), (request("REPLCONF", "listening-port", "0"), OK), (request("REPLCONF", "capa", "eof", "capa", "psync2"), OK)]:
+        for says, hears in [(PING, PONG), (PORT, OK), (CAPABILITIES, OK)]:
             self.assertEqual(line, says)
             master.feed(above, line)
             self.assertEqual(master.talks(above), hears)

@@ -6,9 +6,8 @@ import subprocess
 import tempfile
 import unittest
 
-from tests.server.test_out_of_memory import SHIM
 from tests.support.peers import Ended, PeerFault, Playing, Program, closes, sent
-from tests.support.program import LATE, compiler, request
+from tests.support.program import LATE, request, shim
 from tests.support.replies import bulk
 
 LACKS, STOPPED = "out of memory", "stopped"
@@ -41,8 +40,7 @@ class Lacking(Playing):
     def setUp(self):
         self.room = tempfile.TemporaryDirectory()
         self.addCleanup(self.room.cleanup)
-        self.shim = os.path.join(self.room.name, "refusing_malloc.so")
-        subprocess.run([*compiler(), "-O1", "-fPIC", "-shared", "-nostdlib", "-o", self.shim, SHIM], check=True)
+        self.shim = shim("refusing_malloc", self.room.name)
         # the calls that lacked memory, or in which a node was stopped for that
         self.lacked, self.stopped = set(), set()
 

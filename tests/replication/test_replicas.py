@@ -6,21 +6,17 @@ import random
 import time
 import unittest
 
-from tests.commands.test_info import information
-from tests.replication.test_roles import NOT_CHAINED
-from tests.server.test_aof import Made
-from tests.server.test_serve import PONG, Serving
+from tests.support.handshake import GREETED, PART, WHOLE
 from tests.support.program import request
-from tests.support.replicas import FAR, Fake, Node, Proxy, Writes
-from tests.support.replies import INTEGER, NIL, OK, READONLY, array, array_of, bulk, number, read
+from tests.support.random_keys import RandomKeys
+from tests.support.replicating import NO_ID, Replicating, leads
+from tests.support.replies import CHAINED, INTEGER, NIL, OK, READONLY, array, bulk, number, read
+from tests.support.requests import FAR, PING, SET
 from tests.support.server import HOST, free_port
 
-NO_ID = "0" * 40
 LITTLE, MUCH = 64, 1 << 20
-# what a master says in front of a snapshot, and in front of the rest of its stream
-WHOLE, PART = b"+FULLRESYNC ", b"+CONTINUE "
 # a master with replicas writes one of 14 bytes into its stream every ten seconds
-BEAT, BEAT_AFTER = len(request("PING")), 10
+BEAT, BEAT_AFTER = len(PING), 10
 # so many replicas are cut at once, so often each
 CUT_REPLICAS, CUTS = 4, 24
 KILLS = 30
@@ -51,80 +47,6 @@ TOLD = [
 WRITES = ["SET k v", "DEL none", "HSET h f v", "LPUSH l a", "SADD s m", "ZADD z 1 m", "PEXPIRE none 1", "FLUSHALL", "SET text value+"]
 
 
-class Replicating(Serving):
-    """Tests with nodes, and what was ever seen at an id and offset."""
-
-    def setUp(self):
-        super().setUp()
-        self.writes, self.seen = Writes(self.id()), {}
-
-    def node(self, **how):
-        it = Node(**how)
-        self.addCleanup(it.stop)
-        return it
-
-    def proxy(self, of):
-        it = Proxy(of.port)
-        self.addCleanup(it.close)
-        return it
-
-    def fake(self, does, port=0):
-        it = Fake(does, port)
-        self.addCleanup(it.close)
-        return it
-
-    def looks(self, *nodes):
-        """What each of them holds. At one id and offset nodes hold the same, now and whenever else these were shown."""
-        self.comes(self.writes.are_calm)
-        looks = [it.look() for it in nodes]
-        for it in looks:
-            self.assertEqual(self.seen.setdefault(it.shows, it.held), it.held, it.shows)
-        return looks
-
-    def caught_up(self, master, *nodes):
-        """They come to the id and offset of their master, and hold what it holds, which is answered."""
-        self.comes(self.writes.are_calm)
-
-        def are_there():
-            shown = master.said().shows
-            if any(it.said().shows != shown for it in nodes):
-                return False
-            looks = self.looks(master, *nodes)
-            # a heartbeat may come in between
-            return looks[0] if len({it.shows for it in looks}) == 1 else False
-
-        found = []
-        self.comes(lambda: found.append(are_there()) or found[-1])
-        return found[-1]
-
-    def followed(self, count=1, **how):
-        """A master that has done random writes, and replicas that have caught up."""
-        master = self.node(**how)
-        self.writes.play(master, 30)
-        nodes = [self.node(follows=master.port, **how) for _ in range(count)]
-        self.caught_up(master, *nodes)
-        return (master, *nodes)
-
-    def tells(self, node, **told):
-        """INFO, byte for byte."""
-        self.assertEqual(node.asks("INFO", "replication"), bulk(information(**told)))
-
-    def follows(self, node, port, link="connected", host=HOST):
-        """A replica's ROLE, byte for byte."""
-        role = array_of(bulk("slave"), bulk(host), number(port), bulk(link), number(node.said().offset))
-        self.assertEqual(node.asks("ROLE"), role)
-
-    def promoted(self, node):
-        """Promotes a node, which goes on under a fresh id from where it stands."""
-        # sent together, so that nothing comes in between: of its own it then deletes what has expired
-        before, after = node.promotes()
-        self.assertEqual((before.role, after.role, after.offset), ("slave", "master", before.offset))
-        self.assertEqual((after.second, after.second_offset), (before.id, before.offset + 1))
-        self.assertRegex(after.id, r"\A[0-9a-f]{40}\Z")
-        self.assertNotIn(after.id, (before.id, before.second, NO_ID))
-        return after
-
-
 class Copies(Replicating):
     def test_writes_of_every_type_arrive(self):
         """Two replicas, of which one is told while it runs and held other keys, answer each read as the master does, and one as the other."""
@@ -152,7 +74,7 @@ class Copies(Replicating):
 
     def test_a_snapshot_of_large_values(self):
         """A dataset of keys of any bytes and of collections of hundreds of items comes as a whole copy, and what is written behind it in the stream."""
-        master, made = self.node(), Made(random.Random(5))
+        master, made = self.node(), RandomKeys(random.Random(5))
         master.asked.send(made.commands())
         for _ in made.written:
             self.assertNotEqual(master.asked.reply()[:1], b"-")
@@ -172,7 +94,7 @@ class Copies(Replicating):
         for line in WRITES:
             self.assertEqual(replica.asks(*line.split(" ")), READONLY, line)
         self.assertEqual(replica.asks("GET", "text"), bulk("value+"))
-        self.assertEqual(replica.asks("PSYNC", "?", "-1"), NOT_CHAINED)
+        self.assertEqual(replica.asks("PSYNC", "?", "-1"), CHAINED)
         self.assertEqual(self.caught_up(master, replica), held)
 
     def test_what_they_tell_of_themselves(self):
@@ -212,11 +134,6 @@ class Copies(Replicating):
             self.assertEqual((it.asks("GET", "k"), it.asks("DBSIZE")), (NIL, number(0)))
         self.comes(lambda: replica.said().offset >= offset + len(request("DEL", "k")))
         self.caught_up(master, replica)
-
-
-def leads(offset, *followers):
-    """A master's ROLE: a replica tells its port, and no address."""
-    return array_of(bulk("master"), number(offset), array_of(*(array("", str(it.port), str(at)) for it, at in followers)))
 
 
 class Promotion(Replicating):
@@ -352,7 +269,7 @@ class Promotion(Replicating):
         held = self.caught_up(master, replica)
         self.assertTrue(master.follow(free_port()))
         self.comes(lambda: len(proxy.links) > 3)
-        self.assertEqual(set(proxy.heard()[1:3]), {PONG + OK + OK + NOT_CHAINED})
+        self.assertEqual(set(proxy.heard()[1:3]), {GREETED + CHAINED})
         self.assertEqual(self.looks(replica)[0], held)
         new = self.promoted(master)
         self.assertEqual(master.asks("SET", "k", "v"), OK)
@@ -464,7 +381,7 @@ class Cuts(Replicating):
         master = self.node()
         self.assertEqual(master.asks("SET", "k", "v"), OK)
         id = master.said().id
-        copy = PONG + OK + OK + WHOLE + id.encode() + b" 27\r\n$27\r\n" + request("SET", "k", "v")
+        copy = GREETED + WHOLE + id.encode() + b" 27\r\n$27\r\n" + SET
         nodes = [self.node() for _ in range(8)]
         for first in range(0, len(copy) + 1, len(nodes)):
             begun = [(it, *self.begins_anew(it, master, cut)) for it, cut in zip(nodes, range(first, len(copy) + 1))]
@@ -511,7 +428,7 @@ class Cuts(Replicating):
             self.caught_up(master, *nodes)
             for cut, proxy in enumerate(proxies, first):
                 rest = b"" if cut == 27 else effect
-                self.assertEqual(proxy.heard()[-1], PONG + OK + OK + PART + before.shows[0].encode() + b"\r\n" + rest)
+                self.assertEqual(proxy.heard()[-1], GREETED + PART + before.shows[0].encode() + b"\r\n" + rest)
 
 
 def next_cut(chance):
@@ -660,10 +577,10 @@ class Files(Replicating):
         self.assertEqual(master.asks("SET", "k", "v"), OK)
         self.assertTrue(replica.follow(master.port))
         self.caught_up(master, replica)
-        self.assertEqual(self.bytes(), request("SET", "k", "v"))
+        self.assertEqual(self.bytes(), SET)
         self.assertEqual(master.asks("SET", "k", "w"), OK)
         self.caught_up(master, replica)
-        self.assertEqual(self.bytes(), request("SET", "k", "v") + request("SET", "k", "w"))
+        self.assertEqual(self.bytes(), SET + request("SET", "k", "w"))
 
     def test_a_replica_that_starts_again_with_its_file(self):
         """It serves what the file has while its master is away, and catches up once that is there."""

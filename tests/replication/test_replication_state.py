@@ -2,18 +2,15 @@
 
 import unittest
 
-from tests.replication.test_follower import ALL, ANSWERS, CAPABILITIES, PORT, WHOLE
+from tests.support.handshake import ANSWERS, CAPABILITIES, GREETED, NOTHING_TO_CONTINUE, PORT
 from tests.support.program import request
 from tests.support.rehearsal import effect
-from tests.support.values import Playing, spelled
+from tests.support.replies import CHAINED
+from tests.support.values import Playing, fed, spelled
 
 A, B, C = (letter * 40 for letter in "abc")
 CAPACITY = 1_048_576
 FIRST, SECOND, THIRD = (effect("SET k " + word) for word in "vwx")
-
-
-def fed(data):
-    return ("feed " + spelled(data), "fed")
 
 
 def heard(what, said=b""):
@@ -34,7 +31,7 @@ def dialled(link, wanted):
     """The steps of a handshake up to its last line, on the link that was opened as this one."""
     return [
         ("dial 0 %d 0" % link, "dialled"),
-        fed(b"".join(ANSWERS[:3])),
+        fed(GREETED),
         *[heard("says", line) for line in (PORT, CAPABILITIES, wanted)],
     ]
 
@@ -56,7 +53,7 @@ def synchronized(link=0):
     """The steps to a replica at (A, 27), in its stream."""
     return [
         ("replica %s %d 0" % (B, CAPACITY), "begun"),
-        *dialled(link, ALL),
+        *dialled(link, NOTHING_TO_CONTINUE),
         *taking(A, 27, FIRST),
         stands("replica", "offers", A, 27, 28, reads="at 0 %d stream" % link),
         holds(FIRST),
@@ -66,7 +63,7 @@ def synchronized(link=0):
 class Following(Playing):
     def test_a_snapshot_is_shown_with_its_last_byte_alone(self):
         """Before it the replica shows its own id and offset, and has nothing to continue."""
-        sent, steps = ANSWERS[4], [("replica %s %d 0" % (B, CAPACITY), "begun"), *dialled(0, ALL), fed(ANSWERS[3]), heard("announced")]
+        sent, steps = ANSWERS[4], [("replica %s %d 0" % (B, CAPACITY), "begun"), *dialled(0, NOTHING_TO_CONTINUE), fed(ANSWERS[3]), heard("announced")]
         for at, byte in enumerate(sent):
             steps += [heard("idle"), stands("replica", "bare", B, 0, 1, reads="at 0 0 snapshot", unread=at), holds(b"")]
             steps.append(fed(bytes([byte])))
@@ -83,12 +80,12 @@ class Following(Playing):
         self.plays("course", *courses)
 
     def test_a_link_that_breaks_within_a_snapshot_leaves_nothing_of_it(self):
-        courses, sent = [], WHOLE[len(b"".join(ANSWERS[:3])) :]
-        begin = [("replica %s %d 0" % (B, CAPACITY), "begun"), *dialled(0, ALL)]
+        courses, sent = [], b"".join(ANSWERS[3:])
+        begin = [("replica %s %d 0" % (B, CAPACITY), "begun"), *dialled(0, NOTHING_TO_CONTINUE)]
         for cut in range(len(sent)):
             first = [heard("announced")] if cut >= len(ANSWERS[3]) else []
             broken = [fed(sent[:cut]), *first, heard("idle"), ("leave", "left"), stands("replica", "bare", B, 0, 1), holds(b"")]
-            courses.append([*begin, *broken, *dialled(1, ALL), *taking(A, 27, FIRST), stands("replica", "offers", A, 27, 28, reads="at 0 1 stream")])
+            courses.append([*begin, *broken, *dialled(1, NOTHING_TO_CONTINUE), *taking(A, 27, FIRST), stands("replica", "offers", A, 27, 28, reads="at 0 1 stream")])
         self.plays("course", *courses)
 
     def test_what_is_applied_is_counted_and_kept(self):
@@ -107,8 +104,8 @@ class Refusing(Playing):
         self.plays("course", [*synchronized(), *left, stands("replica", has, A, 27, 28), holds(FIRST), *dialled(1, wanted)])
 
     def test_what_is_no_effect_here_spoils_what_there_is_to_continue(self):
-        self.refuses(request("FOO"), "spoiled", ALL)
-        self.refuses(effect("LPOP k 1"), "spoiled", ALL)
+        self.refuses(request("FOO"), "spoiled", NOTHING_TO_CONTINUE)
+        self.refuses(effect("LPOP k 1"), "spoiled", NOTHING_TO_CONTINUE)
 
     def synchronizing(self, answer, what, wanted, *before):
         """The same of what a master sends in place of the stream that was asked for."""
@@ -118,10 +115,10 @@ class Refusing(Playing):
 
     def test_a_bad_line_and_a_refusal_leave_what_there_is_to_continue(self):
         self.synchronizing(b"+CONTINUE %s\r\n" % (b"a" * 39), "left", asking(A, 27))
-        self.synchronizing(b"-ERR replicas are not chained\r\n", "left", asking(A, 27))
+        self.synchronizing(CHAINED, "left", asking(A, 27))
 
     def test_a_bad_snapshot_spoils_it(self):
-        self.synchronizing(b"+FULLRESYNC %s 5\r\n$3\r\nabc" % B.encode(), "spoiled", ALL, heard("announced"))
+        self.synchronizing(b"+FULLRESYNC %s 5\r\n$3\r\nabc" % B.encode(), "spoiled", NOTHING_TO_CONTINUE, heard("announced"))
 
 
 class Turning(Playing):
@@ -158,7 +155,7 @@ class Turning(Playing):
         self.plays("course", [*old, *goes_on, stands("replica", "offers", C, 54, 28, A + " 55", "at 0 0 stream")])
 
     def test_a_spoiled_course_asks_for_all(self):
-        self.plays("course", [*synchronized(), ("spoil", "spoiled"), stands("replica", "bare", A, 27, 28), *dialled(1, ALL)])
+        self.plays("course", [*synchronized(), ("spoil", "spoiled"), stands("replica", "bare", A, 27, 28), *dialled(1, NOTHING_TO_CONTINUE)])
 
     def test_a_replica_that_has_something_offers_it_at_once(self):
         self.plays("course", [("offering %s %d 27" % (A, CAPACITY), "begun"), *dialled(0, asking(A, 27))])

@@ -7,9 +7,9 @@ import unittest
 
 from tests.models.world import World, answer
 from tests.models.world_scripts import script
-from tests.server.test_out_of_memory import Refusing
-from tests.support.program import LATE, LAUNCHER, PROGRAM, run, run_in_pieces
-from tests.support.world_rows import USUAL_BACKLOG, Rows, every_event, shown
+from tests.support.program import LATE, LAUNCHER, PROGRAM, USUAL_BACKLOG, run, run_in_pieces
+from tests.support.refusing import Refusing
+from tests.support.world_rows import Rows, every_event, shown
 
 # how long random scripts are played, in seconds, and how many lines each has
 LONG = 20

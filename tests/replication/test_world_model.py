@@ -12,14 +12,15 @@ from tests.models.node import CLOSED, IDLE, Append, Close, Grow, Halt, Node, Nod
 from tests.models.world import World, answer, answers
 from tests.models.world_scripts import Scripter, script, shortened
 from tests.models.world_watch import EVENTS_OF_A_WORLD, watched
-from tests.support.program import LATE, ROOT, request
+from tests.support.handshake import ANSWERS
+from tests.support.program import LATE, ROOT, USUAL_BACKLOG, request
 from tests.support.replies import OK, bulk
-from tests.support.world_rows import SET, USUAL_BACKLOG, Rows, info, started
+from tests.support.requests import SET
+from tests.support.world_rows import Rows, info, started
 
 A, B = b"a" * 40, b"b" * 40
 FRESH = b"1" * 40
 NOW = Given(0, 0)
-GREETED = [b"+PONG\r\n", b"+OK\r\n", b"+OK\r\n"]
 
 
 class WorldRows(Rows, unittest.TestCase):
@@ -63,7 +64,7 @@ class Following(unittest.TestCase):
 
     def greeted(self):
         """The last line of the handshake."""
-        for line in GREETED:
+        for line in ANSWERS[:3]:
             (told,) = self.takes(line)
         return told.data
 

@@ -11,28 +11,18 @@ import tempfile
 import time
 import unittest
 
-from tests.support.program import LATE, LAUNCHER, PROGRAM, SUPPORT, compiler, notices, request, run
+from tests.support.files import InFolder
+from tests.support.program import LATE, LAUNCHER, PROGRAM, needs, notices, request, run, shim
+from tests.support.random_keys import RandomKeys
+from tests.support.replies import NIL, OK, PONG, STARTED, array, bulk
+from tests.support.requests import FAR, GET, PING, SET, SET_W, SET_X
 
-SET_V, SET_W, SET_X = (request("SET", "k", value) for value in "vwx")
-OK = b"+OK\r\n"
 TORN = b"*3\r\n$3\r\nSE"
 # how often the program is killed in the middle of a stream of writes
 KILLS = 200
-NIL = b"$-1\r\n"
-STARTED = b"+Background append only file rewriting started\r\n"
 REWRITE = request("BGREWRITEAOF")
 # how often it is killed in the middle of a rewriting, of a file of so many keys
 REWRITING_KILLS, REWRITTEN_KEYS = 60, 10_000
-# in the year 2100
-FAR = 4_102_444_800_000
-
-
-def bulk(value):
-    return b"$%d\r\n%s\r\n" % (len(value), value)
-
-
-def array(items):
-    return b"*%d\r\n" % len(items) + b"".join(map(bulk, items))
 
 
 def may_grow_to(size):
@@ -40,21 +30,8 @@ def may_grow_to(size):
     return lambda: resource.setrlimit(resource.RLIMIT_FSIZE, (size, size))
 
 
-class OfFile(unittest.TestCase):
-    """Tests on a file of their own in a folder of their own."""
-
-    def setUp(self):
-        folder = tempfile.TemporaryDirectory()
-        self.addCleanup(folder.cleanup)
-        self.folder, self.path = folder.name, os.path.join(folder.name, "data.aof")
-
-    def write(self, data):
-        with open(self.path, "wb") as file:
-            file.write(data)
-
-    def bytes(self):
-        with open(self.path, "rb") as file:
-            return file.read()
+class OfFile(InFolder):
+    """Runs of `pipe` over the file."""
 
     def asked(self, data, *words, **how):
         """The program's run over the file."""
@@ -92,36 +69,36 @@ class OfFile(unittest.TestCase):
 
 class Starting(OfFile):
     def test_what_was_answered_is_there_after_the_next_start(self):
-        self.answers(SET_V + SET_W + request("RPUSH", "l", "a", "b"), OK + OK + b":2\r\n")
-        self.answers(request("GET", "k") + request("LRANGE", "l", "0", "-1"), bulk(b"w") + array([b"a", b"b"]))
+        self.answers(SET + SET_W + request("RPUSH", "l", "a", "b"), OK + OK + b":2\r\n")
+        self.answers(GET + request("LRANGE", "l", "0", "-1"), bulk(b"w") + array(b"a", b"b"))
 
     def test_the_file_is_the_texts_of_the_effects(self):
-        self.answers(SET_V + SET_W, OK + OK)
-        self.assertEqual(self.bytes(), SET_V + SET_W)
+        self.answers(SET + SET_W, OK + OK)
+        self.assertEqual(self.bytes(), SET + SET_W)
         self.assertEqual(len(self.bytes()), 54)
 
     def test_what_changes_nothing_is_not_in_the_file(self):
-        asked = request("PING") + request("GET", "k") + request("SET", "k") + SET_V + SET_V + request("LPUSH", "k", "v") + request("DEL", "none")
+        asked = PING + GET + request("SET", "k") + SET + SET + request("LPUSH", "k", "v") + request("DEL", "none")
         ran = self.asked(asked)
         self.assertEqual((ran.returncode, ran.stderr), (0, b""))
-        self.assertEqual(self.bytes(), SET_V)
+        self.assertEqual(self.bytes(), SET)
 
     def test_a_torn_end_is_cut_off(self):
-        self.write(SET_V + TORN)
-        self.answers(request("GET", "k"), bulk(b"v"), cut=TORN)
-        self.assertEqual(self.bytes(), SET_V)
+        self.write(SET + TORN)
+        self.answers(GET, bulk(b"v"), cut=TORN)
+        self.assertEqual(self.bytes(), SET)
         self.answers(SET_W, OK)
-        self.assertEqual(self.bytes(), SET_V + SET_W)
+        self.assertEqual(self.bytes(), SET + SET_W)
 
     def test_a_command_that_cannot_be_applied_ends_what_is_loaded(self):
-        for bad in (request("LPOP", "k", "1"), request("FOO"), request("GET", "k"), b"\0", b"SET k w\r\n"):
+        for bad in (request("LPOP", "k", "1"), request("FOO"), GET, b"\0", b"SET k w\r\n"):
             with self.subTest(bad=bad):
-                self.write(SET_V + bad + SET_W)
-                self.answers(request("GET", "k"), bulk(b"v"), cut=bad + SET_W)
-                self.assertEqual(self.bytes(), SET_V)
+                self.write(SET + bad + SET_W)
+                self.answers(GET, bulk(b"v"), cut=bad + SET_W)
+                self.assertEqual(self.bytes(), SET)
 
     def test_any_beginning_of_a_file_loads_its_whole_texts(self):
-        texts = [SET_V, request("HSET", "h", "f", "v"), request("RPUSH", "l", "a"), request("SADD", "s", "m"), request("ZADD", "z", "1", "m")]
+        texts = [SET, request("HSET", "h", "f", "v"), request("RPUSH", "l", "a"), request("SADD", "s", "m"), request("ZADD", "z", "1", "m")]
         whole, sizes = b"".join(texts), [sum(map(len, texts[:count])) for count in range(len(texts) + 1)]
         for cut in range(sizes[2], sizes[5] + 1):
             with self.subTest(cut=cut):
@@ -138,13 +115,13 @@ class Starting(OfFile):
 
     def test_deadlines_outlive_a_start(self):
         self.answers(request("SET", "k", "v", "PX", "500"), OK, "--now", "1000")
-        self.answers(request("GET", "k"), bulk(b"v"), "--now", "1499")
-        self.answers(request("GET", "k"), NIL, "--now", "1500")
+        self.answers(GET, bulk(b"v"), "--now", "1499")
+        self.answers(GET, NIL, "--now", "1500")
 
     def test_a_large_value_outlives_a_start(self):
         value = random.Random(5).randbytes(1 << 24)
         self.answers(request("SET", "k", value), OK)
-        self.answers(request("GET", "k"), bulk(value))
+        self.answers(GET, bulk(value))
 
 
 class Rewriting(OfFile):
@@ -160,14 +137,14 @@ class Rewriting(OfFile):
     def test_the_file_is_as_short_as_the_dataset_before_the_reply(self):
         program = subprocess.Popen([LAUNCHER, "pipe", "--aof", self.path], stdin=subprocess.PIPE, stdout=subprocess.PIPE, bufsize=0)
         self.addCleanup(program.communicate)
-        for data, wanted, size in ((SET_V, OK, 27), (SET_W, OK, 54), (REWRITE, STARTED, 27)):
+        for data, wanted, size in ((SET, OK, 27), (SET_W, OK, 54), (REWRITE, STARTED, 27)):
             program.stdin.write(data)
             self.assertEqual(program.stdout.read(len(wanted)), wanted)
             self.assertEqual(len(self.bytes()), size)
         self.assertEqual(self.bytes(), SET_W)
 
     def test_the_next_start_has_the_same_dataset(self):
-        made = Made(random.Random(16))
+        made = RandomKeys(random.Random(16))
         self.asked(made.commands() + request("DEL", "none"))
         before = self.asked(made.questions())
         self.assertEqual((before.returncode, before.stdout.count(NIL)), (0, 0))
@@ -192,8 +169,8 @@ class Rewriting(OfFile):
 
     def test_expired_keys_stay_until_they_are_named(self):
         self.answers(request("SET", "k", "v", "PX", "500") + request("SET", "l", "v"), OK + OK, "--now", "1000")
-        self.answers(REWRITE + request("GET", "k"), STARTED + NIL, "--now", "2000")
-        self.assertEqual(self.bytes(), SET_V + request("PEXPIREAT", "k", "1500") + request("SET", "l", "v") + request("DEL", "k"))
+        self.answers(REWRITE + GET, STARTED + NIL, "--now", "2000")
+        self.assertEqual(self.bytes(), SET + request("PEXPIREAT", "k", "1500") + request("SET", "l", "v") + request("DEL", "k"))
         self.answers(REWRITE, STARTED)
         self.assertEqual(self.bytes(), request("SET", "l", "v"))
 
@@ -220,37 +197,37 @@ class Rewriting(OfFile):
         )
 
     def test_an_empty_dataset_leaves_an_empty_file(self):
-        self.answers(SET_V + request("DEL", "k") + REWRITE, OK + b":1\r\n" + STARTED)
+        self.answers(SET + request("DEL", "k") + REWRITE, OK + b":1\r\n" + STARTED)
         self.assertEqual(self.bytes(), b"")
         self.answers(request("DBSIZE") + SET_W, b":0\r\n" + OK)
         self.assertEqual(self.bytes(), SET_W)
 
     def test_what_follows_is_appended_behind_it(self):
-        self.answers(SET_V + SET_W + REWRITE + SET_X + request("GET", "k"), OK + OK + STARTED + OK + bulk(b"x"))
+        self.answers(SET + SET_W + REWRITE + SET_X + GET, OK + OK + STARTED + OK + bulk(b"x"))
         self.assertEqual(self.bytes(), SET_W + SET_X)
-        self.answers(request("GET", "k") + REWRITE + REWRITE + SET_V + REWRITE + SET_W, bulk(b"x") + STARTED + STARTED + OK + STARTED + OK)
-        self.assertEqual(self.bytes(), SET_V + SET_W)
+        self.answers(GET + REWRITE + REWRITE + SET + REWRITE + SET_W, bulk(b"x") + STARTED + STARTED + OK + STARTED + OK)
+        self.assertEqual(self.bytes(), SET + SET_W)
 
     def test_in_any_case_and_without_more_words(self):
         refused = b"-ERR wrong number of arguments for 'bgrewriteaof' command\r\n"
-        self.answers(SET_V + SET_W + request("BGREWRITEAOF", "now"), OK + OK + refused)
-        self.assertEqual(self.bytes(), SET_V + SET_W)
+        self.answers(SET + SET_W + request("BGREWRITEAOF", "now"), OK + OK + refused)
+        self.assertEqual(self.bytes(), SET + SET_W)
         self.answers(b"bgRewriteAof\r\n", STARTED)
         self.assertEqual(self.bytes(), SET_W)
 
     def test_without_a_file_it_is_answered_alike(self):
-        ran = run(SET_V + REWRITE + request("GET", "k"), "pipe")
+        ran = run(SET + REWRITE + GET, "pipe")
         self.assertEqual((ran.returncode, ran.stderr, ran.stdout), (0, b"", OK + STARTED + bulk(b"v")))
 
     def test_a_path_without_a_folder(self):
-        ran = run(SET_V + SET_W + REWRITE + SET_X, "pipe", "--aof", "data.aof", cwd=self.folder)
+        ran = run(SET + SET_W + REWRITE + SET_X, "pipe", "--aof", "data.aof", cwd=self.folder)
         self.assertEqual((ran.returncode, ran.stderr, ran.stdout), (0, b"", OK + OK + STARTED + OK))
         self.assertEqual(self.bytes(), SET_W + SET_X)
 
     def test_what_an_earlier_rewriting_left_does_not_matter(self):
         with open(self.path + ".new", "wb") as file:
             file.write(1000 * TORN)
-        self.answers(SET_V + SET_W, OK + OK)
+        self.answers(SET + SET_W, OK + OK)
         self.assertEqual(sorted(os.listdir(self.folder)), ["data.aof", "data.aof.lock"])
         self.answers(REWRITE, STARTED)
         self.assertEqual(self.bytes(), SET_W)
@@ -258,16 +235,16 @@ class Rewriting(OfFile):
 
     def test_a_second_program_is_kept_away_still(self):
         first = subprocess.Popen([LAUNCHER, "pipe", "--aof", self.path], stdin=subprocess.PIPE, stdout=subprocess.PIPE, bufsize=0)
-        first.stdin.write(SET_V + REWRITE)
+        first.stdin.write(SET + REWRITE)
         self.assertEqual(first.stdout.read(len(OK)) + first.stdout.read(len(STARTED)), OK + STARTED)
         self.fails(self.asked(SET_W), b"")
         rest, _ = first.communicate(SET_X, timeout=LATE)
-        self.assertEqual((first.returncode, rest, self.bytes()), (0, OK, SET_V + SET_X))
+        self.assertEqual((first.returncode, rest, self.bytes()), (0, OK, SET + SET_X))
 
     def test_no_place_beside_the_file(self):
         os.mkdir(self.path + ".new")
-        self.fails(self.asked(SET_V + SET_W + REWRITE + SET_X), OK + OK)
-        self.assertEqual(self.bytes(), SET_V + SET_W)
+        self.fails(self.asked(SET + SET_W + REWRITE + SET_X), OK + OK)
+        self.assertEqual(self.bytes(), SET + SET_W)
 
     def test_a_full_disk(self):
         texts = b"".join(request("SET", "key%02d" % number, "v") for number in range(100))
@@ -287,11 +264,9 @@ class OfFailing(OfFile):
     def setUpClass(cls):
         cls.room = tempfile.TemporaryDirectory()
         cls.addClassCleanup(cls.room.cleanup)
-        cls.shim = os.path.join(cls.room.name, "failing_file.so")
-        source = os.path.join(SUPPORT, "failing_file.c")
-        subprocess.run([*compiler(), "-shared", "-fPIC", "-O1", "-nostdlib", "-o", cls.shim, source], check=True)
+        cls.shim = shim("failing_file", cls.room.name)
 
-    def run_with(self, data=SET_V + SET_W + SET_X, **variables):
+    def run_with(self, data=SET + SET_W + SET_X, **variables):
         env = {**os.environ, "LD_PRELOAD": self.shim, **variables}
         words = [PROGRAM, "pipe", "--aof", self.path]
         return subprocess.run(words, input=data, capture_output=True, timeout=LATE, env=env)
@@ -304,7 +279,7 @@ class Failing(OfFailing):
 
     def test_the_second_write_fails(self):
         self.fails(self.run_with(FAIL_WRITE="2"), OK)
-        self.assertEqual(self.bytes(), SET_V)
+        self.assertEqual(self.bytes(), SET)
 
     def test_the_sync_of_the_folder_of_a_file_that_was_made_fails(self):
         os.remove(self.path)
@@ -313,15 +288,15 @@ class Failing(OfFailing):
 
     def test_the_second_sync_fails(self):
         self.fails(self.run_with(FAIL_SYNC="2"), OK)
-        self.assertEqual(self.bytes(), SET_V + SET_W)
+        self.assertEqual(self.bytes(), SET + SET_W)
 
     def test_short_writes_are_gone_on_with(self):
         ran = self.run_with(SHORT_WRITE="1")
         self.assertEqual((ran.returncode, ran.stdout, ran.stderr), (0, 3 * OK, b""))
-        self.assertEqual(self.bytes(), SET_V + SET_W + SET_X)
+        self.assertEqual(self.bytes(), SET + SET_W + SET_X)
 
     def test_each_call_fails_in_turn(self):
-        texts = [SET_V, SET_W, SET_X]
+        texts = [SET, SET_W, SET_X]
         for call in range(1, 100):
             self.write(b"")
             ran = self.run_with(FAIL_CALL=str(call))
@@ -337,19 +312,19 @@ class Failing(OfFailing):
         self.assertEqual((ran.stdout, self.bytes()), (3 * OK, b"".join(texts)))
 
     def test_a_full_disk(self):
-        ran = self.asked(SET_V + SET_W + SET_X, preexec_fn=may_grow_to(40))
+        ran = self.asked(SET + SET_W + SET_X, preexec_fn=may_grow_to(40))
         self.fails(ran, OK)
         self.assertIn(b"could not be written: ", ran.stderr)
-        torn = (SET_V + SET_W)[:40]
+        torn = (SET + SET_W)[:40]
         self.assertEqual(self.bytes(), torn)
-        self.answers(request("GET", "k"), bulk(b"v"), cut=torn[len(SET_V) :])
+        self.answers(GET, bulk(b"v"), cut=torn[len(SET) :])
 
 
 class FailingRewriting(OfFailing):
-    ASKED = SET_V + SET_W + REWRITE + SET_X
+    ASKED = SET + SET_W + REWRITE + SET_X
     REPLIES = [OK, OK, STARTED, OK]
     # the file before each request, and behind the last
-    FILES = [b"", SET_V, SET_V + SET_W, SET_W, SET_W + SET_X]
+    FILES = [b"", SET, SET + SET_W, SET_W, SET_W + SET_X]
 
     def fails_somewhere(self, ran):
         """The file failed: it is what it was before the request or behind it, and nothing that isn't there was answered."""
@@ -358,8 +333,8 @@ class FailingRewriting(OfFailing):
         self.assertIn(self.bytes(), self.FILES[answered : answered + 2])
         self.assertIn(sorted(os.listdir(self.folder)), [["data.aof"], ["data.aof", "data.aof.lock"]])
         # who comes next goes on from there
-        held = {b"": NIL, SET_V: bulk(b"v")}.get(self.bytes(), bulk(b"x" if self.bytes().endswith(SET_X) else b"w"))
-        self.answers(request("GET", "k") + SET_W + SET_X + REWRITE, held + OK + OK + STARTED)
+        held = {b"": NIL, SET: bulk(b"v")}.get(self.bytes(), bulk(b"x" if self.bytes().endswith(SET_X) else b"w"))
+        self.answers(GET + SET_W + SET_X + REWRITE, held + OK + OK + STARTED)
         self.assertEqual(self.bytes(), SET_X)
         return answered
 
@@ -379,7 +354,7 @@ class FailingRewriting(OfFailing):
 
     def test_the_old_file_stands_until_the_new_one_is_synced(self):
         # the third sync is that of the new file, the fourth that of its folder
-        for sync, wanted in (("3", SET_V + SET_W), ("4", SET_W)):
+        for sync, wanted in (("3", SET + SET_W), ("4", SET_W)):
             with self.subTest(sync=sync):
                 self.write(b"")
                 self.fails(self.run_with(self.ASKED, FAIL_SYNC=sync), OK + OK)
@@ -394,29 +369,29 @@ class FailingRewriting(OfFailing):
 class Opening(OfFile):
     def test_two_programs_never_write_one_file(self):
         first = subprocess.Popen([LAUNCHER, "pipe", "--aof", self.path], stdin=subprocess.PIPE, stdout=subprocess.PIPE)
-        first.stdin.write(SET_V)
+        first.stdin.write(SET)
         first.stdin.flush()
         self.assertEqual(first.stdout.read(len(OK)), OK)
         self.fails(self.asked(SET_W), b"")
-        self.assertEqual(self.bytes(), SET_V)
+        self.assertEqual(self.bytes(), SET)
         rest, _ = first.communicate(SET_X, timeout=LATE)
-        self.assertEqual((first.returncode, rest, self.bytes()), (0, OK, SET_V + SET_X))
+        self.assertEqual((first.returncode, rest, self.bytes()), (0, OK, SET + SET_X))
 
     def test_a_folder(self):
         os.mkdir(self.path)
-        self.fails(self.asked(SET_V), b"")
+        self.fails(self.asked(SET), b"")
 
     def test_a_folder_that_is_not_there(self):
         self.path = os.path.join(self.folder, "none", "data.aof")
-        self.fails(self.asked(SET_V), b"")
+        self.fails(self.asked(SET), b"")
 
     def test_the_empty_path(self):
-        ran = run(SET_V, "pipe", "--aof", "")
+        ran = run(SET, "pipe", "--aof", "")
         self.assertEqual((ran.returncode, ran.stdout), (3, b""))
 
     def test_a_lock_that_cannot_be_made_is_named(self):
         os.mkdir(self.path + ".lock")
-        ran = self.asked(SET_V)
+        ran = self.asked(SET)
         self.fails(ran, b"")
         self.assertIn(os.fsencode(self.path + ".lock"), ran.stderr)
         self.assertEqual(self.bytes(), b"")
@@ -425,7 +400,7 @@ class Opening(OfFile):
         """A program that writes the file."""
         first = subprocess.Popen([LAUNCHER, "pipe", "--aof", self.path], stdin=subprocess.PIPE, stdout=subprocess.PIPE, bufsize=0)
         self.addCleanup(first.communicate)
-        first.stdin.write(SET_V)
+        first.stdin.write(SET)
         self.assertEqual(first.stdout.read(len(OK)), OK)
         return first
 
@@ -457,7 +432,7 @@ class Opening(OfFile):
         os.symlink("data.aof", link)
         for mode in (0o600, 0o640, 0o666):
             with self.subTest(mode=mode):
-                self.write(SET_V + SET_W)
+                self.write(SET + SET_W)
                 os.chmod(self.path, mode)
                 if os.geteuid() == 0:
                     os.chown(self.path, 4321, 4322)
@@ -473,18 +448,18 @@ class Opening(OfFile):
     def test_a_link_to_a_file_that_is_not_there_has_it_made(self):
         link = os.path.join(self.folder, "link")
         os.symlink("data.aof", link)
-        ran = run(SET_V, "pipe", "--aof", link)
+        ran = run(SET, "pipe", "--aof", link)
         self.assertEqual((ran.returncode, ran.stderr, ran.stdout), (0, b"", OK))
-        self.assertEqual(self.bytes(), SET_V)
+        self.assertEqual(self.bytes(), SET)
 
 
 # files that aren't lists of commands: what they begin with is loaded, and the rest stands beside them
 WRONG_FILES = {
     "a text": (b"", b"Dear reader,\n\nthis is no file of commands.\n"),
     "an RDB file": (b"", b"REDIS0010\xfa\tredis-ver\x067.0.15\xfa\nredis-bits\xc0@\xfe\0\xfb\1\0\0\1k\1v\xff" + bytes(range(8))),
-    "another server's file": (b"", request("SELECT", "0") + SET_V + request("SET", "l", "w")),
-    "another server's file, in part": (SET_V, request("INCRBYFLOAT", "f", "1.5") + SET_W),
-    "zeros": (SET_V + SET_W, bytes(5000)),
+    "another server's file": (b"", request("SELECT", "0") + SET + request("SET", "l", "w")),
+    "another server's file, in part": (SET, request("INCRBYFLOAT", "f", "1.5") + SET_W),
+    "zeros": (SET + SET_W, bytes(5000)),
 }
 
 
@@ -512,7 +487,7 @@ class Setting(OfFile):
                 self.assertEqual(self.bytes(), good)
 
     def test_a_copy_is_for_those_that_the_file_is_for(self):
-        self.write(SET_V + TORN)
+        self.write(SET + TORN)
         os.chmod(self.path, 0o640)
         self.answers(b"", b"", cut=TORN)
         self.assertEqual(stat.S_IMODE(os.stat(self.copies()[0]).st_mode), 0o640)
@@ -521,34 +496,34 @@ class Setting(OfFile):
         for taken in ("data.aof.cut-1", "data.aof.cut-2"):
             with open(os.path.join(self.folder, taken), "wb") as file:
                 file.write(b"old")
-        self.write(SET_V + TORN)
-        self.answers(request("GET", "k"), bulk(b"v"), cut=TORN)
+        self.write(SET + TORN)
+        self.answers(GET, bulk(b"v"), cut=TORN)
         self.assertEqual([os.path.basename(it) for it in self.copies()], ["data.aof.cut-%d" % it for it in (1, 2, 3)])
         self.assertEqual([os.path.getsize(it) for it in self.copies()], [3, 3, len(TORN)])
 
     def test_a_large_rest_is_copied_whole(self):
         rest = random.Random(7).randbytes(20_000_000)
-        self.write(SET_V + rest)
-        self.answers(request("GET", "k"), bulk(b"v"), cut=rest)
+        self.write(SET + rest)
+        self.answers(GET, bulk(b"v"), cut=rest)
 
     def test_without_room_for_the_copy_the_file_stays_as_it_is(self):
-        data = SET_V + bytes(5000)
+        data = SET + bytes(5000)
         self.write(data)
         for room in (0, 1000, 4999):
             with self.subTest(room=room):
-                ran = self.asked(request("GET", "k"), preexec_fn=may_grow_to(room))
+                ran = self.asked(GET, preexec_fn=may_grow_to(room))
                 self.fails(ran, b"")
                 self.assertEqual(self.bytes(), data)
                 self.assertEqual(sorted(os.listdir(self.folder)), ["data.aof", "data.aof.lock"])
-        self.answers(request("GET", "k"), bulk(b"v"), cut=bytes(5000))
+        self.answers(GET, bulk(b"v"), cut=bytes(5000))
 
 
 class FailingSetting(OfFailing):
     def test_each_call_fails_in_turn(self):
-        data, before = SET_V + bytes(70_000), 0
+        data, before = SET + bytes(70_000), 0
         for call in range(1, 100):
             self.write(data)
-            ran = self.run_with(request("GET", "k"), FAIL_CALL=str(call), FAIL_NAMES="1")
+            ran = self.run_with(GET, FAIL_CALL=str(call), FAIL_NAMES="1")
             if ran.returncode == 0:
                 break
             with self.subTest(call=call):
@@ -561,7 +536,7 @@ class FailingSetting(OfFailing):
                 before += 1
         # the copy is made, given its mode, read, written, synced, and its folder opened and synced
         self.assertGreater(before, 10)
-        self.assertEqual((ran.stdout, self.bytes()), (bulk(b"v"), SET_V))
+        self.assertEqual((ran.stdout, self.bytes()), (bulk(b"v"), SET))
 
 
 class Killing(OfFile):
@@ -585,9 +560,9 @@ class Killing(OfFile):
             count = int(ran.stdout.split(b"\r\n")[0][1:])
             self.assertTrue(kept + answered <= count <= kept + sent, (kept, answered, count, sent))
             last = [b"%d" % number for number in range(max(0, count - 3), count)]
-            self.assertEqual(ran.stdout, b":%d\r\n" % count + array(last))
+            self.assertEqual(ran.stdout, b":%d\r\n" % count + array(*last))
             kept = count
-        self.answers(request("LRANGE", "l", "0", "-1"), array([b"%d" % number for number in range(kept)]))
+        self.answers(request("LRANGE", "l", "0", "-1"), array(*(b"%d" % number for number in range(kept))))
         self.assertGreater(kept, 0)
 
 
@@ -596,8 +571,8 @@ class KillingRewriting(OfFile):
         """A program that is asked to write its file anew, and is killed so many seconds later; how long it took where it isn't."""
         words = [PROGRAM, "pipe", "--aof", self.path]
         program = subprocess.Popen(words, stdin=subprocess.PIPE, stdout=subprocess.PIPE, bufsize=0)
-        program.stdin.write(request("PING"))
-        self.assertEqual(program.stdout.read(7), b"+PONG\r\n")
+        program.stdin.write(PING)
+        self.assertEqual(program.stdout.read(7), PONG)
         began = time.monotonic()
         program.stdin.write(REWRITE)
         if seconds is None:
@@ -647,8 +622,7 @@ class Leaving(OfFile):
         return subprocess.run(["redis-cli", "-s", socket, "--no-raw", *words], capture_output=True, text=True, timeout=LATE).stdout
 
     def test_redis_server_loads_the_file(self):
-        if not shutil.which("redis-server"):
-            return
+        needs(self, shutil.which("redis-server"), "redis-server")
         asked = [
             ("SET", "text", "a value\r\n"), ("HSET", "hash", "f", "1", "g", "2"), ("RPUSH", "list", "a", "b", "c"), ("LPOP", "list"),
             ("SADD", "set", "m", "n"), ("SREM", "set", "m"), ("ZADD", "zset", "3", "x", "-1", "y"), ("ZINCRBY", "zset", "5", "y"),
@@ -661,9 +635,8 @@ class Leaving(OfFile):
                 self.assertEqual(self.told(socket, *words), wanted)
 
     def test_redis_server_loads_a_file_written_anew(self):
-        if not shutil.which("redis-server"):
-            return
-        made = Made(random.Random(17))
+        needs(self, shutil.which("redis-server"), "redis-server")
+        made = RandomKeys(random.Random(17))
         self.asked(made.commands() + REWRITE + request("SET", "last", "v"))
         questions = made.questions() + request("GET", "last") + request("DBSIZE")
         ran = self.asked(questions)
@@ -674,56 +647,6 @@ class Leaving(OfFile):
             client.sendall(questions)
             told = client.makefile("rb").read(len(ran.stdout))
         self.assertEqual(told, ran.stdout)
-
-
-class Made:
-    """Keys of every kind and size, of any bytes: what writes them, and what asks for all of them, in an order that any server has."""
-
-    def __init__(self, chance):
-        self.chance, self.written, self.read = chance, [], []
-        for kind in 12 * [self.text, self.hash, self.list, self.set, self.zset]:
-            key = self.bytes()
-            kind(key)
-            self.read.append(("TYPE", key))
-            if chance.random() < 0.5:
-                self.written.append(("PEXPIREAT", key, str(FAR + chance.randrange(1000))))
-            self.read.append(("PEXPIRETIME", key))
-
-    def commands(self):
-        return b"".join(request(*words) for words in self.written)
-
-    def questions(self):
-        return b"".join(request(*words) for words in self.read)
-
-    def bytes(self):
-        return self.chance.randbytes(self.chance.choice((4, 12, 100)))
-
-    def members(self):
-        return [self.bytes() for _ in range(self.chance.choice((1, 2, 63, 64, 65, 200, 700)))]
-
-    def text(self, key):
-        self.written.append(("SET", key, self.bytes()))
-        self.read.append(("GET", key))
-
-    def hash(self, key):
-        for field in self.members():
-            self.written += [("HSET", key, field, value) for value in (self.bytes(), self.bytes())]
-            self.read.append(("HGET", key, field))
-        self.read.append(("HLEN", key))
-
-    def list(self, key):
-        self.written.append(("RPUSH", key, *self.members()))
-        self.read.append(("LRANGE", key, "0", "-1"))
-
-    def set(self, key):
-        members = self.members()
-        self.written.append(("SADD", key, *members))
-        self.read += [("SCARD", key), *(("SISMEMBER", key, member) for member in members)]
-
-    def zset(self, key):
-        for member in self.members():
-            self.written.append(("ZADD", key, str(self.chance.randrange(-(2**53), 2**53)), member))
-        self.read.append(("ZRANGE", key, "0", "-1", "WITHSCORES"))
 
 
 # as redis-cli prints them

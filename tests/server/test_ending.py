@@ -10,10 +10,11 @@ import subprocess
 import tempfile
 import unittest
 
-from tests.server.test_requests import OK_THEN_VALUE, SET_THEN_GET
-from tests.support.program import LATE, LAUNCHER, PROGRAM, request, run
+from tests.support.program import LATE, LAUNCHER, PROGRAM, run
+from tests.support.replies import OK, PONG, bulk
+from tests.support.requests import GET, PING, SET
 
-PING = request("PING")
+SET_THEN_GET, OK_THEN_VALUE = SET + GET, OK + bulk("v")
 
 # lines that are refused, and what the refusal names
 BAD_LINES = [
@@ -87,7 +88,7 @@ class Options(unittest.TestCase):
         ):
             with self.subTest(words=words):
                 ran = run(PING, "pipe", *words)
-                self.assertEqual((ran.returncode, ran.stdout, ran.stderr), (0, b"+PONG\r\n", b""))
+                self.assertEqual((ran.returncode, ran.stdout, ran.stderr), (0, PONG, b""))
 
     def test_a_bad_line_is_refused_in_one_line(self):
         for words, said in BAD_LINES:
@@ -147,7 +148,7 @@ class Questions(unittest.TestCase):
         with tempfile.TemporaryDirectory() as folder:
             values["--aof"] = os.path.join(folder, "data.aof")
             words = [it for name in ("--aof", "--id", "--now", "--word") for it in (name, values[name])]
-            self.assertEqual(run(PING, "pipe", *words).stdout, b"+PONG\r\n")
+            self.assertEqual(run(PING, "pipe", *words).stdout, PONG)
 
     def test_the_version(self):
         for words in (["--version"], ["serve", "--version"]):
@@ -172,7 +173,7 @@ class Terminals(unittest.TestCase):
         os.close(its)
         self.assertRegex(started.stderr.readline(), rb"\Aminired: waits for requests .*--help.*\n\Z")
         os.write(ours, b"PING\n")
-        self.assertEqual(started.stdout.read(7), b"+PONG\r\n")
+        self.assertEqual(started.stdout.read(7), PONG)
         # the end of the input, as a terminal says it
         os.write(ours, b"\x04")
         self.assertEqual(started.wait(timeout=LATE), 0)

@@ -3,16 +3,16 @@
 import os
 import random
 import re
-import subprocess
 import tempfile
 import time
 import unittest
 
-from tests.server.test_serve import GET, MIB, PING, PONG, Serving
 from tests.support import server
-from tests.support.program import SUPPORT, compiler, request
-from tests.support.replies import OK, bulk, number
-from tests.support.server import UNREAD
+from tests.support.program import request, shim
+from tests.support.replies import OK, PONG, bulk, number
+from tests.support.requests import GET, PING
+from tests.support.server import MIB, UNREAD
+from tests.support.serving import Serving
 
 # short-lived keys, so many a second
 SHORT_LIVED, A_SECOND = 200_000, 20_000
@@ -186,9 +186,7 @@ class Deaf(Serving):
     def setUpClass(cls):
         cls.room = tempfile.TemporaryDirectory()
         cls.addClassCleanup(cls.room.cleanup)
-        cls.shim = os.path.join(cls.room.name, "refusing_send.so")
-        source = os.path.join(SUPPORT, "refusing_send.c")
-        subprocess.run([*compiler(), "-shared", "-fPIC", "-O1", "-nostdlib", "-o", cls.shim, source], check=True)
+        cls.shim = shim("refusing_send", cls.room.name)
 
     def test_it_is_closed_and_others_are_served(self):
         it = self.serve()

@@ -12,8 +12,9 @@ import unittest
 
 from tests.support import tiny_repository as tiny
 from tests.support.program import LATE, LAUNCHER, ROOT, request
+from tests.support.replies import PONG
+from tests.support.requests import PING
 
-PING = request("PING")
 SETTING = b"GLIBC_TUNABLES="
 
 
@@ -23,7 +24,7 @@ def setting_of(**changes):
     pipe = subprocess.PIPE
     with subprocess.Popen([LAUNCHER, "pipe"], stdin=pipe, stdout=pipe, env=env, bufsize=0) as started:
         started.stdin.write(PING)
-        answer = started.stdout.read(len(b"+PONG\r\n"))
+        answer = started.stdout.read(len(PONG))
         with open(f"/proc/{started.pid}/environ", "rb") as file:
             said = [it.removeprefix(SETTING) for it in file.read().split(b"\0") if it.startswith(SETTING)]
         started.stdin.close()
@@ -33,11 +34,11 @@ def setting_of(**changes):
 
 class LargePages(unittest.TestCase):
     def test_large_pages_are_asked_for(self):
-        self.assertEqual(setting_of(), (b"+PONG\r\n", [b"glibc.malloc.hugetlb=1"]))
+        self.assertEqual(setting_of(), (PONG, [b"glibc.malloc.hugetlb=1"]))
 
     def test_what_the_user_has_set_stays(self):
         for chosen in ("glibc.malloc.check=0", ""):
-            self.assertEqual(setting_of(GLIBC_TUNABLES=chosen), (b"+PONG\r\n", [chosen.encode()]))
+            self.assertEqual(setting_of(GLIBC_TUNABLES=chosen), (PONG, [chosen.encode()]))
 
 
 class Signals(unittest.TestCase):
@@ -47,7 +48,7 @@ class Signals(unittest.TestCase):
         pipe = subprocess.PIPE
         with subprocess.Popen([LAUNCHER, "pipe"], stdin=pipe, stdout=pipe, bufsize=0) as started:
             started.stdin.write(PING)
-            self.assertEqual(started.stdout.read(7), b"+PONG\r\n")
+            self.assertEqual(started.stdout.read(7), PONG)
             with open(f"/proc/{started.pid}/status", encoding="ascii") as file:
                 ignored = next(int(line.split()[1], 16) for line in file if line.startswith("SigIgn:"))
             started.stdin.close()

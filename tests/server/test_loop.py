@@ -3,49 +3,37 @@
 
 import unittest
 
-from tests.support.peers import CHAINED, GREETED, NOTHING_TO_CONTINUE, PING, PONG, SET, SET_W, SET_X, announces, asks_from, continues
+from tests.support.handshake import GREETED, GREETS, NOTHING_TO_CONTINUE, announces, asks_from, continues
 from tests.support.program import request
-from tests.support.replies import OK, READONLY, bulk, number
-from tests.support.turns import ALL, ENDS, FAILED, FAILS, NOT_READY, Peer, Playing, counts, peer
+from tests.support.replies import BULK_LENGTH, CHAINED, COUNT, OK, PONG, QUOTES, READONLY, STARTED, bulk, no_dollar, number
+from tests.support.requests import GET, LEAD, PING, SET, SET_W, SET_X
+from tests.support.server import UNREAD
+from tests.support.turns import ADDRESS, ALL, ENDS, FAILED, FAILS, NOT_READY, OBEY, Peer, Playing, counts, peer
 
-# what a protocol fault's text says
-COUNT, LENGTH = "invalid multibulk length", "invalid bulk length"
-QUOTES, NO_DOLLAR = "unbalanced quotes in request", "expected '$', got '?'"
-# beginnings of requests whose last byte no request has there, and what is wrong
+# beginnings of requests whose last byte no request has there, and the refusal
 DOOMED = [
     (b"*-2", COUNT),
     (b"*01", COUNT),
     (b"*1\rx", COUNT),
-    (b"*1\r\n$01", LENGTH),
-    (b"*1\r\n$x", LENGTH),
-    (b"*1\r\n\x01", NO_DOLLAR),
+    (b"*1\r\n$01", BULK_LENGTH),
+    (b"*1\r\n$x", BULK_LENGTH),
+    (b"*1\r\n\x01", no_dollar("?")),
     (b'"a"b', QUOTES),
     (b'"a\n', QUOTES),
     (b'"' + 65_535 * b"x", QUOTES),
-    (b"*1\r\n$16777217", LENGTH),
+    (b"*1\r\n$16777217", BULK_LENGTH),
     (b"*1048577", COUNT),
 ]
-# the greatest value, and how many bytes a client may leave unread
-GREATEST, UNREAD = 16_777_216, 67_108_864
-GET = request("GET", "k")
+# the greatest value
+GREATEST = 16_777_216
 # how many turns it takes to read the greatest value
 LONG = 6
-HOST = ("127.0.0.1", "6379")
-ADDRESS = ":".join(HOST)
-# what a replica says to its master
-GREETS = PING + request("REPLCONF", "listening-port", "0") + request("REPLCONF", "capa", "eof", "capa", "psync2")
 OFFERS = asks_from("b", 1)
-OBEY, LEAD = request("REPLICAOF", *HOST), request("REPLICAOF", "NO", "ONE")
-STARTED = b"+Background append only file rewriting started\r\n"
-
-
-def refusal(why):
-    return b"-ERR Protocol error: %s\r\n" % why.encode()
 
 
 class BadRequests(Playing):
     def test_they_are_refused_at_the_byte_that_dooms_them(self):
-        for doomed, why in DOOMED:
+        for doomed, refusal in DOOMED:
             with self.subTest(doomed=doomed[:20]):
                 before = [doomed[:-1]] if len(doomed) > 100 else [doomed[at : at + 1] for at in range(len(doomed) - 1)]
                 turns, loop = self.plays(len(before) + 1, accepts=[peer(*before, doomed[-1:] + PING), peer(*[None] * len(before), PING)])
@@ -54,7 +42,7 @@ class BadRequests(Playing):
                     self.assertEqual(it.links.accepted[0].state, "open")
                 bad, other = turns[-1].links.accepted
                 # what stands behind is read, but not answered
-                self.assertEqual((bad.state, bad.written), ("closed", refusal(why)))
+                self.assertEqual((bad.state, bad.written), ("closed", refusal))
                 self.assertEqual((other.state, other.written), ("open", PONG))
                 self.shown(turns[-1], "a", 0)
                 self.assertEqual(loop.file().held, b"")
@@ -62,9 +50,9 @@ class BadRequests(Playing):
     def test_who_was_refused_is_closed_once_the_refusal_is_written(self):
         turns, _ = self.plays(3, accepts=[peer(b"*-2", takes=[1, NOT_READY, ALL])])
         self.assertEqual([(it.links.accepted[0].state, it.links.accepted[0].written) for it in turns], [
-            ("open", refusal(COUNT)[:1]),
-            ("open", refusal(COUNT)[:1]),
-            ("closed", refusal(COUNT)),
+            ("open", COUNT[:1]),
+            ("open", COUNT[:1]),
+            ("closed", COUNT),
         ])
 
 

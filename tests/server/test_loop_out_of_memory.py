@@ -7,12 +7,13 @@ import subprocess
 import unittest
 from typing import NamedTuple
 
-from tests.server.test_loop import COUNT, GREETS, LEAD, OBEY, STARTED, refusal
-from tests.server.test_out_of_memory import Refusing
-from tests.support.peers import GREETED, NOTHING_TO_CONTINUE, PING, SET, SET_W, SET_X, Ended, announces, asks_from, continues
+from tests.support.handshake import GREETED, GREETS, NOTHING_TO_CONTINUE, announces, asks_from, continues
+from tests.support.peers import Ended
 from tests.support.program import LATE, request
-from tests.support.replies import OK
-from tests.support.turns import ENDS, NOT_READY, File, Links, Loop, peer
+from tests.support.refusing import Refusing
+from tests.support.replies import COUNT, OK, STARTED
+from tests.support.requests import LEAD, PING, SET, SET_W, SET_X
+from tests.support.turns import ENDS, NOT_READY, OBEY, File, Links, Loop, peer
 
 EXPIRES, EXPIRED, DELETED = request("SET", "e", "v", "PX", "5"), request("SET", "e", "v", "PXAT", "5"), request("DEL", "e")
 # the key in a whole copy
@@ -80,7 +81,7 @@ class Lacking(Refusing):
         self.assertEqual(writer, 4 * OK + STARTED + 4 * OK)
         self.assertEqual(first, GREETED + announces("a", 71, COPIED + SET) + SET_W + DELETED)
         self.assertEqual(second, continues("a") + SET_W + DELETED + SET_X + PING)
-        self.assertEqual(bad, refusal(COUNT))
+        self.assertEqual(bad, COUNT)
         self.assertEqual(last.links.dialled[0].written, GREETS + asks_from("a", 160) + request("REPLCONF", "ACK", "54"))
         self.assertEqual([it.state for it in last.links.accepted], ["closed", "closed", "closed", "closed", "open", "open"])
         held = [EXPIRED, EXPIRED + SET, EXPIRED + SET + SET_W, EXPIRED + SET + SET_W + DELETED, EXPIRED + SET + SET_W + DELETED + SET_X]

@@ -4,17 +4,11 @@ import subprocess
 import unittest
 
 from tests.support.program import LATE, built, request
-from tests.support.rehearsal import ID, Rehearsing, done, holding
-from tests.support.replies import NIL, NONE, OK, READONLY, UNKNOWN, arity, array, bulk, number
+from tests.support.rehearsal import ID, Rehearsing, done, fed, holding
+from tests.support.replies import NIL, NONE, OK, PONG, READONLY, STARTED, UNKNOWN, arity, array, bulk, no_dollar, number
+from tests.support.requests import GET, SET
 
-SET = request("SET", "k", "v")
-GET = request("GET", "k")
-STARTED = b"+Background append only file rewriting started\r\n"
 PIECE = 33_554_432
-
-
-def fed(link, data, answer="fed"):
-    return "feed %d %s" % (link, data.hex() or "-"), answer
 
 
 class Links(Rehearsing):
@@ -47,7 +41,7 @@ class Links(Rehearsing):
             ])
 
     def test_a_fault_closes_one_link(self):
-        fault = b"-ERR Protocol error: expected '$', got ':'\r\n"
+        fault = no_dollar(":")
         self.rehearses([
             ("open", "opened"),
             ("open", "opened"),
@@ -159,7 +153,7 @@ class Replicas(Rehearsing):
         self.answers(("SET k", arity("set")), ("GETEX k", UNKNOWN), ("INCRBY k x", b"-ERR value is not an integer or out of range\r\n"))
 
     def test_the_server_answers(self):
-        self.answers(("PING", b"+PONG\r\n"), ("ECHO m", bulk("m")), ("SELECT 0", OK), ("COMMAND", NONE))
+        self.answers(("PING", PONG), ("ECHO m", bulk("m")), ("SELECT 0", OK), ("COMMAND", NONE))
 
     def test_its_file_is_written_anew(self):
         """Expired keys included."""
@@ -185,7 +179,7 @@ class Replicas(Rehearsing):
             ("step 0", "closed"),
             ("open", "opened"),
             fed(1, b"*1\r\n:3\r\n"),
-            ("step 1", done(b"-ERR Protocol error: expected '$', got ':'\r\n", closes=True)),
+            ("step 1", done(no_dollar(":"), closes=True)),
         ])
 
 

@@ -2,17 +2,17 @@
 
 import os
 import subprocess
-import tempfile
 import unittest
 
 from tests.commands.test_collections import HASHES, LISTS, SERVER, SETS
 from tests.commands.test_sorted_sets import SORTED_SETS
 from tests.commands.test_strings import KEYS, STRINGS
-from tests.support.program import LATE, PROGRAM, SUPPORT, built, compiler, request, run
+from tests.support.program import LATE, PROGRAM, built, request, run
+from tests.support.refusing import Refusing
 from tests.support.rehearsal import asked as asking, effect, holding
-from tests.support.replies import NIL, NONE, OK, array, asked, bulk, number
+from tests.support.replies import NIL, NONE, OK, STARTED, array, asked, bulk, number
+from tests.support.requests import SET, SET_W, SET_X
 
-SHIM = os.path.join(SUPPORT, "refusing_malloc.c")
 ASKED = b"".join(
     [
         request("SET", "k", "v"),
@@ -74,36 +74,6 @@ LOOKED_AT = ["given 5 0", "due", asking("PTTL", "a"), asking("DBSIZE"), "rebuild
 TICKED = ["master", "given 5 0", "tick", "tick", "tick"]
 
 
-class Refusing(unittest.TestCase):
-    """Runs programs to which an allocation is refused."""
-
-    def setUp(self):
-        self.room = tempfile.TemporaryDirectory()
-        self.addCleanup(self.room.cleanup)
-        self.shim = os.path.join(self.room.name, "refusing_malloc.so")
-        subprocess.run([*compiler(), "-O1", "-fPIC", "-shared", "-nostdlib", "-o", self.shim, SHIM], check=True)
-
-    def refused(self, call, data, *words):
-        """Runs a program with this allocation refused: how it ended, and whether it asked for so many."""
-        heard, teller = os.pipe()
-        env = {**os.environ, "LD_PRELOAD": self.shim, "REFUSE_CALL": str(call), "TELL_REFUSAL": str(teller)}
-        ran = subprocess.run(words, input=data, capture_output=True, timeout=LATE, env=env, pass_fds=[teller])
-        os.close(teller)
-        was_refused = os.read(heard, 1) == b"r"
-        os.close(heard)
-        return ran, was_refused
-
-    def each_refusal(self, data, check, *words):
-        """Refuses each allocation in turn, and returns how many there were."""
-        for call in range(1, 100_000):
-            ran, was_refused = self.refused(call, data, *words)
-            with self.subTest(call=call):
-                check(ran, was_refused)
-            if not was_refused:
-                return call - 1
-        self.fail("each of 100,000 runs was refused an allocation")
-
-
 class Memory(Refusing):
     def beginnings(self, data, wanted, *words):
         """Whichever allocation is refused, the replies are a beginning of these."""
@@ -133,10 +103,8 @@ class Memory(Refusing):
         self.beginnings(asked(line for line, _ in rows), b"".join(reply for _, reply in rows))
 
     def test_a_file_has_what_was_answered_and_at_most_what_comes_next(self):
-        started = b"+Background append only file rewriting started\r\n"
-        set_v, set_w, set_x = (request("SET", "k", value) for value in "vwx")
         # each request, its reply, and the file behind it
-        rows = [(set_v, b"+OK\r\n", set_v), (set_w, b"+OK\r\n", set_v + set_w), (request("BGREWRITEAOF"), started, set_w), (set_x, b"+OK\r\n", set_w + set_x)]
+        rows = [(SET, OK, SET), (SET_W, OK, SET + SET_W), (request("BGREWRITEAOF"), STARTED, SET_W), (SET_X, OK, SET_W + SET_X)]
         replies = b"".join(reply for _, reply, _ in rows)
         files = [b"", *(file for _, _, file in rows)]
         path = os.path.join(self.room.name, "data.aof")

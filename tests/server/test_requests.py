@@ -3,13 +3,11 @@
 import unittest
 
 from tests.support.program import request, run, run_in_pieces
-from tests.support.replies import OK, array, bulk, number
+from tests.support.replies import BULK_LENGTH, COUNT, OK, array, bulk, number
 
 SET_THEN_GET = b"*3\r\n$3\r\nSET\r\n$1\r\nk\r\n$1\r\nv\r\n*2\r\n$3\r\nGET\r\n$1\r\nk\r\n"
 OK_THEN_VALUE = b"+OK\r\n$1\r\nv\r\n"
 PING = b"*1\r\n$4\r\nPING\r\n"
-BULK_LENGTH = b"-ERR Protocol error: invalid bulk length\r\n"
-COUNT = b"-ERR Protocol error: invalid multibulk length\r\n"
 
 
 class Requests(unittest.TestCase):

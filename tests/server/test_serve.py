@@ -3,7 +3,6 @@
 import datetime
 import os
 import random
-import re
 import resource
 import shutil
 import signal
@@ -14,21 +13,15 @@ import time
 import unittest
 import zlib
 
-from tests.server.test_aof import Made
 from tests.support import server
-from tests.support.program import LATE, LAUNCHER, NOTICE, SUPPORT, compiler, request, run
-from tests.support.replies import NIL, OK, UNKNOWN, array, bulk, number
-from tests.support.server import HOST, READY, free_port, has_redis, raise_limit, until
+from tests.support.program import LATE, LAUNCHER, NOTICE, needs, request, run, shim
+from tests.support.random_keys import RandomKeys
+from tests.support.replies import BULK_LENGTH, COUNT, NIL, OK, PONG, QUOTES, STARTED, TOO_LONG, UNKNOWN, array, bulk, no_dollar, number
+from tests.support.requests import FAR, GET, PING, SET, SET_W, SET_X
+from tests.support.server import HOST, MIB, READY, free_port, has_redis
+from tests.support.serving import Serving
 
-MIB = 1 << 20
-PING, PONG = request("PING"), b"+PONG\r\n"
-SET_V, SET_W, SET_X = (request("SET", "k", value) for value in "vwx")
-GET = request("GET", "k")
-STARTED = b"+Background append only file rewriting started\r\n"
 TORN = b"*3\r\n$3\r\nSE"
-BULK_LENGTH = b"-ERR Protocol error: invalid bulk length\r\n"
-COUNT = b"-ERR Protocol error: invalid multibulk length\r\n"
-QUOTES = b"-ERR Protocol error: unbalanced quotes in request\r\n"
 # how often the server is killed in the middle of its links' writes
 KILLS = 50
 # links at once, links that are closed in the middle of a request, and links on which nothing ever comes
@@ -39,8 +32,6 @@ SOME = 2000
 COUNTED, COUNTS = 200_000, 200
 # how much memory a server may have taken more behind so many closed links or for so many idle ones
 LEAK = 16 * MIB
-# in the year 2100
-FAR = 4_102_444_800_000
 
 # requests that are none, and what is answered before the link is closed
 BAD_REQUESTS = [
@@ -49,10 +40,10 @@ BAD_REQUESTS = [
     (b"*2\r\n$3\r\nGET\r\n$16777217\r\n", BULK_LENGTH),
     (b"*x\r\n", COUNT),
     (b"*9223372036854775808\r\n", COUNT),
-    (b"*1\r\n:3\r\n", b"-ERR Protocol error: expected '$', got ':'\r\n"),
+    (b"*1\r\n:3\r\n", no_dollar(":")),
     (b'"a"b\n', QUOTES),
     (b"GET 'a\n", QUOTES),
-    (70_000 * b"x", b"-ERR Protocol error: too big inline request\r\n"),
+    (70_000 * b"x", TOO_LONG),
 ]
 
 # words behind `serve` that are refused
@@ -75,53 +66,6 @@ BAD_LINES = [
     ["--port", "6379", "--now", "1"],
     ["--nothing", "1"],
 ]
-
-
-class Serving(unittest.TestCase):
-    """Tests with a folder of their own, and servers and links that end with them."""
-
-    def setUp(self):
-        raise_limit()
-        folder = tempfile.TemporaryDirectory()
-        self.addCleanup(folder.cleanup)
-        self.folder, self.path = folder.name, os.path.join(folder.name, "data.aof")
-
-    def serve(self, **how):
-        it = server.Server(**how)
-        self.addCleanup(it.stop)
-        return it
-
-    def client(self, of, **how):
-        it = of.client(**how)
-        self.addCleanup(it.close)
-        return it
-
-    def write(self, data):
-        with open(self.path, "wb") as file:
-            file.write(data)
-
-    def bytes(self):
-        with open(self.path, "rb") as file:
-            return file.read()
-
-    def goes_on(self, it):
-        """The server is there, and serves a new link."""
-        self.assertTrue(it.is_running())
-        with it.client() as client:
-            self.assertEqual(client.asks("PING"), PONG)
-
-    def comes(self, holds):
-        self.assertTrue(until(holds))
-
-    def failed(self, ended, status, first, second):
-        """How the program ended, the first line that it wrote, and what its second says."""
-        self.assertEqual((ended.returncode, ended.stdout), (status, b""), ended.stderr)
-        line, why, rest = ended.stderr.split(b"\n")
-        self.assertEqual((line, rest), (first, b""))
-        self.assertRegex(why, second)
-
-    def file_failed(self, ended):
-        self.failed(ended, 3, b"minired: file failed", re.escape(os.fsencode(self.path)))
 
 
 class Starting(Serving):
@@ -200,7 +144,7 @@ class Ending(Serving):
                 again.kill()
 
     def test_a_port_in_use(self):
-        self.write(SET_V)
+        self.write(SET)
         first = self.serve()
         client = self.client(first)
         client.asks("SET", "k", "of the first")
@@ -209,26 +153,26 @@ class Ending(Serving):
         self.failed(self.asked(first.port), 2, b"minired: socket failed", second)
         self.assertEqual(client.asks("GET", "k"), bulk("of the first"))
         self.goes_on(first)
-        self.assertEqual(self.bytes(), SET_V)
+        self.assertEqual(self.bytes(), SET)
 
     def test_a_file_that_another_program_has(self):
-        self.write(SET_V)
+        self.write(SET)
         first = self.serve(aof=self.path)
         client, port = self.client(first), free_port()
         self.file_failed(self.asked(port))
         with socket.socket() as it, self.assertRaises(ConnectionRefusedError):
             it.connect((HOST, port))
         self.file_failed(run(SET_W, "pipe", "--aof", self.path))
-        self.assertEqual(self.bytes(), SET_V)
+        self.assertEqual(self.bytes(), SET)
         self.assertEqual(client.asks("SET", "k", "x"), OK)
-        self.assertEqual(self.bytes(), SET_V + SET_X)
+        self.assertEqual(self.bytes(), SET + SET_X)
         # an ended program holds nothing, however it ended
         first.kill()
         self.assertEqual(self.client(self.serve(aof=self.path)).asks("GET", "k"), bulk("x"))
 
     def test_a_file_that_pipe_has(self):
         pipe = subprocess.Popen([LAUNCHER, "pipe", "--aof", self.path], stdin=subprocess.PIPE, stdout=subprocess.PIPE, bufsize=0)
-        pipe.stdin.write(SET_V)
+        pipe.stdin.write(SET)
         self.assertEqual(pipe.stdout.read(len(OK)), OK)
         self.file_failed(self.asked())
         pipe.communicate(timeout=LATE)
@@ -249,7 +193,7 @@ class Notices(Serving):
     """Lines on standard error that say what the server does."""
 
     def test_a_whole_life(self):
-        self.write(SET_V + SET_W + TORN)
+        self.write(SET + SET_W + TORN)
         before = time.time()
         it = self.serve(aof=self.path)
         client = self.client(it)
@@ -273,7 +217,7 @@ class Notices(Serving):
 
     def test_a_failed_file_is_told_with_the_time_too(self):
         it = self.serve(aof=self.path, limits=lambda: resource.setrlimit(resource.RLIMIT_FSIZE, (10, 10)))
-        self.client(it).send(SET_V)
+        self.client(it).send(SET)
         ended = it.ended()
         self.file_failed(ended)
         self.assertEqual(ended.notices[1:], [b"ends: file failed"])
@@ -314,12 +258,12 @@ class Requests(Serving):
 
     def test_a_byte_at_a_time(self):
         client = self.client(self.serve())
-        for byte in SET_V + GET + b"GET 'k'\r\n":
+        for byte in SET + GET + b"GET 'k'\r\n":
             client.send_and_wait(bytes([byte]))
         self.assertEqual(client.receive(19), OK + bulk("v") + bulk("v"))
 
     def test_each_cut_in_two_pieces(self):
-        it, asked = self.serve(), SET_V + GET
+        it, asked = self.serve(), SET + GET
         for cut in range(1, len(asked)):
             with self.subTest(cut=cut), it.client() as client:
                 client.send_and_wait(asked[:cut])
@@ -370,7 +314,7 @@ class Links(Serving):
 
     def test_a_half_closed_link_still_gets_its_replies(self):
         client = self.client(self.serve())
-        client.send(SET_V + 1000 * GET + TORN)
+        client.send(SET + 1000 * GET + TORN)
         client.send_no_more()
         self.assertEqual(client.rest(), OK + 1000 * bulk("v"))
 
@@ -385,7 +329,7 @@ class Links(Serving):
     def test_quit_is_answered_and_closes(self):
         it = self.serve()
         quitting, other = self.client(it), self.client(it)
-        quitting.send(SET_V + request("QUIT") + SET_W + PING)
+        quitting.send(SET + request("QUIT") + SET_W + PING)
         self.assertEqual(quitting.rest(), OK + OK)
         self.assertEqual(other.asks("GET", "k"), bulk("v"))
 
@@ -401,7 +345,7 @@ class Links(Serving):
     def test_what_follows_a_bad_request_is_not_read(self):
         it = self.serve()
         with it.client() as client:
-            client.send(b"*x\r\n" + SET_V)
+            client.send(b"*x\r\n" + SET)
             self.assertEqual(client.rest(), COUNT)
         self.assertEqual(self.client(it).asks("EXISTS", "k"), number(0))
 
@@ -527,8 +471,8 @@ class Links(Serving):
             self.assertEqual(link.asks("INCR", "n"), number(at + 101))
 
     def test_half_a_request_waits_for_its_rest(self):
-        it, asked = self.serve(), SET_V + GET
-        halves, other = [(self.client(it), cut) for cut in (1, 9, 20, len(SET_V), len(asked) - 1)], self.client(it)
+        it, asked = self.serve(), SET + GET
+        halves, other = [(self.client(it), cut) for cut in (1, 9, 20, len(SET), len(asked) - 1)], self.client(it)
         for link, cut in halves:
             link.send(asked[:cut])
         for at in range(50):
@@ -691,13 +635,13 @@ class Files(Serving):
         self.assertEqual(self.bytes(), texts)
 
     def test_pipe_and_serve_keep_one_file(self):
-        run(SET_V, "pipe", "--aof", self.path)
+        run(SET, "pipe", "--aof", self.path)
         it = self.serve(aof=self.path)
         client = self.client(it)
         self.assertEqual(client.asks("GET", "k") + client.asks("SET", "k", "w"), bulk("v") + OK)
         it.signalled(signal.SIGTERM)
         self.assertEqual(run(GET, "pipe", "--aof", self.path).stdout, bulk("w"))
-        self.assertEqual(self.bytes(), SET_V + SET_W)
+        self.assertEqual(self.bytes(), SET + SET_W)
 
     def write_all(self, it, made):
         """Writes what is made over several links, each key's commands over one."""
@@ -720,7 +664,7 @@ class Files(Serving):
         return answers
 
     def test_a_start_has_the_same_dataset(self):
-        made, it = Made(random.Random(21)), self.serve(aof=self.path)
+        made, it = RandomKeys(random.Random(21)), self.serve(aof=self.path)
         self.write_all(it, made)
         wanted = self.answers_of(it, made)
         it.kill()
@@ -736,9 +680,8 @@ class Files(Serving):
         self.assertEqual(self.client(it).asks("GET", "last"), bulk("v"))
 
     def test_redis_server_loads_the_file(self):
-        if not has_redis():
-            return
-        made, it = Made(random.Random(22)), self.serve(aof=self.path)
+        needs(self, has_redis(), "redis-server")
+        made, it = RandomKeys(random.Random(22)), self.serve(aof=self.path)
         self.write_all(it, made)
         wanted = self.answers_of(it, made)
         it.signalled(signal.SIGTERM)
@@ -758,7 +701,7 @@ class Files(Serving):
         self.assertEqual(second.asks("BGREWRITEAOF"), STARTED)
         self.assertEqual(self.bytes(), SET_X)
         self.assertEqual(first.asks("SET", "k", "v"), OK)
-        self.assertEqual(self.bytes(), SET_X + SET_V)
+        self.assertEqual(self.bytes(), SET_X + SET)
 
     def test_without_syncing_a_write_is_still_in_the_file_before_its_reply(self):
         it = self.serve(aof=self.path, sync="no")
@@ -793,9 +736,7 @@ class Syncing(Serving):
     def setUpClass(cls):
         cls.room = tempfile.TemporaryDirectory()
         cls.addClassCleanup(cls.room.cleanup)
-        cls.shim = os.path.join(cls.room.name, "failing_file.so")
-        source = os.path.join(SUPPORT, "failing_file.c")
-        subprocess.run([*compiler(), "-shared", "-fPIC", "-O1", "-nostdlib", "-o", cls.shim, source], check=True)
+        cls.shim = shim("failing_file", cls.room.name)
 
     def serve_with(self, sync, fails):
         it = server.BareServer(aof=self.path, sync=sync, env={**os.environ, "LD_PRELOAD": self.shim, "FAIL_SYNC": str(fails)})
@@ -812,7 +753,7 @@ class Syncing(Serving):
                 client.send(SET_X)
                 self.assertEqual(client.rest(), b"")
                 self.file_failed(it.ended())
-                self.assertEqual(self.bytes(), SET_V + SET_W + SET_X)
+                self.assertEqual(self.bytes(), SET + SET_W + SET_X)
 
     def test_without_syncing_no_sync_is_called(self):
         # a file that is made has its folder synced

@@ -5,21 +5,14 @@ import select
 import subprocess
 import unittest
 
-from tests.support.program import LATE, built, request
+from tests.support.program import LATE, USUAL_BACKLOG, built, request
 from tests.support.rehearsal import hexadecimal
-from tests.support.replies import OK, array_of, bulk, number
-from tests.support.world_rows import USUAL_BACKLOG, info
+from tests.support.world_rows import info
 
 # the fresh id of a step of which nothing else is said
 FRESH = "1" * 40
 # what a step comes to beside a list of outs
 IDLE, CLOSED = "idle", "closed"
-PING, DEL = request("PING"), request("DEL", "k")
-SET, SET_W, SET_X = (request("SET", "k", it) for it in "vwx")
-PONG, CHAINED = b"+PONG\r\n", b"-ERR replicas are not chained\r\n"
-# the answers to the first three lines of a handshake
-GREETED = PONG + OK + OK
-NOTHING_TO_CONTINUE = request("PSYNC", "?", "-1")
 
 
 class PeerFault(Exception):
@@ -223,31 +216,9 @@ def shape_of(name, *words):
     return name if name in ("used", "follow") else " ".join([name, *(str(len(it)) if isinstance(it, bytes) else str(it) for it in words)])
 
 
-def asks_from(id, offset):
-    return request("PSYNC", id * 40, str(offset))
-
-
-def continues(id):
-    return b"+CONTINUE %s\r\n" % (id * 40).encode()
-
-
-def announces(id, offset, snapshot=None):
-    """The answer to PSYNC of who sends a snapshot, and this behind it."""
-    return b"+FULLRESYNC %s %d\r\n" % ((id * 40).encode(), offset) + (b"" if snapshot is None else b"$%d\r\n" % len(snapshot) + snapshot)
-
-
 def tells_info(*words, **more):
     """INFO's text."""
     return info(*words, **more).split(b"\r\n", 1)[1][:-2]
-
-
-def role_of_master(offset, *replicas):
-    """ROLE's reply of a master, with the address, the port and the offset that each replica said."""
-    return array_of(bulk("master"), number(offset), array_of(*(array_of(*map(bulk, it)) for it in replicas)))
-
-
-def role_of_replica(host, port, link, offset):
-    return array_of(bulk("slave"), bulk(host), number(port), bulk(link), number(offset))
 
 
 class Joined:

@@ -19,6 +19,10 @@ LAUNCHER = os.path.join(ROOT, "minired")
 PROGRAM = os.path.join(ROOT, "crates", "minired", "out", "minired")
 # a line on standard error that says what the program does, with the time in front
 NOTICE = re.compile(rb"(\d{4}-\d\d-\d\dT\d\d:\d\d:\d\d\.\d{3}Z) minired: ([^\n]*)\n")
+# how much of its stream a node keeps for its replicas where nothing is said of it, in bytes
+USUAL_BACKLOG = 1_048_576
+# how the reason begins for which a test of a client is skipped that the machine doesn't have
+ABSENT = "absent: "
 # no run of a test takes this long, in seconds: one that does hangs
 LATE = 60
 
@@ -81,6 +85,21 @@ def compiler():
     kit = os.path.dirname(os.path.dirname(os.path.realpath(_path_of("rt"))))
     tools = os.path.join(kit, "toolchain", "bin")
     return [os.path.join(tools, "clang"), "-fuse-ld=" + os.path.join(tools, "ld.lld")]
+
+
+def shim(name, folder):
+    """The library that is put before the C library, built in this folder from the source of this name that lies beside this file."""
+    library = os.path.join(folder, name + ".so")
+    subprocess.run([*compiler(), "-shared", "-fPIC", "-O1", "-nostdlib", "-o", library, os.path.join(SUPPORT, name + ".c")], check=True)
+    return library
+
+
+def needs(test, is_there, package):
+    """The rest of the test needs what this package of Debian has. Where that isn't installed the test fails, or is told as absent where ABSENT_CLIENTS is `named`."""
+    if not is_there:
+        if os.environ.get("ABSENT_CLIENTS") == "named":
+            test.skipTest(ABSENT + package)
+        test.fail("the Debian package %s isn't installed" % package)
 
 
 def _path_of(command):

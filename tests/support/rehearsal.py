@@ -19,6 +19,11 @@ def done(reply, effects=b"", closes=False):
     return "done %s %s %s" % (outs, hexadecimal(reply), hexadecimal(effects))
 
 
+def fed(link, data, answer="fed"):
+    """The call that feeds a link, and its answer."""
+    return "feed %d %s" % (link, hexadecimal(data)), answer
+
+
 def words_of(words):
     """The words given, or those of the one line given."""
     return words if len(words) > 1 else words[0].split(" ")

@@ -12,10 +12,9 @@ from dataclasses import dataclass
 from tests.support import server
 from tests.support.program import request
 from tests.support.replies import OK, read
+from tests.support.requests import FAR, LEAD
 from tests.support.server import HOST
 
-# in the year 2100
-FAR = 4_102_444_800_000
 # the deadlines of random writes that come soon have come after so many milliseconds
 SOON = 30
 # what is asked for the value of a key of each kind, behind the key's name
@@ -104,7 +103,7 @@ class Node(server.Server):
     def promotes(self):
         """What the node says of itself right before it is promoted, and right behind it."""
         ask = request("INFO", "replication")
-        self.asked.send(ask + request("REPLICAOF", "NO", "ONE") + ask)
+        self.asked.send(ask + LEAD + ask)
         before, answer, after = (self.asked.reply() for _ in range(3))
         if answer != OK:
             raise AssertionError(answer)

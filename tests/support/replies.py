@@ -2,9 +2,9 @@
 
 import unittest
 
-from tests.support.program import request, run
+from tests.support.program import USUAL_BACKLOG, request, run
 
-OK = b"+OK\r\n"
+OK, PONG = b"+OK\r\n", b"+PONG\r\n"
 NIL = b"$-1\r\n"
 NO_LIST = b"*-1\r\n"
 NONE = b"*0\r\n"
@@ -17,7 +17,24 @@ CURSOR = b"-ERR invalid cursor\r\n"
 NO_BOUND = b"-ERR min or max is not a score\r\n"
 NO_KEY = b"-ERR no such key\r\n"
 READONLY = b"-READONLY You can't write against a read only replica.\r\n"
+CHAINED = b"-ERR replicas are not chained\r\n"
 OVERFLOW = b"-ERR increment or decrement would overflow\r\n"
+# to BGREWRITEAOF
+STARTED = b"+Background append only file rewriting started\r\n"
+
+
+def refusal(why):
+    """The reply to what is no request, behind which the link is closed."""
+    return b"-ERR Protocol error: %s\r\n" % why.encode()
+
+
+BULK_LENGTH, COUNT = refusal("invalid bulk length"), refusal("invalid multibulk length")
+QUOTES, TOO_LONG = refusal("unbalanced quotes in request"), refusal("too big inline request")
+
+
+def no_dollar(found):
+    """The refusal of this character in the place of a dollar."""
+    return refusal(f"expected '$', got '{found}'")
 
 
 def number(value):
@@ -41,6 +58,33 @@ def array_of(*replies):
 
 def arity(name):
     return b"-ERR wrong number of arguments for '%s' command\r\n" % name.encode()
+
+
+def information(offset, role="master", first=1, followers=0, name="a" * 40, second=("0" * 40, -1), backlog=USUAL_BACKLOG):
+    """INFO's text of a node whose backlog begins at an offset. Behind the id before stands the first offset that isn't its."""
+    lines = [
+        "# Replication",
+        "role:" + role,
+        "connected_slaves:%d" % followers,
+        "master_replid:" + name,
+        "master_replid2:" + second[0],
+        "master_repl_offset:%d" % offset,
+        "second_repl_offset:%d" % second[1],
+        "repl_backlog_active:1",
+        "repl_backlog_size:%d" % backlog,
+        "repl_backlog_first_byte_offset:%d" % first,
+        "repl_backlog_histlen:%d" % (offset - first + 1),
+    ]
+    return "".join(line + "\r\n" for line in lines)
+
+
+def role_of_master(offset, *replicas):
+    """ROLE's reply of a master, with the address, the port and the offset that each replica said."""
+    return array_of(bulk("master"), number(offset), array_of(*(array_of(*map(bulk, it)) for it in replicas)))
+
+
+def role_of_replica(host, port, link, offset):
+    return array_of(bulk("slave"), bulk(host), number(port), bulk(link), number(offset))
 
 
 def asked(lines):

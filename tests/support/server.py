@@ -19,8 +19,9 @@ READY = re.compile(rb"minired: ready on 127\.0\.0\.1:(\d+), (\d+) keys(?: from (
 A_LOOK = 0.002
 # descriptors that a test with many links needs, of its own and of the server
 DESCRIPTORS = 12_288
+MIB = 1 << 20
 # what a client may leave unread, in bytes
-UNREAD = 64 << 20
+UNREAD = 64 * MIB
 
 
 def free_port():

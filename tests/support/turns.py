@@ -4,6 +4,7 @@ import unittest
 from typing import NamedTuple
 
 from tests.support.peers import Program, data_of
+from tests.support.program import USUAL_BACKLOG, request
 from tests.support.rehearsal import hexadecimal
 
 # how a link comes to its end in a turn, in place of bytes
@@ -11,7 +12,9 @@ ENDS, FAILS = "end", "failed"
 NOT_READY, ALL = "not-ready", "all"
 # what a link is accepted or dialled in place of
 FAILED = "failed"
-USUAL_BACKLOG = 1_048_576
+# the request that has a node follow the master at an address
+HOST = ("127.0.0.1", "6379")
+ADDRESS, OBEY = ":".join(HOST), request("REPLICAOF", *HOST)
 # no read gives more bytes
 PIECE = 65_536
 

@@ -12,6 +12,11 @@ def spelled(text):
     return hexadecimal(text if isinstance(text, bytes) else text.encode())
 
 
+def fed(data):
+    """The step that feeds these bytes, and its answer."""
+    return "feed " + spelled(data), "fed"
+
+
 class Playing(unittest.TestCase):
     def answers_to(self, *lines):
         """What the steps of these lines answer, each line on fresh values."""

@@ -2,11 +2,10 @@
 
 A test case that takes `Rows` in defines `answers_to(script, backlog)`, which returns what each line of the script is answered."""
 
-from tests.support.program import request
-from tests.support.replies import NIL, OK, READONLY, array_of, bulk, number
+from tests.support.program import USUAL_BACKLOG, request
+from tests.support.replies import BULK_LENGTH, CHAINED, COUNT, NIL, OK, PONG, READONLY, STARTED, array_of, bulk, information, number
+from tests.support.requests import SET
 
-USUAL_BACKLOG = 1_048_576
-SET = request("SET", "k", "v")
 # what a replica without anything to go on from says, and what it is answered by a master with one key: in bytes
 SAID = (14, 46, 59, 30)
 HEARD = (7, 5, 5, 57 + 5 + 27)
@@ -33,10 +32,8 @@ def typed(data):
 
 
 def info(role, id, offset, first, replicas=0, second="0", second_offset=-1, backlog=USUAL_BACKLOG):
-    lines = ["# Replication", "role:%s" % role, "connected_slaves:%d" % replicas, "master_replid:%s" % digits(id), "master_replid2:%s" % digits(second)]
-    lines += ["master_repl_offset:%d" % offset, "second_repl_offset:%d" % second_offset, "repl_backlog_active:1", "repl_backlog_size:%d" % backlog]
-    lines += ["repl_backlog_first_byte_offset:%d" % first, "repl_backlog_histlen:%d" % (offset - first + 1)]
-    return bulk("".join(line + "\r\n" for line in lines))
+    """INFO's reply, with ids that may be letters."""
+    return bulk(information(offset, role, first, replicas, digits(id), (digits(second), second_offset), backlog))
 
 
 class Script:
@@ -165,14 +162,14 @@ def every_event():
         script.step(link, "b")
     role = array_of(bulk(""), bulk("0"), bulk("68"))
     script.asks(p, "ROLE", array_of(bulk("master"), number(68), array_of(role, role)))
-    script.asks(p, "BGREWRITEAOF", b"+Background append only file rewriting started\r\n")
+    script.asks(p, "BGREWRITEAOF", STARTED)
     script.asks(p, "SHUTDOWN", b"")
     script.line("raw %d %s" % (p, typed(b"PING\r\n*x")))
     script.deliver(p, "b", 8)
     script.step(p, "b")
-    script.takes(p, b"+PONG\r\n")
+    script.takes(p, PONG)
     script.step(p, "b")
-    script.takes(p, b"-ERR Protocol error: invalid multibulk length\r\n")
+    script.takes(p, COUNT)
     script.line("restart 2 1000 c")
     script.shows(2, "c", 0)
     script.asks(script.client(2), "GET k", bulk("w"))
@@ -226,7 +223,7 @@ class Rows:
         script.line("raw 0 %s" % typed(b"*1\r\n$-5\r\nPING\r\n"))
         script.deliver(0, "b", 15)
         script.step(0, "b")
-        script.takes(0, b"-ERR Protocol error: invalid bulk length\r\n")
+        script.takes(0, BULK_LENGTH)
         script.lines("""
             step 0 b 0 0 1 -> refused 2
             send 0 PING
@@ -296,7 +293,7 @@ class Rows:
     def test_an_acknowledgement_has_no_reply_on_any_link(self):
         script = started()
         script.asks(0, "REPLCONF ACK 5", b"")
-        script.asks(0, "PING", b"+PONG\r\n")
+        script.asks(0, "PING", PONG)
         self.plays(script)
 
     def test_the_role_of_a_replica(self):
@@ -381,7 +378,7 @@ class Rows:
         for kept, value in ((27, bulk("w")), (26, NIL)):
             script = started()
             script.asks(0, "SET k w", OK)
-            script.asks(0, "BGREWRITEAOF", b"+Background append only file rewriting started\r\n")
+            script.asks(0, "BGREWRITEAOF", STARTED)
             script.shows(0, "a", 54)
             script.line("restart 0 %d b" % kept)
             script.client(0)
@@ -629,7 +626,7 @@ class Rows:
         link = script.dials(2, 1)
         script.greets(link, OFFERED)
         script.step(link, "b")
-        script.deliver(link, "a", len("-ERR replicas are not chained\r\n"))
+        script.deliver(link, "a", len(CHAINED))
         script.step(link, "a")
         script.shows(2, "a", 27)
         script.line("step %d a 0 0 1" % link, "refused 2")
