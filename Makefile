@@ -1,4 +1,4 @@
-.PHONY: build test check-one test-all test-batched test-by-turns bench bench-serve bench-replicas bench-large instructions instructions-replicas
+.PHONY: build test check-one test-all test-batched test-by-turns bench bench-serve bench-replicas bench-large bench-growth instructions instructions-replicas
 
 # The gate that `make test` runs: test-all, test-batched, or test-by-turns.
 GATE = test-by-turns
@@ -43,6 +43,10 @@ bench-replicas:
 # What single requests on large collections cost `serve`, beside redis-server.
 bench-large:
 	python3 -m bench.large
+
+# What each command costs `serve` on collections of three sizes, beside redis-server. RUNS="LREM DEL" chooses rows by words of their names.
+bench-growth:
+	python3 -m bench.growth $(RUNS)
 
 # The runs of `make bench` by the instructions that they take, under callgrind, which must be installed.
 instructions:

@@ -27,16 +27,22 @@ class Played:
             part = requests[at : at + together]
             self.client.send(b"".join(part))
             for _ in part:
-                self.client.reply()
+                reply = self.client.reply()
+                if reply.startswith(b"-"):
+                    raise SystemExit(f"bench: a request is refused: {reply.decode().strip()}")
 
     def fill(self, name, key, items):
         for at in range(0, len(items), WORDS):
             self.client.asks(name, key, *items[at : at + WORDS])
 
-    def cost(self, name, requests, together=TOGETHER):
+    def took(self, requests, together=TOGETHER):
+        """Microseconds of the server's processor time that each of these requests took."""
         before = self.server.used()
         self.load(requests, together)
-        self.costs[name] = "%.1f us" % ((self.server.used() - before) / len(requests) * 1e6)
+        return (self.server.used() - before) / len(requests) * 1e6
+
+    def cost(self, name, requests, together=TOGETHER):
+        self.costs[name] = "%.1f us" % self.took(requests, together)
 
     def weigh(self, name):
         self.costs[name] = "%d MB" % (self.server.memory() / 1e6)
