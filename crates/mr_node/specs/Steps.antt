@@ -3,6 +3,7 @@ use Rattle.std.specs.Prelude.{◌≡◌, ◌≢◌, ℕ, List, true, false, Some
 use Rattle.mr_links.specs.declared.link_id.LinkId.{LinkId}
 use Rattle.mr_entries.specs.Dataset.{Dataset}
 use Rattle.mr_data.specs.declared.given.Given.{Given}
+use Rattle.mr_outs.specs.Outs.{OutsState}
 use Rattle.mr_course.specs.State.{name_of}
 use Rattle.mr_course.specs.declared.upstream.UpstreamStep.{UpstreamStep}
 use Rattle.mr_course.specs.declared.upstream.UpstreamStep.TheVariants as outcome
@@ -13,8 +14,17 @@ use Rattle.mr_rows.specs.UpstreamRows as master
 use Rattle.mr_node.specs.Noting.{BeginsWithWords}
 use Rattle.mr_node.specs.declared.fault.NodeFault.{NodeFault}
 use Rattle.mr_node.specs.declared.fault.NodeFault.TheVariants as fault
+use Rattle.mr_node.specs.declared.step.Outcome.{Outcome}
+use Rattle.mr_node.specs.declared.step.Outcome.TheVariants as came
 use Rattle.mr_node.specs.declared.step.Step.{Step}
 use Rattle.mr_node.specs.declared.step.Step.TheVariants as step
+
+-- what a step came to, with the outs that were lent to it
+abbrev pub step_of : OutsState → Result Outcome NodeFault → Result Step NodeFault
+step_of outs (Ok came.Idle) = Ok step.Idle
+step_of outs (Ok came.Done) = Ok (step.Done outs)
+step_of outs (Ok came.Closed) = Ok step.Closed
+step_of outs (Err e) = Err e
 
 -- The node runs, and the link is a client's with these unread bytes.
 pub record IsAt (a : NodeState) (l : LinkId) (u : List ℕ) : Type 0 where

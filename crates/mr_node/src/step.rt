@@ -11,3 +11,14 @@ pub enum Step {
     /// The node closed this link earlier.
     Closed,
 }
+
+/// What a step came to whose outs were lent to it.
+#[derive(Clone, Copy)]
+pub(crate) enum Outcome {
+    /// Nothing whole is there.
+    Idle,
+    /// Something was used, or the link closed. The outs tell what is given out.
+    Done,
+    /// The node closed this link earlier.
+    Closed,
+}

@@ -8,20 +8,20 @@ ghost use Rattle.mr_data.specs.declared.given.Given.{Given};
 ghost use Rattle.mr_planning.specs.Answered.{done};
 ghost use Rattle.mr_ends.specs.State.{EndState, serves};
 ghost use Rattle.mr_ends.specs.Parts.{HasAhead};
-ghost use Rattle.mr_outs.specs.Outs.{growth, outs_with, no_output};
+ghost use Rattle.mr_outs.specs.Outs.{growth, outs_with, no_output, no_outs};
 ghost use Rattle.mr_rows.specs.State.{Agrees, end_of};
 ghost use Rattle.mr_rows.specs.ClientRows.{Ends, MayLack};
 ghost use Rattle.mr_rows.specs.Growing.{offset_behind, offset_limit};
 ghost use Rattle.mr_rows.specs.Served.{rewritten_as};
 ghost use Rattle.mr_node.specs.Reading.{HaltsAt, Passes, Quits, Rewrites, Runs};
 ghost use Rattle.mr_rows.specs.Requests.{IsDoomedBy};
-ghost use Rattle.mr_node.specs.Steps.{ClientStep, IsAt};
+ghost use Rattle.mr_node.specs.Steps.{ClientStep, IsAt, step_of};
 ghost use Rattle.mr_node.specs.Parts.{AreEmpty, FeedsAll, Leads, Tells};
 
 use crate::fault::NodeFault;
 use crate::node::Node;
 use crate::replies::{done, past_the_limit, rewriting};
-use crate::step::Step;
+use crate::step::Outcome;
 use mr_data::Plan;
 use mr_links::LinkId;
 use mr_outs::Outs;
@@ -33,66 +33,82 @@ pub(crate) const LIMIT: u64 = 0x4000_0000_0000_0000;
 
 // Requests without effects.
 impl Node {
-    /// Uses an empty request.
-    pub(crate) fn skip(&mut self, link: LinkId, used: usize) -> Step
+    /// Uses an empty request. Nothing is given out.
+    pub(crate) fn skip(&mut self, link: LinkId, used: usize) -> Outcome
         requires { HasAhead self.old.ends link used }
-        ensures { (u : List ℕ) (given : Given) (fresh : List ℕ) → IsAt self.old link u → Passes u used → ClientStep self.old link u given fresh self.new (Ok result) }
+        ensures { (u : List ℕ) (given : Given) (fresh : List ℕ) → IsAt self.old link u → Passes u used → ClientStep self.old link u given fresh self.new (step_of (record no_outs { link = Some link }) (Ok result)) }
     {
-        let outs = self.fresh_outs(Some(link));
         self.advance(link, used);
-        Step::Done(outs)
+        Outcome::Done
     }
 
     /// Uses a client's wish that the program end. Nothing is answered.
-    pub(crate) fn halt(&mut self, link: LinkId, used: usize) -> Step
-        requires { HasAhead self.old.ends link used }
-        ensures { (u : List ℕ) (given : Given) (fresh : List ℕ) → IsAt self.old link u → HaltsAt u used → ClientStep self.old link u given fresh self.new (Ok result) }
+    pub(crate) fn halt(&mut self, link: LinkId, used: usize, outs: &mut Outs) -> Outcome
+        requires ahead { HasAhead self.old.ends link used }
+        requires begun { outs.old ≡ record no_outs { link = Some link } }
+        ensures { (u : List ℕ) (given : Given) (fresh : List ℕ) → IsAt self.old link u → HaltsAt u used → ClientStep self.old link u given fresh self.new (step_of outs.new (Ok result)) }
     {
-        let mut outs = self.fresh_outs(Some(link));
         outs.halt();
         self.advance(link, used);
-        Step::Done(outs)
+        Outcome::Done
     }
 
     /// Sends the text of a fault, and closes the link.
-    pub(crate) fn refuse(&mut self, link: LinkId, fault: Fault) -> Result<Step, NodeFault>
-        requires { (end : EndState) × (end_of self.old link ≡ Some end) × (serves end ≡ true) }
-        ensures { (u : List ℕ) (given : Given) (fresh : List ℕ) → IsAt self.old link u → IsDoomedBy u fault → ClientStep self.old link u given fresh self.new result }
+    pub(crate) fn refuse(
+        &mut self,
+        link: LinkId,
+        fault: Fault,
+        outs: &mut Outs,
+    ) -> Result<Outcome, NodeFault>
+        requires serves { (end : EndState) × (end_of self.old link ≡ Some end) × (serves end ≡ true) }
+        requires begun { outs.old ≡ record no_outs { link = Some link } }
+        ensures { (u : List ℕ) (given : Given) (fresh : List ℕ) → IsAt self.old link u → IsDoomedBy u fault → ClientStep self.old link u given fresh self.new (step_of outs.new result) }
     {
         let Ok(reply) = fault.reply(self.alloc) else {
             return Err(NodeFault::Memory);
         };
-        self.dismiss(link, &reply)
+        self.dismiss(link, &reply, outs)
     }
 
     /// Answers OK, and closes the link.
-    pub(crate) fn quit(&mut self, link: LinkId) -> Result<Step, NodeFault>
-        requires { (end : EndState) × (end_of self.old link ≡ Some end) × (serves end ≡ true) }
-        ensures { (u : List ℕ) (given : Given) (fresh : List ℕ) → IsAt self.old link u → Quits u → ClientStep self.old link u given fresh self.new result }
+    pub(crate) fn quit(&mut self, link: LinkId, outs: &mut Outs) -> Result<Outcome, NodeFault>
+        requires serves { (end : EndState) × (end_of self.old link ≡ Some end) × (serves end ≡ true) }
+        requires begun { outs.old ≡ record no_outs { link = Some link } }
+        ensures { (u : List ℕ) (given : Given) (fresh : List ℕ) → IsAt self.old link u → Quits u → ClientStep self.old link u given fresh self.new (step_of outs.new result) }
     {
-        self.dismiss(link, &done())
+        self.dismiss(link, &done(), outs)
     }
 
     /// Sends a last reply, and closes the link.
-    fn dismiss(&mut self, link: LinkId, reply: &Reply) -> Result<Step, NodeFault>
-        requires { (end : EndState) × (end_of self.old link ≡ Some end) × (serves end ≡ true) }
-        ensures { (u : List ℕ) (given : Given) (fresh : List ℕ) → IsAt self.old link u → MayLack u → Ends u (reply_text (view reply.now)) → ClientStep self.old link u given fresh self.new result }
+    fn dismiss(
+        &mut self,
+        link: LinkId,
+        reply: &Reply,
+        outs: &mut Outs,
+    ) -> Result<Outcome, NodeFault>
+        requires serves { (end : EndState) × (end_of self.old link ≡ Some end) × (serves end ≡ true) }
+        requires begun { outs.old ≡ record no_outs { link = Some link } }
+        ensures { (u : List ℕ) (given : Given) (fresh : List ℕ) → IsAt self.old link u → MayLack u → Ends u (reply_text (view reply.now)) → ClientStep self.old link u given fresh self.new (step_of outs.new result) }
     {
-        let mut outs = self.fresh_outs(Some(link));
         if outs.say(reply).is_err() {
             return Err(NodeFault::Memory);
         }
         outs.close();
         self.state.shut(link);
-        Ok(Step::Done(outs))
+        Ok(Outcome::Done)
     }
 
     /// The append-only file is written anew, and the client is told so.
-    pub(crate) fn rewrite(&mut self, link: LinkId, used: usize) -> Result<Step, NodeFault>
-        requires { HasAhead self.old.ends link used }
-        ensures { (u : List ℕ) (given : Given) (fresh : List ℕ) → IsAt self.old link u → Rewrites u used → ClientStep self.old link u given fresh self.new result }
+    pub(crate) fn rewrite(
+        &mut self,
+        link: LinkId,
+        used: usize,
+        outs: &mut Outs,
+    ) -> Result<Outcome, NodeFault>
+        requires ahead { HasAhead self.old.ends link used }
+        requires begun { outs.old ≡ record no_outs { link = Some link } }
+        ensures { (u : List ℕ) (given : Given) (fresh : List ℕ) → IsAt self.old link u → Rewrites u used → ClientStep self.old link u given fresh self.new (step_of outs.new result) }
     {
-        let mut outs = self.fresh_outs(Some(link));
         if outs.say(&rewriting()).is_err() {
             return Err(NodeFault::Memory);
         }
@@ -101,25 +117,31 @@ impl Node {
         };
         outs.replace(texts);
         self.advance(link, used);
-        Ok(Step::Done(outs))
+        Ok(Outcome::Done)
     }
 }
 
 // Requests with a plan.
 impl Node {
     /// Carries out a plan.
-    pub(crate) fn run(&mut self, link: LinkId, used: usize, plan: Plan) -> Result<Step, NodeFault>
+    pub(crate) fn run(
+        &mut self,
+        link: LinkId,
+        used: usize,
+        plan: Plan,
+        outs: &mut Outs,
+    ) -> Result<Outcome, NodeFault>
         requires ahead { HasAhead self.old.ends link used }
         requires leads { Leads plan.effects.items self.old.core.held }
         requires silent { self.old.core.master ≡ false → plan.effects.items ≡ [] }
-        ensures { (u : List ℕ) (given : Given) (fresh : List ℕ) → IsAt self.old link u → Runs (not self.old.core.master) u given self.old.core.held used plan → ClientStep self.old link u given fresh self.new result }
+        requires begun { outs.old ≡ record no_outs { link = Some link } }
+        ensures { (u : List ℕ) (given : Given) (fresh : List ℕ) → IsAt self.old link u → Runs (not self.old.core.master) u given self.old.core.held used plan → ClientStep self.old link u given fresh self.new (step_of outs.new result) }
     {
-        let mut outs = self.fresh_outs(Some(link));
-        match self.put_answer(&plan, &mut outs) {
+        match self.put_answer(&plan, outs) {
             Err(_) => Err(NodeFault::Memory),
             Ok(false) => {
                 self.advance(link, used);
-                Ok(Step::Done(outs))
+                Ok(Outcome::Done)
             }
             Ok(true) => self.commit(link, used, plan, outs),
         }
@@ -158,17 +180,16 @@ impl Node {
         link: LinkId,
         used: usize,
         plan: Plan,
-        outs: Outs,
-    ) -> Result<Step, NodeFault>
+        outs: &mut Outs,
+    ) -> Result<Outcome, NodeFault>
         requires ahead { HasAhead self.old.ends link used }
         requires leads { Leads plan.effects.items self.old.core.held }
         requires silent { self.old.core.master ≡ false → plan.effects.items ≡ [] }
-        requires outs { outs ≡ outs_with (Some link) (record (growth (texts plan.effects.items)) { said = reply_text (view plan.reply) }) }
+        requires outs { outs.old ≡ outs_with (Some link) (record (growth (texts plan.effects.items)) { said = reply_text (view plan.reply) }) }
         requires within { offset_behind plan.effects.items self.old.core ≤ offset_limit }
-        ensures { (u : List ℕ) (given : Given) (fresh : List ℕ) → IsAt self.old link u → Runs (not self.old.core.master) u given self.old.core.held used plan → ClientStep self.old link u given fresh self.new result }
+        ensures { (u : List ℕ) (given : Given) (fresh : List ℕ) → IsAt self.old link u → Runs (not self.old.core.master) u given self.old.core.held used plan → ClientStep self.old link u given fresh self.new (step_of outs.new result) }
     {
-        let mut outs = outs;
-        if self.feed_replicas(&mut outs).is_err() {
+        if self.feed_replicas(outs).is_err() {
             return Err(NodeFault::Memory);
         }
         let Plan { reply: _, effects } = plan;
@@ -176,6 +197,6 @@ impl Node {
             return Err(NodeFault::Stopped);
         }
         self.advance(link, used);
-        Ok(Step::Done(outs))
+        Ok(Outcome::Done)
     }
 }

@@ -6,20 +6,20 @@ ghost use Rattle.mr_data.specs.declared.given.Given.{Given};
 ghost use Rattle.mr_cmd_node.specs.declared.node_ask.NodeAsk.{NodeAsk};
 ghost use Rattle.mr_cmd_node.specs.declared.node_ask.NodeAsk.TheVariants as node;
 ghost use Rattle.mr_ends.specs.Parts.{HasAhead, IsClient};
-ghost use Rattle.mr_outs.specs.Outs.{no_output};
+ghost use Rattle.mr_outs.specs.Outs.{no_output, no_outs};
 ghost use Rattle.mr_rows.specs.Served.{says};
 ghost use Rattle.mr_node.specs.Reading.{IsWish, Wishes};
-ghost use Rattle.mr_node.specs.Steps.{ClientStep, IsAt};
+ghost use Rattle.mr_node.specs.Steps.{ClientStep, IsAt, step_of};
 ghost use Rattle.mr_node.specs.Parts.{Keeps};
 
 use crate::fault::NodeFault;
 use crate::node::Node;
 use crate::replies::{done, not_chained};
 use crate::request::NodeRequest;
-use crate::step::Step;
+use crate::step::Outcome;
 use mr_ends::Introduction;
 use mr_links::LinkId;
-use mr_outs::Address;
+use mr_outs::{Address, Outs};
 use mr_repl::ReplId;
 use mr_resp::Reply;
 
@@ -31,26 +31,33 @@ impl Node {
         used: usize,
         request: NodeRequest,
         fresh: ReplId,
-    ) -> Result<Step, NodeFault>
-        requires { IsClient self.old.ends link used }
-        ensures { (u : List ℕ) (given : Given) (wish : NodeAsk) → IsAt self.old link u → Wishes u used wish → IsWish wish request → ClientStep self.old link u given fresh self.new result }
+        outs: &mut Outs,
+    ) -> Result<Outcome, NodeFault>
+        requires client { IsClient self.old.ends link used }
+        requires begun { outs.old ≡ record no_outs { link = Some link } }
+        ensures { (u : List ℕ) (given : Given) (wish : NodeAsk) → IsAt self.old link u → Wishes u used wish → IsWish wish request → ClientStep self.old link u given fresh self.new (step_of outs.new result) }
     {
         match request {
             NodeRequest::Stream(wish) => {
                 if self.state.master() {
-                    self.synchronize(link, used, &wish)
+                    self.synchronize(link, used, &wish, outs)
                 } else {
-                    self.say(link, used, &not_chained())
+                    self.say(link, used, &not_chained(), outs)
                 }
             }
-            NodeRequest::Introduction(introduction) => self.introduce(link, used, introduction),
+            NodeRequest::Introduction(introduction) => self.introduce(
+                link,
+                used,
+                introduction,
+                outs,
+            ),
             NodeRequest::Acknowledgement(offset) => Ok(self.acknowledge(link, used, offset)),
-            NodeRequest::Follow(address) => self.follow_another(link, used, address),
+            NodeRequest::Follow(address) => self.follow_another(link, used, address, outs),
             NodeRequest::Lead => {
                 if self.state.master() {
-                    self.say(link, used, &done())
+                    self.say(link, used, &done(), outs)
                 } else {
-                    self.promote(link, used, fresh)
+                    self.promote(link, used, fresh, outs)
                 }
             }
         }
@@ -62,17 +69,19 @@ impl Node {
         link: LinkId,
         used: usize,
         address: Address,
-    ) -> Result<Step, NodeFault>
-        requires { IsClient self.old.ends link used }
-        ensures { (u : List ℕ) (given : Given) (fresh : List ℕ) → IsAt self.old link u → Wishes u used (node.ReplicaOf address.host address.port) → ClientStep self.old link u given fresh self.new result }
+        outs: &mut Outs,
+    ) -> Result<Outcome, NodeFault>
+        requires client { IsClient self.old.ends link used }
+        requires begun { outs.old ≡ record no_outs { link = Some link } }
+        ensures { (u : List ℕ) (given : Given) (fresh : List ℕ) → IsAt self.old link u → Wishes u used (node.ReplicaOf address.host address.port) → ClientStep self.old link u given fresh self.new (step_of outs.new result) }
     {
         if self.state.master() {
-            return self.demote(link, used, address);
+            return self.demote(link, used, address, outs);
         }
         if self.is_followed(&address) {
-            return self.say(link, used, &done());
+            return self.say(link, used, &done(), outs);
         }
-        self.turn(link, used, address)
+        self.turn(link, used, address, outs)
     }
 
     /// Whether the node was told to follow this one.
@@ -86,16 +95,22 @@ impl Node {
     }
 
     /// Answers, and nothing changes.
-    fn say(&mut self, link: LinkId, used: usize, reply: &Reply) -> Result<Step, NodeFault>
-        requires { HasAhead self.old.ends link used }
-        ensures { (u : List ℕ) (given : Given) (fresh : List ℕ) → IsAt self.old link u → Keeps self.old.core u used (says (view reply.now)) → ClientStep self.old link u given fresh self.new result }
+    fn say(
+        &mut self,
+        link: LinkId,
+        used: usize,
+        reply: &Reply,
+        outs: &mut Outs,
+    ) -> Result<Outcome, NodeFault>
+        requires ahead { HasAhead self.old.ends link used }
+        requires begun { outs.old ≡ record no_outs { link = Some link } }
+        ensures { (u : List ℕ) (given : Given) (fresh : List ℕ) → IsAt self.old link u → Keeps self.old.core u used (says (view reply.now)) → ClientStep self.old link u given fresh self.new (step_of outs.new result) }
     {
-        let mut outs = self.fresh_outs(Some(link));
         if outs.say(reply).is_err() {
             return Err(NodeFault::Memory);
         }
         self.advance(link, used);
-        Ok(Step::Done(outs))
+        Ok(Outcome::Done)
     }
 
     /// Answers OK to what a replica says of itself, and keeps it.
@@ -104,25 +119,26 @@ impl Node {
         link: LinkId,
         used: usize,
         introduction: Introduction,
-    ) -> Result<Step, NodeFault>
-        requires { HasAhead self.old.ends link used }
-        ensures { (u : List ℕ) (given : Given) (fresh : List ℕ) → IsAt self.old link u → Keeps self.old.core u used (says done) → ClientStep self.old link u given fresh self.new result }
+        outs: &mut Outs,
+    ) -> Result<Outcome, NodeFault>
+        requires ahead { HasAhead self.old.ends link used }
+        requires begun { outs.old ≡ record no_outs { link = Some link } }
+        ensures { (u : List ℕ) (given : Given) (fresh : List ℕ) → IsAt self.old link u → Keeps self.old.core u used (says done) → ClientStep self.old link u given fresh self.new (step_of outs.new result) }
     {
-        let answered = self.say(link, used, &done());
+        let answered = self.say(link, used, &done(), outs);
         if answered.is_ok() {
             self.state.introduce(link, introduction);
         }
         answered
     }
 
-    /// Keeps the offset that is acknowledged. Nothing is answered.
-    fn acknowledge(&mut self, link: LinkId, used: usize, offset: i64) -> Step
+    /// Keeps the offset that is acknowledged. Nothing is given out.
+    fn acknowledge(&mut self, link: LinkId, used: usize, offset: i64) -> Outcome
         requires { HasAhead self.old.ends link used }
-        ensures { (u : List ℕ) (given : Given) (fresh : List ℕ) → IsAt self.old link u → Keeps self.old.core u used no_output → ClientStep self.old link u given fresh self.new (Ok result) }
+        ensures { (u : List ℕ) (given : Given) (fresh : List ℕ) → IsAt self.old link u → Keeps self.old.core u used no_output → ClientStep self.old link u given fresh self.new (step_of (record no_outs { link = Some link }) (Ok result)) }
     {
-        let outs = self.fresh_outs(Some(link));
         self.state.acknowledge(link, offset);
         self.advance(link, used);
-        Step::Done(outs)
+        Outcome::Done
     }
 }

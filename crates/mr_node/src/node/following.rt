@@ -5,11 +5,11 @@ ghost use Rattle.mr_rows.specs.State.{stopped_as};
 ghost use Rattle.mr_links.specs.declared.link_id.LinkId.{LinkId};
 ghost use Rattle.mr_outs.specs.Outs.{no_outs};
 ghost use Rattle.mr_rows.specs.UpstreamRows.{beat, outs_behind};
-ghost use Rattle.mr_node.specs.Steps.{MasterStep};
+ghost use Rattle.mr_node.specs.Steps.{MasterStep, step_of};
 
 use crate::fault::NodeFault;
 use crate::node::Node;
-use crate::step::Step;
+use crate::step::Outcome;
 use mr_course::{UpstreamFault, UpstreamStep};
 use mr_links::LinkId;
 use mr_outs::Outs;
@@ -19,24 +19,23 @@ const BEAT: &[u8] = b"*1\r\n$4\r\nPING\r\n";
 
 impl Node {
     /// Makes a step at the link to the master.
-    pub(crate) fn follow(&mut self, link: LinkId) -> Result<Step, NodeFault>
+    pub(crate) fn follow(&mut self, link: LinkId, outs: &mut Outs) -> Result<Outcome, NodeFault>
         requires up { self.old.core.up ≡ true }
         requires followed { name_of self.old.follow ≡ Some link }
-        ensures { MasterStep self.old link self.new result }
+        requires begun { outs.old ≡ record no_outs { link = Some link } }
+        ensures { MasterStep self.old link self.new (step_of outs.new result) }
     {
-        let mut outs = self.fresh_outs(Some(link));
         let mut told = outs.take_room();
         match self.state.listen(&mut told) {
             Err(UpstreamFault::Memory) => Err(NodeFault::Memory),
             Err(UpstreamFault::Stopped) => Err(NodeFault::Stopped),
             Ok(UpstreamStep::Idle) => {
                 outs.apply(told, false);
-                self.reuse(outs);
-                Ok(Step::Idle)
+                Ok(Outcome::Idle)
             }
             Ok(step) => {
-                carry(step, told, &mut outs);
-                Ok(Step::Done(outs))
+                carry(step, told, outs);
+                Ok(Outcome::Done)
             }
         }
     }

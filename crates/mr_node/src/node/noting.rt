@@ -1,30 +1,32 @@
 // A step at a replica's end.
-ghost use Rattle.std.specs.Prelude.{ℕ, List};
+ghost use Rattle.std.specs.Prelude.{◌≡◌, ℕ, List, Some};
+ghost use Rattle.mr_outs.specs.Outs.{no_outs};
 ghost use Rattle.mr_rows.specs.State.{ReplicaAgrees};
-ghost use Rattle.mr_node.specs.Steps.{IsAtReplica, ReplicaStep};
+ghost use Rattle.mr_node.specs.Steps.{IsAtReplica, ReplicaStep, step_of};
 ghost use Rattle.mr_node.specs.Noting.{NotedAt};
 
 use crate::fault::NodeFault;
 use crate::node::Node;
 use crate::noted::{Noted, noted_of};
-use crate::step::Step;
+use crate::step::Outcome;
 use mr_links::LinkId;
+use mr_outs::Outs;
 use std::alloc::AllocError;
 
 impl Node {
     /// Makes a step at a replica's end: an acknowledgement is noted, and anything else but an empty request closes the link.
-    pub(crate) fn note(&mut self, link: LinkId) -> Result<Step, NodeFault>
-        requires { (u : List ℕ) × IsAtReplica self.old link u }
-        ensures { (u : List ℕ) → IsAtReplica self.old link u → ReplicaStep self.old link u self.new result }
+    pub(crate) fn note(&mut self, link: LinkId, outs: &mut Outs) -> Result<Outcome, NodeFault>
+        requires at { (u : List ℕ) × IsAtReplica self.old link u }
+        requires begun { outs.old ≡ record no_outs { link = Some link } }
+        ensures { (u : List ℕ) → IsAtReplica self.old link u → ReplicaStep self.old link u self.new (step_of outs.new result) }
     {
         let Ok(noted) = self.noted(link) else {
             return Err(NodeFault::Memory);
         };
         if let Noted::Wait(progress) = noted {
             self.state.keep(link, progress);
-            return Ok(Step::Idle);
+            return Ok(Outcome::Idle);
         }
-        let mut outs = self.fresh_outs(Some(link));
         match noted {
             Noted::Wait(_) => unreachable!(),
             Noted::Skip { used } => self.advance(link, used),
@@ -37,7 +39,7 @@ impl Node {
                 self.state.shut(link);
             }
         }
-        Ok(Step::Done(outs))
+        Ok(Outcome::Done)
     }
 
     /// What is to be done about a replica's unread bytes.

@@ -12,11 +12,11 @@ ghost use Rattle.mr_rows.specs.Ends.{names_of};
 ghost use Rattle.mr_rows.specs.Sound.{ports};
 ghost use Rattle.mr_course.specs.State.{name_of};
 ghost use Rattle.mr_node.specs.Reading.{Wishes};
-ghost use Rattle.mr_node.specs.Steps.{ClientStep, IsAt};
+ghost use Rattle.mr_node.specs.Steps.{ClientStep, IsAt, step_of};
 
 use crate::fault::NodeFault;
 use crate::node::Node;
-use crate::step::Step;
+use crate::step::Outcome;
 use mr_links::LinkId;
 use mr_outs::{Address, Outs};
 use mr_repl::ReplId;
@@ -29,19 +29,20 @@ impl Node {
         link: LinkId,
         used: usize,
         fresh: ReplId,
-    ) -> Result<Step, NodeFault>
+        outs: &mut Outs,
+    ) -> Result<Outcome, NodeFault>
         requires ahead { HasAhead self.old.ends link used }
+        requires begun { outs.old ≡ record no_outs { link = Some link } }
         requires replica { self.old.core.master ≡ false }
-        ensures { (u : List ℕ) (given : Given) → IsAt self.old link u → Wishes u used node.NoOne → ClientStep self.old link u given fresh self.new result }
+        ensures { (u : List ℕ) (given : Given) → IsAt self.old link u → Wishes u used node.NoOne → ClientStep self.old link u given fresh self.new (step_of outs.new result) }
     {
-        let mut outs = self.fresh_outs(Some(link));
-        if self.put_leaving(&mut outs).is_err() {
+        if self.put_leaving(outs).is_err() {
             return Err(NodeFault::Memory);
         }
         outs.take_id(fresh);
         self.advance(link, used);
         self.state.promote(fresh);
-        Ok(Step::Done(outs))
+        Ok(Outcome::Done)
     }
 
     /// A replica is to follow another.
@@ -50,21 +51,20 @@ impl Node {
         link: LinkId,
         used: usize,
         address: Address,
-    ) -> Result<Step, NodeFault>
+        outs: &mut Outs,
+    ) -> Result<Outcome, NodeFault>
         requires ahead { HasAhead self.old.ends link used }
+        requires begun { outs.old ≡ record no_outs { link = Some link } }
         requires replica { self.old.core.master ≡ false }
         requires another { self.old.core.upstream ≢ Some address }
-        ensures { (u : List ℕ) (given : Given) (fresh : List ℕ) → IsAt self.old link u → Wishes u used (node.ReplicaOf address.host address.port) → ClientStep self.old link u given fresh self.new result }
+        ensures { (u : List ℕ) (given : Given) (fresh : List ℕ) → IsAt self.old link u → Wishes u used (node.ReplicaOf address.host address.port) → ClientStep self.old link u given fresh self.new (step_of outs.new result) }
     {
-        let mut outs = self.fresh_outs(Some(link));
-        if self.put_leaving(&mut outs).is_err()
-            || self.put_following(&address, &mut outs).is_err()
-        {
+        if self.put_leaving(outs).is_err() || self.put_following(&address, outs).is_err() {
             return Err(NodeFault::Memory);
         }
         self.advance(link, used);
         self.state.turn(address);
-        Ok(Step::Done(outs))
+        Ok(Outcome::Done)
     }
 
     /// A master becomes a replica, and closes its replicas' links.
@@ -73,20 +73,19 @@ impl Node {
         link: LinkId,
         used: usize,
         address: Address,
-    ) -> Result<Step, NodeFault>
+        outs: &mut Outs,
+    ) -> Result<Outcome, NodeFault>
         requires ahead { HasAhead self.old.ends link used }
+        requires begun { outs.old ≡ record no_outs { link = Some link } }
         requires master { self.old.core.master ≡ true }
-        ensures { (u : List ℕ) (given : Given) (fresh : List ℕ) → IsAt self.old link u → Wishes u used (node.ReplicaOf address.host address.port) → ClientStep self.old link u given fresh self.new result }
+        ensures { (u : List ℕ) (given : Given) (fresh : List ℕ) → IsAt self.old link u → Wishes u used (node.ReplicaOf address.host address.port) → ClientStep self.old link u given fresh self.new (step_of outs.new result) }
     {
-        let mut outs = self.fresh_outs(Some(link));
-        if self.put_dismissal(&mut outs).is_err()
-            || self.put_following(&address, &mut outs).is_err()
-        {
+        if self.put_dismissal(outs).is_err() || self.put_following(&address, outs).is_err() {
             return Err(NodeFault::Memory);
         }
         self.advance(link, used);
         self.state.obey(address);
-        Ok(Step::Done(outs))
+        Ok(Outcome::Done)
     }
 
     /// OK, and the link to the master is closed.

@@ -1,17 +1,19 @@
 // A step, at whatever end.
 ghost use Rattle.std.specs.Prelude.{◌≡◌, ℕ, List, true, not, Some, Ok, Err};
 ghost use Rattle.std.specs.Prelude.{Result};
+ghost use Rattle.mr_outs.specs.Outs.{no_outs};
 ghost use Rattle.mr_rows.specs.State.{Agrees};
 ghost use Rattle.mr_node.specs.Reading.{TodoAt};
-ghost use Rattle.mr_node.specs.Steps.{ClientStep, IsAt, Steps};
+ghost use Rattle.mr_node.specs.Steps.{ClientStep, IsAt, Steps, step_of};
 
 use crate::fault::NodeFault;
 use crate::node::Node;
-use crate::step::Step;
+use crate::step::{Outcome, Step};
 use crate::todo::{Todo, todo_of};
 use mr_data::Given;
 use mr_ends::Kind;
 use mr_links::LinkId;
+use mr_outs::Outs;
 use mr_repl::ReplId;
 use std::alloc::AllocError;
 
@@ -20,6 +22,35 @@ impl Node {
     pub fn step(&mut self, link: LinkId, given: Given, fresh: ReplId) -> Result<Step, NodeFault>
         ensures { Steps self.old link given fresh self.new result }
     {
+        let mut outs = self.fresh_outs(Some(link));
+        match self.step_into(link, given, fresh, &mut outs) {
+            Ok(Outcome::Done) => Ok(Step::Done(outs)),
+            Ok(Outcome::Idle) => {
+                self.reuse(outs);
+                Ok(Step::Idle)
+            }
+            Ok(Outcome::Closed) => {
+                self.reuse(outs);
+                Ok(Step::Closed)
+            }
+            Err(fault) => {
+                self.reuse(outs);
+                Err(fault)
+            }
+        }
+    }
+
+    /// Makes a step, whose outs are lent to it: they are large, and so moved once.
+    fn step_into(
+        &mut self,
+        link: LinkId,
+        given: Given,
+        fresh: ReplId,
+        outs: &mut Outs,
+    ) -> Result<Outcome, NodeFault>
+        requires { outs.old ≡ record no_outs { link = Some link } }
+        ensures { Steps self.old link given fresh self.new (step_of outs.new result) }
+    {
         if !self.state.up() {
             return Err(NodeFault::Stopped);
         }
@@ -27,17 +58,24 @@ impl Node {
             return Err(NodeFault::NoLink);
         };
         match end.kind() {
-            Kind::Client => self.serve(link, given, fresh),
-            Kind::Replica => self.note(link),
-            Kind::Upstream => self.follow(link),
-            Kind::Shut => Ok(Step::Closed),
+            Kind::Client => self.serve(link, given, fresh, outs),
+            Kind::Replica => self.note(link, outs),
+            Kind::Upstream => self.follow(link, outs),
+            Kind::Shut => Ok(Outcome::Closed),
         }
     }
 
     /// Makes a step at a client's end.
-    fn serve(&mut self, link: LinkId, given: Given, fresh: ReplId) -> Result<Step, NodeFault>
-        requires { (u : List ℕ) × IsAt self.old link u }
-        ensures { (u : List ℕ) → IsAt self.old link u → ClientStep self.old link u given fresh self.new result }
+    fn serve(
+        &mut self,
+        link: LinkId,
+        given: Given,
+        fresh: ReplId,
+        outs: &mut Outs,
+    ) -> Result<Outcome, NodeFault>
+        requires at { (u : List ℕ) × IsAt self.old link u }
+        requires begun { outs.old ≡ record no_outs { link = Some link } }
+        ensures { (u : List ℕ) → IsAt self.old link u → ClientStep self.old link u given fresh self.new (step_of outs.new result) }
     {
         let Ok(todo) = self.todo(link, given) else {
             return Err(NodeFault::Memory);
@@ -45,16 +83,16 @@ impl Node {
         match todo {
             Todo::Wait(progress) => {
                 self.state.keep(link, progress);
-                Ok(Step::Idle)
+                Ok(Outcome::Idle)
             }
             Todo::Skip { used } => Ok(self.skip(link, used)),
-            Todo::Refuse(fault) => self.refuse(link, fault),
-            Todo::Quit => self.quit(link),
-            Todo::Rewrite { used } => self.rewrite(link, used),
-            Todo::Tell { used, question } => self.tell(link, used, question),
-            Todo::Halt { used } => Ok(self.halt(link, used)),
-            Todo::Run { used, plan } => self.run(link, used, plan),
-            Todo::Ask { used, request } => self.ask(link, used, request, fresh),
+            Todo::Refuse(fault) => self.refuse(link, fault, outs),
+            Todo::Quit => self.quit(link, outs),
+            Todo::Rewrite { used } => self.rewrite(link, used, outs),
+            Todo::Tell { used, question } => self.tell(link, used, question, outs),
+            Todo::Halt { used } => Ok(self.halt(link, used, outs)),
+            Todo::Run { used, plan } => self.run(link, used, plan, outs),
+            Todo::Ask { used, request } => self.ask(link, used, request, fresh, outs),
         }
     }
 

@@ -1,8 +1,9 @@
 // PSYNC, on a master.
-ghost use Rattle.std.specs.Prelude.{◌≡◌, ◌≤◌, ◌+◌, ◌++◌, ℕ, ℤ, pos, List, [], true, OnOk, length};
+ghost use Rattle.std.specs.Prelude.{◌≡◌, ◌≤◌, ◌+◌, ◌++◌, ℕ, ℤ, pos, List, [], true, OnOk, Some, length};
 ghost use Rattle.mr_data.specs.declared.given.Given.{Given};
 ghost use Rattle.mr_cmd_node.specs.declared.node_ask.NodeAsk.TheVariants as node;
 ghost use Rattle.mr_ends.specs.Parts.{IsClient};
+ghost use Rattle.mr_outs.specs.Outs.{no_outs};
 ghost use Rattle.mr_repl.specs.Backlog.{first_of, bytes_from};
 ghost use Rattle.mr_lines.specs.Lines.{most_counted};
 ghost use Rattle.mr_lines.specs.Written.{reply_line, length_line};
@@ -10,14 +11,14 @@ ghost use Rattle.mr_lines.specs.declared.psync.PsyncReply.TheVariants.{FullResyn
 ghost use Rattle.mr_rows.specs.Growing.{Remakes, rebuilt};
 ghost use Rattle.mr_data.specs.Rebuilding.{rebuilding};
 ghost use Rattle.mr_node.specs.Reading.{Wishes};
-ghost use Rattle.mr_node.specs.Steps.{ClientStep, IsAt};
+ghost use Rattle.mr_node.specs.Steps.{ClientStep, IsAt, step_of};
 ghost use Rattle.mr_node.specs.Parts.{Offers};
 
 use crate::fault::NodeFault;
 use crate::node::Node;
 use crate::node::answering::LIMIT;
 use crate::request::StreamWish;
-use crate::step::Step;
+use crate::step::Outcome;
 use mr_lines::{write_continue, write_full, write_length};
 use mr_links::LinkId;
 use mr_outs::Outs;
@@ -31,14 +32,15 @@ impl Node {
         link: LinkId,
         used: usize,
         wish: &StreamWish,
-    ) -> Result<Step, NodeFault>
+        outs: &mut Outs,
+    ) -> Result<Outcome, NodeFault>
         requires client { IsClient self.old.ends link used }
+        requires begun { outs.old ≡ record no_outs { link = Some link } }
         requires master { self.old.core.master ≡ true }
-        ensures { (u : List ℕ) (given : Given) (fresh : List ℕ) → IsAt self.old link u → Wishes u used (node.Psync wish.now.id.items wish.now.wanted) → ClientStep self.old link u given fresh self.new result }
+        ensures { (u : List ℕ) (given : Given) (fresh : List ℕ) → IsAt self.old link u → Wishes u used (node.Psync wish.now.id.items wish.now.wanted) → ClientStep self.old link u given fresh self.new (step_of outs.new result) }
     {
-        let mut outs = self.fresh_outs(Some(link));
         if self
-            .put_stream(wish.id.as_slice(), wish.wanted(), &mut outs)
+            .put_stream(wish.id.as_slice(), wish.wanted(), outs)
             .is_err()
         {
             return Err(NodeFault::Memory);
@@ -46,7 +48,7 @@ impl Node {
         if self.state.stream_to(link, used).is_err() {
             return Err(NodeFault::Memory);
         }
-        Ok(Step::Done(outs))
+        Ok(Outcome::Done)
     }
 
     /// The answer to PSYNC: the stream from the byte that is wanted, where it may be continued there, and else the whole dataset.

@@ -6,21 +6,22 @@ ghost use Rattle.mr_info.specs.Info.{info_text};
 ghost use Rattle.mr_links.specs.declared.link_id.LinkId.{LinkId};
 ghost use Rattle.mr_ends.specs.Parts.{HasAhead};
 ghost use Rattle.mr_ends.specs.Replicas.{Lists};
+ghost use Rattle.mr_outs.specs.Outs.{no_outs};
 ghost use Rattle.mr_rows.specs.Telling.{link_of};
 ghost use Rattle.mr_node.specs.Reading.{Questions};
-ghost use Rattle.mr_node.specs.Steps.{ClientStep, IsAt};
+ghost use Rattle.mr_node.specs.Steps.{ClientStep, IsAt, step_of};
 ghost use Rattle.mr_node.specs.Parts.{ListsReplicas, TellsInfo, TellsOf, role_of};
 
 use crate::fault::NodeFault;
 use crate::node::Node;
 use crate::role::Role;
-use crate::step::Step;
+use crate::step::Outcome;
 use mr_cmd_server::Question;
 use mr_ends::End;
 use mr_follow::Phase;
 use mr_info::{MasterLink, Replica, info, master_role, replica_role};
 use mr_links::LinkId;
-use mr_outs::Address;
+use mr_outs::{Address, Outs};
 use mr_resp::Reply;
 use std::alloc::AllocError;
 
@@ -60,19 +61,20 @@ impl Node {
         link: LinkId,
         used: usize,
         question: Question,
-    ) -> Result<Step, NodeFault>
-        requires { HasAhead self.old.ends link used }
-        ensures { (u : List ℕ) (given : Given) (fresh : List ℕ) → IsAt self.old link u → Questions u used question → ClientStep self.old link u given fresh self.new result }
+        outs: &mut Outs,
+    ) -> Result<Outcome, NodeFault>
+        requires ahead { HasAhead self.old.ends link used }
+        requires begun { outs.old ≡ record no_outs { link = Some link } }
+        ensures { (u : List ℕ) (given : Given) (fresh : List ℕ) → IsAt self.old link u → Questions u used question → ClientStep self.old link u given fresh self.new (step_of outs.new result) }
     {
         let Ok(reply) = self.answer_about(question) else {
             return Err(NodeFault::Memory);
         };
-        let mut outs = self.fresh_outs(Some(link));
         if outs.say(&reply).is_err() {
             return Err(NodeFault::Memory);
         }
         self.advance(link, used);
-        Ok(Step::Done(outs))
+        Ok(Outcome::Done)
     }
 
     fn answer_about(&self, question: Question) -> Result<Reply, AllocError>

@@ -1,7 +1,6 @@
-use Rattle.std.proofs.Common.{refl, subst, sym, ◌∙◌}
-use Rattle.mr_outs.specs.Outs.{OutsState, no_output}
+use Rattle.std.proofs.Common.{refl, subst, ◌∙◌}
+use Rattle.mr_outs.specs.Outs.{no_output}
 use Rattle.mr_rows.specs.State.{NodeState}
-use Rattle.mr_rows.specs.ClientRows.{ClientRow}
 use Rattle.mr_node.specs.Parts.{Uses}
 use Rattle.mr_node.proofs.Rows.{keep_row}
 use Rattle.mr_node.proofs.node.Node.acknowledge.Goals as goal
@@ -9,6 +8,4 @@ use Rattle.mr_node.proofs.node.Node.acknowledge.Goals as goal
 pub returns : goal.returns
 returns c = λ u given fresh at k.
     let a = c.args.self.now in let b = c.advance.new.self in
-    subst (λ (o : OutsState). ClientRow a c.args.link u given fresh b o) (sym c.fresh_outs-outs.ensures.outs)
-    (keep_row a b c.args.link u given fresh c.args.used no_output at k refl
-    (subst (λ (s : NodeState). Uses s c.args.link c.args.used b) (c.acknowledge.ensures ∙ (c.self.view_is ∙ c.fresh_outs-outs.ensures.same)) c.advance.ensures))
+    keep_row a b c.args.link u given fresh c.args.used no_output at k refl (subst (λ (s : NodeState). Uses s c.args.link c.args.used b) (c.acknowledge.ensures ∙ c.self.view_is) c.advance.ensures)

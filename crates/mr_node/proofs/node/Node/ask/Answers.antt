@@ -1,9 +1,12 @@
 use Rattle.std.proofs.Common.{◌≡◌, false, rules, subst, sym, true}
+use Rattle.std.specs.Prelude.{Ok}
 use Rattle.mr_resp.specs.Replies.{Tree}
 use Rattle.mr_cmd_node.specs.declared.node_ask.NodeAsk.{NodeAsk}
+use Rattle.mr_outs.specs.Outs.{OutsState}
 use Rattle.mr_rows.specs.Served.{says}
 use Rattle.mr_node.specs.Parts.{Keeps}
 use Rattle.mr_node.specs.Reading.{IsWish, Wishes}
+use Rattle.mr_node.specs.Steps.{ClientStep, step_of}
 use Rattle.mr_node.proofs.Asking.{keeps_acknowledgement, keeps_introduction, keeps_master, keeps_unchained, of_acknowledgement, of_follow, of_introduction, of_lead, of_stream}
 use Rattle.mr_node.proofs.node.Node.ask.Goals as goal
 
@@ -28,7 +31,8 @@ returns-in-Introduction c = λ u given wish at w is.
 pub returns-in-Acknowledgement : goal.returns-in-Acknowledgement
 returns-in-Acknowledgement c = λ u given wish at w is.
     let told = of_acknowledgement wish c.in-Acknowledgement.offset (subst (IsWish wish) c.in-Acknowledgement.is is) in
-    c.acknowledge.ensures u given c.args.fresh at (keeps_acknowledgement c.args.self.now.core u c.args.used wish w c.in-Acknowledgement.offset told)
+    subst (λ (o : OutsState). ClientStep c.args.self.now c.args.link u given c.args.fresh c.acknowledge.new.self (step_of o (Ok c.acknowledge.result))) (sym c.requires.begun)
+    (c.acknowledge.ensures u given c.args.fresh at (keeps_acknowledgement c.args.self.now.core u c.args.used wish w c.in-Acknowledgement.offset told))
 
 pub returns-in-Follow : goal.returns-in-Follow
 returns-in-Follow c = λ u given wish at w is.

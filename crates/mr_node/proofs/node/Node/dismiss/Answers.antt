@@ -14,7 +14,7 @@ use Rattle.mr_node.proofs.node.Node.dismiss.Goals as goal
 pub returns : goal.returns
 returns c = λ u given fresh at lacks ends.
     let a = c.args.self.now in let b = c.shut.new.self in let l = c.args.link in
-    let is : b ≡ with_ends a (put_end a.ends l shut) = c.shut.ensures ∙ ap (λ (s : NodeState). with_ends s (put_end s.ends l shut)) (c.self.view_is ∙ c.fresh_outs-outs.ensures.same) in
+    let is : b ≡ with_ends a (put_end a.ends l shut) = c.shut.ensures ∙ ap (λ (s : NodeState). with_ends s (put_end s.ends l shut)) c.self.view_is in
     let outs : c.close.new.self ≡ record no_outs { link = Some l; reply = reply_text (view c.args.reply.now); closes = true } = search rules in
     subst (λ (o : OutsState). ClientRow a l u given fresh b o) (sym outs)
     (last_row a b l u (reply_text (view c.args.reply.now)) given fresh at ends (ap (λ (s : NodeState). s.core) is) (put_leaves a b l shut is))

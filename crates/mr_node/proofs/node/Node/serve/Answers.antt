@@ -1,6 +1,9 @@
-use Rattle.std.proofs.Common.{ap, not, refl, ◌∙◌}
+use Rattle.std.proofs.Common.{ap, not, refl, subst, sym, ◌∙◌}
+use Rattle.std.specs.Prelude.{Ok}
 use Rattle.mr_ends.specs.State.EndState.{client}
+use Rattle.mr_outs.specs.Outs.{OutsState}
 use Rattle.mr_rows.specs.State.{NodeState, end_of}
+use Rattle.mr_node.specs.Steps.{ClientStep, step_of}
 use Rattle.mr_node.specs.declared.todo.Todo.TheVariants as todo
 use Rattle.mr_node.proofs.Ends.{ahead_of, client_of}
 use Rattle.mr_node.proofs.Reading.{found_as}
@@ -11,56 +14,57 @@ returns-in_default c = λ u at. (c.in_default.ensures u at.agrees, refl)
 
 pub keep-requires : goal.keep-requires
 keep-requires c =
-    let u = c.requires.0 in let at = c.requires.1 in
+    let u = c.requires.at.0 in let at = c.requires.at.1 in
     let todo = found_as (not c.args.self.now.core.master) u c.args.given c.args.self.now.core.held c.in-Ok.todo (todo.Wait c.in-Wait.progress) c.in-Wait.is (c.in-Ok.ensures u at.agrees) in
     record { end = client u; found = ap (λ (s : NodeState). end_of s c.args.link) c.self.view_is ∙ at.agrees.is; agrees = todo.1 }
 
 pub skip-requires : goal.skip-requires
 skip-requires c =
-    let u = c.requires.0 in let at = c.requires.1 in
+    let u = c.requires.at.0 in let at = c.requires.at.1 in
     let todo = found_as (not c.args.self.now.core.master) u c.args.given c.args.self.now.core.held c.in-Ok.todo (todo.Skip c.in-Skip.used) c.in-Skip.is (c.in-Ok.ensures u at.agrees) in
     ahead_of c.args.self.now c.args.link u c.in-Skip.used at.agrees todo.0.enough
 
-pub rewrite-requires : goal.rewrite-requires
-rewrite-requires c =
-    let u = c.requires.0 in let at = c.requires.1 in
+pub rewrite-requires-clause-ahead : goal.rewrite-requires-clause-ahead
+rewrite-requires-clause-ahead c =
+    let u = c.requires.at.0 in let at = c.requires.at.1 in
     let todo = found_as (not c.args.self.now.core.master) u c.args.given c.args.self.now.core.held c.in-Ok.todo (todo.Rewrite c.in-Rewrite.used) c.in-Rewrite.is (c.in-Ok.ensures u at.agrees) in
     ahead_of c.args.self.now c.args.link u c.in-Rewrite.used at.agrees todo.0.reads.enough
 
-pub tell-requires : goal.tell-requires
-tell-requires c =
-    let u = c.requires.0 in let at = c.requires.1 in
+pub tell-requires-clause-ahead : goal.tell-requires-clause-ahead
+tell-requires-clause-ahead c =
+    let u = c.requires.at.0 in let at = c.requires.at.1 in
     let todo = found_as (not c.args.self.now.core.master) u c.args.given c.args.self.now.core.held c.in-Ok.todo (todo.Tell c.in-Tell.used c.in-Tell.question) c.in-Tell.is (c.in-Ok.ensures u at.agrees) in
     ahead_of c.args.self.now c.args.link u c.in-Tell.used at.agrees todo.0.reads.enough
 
-pub halt-requires : goal.halt-requires
-halt-requires c =
-    let u = c.requires.0 in let at = c.requires.1 in
+pub halt-requires-clause-ahead : goal.halt-requires-clause-ahead
+halt-requires-clause-ahead c =
+    let u = c.requires.at.0 in let at = c.requires.at.1 in
     let todo = found_as (not c.args.self.now.core.master) u c.args.given c.args.self.now.core.held c.in-Ok.todo (todo.Halt c.in-Halt.used) c.in-Halt.is (c.in-Ok.ensures u at.agrees) in
     ahead_of c.args.self.now c.args.link u c.in-Halt.used at.agrees todo.0.reads.enough
 
 pub run-requires-clause-ahead : goal.run-requires-clause-ahead
 run-requires-clause-ahead c =
-    let u = c.requires.0 in let at = c.requires.1 in
+    let u = c.requires.at.0 in let at = c.requires.at.1 in
     let todo = found_as (not c.args.self.now.core.master) u c.args.given c.args.self.now.core.held c.in-Ok.todo (todo.Run c.in-Run.used c.in-Run.plan) c.in-Run.is (c.in-Ok.ensures u at.agrees) in
     ahead_of c.args.self.now c.args.link u c.in-Run.used at.agrees todo.0.reads.enough
 
 pub run-requires-clause-leads : goal.run-requires-clause-leads
 run-requires-clause-leads c =
-    let u = c.requires.0 in let at = c.requires.1 in
+    let u = c.requires.at.0 in let at = c.requires.at.1 in
     let todo = found_as (not c.args.self.now.core.master) u c.args.given c.args.self.now.core.held c.in-Ok.todo (todo.Run c.in-Run.used c.in-Run.plan) c.in-Run.is (c.in-Ok.ensures u at.agrees) in
     (_, todo.0.plan.leads)
 
-pub ask-requires : goal.ask-requires
-ask-requires c =
-    let u = c.requires.0 in let at = c.requires.1 in
+pub ask-requires-clause-client : goal.ask-requires-clause-client
+ask-requires-clause-client c =
+    let u = c.requires.at.0 in let at = c.requires.at.1 in
     let todo = found_as (not c.args.self.now.core.master) u c.args.given c.args.self.now.core.held c.in-Ok.todo (todo.Ask c.in-Ask.used c.in-Ask.request) c.in-Ask.is (c.in-Ok.ensures u at.agrees) in
     client_of c.args.self.now c.args.link u c.in-Ask.used at.agrees todo.0.1.reads.enough
 
 pub returns-in-Skip : goal.returns-in-Skip
 returns-in-Skip c = λ u at.
     let todo = found_as (not c.args.self.now.core.master) u c.args.given c.args.self.now.core.held c.in-Ok.todo (todo.Skip c.in-Skip.used) c.in-Skip.is (c.in-Ok.ensures u at.agrees) in
-    c.skip.ensures u c.args.given c.args.fresh at todo.0
+    subst (λ (o : OutsState). ClientStep c.args.self.now c.args.link u c.args.given c.args.fresh c.skip.new.self (step_of o (Ok c.skip.result))) (sym c.requires.begun)
+    (c.skip.ensures u c.args.given c.args.fresh at todo.0)
 
 pub returns-in-Refuse : goal.returns-in-Refuse
 returns-in-Refuse c = λ u at.

@@ -1,4 +1,4 @@
-use Rattle.std.proofs.Common.{◌≡◌, FitsSigned, ℕ, ℤ, List, ap, of_z, rules, Some, subst, sym, to_z, w64, ◌∙◌}
+use Rattle.std.proofs.Common.{◌≡◌, FitsSigned, ℕ, ℤ, List, ap, of_z, refl, rules, Some, subst, sym, to_z, w64, ◌∙◌}
 use Rattle.std.proofs.lemmas.Int.{to_z-of_z}
 use Rattle.mr_ends.specs.Parts.{TurnsAt}
 use Rattle.mr_outs.specs.Outs.{OutsState, no_outs}
@@ -11,28 +11,25 @@ use Rattle.mr_node.proofs.Rows.{lacks_words}
 use Rattle.mr_node.proofs.node.Node.synchronize.Goals as goal
 
 pub returns-then-is_err : goal.returns-then-is_err
-returns-then-is_err c = λ u given fresh at w. (lacks_words u c.args.used w.words w.reads, c.fresh_outs-outs.ensures.same)
+returns-then-is_err c = λ u given fresh at w. (lacks_words u c.args.used w.words w.reads, refl)
 
 pub returns-then-is_err-2 : goal.returns-then-is_err-2
 returns-then-is_err-2 c = λ u given fresh at w. (
   lacks_words u c.args.used w.words w.reads,
-  on_err_is c.stream_to.result _ (sym c.is_err-2.ensures.value ∙ c.if-is_err-2.true) c.stream_to.ensures.err ∙ (c.self.view_is ∙ c.fresh_outs-outs.ensures.same),
+  on_err_is c.stream_to.result _ (sym c.is_err-2.ensures.value ∙ c.if-is_err-2.true) c.stream_to.ensures.err ∙ c.self.view_is,
 )
 
 pub returns : goal.returns
 returns c = λ u given fresh at w.
     let a = c.args.self.now in let b = c.stream_to.new.self in let l = c.args.link in
-    let same = c.fresh_outs-outs.ensures.same in
-    let here = c.self.view_is ∙ same in
+    let here = c.self.view_is in
     let offers = on_ok_is c.put_stream.result _ (sym c.is_err.ensures.value ∙ c.if-is_err.false) c.put_stream.ensures in
     let turns = subst (λ (s : NodeState). TurnsAt s.ends l c.args.used b.ends) here (on_ok_is c.stream_to.result _ (sym c.is_err-2.ensures.value ∙ c.if-is_err-2.false) c.stream_to.ensures.ok) in
     let only = subst (λ (s : NodeState). OnlyEnds s b) here c.stream_to.ensures.only in
     let wish = c.args.wish.now in
-    let f = c.fresh_outs-outs.new.self.core in
     let fits : FitsSigned w64 c.wanted.result = search rules in
-    let answer = subst (λ (s : NodeState). IsAnswerToPsync s.core.lineage s.core.held wish.id.items wish.wanted offers.text) same
-    (subst (λ (z : ℤ). IsAnswerToPsync f.lineage f.held wish.id.items z offers.text) (to_z-of_z w64 c.wanted.result fits ∙ c.wanted.ensures)
-    (subst (λ (z : List ℕ). IsAnswerToPsync f.lineage f.held z (to_z w64 (of_z w64 c.wanted.result)) offers.text) c.as_slice.ensures.value offers.answer)) in
-    let outs : c.put_stream.new.outs ≡ record no_outs { link = Some l; reply = offers.text } = offers.outs_are ∙ ap (λ (o : OutsState). record o { reply = offers.text }) c.fresh_outs-outs.ensures.outs in
+    let answer = subst (λ (z : ℤ). IsAnswerToPsync a.core.lineage a.core.held wish.id.items z offers.text) (to_z-of_z w64 c.wanted.result fits ∙ c.wanted.ensures)
+    (subst (λ (z : List ℕ). IsAnswerToPsync a.core.lineage a.core.held z (to_z w64 (of_z w64 c.wanted.result)) offers.text) c.as_slice.ensures.value offers.answer) in
+    let outs : c.put_stream.new.outs ≡ record no_outs { link = Some l; reply = offers.text } = offers.outs_are ∙ ap (λ (o : OutsState). record o { reply = offers.text }) c.requires.begun in
     subst (λ (o : OutsState). ClientRow a l u given fresh b o) (sym outs)
     (synchronize_row a b l u given fresh c.args.used wish.id.items wish.wanted offers.text at c.requires.master w answer turns only)

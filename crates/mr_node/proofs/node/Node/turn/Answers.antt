@@ -1,4 +1,4 @@
-use Rattle.std.proofs.Common.{◌≡◌, ap, Some, subst, sym, ◌∙◌}
+use Rattle.std.proofs.Common.{◌≡◌, ap, refl, Some, subst, sym, ◌∙◌}
 use Rattle.mr_resp.specs.Replies.{reply_text}
 use Rattle.mr_planning.specs.Answered.{done}
 use Rattle.mr_course.specs.State.{name_of}
@@ -7,24 +7,21 @@ use Rattle.mr_rows.specs.State.{NodeState}
 use Rattle.mr_rows.specs.ClientRows.{ClientRow}
 use Rattle.mr_rows.specs.Ends.{names_of}
 use Rattle.mr_state.specs.Parts.{turned_to}
-use Rattle.mr_node.specs.Parts.{Uses}
 use Rattle.mr_node.proofs.Results.{on_ok_is}
 use Rattle.mr_node.proofs.Roles.{turn_row}
 use Rattle.mr_node.proofs.Rows.{lacks_words}
 use Rattle.mr_node.proofs.node.Node.turn.Goals as goal
 
 pub returns-then-is_err : goal.returns-then-is_err
-returns-then-is_err c = λ u given fresh at w. (lacks_words u c.args.used w.words w.reads, c.fresh_outs-outs.ensures.same)
+returns-then-is_err c = λ u given fresh at w. (lacks_words u c.args.used w.words w.reads, refl)
 
 pub returns : goal.returns
 returns c = λ u given fresh at w.
     let a = c.args.self.now in let b = c.turn.new.self in let mid = c.advance.new.self in let l = c.args.link in
-    let uses = subst (λ (s : NodeState). Uses s l c.args.used mid) c.fresh_outs-outs.ensures.same c.advance.ensures in
     let left = on_ok_is c.put_leaving.result _ (sym c.is_err.ensures.value ∙ c.if-is_err.false) c.put_leaving.ensures in
     let told = on_ok_is c.put_following.result _ (sym c.is_err-else-is_err.ensures.value ∙ c.if-is_err-2.false) c.put_following.ensures.told in
     let outs : c.put_following.new.outs ≡ record no_outs { link = Some l; reply = reply_text done; closed = names_of (name_of a.follow); follows = Some c.args.address } =
     told ∙ ap (λ (o : OutsState). record o { follows = Some c.args.address })
-    (left ∙ (ap (λ (o : OutsState). record o { reply = reply_text done; closed = names_of (name_of c.fresh_outs-outs.new.self.follow) }) c.fresh_outs-outs.ensures.outs
-    ∙ ap (λ (s : NodeState). record no_outs { link = Some l; reply = reply_text done; closed = names_of (name_of s.follow) }) c.fresh_outs-outs.ensures.same)) in
+    (left ∙ ap (λ (o : OutsState). record o { reply = reply_text done; closed = names_of (name_of a.follow) }) c.requires.begun) in
     subst (λ (o : OutsState). ClientRow a l u given fresh b o) (sym outs)
-    (turn_row a mid b l u given fresh c.args.used c.args.address at c.requires.replica c.put_following.ensures.port c.requires.another w uses (c.turn.ensures ∙ ap (λ (s : NodeState). turned_to c.args.address s) c.self.view_is))
+    (turn_row a mid b l u given fresh c.args.used c.args.address at c.requires.replica c.put_following.ensures.port c.requires.another w c.advance.ensures (c.turn.ensures ∙ ap (λ (s : NodeState). turned_to c.args.address s) c.self.view_is))
