@@ -1,7 +1,7 @@
 // Links that come, are fed and go.
-ghost use Rattle.std.specs.Prelude.{◌≡◌, ◌↔◌, ◌⊎◌, true, false, None, IfNone, IfSome, IsTrue, length};
-ghost use Rattle.mr_rows.specs.State.{end_of, room_of};
-ghost use Rattle.mr_rows.specs.LinkRows.{closed_at};
+ghost use Rattle.std.specs.Prelude.{◌≡◌, ◌+◌, ◌↔◌, ◌⊎◌, [], true, false, None, IfNone, IfSome, IsTrue, length};
+ghost use Rattle.mr_rows.specs.State.{Agrees, end_of, room_of};
+ghost use Rattle.mr_rows.specs.LinkRows.{Opens, closed_at};
 ghost use Rattle.mr_node.specs.Calls.{DialRow, FeedRow, IsClients, IsUnread, OpenRow, OpensNoMore, OpensOn, Unreads};
 
 use crate::fault::NodeFault;
@@ -28,6 +28,16 @@ impl Node {
             Ok(link) => Ok(link),
             Err(_) => Err(NodeFault::Memory),
         }
+    }
+
+    /// Undoes `open`, of the end that was opened last, where nothing was fed there: the node is as if it had never been opened, but that a
+    /// node which was stopped since stays so.
+    pub fn take_back(&mut self, link: LinkId)
+        requires open { Agrees self.old link [] }
+        requires last { self.old.ends.opened ≡ link.generation + 1 }
+        ensures { Opens self.new link self.old }
+    {
+        self.state.take_back(link);
     }
 
     /// Whether the node is a replica without a link to its master, stopped or not.
