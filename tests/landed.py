@@ -23,6 +23,8 @@ TURNS = 10
 SCRIPTS = ("tests/edits.py", "tests/answers.py", "tests/sources.py", "tools/kit.py")
 SHOWN_PARTS = ("src", "specs", "proofs")
 OWN_PARTS = (*SHOWN_PARTS, "must-fail")
+# what a row that is a comment begins with
+COMMENTS = {".rt": "//", ".antt": "--"}
 # the proof of one function, which no other crate can cite
 OF_A_FUNCTION = re.compile(r"proofs/.*/(?:Answers|Invariants|Proof)\.antt$")
 
@@ -93,8 +95,16 @@ class Landed:
         return sorted(found)
 
     def has_own(self, name):
-        """Whether a crate's files are the same, its edits among them."""
-        return all(self.has(it) for it in self.files(name, OWN_PARTS))
+        """Whether a crate's files are the same, its edits among them, but for rows that are comments."""
+        return all(self.has(it) or self.differs_in_comments(it) for it in self.files(name, OWN_PARTS))
+
+    def differs_in_comments(self, path):
+        """Whether a file that has changed has the same rows where they are no comments."""
+        mark, (then, now) = COMMENTS.get(os.path.splitext(path)[1]), self.both(path)
+        if not mark or then is None or now is None:
+            return False
+        plain = [[row for row in it.split("\n") if not row.lstrip().startswith(mark)] for it in (then, now)]
+        return plain[0] == plain[1]
 
     def differs_in_bodies(self, path):
         """Whether a file that has changed shows the same to the crates above: all but its functions' bodies and the proofs of these."""

@@ -125,7 +125,6 @@ class Same(Landing):
             ("crates/low/src/lib.rt", "    200\n", "    201\n"),
             # hidden
             ("crates/low/src/lib.rt", "result ≡ n % 2", "result < 2"),
-            ("crates/low/specs/Halves.antt", "-- halves", "-- the halves of numbers"),
             ("crates/low/specs/Halves.antt", "-- halves\n", "-- halves\npub half_and_rest : ℕ → ℕ\nhalf_and_rest n = n\n\n"),
             # of a lemma, what it says and how it is proved
             ("crates/low/proofs/Sums.antt", "≤ n", "< n + 1"),
@@ -143,6 +142,12 @@ class Same(Landing):
         self.change("crates/low/specs/Halves.antt", "halved n = n / 2", "halved n = n")
         os.rename(os.path.join(self.root, "crates/low/specs/Halves.antt"), os.path.join(self.root, "crates/low/specs/Parts.antt"))
         self.assertEqual(self.same(), ["beside"])
+
+    def test_a_comment_concerns_nobody(self):
+        self.change("crates/low/src/lib.rt", "/// A number that", "/// The number that")
+        self.change("crates/low/src/lib.rt", "pub fn half(n: u8)", "/// Half of it.\npub fn half(n: u8)")
+        self.change("crates/low/specs/Halves.antt", "-- halves", "-- the halves of numbers")
+        self.assertEqual(self.same(), ["low", "high", "beside"])
 
     def test_an_edit_concerns_its_crate(self):
         self.change("crates/high/must-fail/whole.edit", "new: half(n)", "new: n")
