@@ -1,12 +1,12 @@
 // A node among others.
-ghost use Rattle.std.specs.Prelude.{◌≡◌, ◌↔◌, ◌-◌, ◌++◌, [], None, false, length, not, take, IfOk, IsTrue, OnOk, OnErr};
+ghost use Rattle.std.specs.Prelude.{◌≡◌, ◌↔◌, ◌+◌, ◌-◌, ◌++◌, [], None, false, length, not, take, IfOk, IsTrue, OnOk, OnErr};
 ghost use Rattle.std.specs.Option.{option_map};
 ghost use Rattle.std.specs.FinMap.{empty};
 ghost use Rattle.mr_node.specs.Calls.{FeedRow, FitsMore, IsClients, IsUnread, OpenRow, TickStep};
 ghost use Rattle.mr_node.specs.Steps.{Steps};
-ghost use Rattle.mr_rows.specs.State.{IsTooMuch, shown, stopped_as};
+ghost use Rattle.mr_rows.specs.State.{Agrees, IsTooMuch, shown, stopped_as};
 ghost use Rattle.mr_rows.specs.Sound.{IsSound};
-ghost use Rattle.mr_rows.specs.LinkRows.{closed_at};
+ghost use Rattle.mr_rows.specs.LinkRows.{Opens, closed_at};
 ghost use Rattle.mr_seen.specs.Carrying.{begun_slot, filed_by};
 ghost use Rattle.mr_carrying.specs.AtNode.{DialsBy, IsFollowing, IsLoaded};
 
@@ -123,6 +123,17 @@ impl Slot {
         ensures rest { self.new ≡ record self.old { node = self.new.node } }
     {
         self.node.open()
+    }
+
+    /// Undoes `open`, of the end that was opened last, where nothing was fed there: the node is as if it had never been opened, but that a
+    /// node which was stopped since stays so.
+    pub fn take_back(&mut self, name: LinkId)
+        requires open { Agrees self.old.node name [] }
+        requires last { self.old.node.ends.opened ≡ name.generation + 1 }
+        ensures row { Opens self.new.node name self.old.node }
+        ensures rest { self.new ≡ record self.old { node = self.new.node } }
+    {
+        self.node.take_back(name);
     }
 
     /// Whether the node is a replica that follows nobody, stopped or not.
