@@ -39,8 +39,8 @@ once-append k (s ∷ rest) once none =
     let apart = none_of (eq_by_cmp id_cmp k s) (is_among k rest) none in
     (among-append s k rest ∙ ap (λ b. b || eq_by_cmp id_cmp s k) once.0 ∙ turned k s apart.0, once-append k rest once.1 apart.1)
 
--- what is listed is there, and so they are no more than are there
-len_without : (m : Rows) (k : LinkId) → IsSome (get m k) → len m ≡ len (remove m k) + 1
+-- without one that is there, there is one less
+pub len_without : (m : Rows) (k : LinkId) → IsSome (get m k) → len m ≡ len (remove m k) + 1
 len_without m k some = there (get m k) refl some where
   there : (o : Option ConnectionState) → get m k ≡ o → IsSome o → len m ≡ len (remove m k) + 1
   there None e some = no_end some
@@ -53,6 +53,7 @@ len_without m k some = there (get m k) refl some where
       ∙ len-insert ids_total (remove m k) k c
       ∙ ap (λ (o : Option ConnectionState). cond (is_some o) (len (remove m k)) (len (remove m k) + 1)) (get-remove ids_total m k k ∙ ap (λ b. cond b None (get m k)) (alike k k refl))
 
+-- what is listed is there, and so they are no more than are there
 no_more : (list : List LinkId) (m : Rows) → AreOnce list → ((q : LinkId) → is_among q list ≡ true → IsSome (get m q)) → length list ≤ len m
 no_more [] m once there = omega arith
 no_more (k ∷ rest) m once there =

@@ -17,16 +17,16 @@ use Rattle.mr_connections.proofs.Changed.{get-changed}
 use Rattle.mr_loop.specs.declared.host.Host.{Host}
 use Rattle.mr_loop.specs.declared.told.Turn.{Turn}
 use Rattle.mr_loop.specs.Stage.{Stage, LoopState, connection_at, with_connections}
-use Rattle.mr_loop.specs.Hosts.{IsSame}
+use Rattle.mr_loop.specs.Hosts.{IsSame, stage_in}
 use Rattle.mr_loop.specs.Carrying.{SameFile}
 use Rattle.mr_loop.specs.Causes.{Dropped, Has, HasInput, IsBurdened, IsStuck}
-use Rattle.mr_loop.specs.Writing.{IsNoneDone, IsWritten, waiting_at, waiting_of}
-use Rattle.mr_loop.specs.Rows.{Breaks, IsDeaf, Writes, is_deaf}
+use Rattle.mr_loop.specs.Writing.{IsWritten, waiting_at, waiting_of}
+use Rattle.mr_loop.specs.Rows.{Breaks, IsDeaf, Writes, closes, is_deaf}
 use Rattle.mr_loop.specs.Counting.{CountsStill, counted}
 use Rattle.mr_loop.specs.Going.{Goes}
 use Rattle.mr_loop.specs.Quiet.{AllWait}
 use Rattle.mr_loop.proofs.Same.{same_here, same_on}
-use Rattle.mr_loop.proofs.Runs.{still_event, still_here, still_moded, still_on}
+use Rattle.mr_loop.proofs.Runs.{still_event, still_here, still_moded, still_on, still_one}
 use Rattle.mr_loop.proofs.Waiting.{itself, none_some, some_is}
 use Rattle.mr_loop.proofs.Touching.{here_put, touched_links}
 
@@ -106,22 +106,6 @@ breaks_row {tells} {s} {t} socket c link bytes wire failed filed here linked are
   failed = failed;
   rose = rose;
   dropped = dropped;
-}
-
--- ---- of which connection nothing is left
-
-pub dropped_none : (o p : LoopState) (socket : LinkId) → p.connections ≡ remove o.connections socket → IsNoneDone p socket
-dropped_none o p socket is = record {
-  none = λ c here link waiting.
-      none_some c (sym (ap (λ m. get m socket) is ∙ (get-remove ids_total o.connections socket socket ∙ ap (λ b. cond b None (get o.connections socket)) (itself socket))) ∙ here);
-}
-
-pub not_done : (o : LoopState) (socket : LinkId) (c : ConnectionState) (is : Bool) → Some c ≡ connection_at o socket → ((c.link ≡ None) × (c.waiting ≡ []) → is ≡ true) → is ≡ false → IsNoneDone o socket
-not_done o socket c is here done other = record {
-  none = λ d there link waiting.
-      let same : c ≡ d = some_is c d (here ∙ there) in
-      let wrong : true ≡ false = sym (done (ap (λ (z : ConnectionState). z.link) same ∙ link, ap (λ (z : ConnectionState). z.waiting) same ∙ waiting)) ∙ other in
-      cc;
 }
 
 -- ---- what can't be moved
@@ -213,6 +197,27 @@ module _ {W F S : Type 0} (tells : Bool) (links : W → Links LinkState) (failur
   -- what the host holds was exchanged for the same
   pub written_own : (a b : Host W F S) (own : LoopState) → own ≡ b.own.now → HasWritten a b → HasWritten a (record b { own = at_now own b.own })
   written_own a b own is x = subst (λ o. HasWritten a (record b { own = at_now o b.own })) (sym is) x
+
+  -- .. or closed
+  pub record HasClosed (a b : Host W F S) : Type 0 where
+    pub went : Goes tells links failures told synced a b
+    pub same : IsSame waited clock a b
+    pub batch : b.own.now.batch ≡ a.own.now.batch
+    pub turn : b.moment.turn ≡ a.moment.turn
+    pub node : b.node.now ≡ a.node.now
+
+  pub closed_first : (a : Host W F S) → HasClosed a a
+  closed_first a = record { went = still_here a.moment.turn _; same = same_here a; batch = refl; turn = refl; node = refl }
+
+  pub closed_on : (a b c : Host W F S) (socket : LinkId) → HasClosed a b → connection_at b.own.now socket ≡ Some (with_waiting None [])
+      → Dropped socket None (stage_in links failures told synced b) (stage_in links failures told synced c) → c.moment.turn ≡ b.moment.turn → IsSame waited clock b c → HasClosed a c
+  closed_on a b c socket x here dropped turn same = record {
+    went = still_then x.same.mode x.went (still_one (closes socket) b.moment.turn c.moment.turn refl refl refl refl refl refl (record { has = record { is = here }; dropped = dropped }) turn);
+    same = same_on a b c x.same same;
+    batch = dropped.batch ∙ x.batch;
+    turn = turn ∙ x.turn;
+    node = dropped.node ∙ x.node;
+  }
 
   pub writes_first : (socket link : LinkId) (a : Host W F S) → a.own.now.batch ≡ [] → HasLink a.own.now.connections socket link → WritesOn socket link a a
   writes_first socket link a filed has = record { went = still_here a.moment.turn _; same = same_here a; batch = filed; turn = refl; node = refl; has = has }

@@ -19,10 +19,6 @@ waiting_of (Some c) = c.waiting
 abbrev pub waiting_at : LoopState → LinkId → List ℕ
 waiting_at o socket = waiting_of (connection_at o socket)
 
--- No connection is there of which nothing is left: whose end the node has closed, and for which nothing waits.
-pub record IsNoneDone (o : LoopState) (socket : LinkId) : Type 0 where
-  pub none : (c : ConnectionState) → connection_at o socket ≡ Some c → c.link ≡ None → c.waiting ≡ [] → ⊥
-
 -- It is there with its link, and what a write can move was moved: nothing waits, or the last write moved nothing.
 pub record IsWritten (tells : Bool) (wire : Links LinkState) (socket link : LinkId) (o : LoopState) : Type 0 where
   pub has : HasLink o.connections socket link

@@ -1,7 +1,7 @@
 // What the loop holds: its connections, and what waits for the file.
-ghost use Rattle.std.specs.Prelude.{◌≡◌, ◌≤◌, ◌||◌, [], length, false, true, IfOk, IfSome, IfNone, OnOk, OnErr, None, option_copied};
+ghost use Rattle.std.specs.Prelude.{◌≡◌, ◌≤◌, ◌||◌, [], length, false, true, IfOk, IfSome, IfNone, OnOk, OnErr, None, Some, option_copied};
 ghost use Rattle.std.specs.FinMap as map;
-ghost use Rattle.mr_connections.specs.State.{HasLink, NoneHas, begun, changed, parted, sent, wrote};
+ghost use Rattle.mr_connections.specs.State.{HasLink, NoneDone, NoneHas, begun, changed, parted, sent, wrote};
 ghost use Rattle.mr_loop.specs.Stage.{LoopState, committed, connection_at, filed, halting, lacking, with_connections};
 
 use mr_connections::{Connection, Connections, PIECE};
@@ -227,6 +227,14 @@ impl Links {
         self.connections.part(link);
     }
 
+    /// A connection whose end the node has closed, and on which nothing waits, if there is one.
+    pub(crate) fn next_done(&self) -> Option<LinkId>
+        ensures some { IfSome result (λ socket. connection_at self.now socket ≡ Some (record { link = None; waiting = [] })) }
+        ensures none { IfNone result (NoneDone self.now.connections) }
+    {
+        self.connections.next_done()
+    }
+
     /// Puts bytes behind what waits on the connection with this link.
     pub(crate) fn send(&mut self, link: LinkId, bytes: &[u8]) -> Result<(), AllocError>
         ensures ok { OnOk result (self.new ≡ with_connections (sent link bytes.now) self.old) }
@@ -290,7 +298,7 @@ impl Links {
         self.connections.ready_at(index)
     }
 
-    /// The connection is written to next, where something waits there or the node has closed its end.
+    /// The connection is written to next, where something waits there.
     pub(crate) fn note(&mut self, socket: LinkId)
         ensures { self.new ≡ self.old }
     {

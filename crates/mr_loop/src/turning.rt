@@ -1,6 +1,7 @@
 // A turn.
 ghost use Rattle.std.specs.Prelude.{◌≡◌, ◌≤◌, [], false, true, OnErr, OnOk, IsErrOf};
 ghost use Rattle.mr_file.specs.LogFile.{Rose};
+ghost use Rattle.mr_connections.specs.State.{NoneDone};
 ghost use Rattle.mr_loop.specs.Going.{GoesAs, GoesTelling};
 ghost use Rattle.mr_loop.specs.Hosts.{IsSame, stage_in};
 ghost use Rattle.mr_loop.specs.Outcomes.{Turns};
@@ -24,9 +25,10 @@ use mr_wire::{Failed, Wire};
 const MOST_PIECES: u32 = 64;
 
 /// One turn: waits until something is ready, accepts links, reads of each connection whose socket is ready and steps as far as its
-/// bytes go, appends what they changed to the file, sends replies and the stream, dials the master where the node waits for one, and
-/// lets time pass at the node. On a connection whose socket isn't ready it spends nothing but what is sent there. No turn begins
-/// once a client asked that the program end: the one in which it did goes to its end. It answers how many steps the node was asked
+/// bytes go, appends what they changed to the file, sends replies and the stream, dials the master where the node waits for one, lets
+/// time pass at the node, and closes each connection whose end the node has closed once all is written there. On a connection whose
+/// socket isn't ready it spends nothing but what is sent there. No turn begins once a client asked that the program end: the one in
+/// which it did goes to its end. It answers how many steps the node was asked
 /// for, how many of them used something, how many fresh ids the node took, how many clients were given up as deaf, and whether a
 /// client asked that. Where the file fails, or memory runs out for what the node gave out, the node is stopped, and no turn may
 /// begin any more.
@@ -46,6 +48,7 @@ pub fn turn<W: Wire, F: LogFile, S: Source>(
     ensures device { IsErrOf result LoopFault.File → log.new.broken ≡ true }
     ensures listener { IsErrOf result LoopFault.Listener → Rose (W.failures wire.old) (W.failures wire.new) }
     ensures quiet { AllWait node.old → OnOk result (AllWait node.new) }
+    ensures closed { OnOk result (NoneDone links.new.connections) }
     ensures file { IsErrOf result LoopFault.File → node.new.core.up ≡ false }
     ensures stopped { IsErrOf result LoopFault.Stopped → node.new.core.up ≡ false }
     ensures up { OnOk result (node.new.core.up ≡ true) }
@@ -79,6 +82,7 @@ fn turn_at<W: Wire, F: LogFile, S: Source>(
     ensures device { IsErrOf result LoopFault.File → log.new.broken ≡ true }
     ensures listener { IsErrOf result LoopFault.Listener → ⊥ }
     ensures quiet { AllWait node.old → OnOk result (AllWait node.new) }
+    ensures closed { OnOk result (NoneDone own.new.connections) }
     ensures down { OnErr result (node.new.core.up ≡ false) }
     ensures up { OnOk result (node.new.core.up ≡ true) }
     ensures waited { W.waited wire.new ≡ W.waited wire.old }
@@ -134,6 +138,7 @@ impl<W: Wire, F: LogFile, S: Source> Host<'_, '_, W, F, S> {
         ensures same { IsSame W.waited S.clock self.old self.new }
         ensures device { IsErrOf result LoopFault.File → self.new.log.now.broken ≡ true }
         ensures quiet { AllWait self.old.node.now → OnOk result (AllWait self.new.node.now) }
+        ensures closed { OnOk result (NoneDone self.new.own.now.connections) }
         ensures listener { IsErrOf result LoopFault.Listener → ⊥ }
         ensures down { OnErr result (self.new.node.now.core.up ≡ false) }
         ensures up { self.old.node.now.core.up ≡ true → OnOk result (self.new.node.now.core.up ≡ true) }
@@ -156,15 +161,33 @@ impl<W: Wire, F: LogFile, S: Source> Host<'_, '_, W, F, S> {
         ensures same { IsSame W.waited S.clock self.old self.new }
         ensures device { IsErrOf result LoopFault.File → self.new.log.now.broken ≡ true }
         ensures quiet { AllWait self.old.node.now → OnOk result (AllWait self.new.node.now) }
+        ensures closed { OnOk result (NoneDone self.new.own.now.connections) }
     {
         let accepts = self.accept_all()?;
         let reads = self.read_all()?;
         self.send_all()?;
         self.dial()?;
         let due = self.tick_all()?;
-        self.send_all()?;
+        self.finish()?;
         self.own.set_hurries(is_limited(due, accepts, reads));
         Ok(self.moment.turn().with_halted(self.own.halted()))
+    }
+
+    /// The end of a turn: what waits is appended and written, and each connection whose end the node has closed is closed where all
+    /// is written.
+    fn finish(&mut self) -> Result<(), LoopFault>
+        ensures went { GoesAs W.tells W.links W.failures F.told F.synced result self.old self.new }
+        ensures written { OnOk result (self.new.own.now.batch ≡ []) }
+        ensures closed { OnOk result (NoneDone self.new.own.now.connections) }
+        ensures same { IsSame W.waited S.clock self.old self.new }
+        ensures turn { OnOk result (self.new.moment.turn ≡ self.old.moment.turn) }
+        ensures core { self.new.node.now.core ≡ self.old.node.now.core }
+        ensures device { IsErrOf result LoopFault.File → self.new.log.now.broken ≡ true }
+        ensures quiet { AllWait self.old.node.now → OnOk result (AllWait self.new.node.now) }
+    {
+        self.send_all()?;
+        self.close_done();
+        Ok(())
     }
 
     /// Appends what waits for the file, and then writes what waits on the connections.

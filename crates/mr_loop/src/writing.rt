@@ -1,9 +1,9 @@
 // What is sent to peers.
 ghost use Rattle.std.specs.Prelude.{◌≡◌, [], false, true};
 ghost use Rattle.mr_rows.specs.LinkRows.{closed_at};
-ghost use Rattle.mr_connections.specs.State.{HasLink};
+ghost use Rattle.mr_connections.specs.State.{HasLink, NoneDone};
 ghost use Rattle.mr_links.specs.declared.link_id.LinkId.{LinkId};
-ghost use Rattle.mr_loop.specs.Writing.{IsNoneDone, IsWritten, WroteOn};
+ghost use Rattle.mr_loop.specs.Writing.{IsWritten, WroteOn};
 ghost use Rattle.mr_loop.specs.Going.{Goes};
 ghost use Rattle.mr_loop.specs.Hosts.{IsSame};
 ghost use Rattle.mr_loop.specs.Quiet.{AllWait};
@@ -38,25 +38,10 @@ impl<W: Wire, F: LogFile, S: Source> Host<'_, '_, W, F, S> {
     {
         for index in 0..self.own.noted_count() {
             if let Some(socket) = self.own.noted_at(index) {
-                self.write_to(socket);
+                let _wrote = self.write_once(socket);
             }
         }
         self.own.forget_noted();
-    }
-
-    /// Writes what waits on a connection, once. Where the node has closed its end, the connection is closed once all is written.
-    fn write_to(&mut self, socket: LinkId)
-        requires { self.old.own.now.batch ≡ [] }
-        ensures went { Goes W.tells W.links W.failures F.told F.synced self.old self.new }
-        ensures same { IsSame W.waited S.clock self.old self.new }
-        ensures batch { self.new.own.now.batch ≡ [] }
-        ensures turn { self.new.moment.turn ≡ self.old.moment.turn }
-        ensures core { self.new.node.now.core ≡ self.old.node.now.core }
-        ensures quiet { AllWait self.old.node.now → AllWait self.new.node.now }
-        ensures closed { IsNoneDone self.new.own.now socket }
-    {
-        let _wrote = self.write_once(socket);
-        self.close_done(socket);
     }
 
     /// Writes what waits on a connection until nothing more is moved. It answers whether the connection is still there.
@@ -117,19 +102,16 @@ impl<W: Wire, F: LogFile, S: Source> Host<'_, '_, W, F, S> {
         }
     }
 
-    /// Closes a connection whose end the node has closed, where all is written.
-    fn close_done(&mut self, socket: LinkId)
+    /// Closes each connection whose end the node has closed, where all is written.
+    pub(crate) fn close_done(&mut self)
         ensures went { Goes W.tells W.links W.failures F.told F.synced self.old self.new }
         ensures same { IsSame W.waited S.clock self.old self.new }
         ensures batch { self.new.own.now.batch ≡ self.old.own.now.batch }
         ensures turn { self.new.moment.turn ≡ self.old.moment.turn }
         ensures node { self.new.node.now ≡ self.old.node.now }
-        ensures closed { IsNoneDone self.new.own.now socket }
+        ensures closed { NoneDone self.new.own.now.connections }
     {
-        let Some(connection) = self.own.connection(socket) else {
-            return;
-        };
-        if connection.is_done() {
+        while let Some(socket) = self.own.next_done() {
             self.drop_connection(socket, None);
         }
     }

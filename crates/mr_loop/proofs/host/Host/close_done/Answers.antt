@@ -1,29 +1,20 @@
-use Rattle.std.proofs.Common.{rules, refl, ◌∙◌, [], None}
-use Rattle.mr_loop.specs.Rows.{closes}
-use Rattle.mr_loop.proofs.Runs.{still_here, still_one}
-use Rattle.mr_loop.proofs.Writes.{dropped_none, has_at, not_done}
-use Rattle.mr_loop.proofs.Waiting.{none_some}
+use Rattle.std.proofs.Common.{◌≡◌, ◌+◌, ap, arith, is_some}
+use Rattle.std.specs.FinMap.{len, remove}
+use Rattle.mr_connections.proofs.Listed.{len_without}
+use Rattle.mr_loop.proofs.Writes.{closed_first, closed_on}
 use Rattle.mr_loop.proofs.host.Host.close_done.Goals as goal
 
-pub returns-in_default-clause-went : goal.returns-in_default-clause-went
-returns-in_default-clause-went g c = still_here c.args.self.now.moment.turn _
+pub loop-socket-init : goal.loop-socket-init
+loop-socket-init g c = closed_first g.W.Wire.tells g.W.Wire.links g.W.Wire.failures g.W.Wire.waited g.F.LogFile.told g.F.LogFile.synced g.S.Source.clock c.args.self.now
 
-pub returns-then-is_done-clause-went : goal.returns-then-is_done-clause-went
-returns-then-is_done-clause-went g c =
-    let done = c.is_done.ensures.0 c.if-is_done.true in
-    still_one (closes c.args.socket) c.args.self.now.moment.turn c.drop_connection.new.self.moment.turn refl refl refl refl refl refl (record {
-      has = has_at c.args.self.now.own.now c.args.socket c.in-Some.connection.now None [] c.in-Some.ensures done.0 done.1;
-      dropped = c.drop_connection.ensures.dropped;
-    }) c.drop_connection.ensures.turn
+pub loop-socket-smaller : goal.loop-socket-smaller
+loop-socket-smaller g c =
+    let before = c.loop-socket.self.own.now.connections in let behind = c.drop_connection.new.self.own.now.connections in
+    let left : len behind ≡ len (remove before c.in-Some.socket) = ap len c.drop_connection.ensures.dropped.connections in
+    let one : len before ≡ len (remove before c.in-Some.socket) + 1 = len_without before c.in-Some.socket (ap is_some c.in-Some.ensures.some) in
+    omega (arith, left, one)
 
-pub returns-else-is_done-clause-went : goal.returns-else-is_done-clause-went
-returns-else-is_done-clause-went g c = still_here c.args.self.now.moment.turn _
-
-pub returns-in_default-clause-closed : goal.returns-in_default-clause-closed
-returns-in_default-clause-closed g c = record { none = λ d here link waiting. none_some d (search rules ∙ here) }
-
-pub returns-then-is_done-clause-closed : goal.returns-then-is_done-clause-closed
-returns-then-is_done-clause-closed g c = dropped_none c.args.self.now.own.now c.drop_connection.new.self.own.now c.args.socket c.drop_connection.ensures.dropped.connections
-
-pub returns-else-is_done-clause-closed : goal.returns-else-is_done-clause-closed
-returns-else-is_done-clause-closed g c = not_done c.args.self.now.own.now c.args.socket c.in-Some.connection.now c.is_done.result c.in-Some.ensures c.is_done.ensures.1 c.if-is_done.false
+pub loop-socket-preserved : goal.loop-socket-preserved
+loop-socket-preserved g c =
+    closed_on g.W.Wire.tells g.W.Wire.links g.W.Wire.failures g.W.Wire.waited g.F.LogFile.told g.F.LogFile.synced g.S.Source.clock c.args.self.now c.loop-socket.self c.drop_connection.new.self c.in-Some.socket c.loop-socket.invariant c.in-Some.ensures.some
+    c.drop_connection.ensures.dropped c.drop_connection.ensures.turn c.drop_connection.ensures.same

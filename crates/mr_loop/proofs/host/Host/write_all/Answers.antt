@@ -7,19 +7,19 @@ use Rattle.mr_loop.proofs.host.Host.write_all.Goals.{in-Some, in_default}
 pub loop-index-init : goal.loop-index-init
 loop-index-init g c = written_first g.W.Wire.tells g.W.Wire.links g.W.Wire.failures g.W.Wire.waited g.F.LogFile.told g.F.LogFile.synced g.S.Source.clock c.args.self.now c.requires
 
-pub write_to-requires : goal.write_to-requires
-write_to-requires g c = c.loop-index.invariant.batch
+pub write_once-wrote-requires : goal.write_once-wrote-requires
+write_once-wrote-requires g c = c.loop-index.invariant.batch
 
 pub loop-index-preserved : goal.loop-index-preserved
 loop-index-preserved g c = elim c.match-noted_at.branch [
   | in-Some w ↦ subst (HasWritten g.W.Wire.tells g.W.Wire.links g.W.Wire.failures g.W.Wire.waited g.F.LogFile.told g.F.LogFile.synced g.S.Source.clock c.args.self.now) (sym w.self-is)
-      (written_on g.W.Wire.tells g.W.Wire.links g.W.Wire.failures g.W.Wire.waited g.F.LogFile.told g.F.LogFile.synced g.S.Source.clock c.args.self.now c.loop-index.self w.write_to.new.self c.loop-index.invariant (record {
-        went = w.write_to.ensures.went;
-        same = w.write_to.ensures.same;
-        batch = w.write_to.ensures.batch;
-        turn = w.write_to.ensures.turn;
-        core = w.write_to.ensures.core;
-        quiet = w.write_to.ensures.quiet;
+      (written_on g.W.Wire.tells g.W.Wire.links g.W.Wire.failures g.W.Wire.waited g.F.LogFile.told g.F.LogFile.synced g.S.Source.clock c.args.self.now c.loop-index.self w.write_once-wrote.new.self c.loop-index.invariant (record {
+        went = w.write_once-wrote.ensures.went;
+        same = w.write_once-wrote.ensures.same;
+        batch = w.write_once-wrote.ensures.batch;
+        turn = w.write_once-wrote.ensures.turn;
+        core = w.write_once-wrote.ensures.core;
+        quiet = w.write_once-wrote.ensures.quiet;
       }))
   | in_default w ↦ subst (HasWritten g.W.Wire.tells g.W.Wire.links g.W.Wire.failures g.W.Wire.waited g.F.LogFile.told g.F.LogFile.synced g.S.Source.clock c.args.self.now) (sym w.self-is) c.loop-index.invariant
 ]
