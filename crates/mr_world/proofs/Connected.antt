@@ -1,37 +1,20 @@
--- A node that dials another is an event of histories; and of what a dial leaves that lacked memory they see nothing.
-use Rattle.std.proofs.Common.{◌≡◌, ℕ, Bool, false, true, Some, refl, sym, ap, subst, ◌∙◌}
-use Rattle.std.specs.Prelude.{slice_get}
+-- A node that dials another is an event of histories.
+use Rattle.std.proofs.Common.{◌≡◌, ℕ, Bool, false, true, refl, sym, ap, subst, ◌∙◌}
 use Rattle.std.specs.Option.{option_map}
 use Rattle.mr_history.specs.History.{Book}
 use Rattle.mr_history.specs.Event as events
-use Rattle.mr_history.specs.Changing.{Still}
 use Rattle.mr_history.specs.Changing.Unless.{acts, stopped}
-use Rattle.mr_history.specs.Node as history_node
 use Rattle.mr_history.specs.Rows as rows
 use Rattle.mr_language.specs.Minired.{minired}
 use Rattle.mr_rows.specs.State.{stopped_as}
 use Rattle.mr_seen.specs.State.{Slot, WorldState}
-use Rattle.mr_seen.specs.Seeing.{seen, seen_follow, seen_node}
-use Rattle.mr_seen.specs.Carrying.{put_node}
+use Rattle.mr_seen.specs.Seeing.{seen_follow, seen_node}
 use Rattle.mr_seen.specs.Events.{Holds, IsEvent}
 use Rattle.mr_seen.proofs.Linking.{dials}
 use Rattle.mr_seen.proofs.Places.{some_is}
-use Rattle.mr_seen.proofs.Reading.{still_at}
 use Rattle.mr_seen.proofs.Seen.{put_at}
 use Rattle.mr_world.specs.Calls.{IsDown}
-use Rattle.mr_world.specs.Connecting.{BothRun, CanDial, Counts, Dialled, DiallerStops, ServerStops, counted_on}
-
--- ---- a link more that a node has counted
-counted_still : (w : WorldState) (m : ℕ) (t : Slot) → slice_get w.slots m ≡ Some t
-    → (j : ℕ) → option_map seen_node (slice_get (put_node w m t (counted_on t.node)).slots j) ≡ option_map seen_node (slice_get w.slots j)
-counted_still w m t at = still_at seen_node w.slots m (record t { node = counted_on t.node }) t at refl
-
-pub counts_unseen : (w : WorldState) (book : Book minired) (m : ℕ) (v : WorldState) → Counts w m v → Still (seen w book) (seen v book)
-counts_unseen w book m v c = subst (λ (z : WorldState). Still (seen w book) (seen z book)) (sym c.is) (record { nodes = counted_still w m c.server c.running.at; links = λ l. refl; book = λ i. refl })
-
--- .. and the book is the same
-pub counts_book : (w : WorldState) (m : ℕ) (v : WorldState) → Counts w m v → v.book ≡ w.book
-counts_book w m v c = ap (λ (z : WorldState). z.book) c.is
+use Rattle.mr_world.specs.Connecting.{BothRun, CanDial, Dialled, DiallerStops, ServerStops}
 
 module _ (w : WorldState) (book : Book minired) (n m : ℕ) (holds : Holds w book) where
   abbrev Happens : WorldState → Type 0
@@ -58,13 +41,10 @@ module _ (w : WorldState) (book : Book minired) (n m : ℕ) (holds : Holds w boo
     };
   })
 
-  dialler_stops_behind : (b : BothRun w n m) (t s : Slot) → slice_get w.slots m ≡ Some t → slice_get (put_node w m t (counted_on t.node)).slots n ≡ Some s
-      → Happens (put_node (put_node w m t (counted_on t.node)) n s (stopped_as s.node))
-  dialler_stops_behind b t s at found =
-      let still = counted_still w m t at in
-      let same : seen_node s ≡ seen_node b.can.dialler = some_is (seen_node s) (seen_node b.can.dialler) (sym (ap (option_map seen_node) found) ∙ (still n ∙ ap (option_map seen_node) b.can.at)) in
-      let put = put_at seen_node (put_node w m t (counted_on t.node)).slots n (record s { node = stopped_as s.node }) s found in
-      record {
+  dialler_stops : (b : BothRun w n m) (v : WorldState) → DiallerStops w n m v → Happens v
+  dialler_stops b v d =
+      let same : d.dialler ≡ b.can.dialler = some_is d.dialler b.can.dialler (sym d.dialling.at ∙ b.can.at) in
+      subst Happens (sym d.is) (record {
         new_book = book;
         kept = holds.kept;
         row = record {
@@ -75,19 +55,13 @@ module _ (w : WorldState) (book : Book minired) (n m : ℕ) (holds : Holds w boo
           server = seen_node b.can.server;
           server_found = ap (option_map seen_node) b.can.found;
           does = acts b.dialler_up (acts b.server_up (rows.Dials.stops (record {
-            wreck = seen_node (record s { node = stopped_as s.node });
+            wreck = seen_node (record d.dialler { node = stopped_as d.dialler.node });
             down = refl;
-            role = ap (λ (z : history_node.Node minired). z.starts_as_master) same;
-            becomes = record { nodes = (put.0, λ j ne. put.1 j ne ∙ still j); links = λ l. refl; book = λ i. refl };
+            role = ap (λ (z : Slot). (seen_node z).starts_as_master) same;
+            becomes = record { nodes = put_at seen_node w.slots n (record d.dialler { node = stopped_as d.dialler.node }) d.dialler d.dialling.at; links = λ l. refl; book = λ i. refl };
           })));
         };
-      }
-
-  dialler_stops : (b : BothRun w n m) (v : WorldState) → DiallerStops w n m v → Happens v
-  dialler_stops b v d =
-      let k = d.counts in
-      let found : slice_get (put_node w m k.server (counted_on k.server.node)).slots n ≡ Some d.dialler = ap (λ (z : WorldState). slice_get z.slots n) (sym k.is) ∙ d.running.at in
-      subst Happens (sym (d.is ∙ ap (λ (z : WorldState). put_node z n d.dialler (stopped_as d.dialler.node)) k.is)) (dialler_stops_behind b k.server d.dialler k.running.at found)
+      })
 
   -- either stopped
   dialler_rests : (c : CanDial w n m) → IsDown w n → Happens w

@@ -1,17 +1,17 @@
 -- A node that dials another, or itself: that what is true of each World stays.
-use Rattle.std.proofs.Common.{◌≡◌, ◌≢◌, ◌+◌, ◌++◌, ◌∷◌, [], ℕ, cond, Option, None, Some, Result, Ok, Err, length, refl, sym, ap, subst, ◌∙◌, arith}
-use Rattle.std.specs.Prelude.{slice_get, slice_set}
-use Rattle.std.specs.FinMap.{FinMap, get, insert, remove, get-insert, get-remove, same_map}
+use Rattle.std.proofs.Common.{◌≡◌, ◌≢◌, ◌++◌, ◌∷◌, [], ℕ, cond, Option, None, Some, Result, Ok, Err, length, refl, sym, ap, subst, ◌∙◌, arith}
+use Rattle.std.specs.Prelude.{slice_set}
+use Rattle.std.specs.FinMap.{get, get-insert}
 use Rattle.mr_links.specs.Links.{Links}
-use Rattle.mr_links.specs.LinkId.{id_cmp}
 use Rattle.mr_links.specs.declared.link_id.LinkId.{LinkId}
-use Rattle.mr_links.proofs.LinkRows.{ids_total, exact_ids}
+use Rattle.mr_links.proofs.LinkRows.{ids_total}
+use Rattle.mr_links.proofs.Generations.{inserted_once}
 use Rattle.mr_follow.specs.State.{FollowState}
 use Rattle.mr_ends.specs.State.{EndState, end_at, opened_as}
 use Rattle.mr_ends.specs.State.EndState.{client, upstream}
 use Rattle.mr_ends.proofs.Naming.{at_or_other}
-use Rattle.mr_rows.specs.State.{NodeState, FollowedAt, end_of, stopped_as}
-use Rattle.mr_rows.specs.LinkRows.{Opens, closed_at, follow_without}
+use Rattle.mr_rows.specs.State.{NodeState, end_of, stopped_as}
+use Rattle.mr_rows.specs.LinkRows.{Opens}
 use Rattle.mr_seen.specs.Way.{IsWay, no_way, unread}
 use Rattle.mr_seen.specs.State.{Link, Slot, WorldState}
 use Rattle.mr_seen.specs.Worlds.{IsWorld, HasMaster, end_for}
@@ -20,47 +20,28 @@ use Rattle.mr_seen.proofs.Places.{push_here, set_here, some_is}
 use Rattle.mr_seen.proofs.Others.{served_end}
 use Rattle.mr_world.specs.declared.refusal.Refusal.{Refusal}
 use Rattle.mr_world.specs.declared.refusal.Refusal.TheVariants as refusal
-use Rattle.mr_world.specs.Connecting.{Connects, DialCall, Dialled, Lacks, counted_on}
+use Rattle.mr_world.specs.Connecting.{Connects, DialCall, Dialled}
 use Rattle.mr_world.proofs.Changing.{node_world, link_comes}
-use Rattle.mr_world.proofs.Kept.{apart, between, reads_on, stops_world}
+use Rattle.mr_world.proofs.Kept.{apart, between, stops_world}
 
 no_some : {A : Type 0} (x : A) → ◌≡◌ {A = Option A} None (Some x) → ⊥
 no_some x e = cc
 
--- ---- an end that was opened and closed again
-removed : (m : FinMap id_cmp EndState) (l : LinkId) (e : EndState) → get m l ≡ None → remove (insert m l e) l ≡ m
-removed m l e fresh = same_map ids_total exact_ids (remove (insert m l e) l) m (λ x.
-    get-remove ids_total (insert m l e) l x
-    ∙ at_or_other x l (λ b. cond b None (get (insert m l e) x) ≡ get m x) (λ same. sym fresh ∙ ap (get m) (sym same))
-    (λ ne. get-insert ids_total m l e x ∙ at_or_other x l (λ b. cond b (Some e) (get m x) ≡ get m x) (λ same. absurd (ne same)) (λ other. refl)))
+-- ---- an end that was opened and taken back
+-- the node at which an end was opened is told by what it is behind that
+pub opened_once : (a b c : NodeState) (l : LinkId) → Opens a l c → Opens b l c → a ≡ b
+opened_once a b c l x y =
+    let same : record a { ends = opened_as a.ends l (client []) } ≡ record b { ends = opened_as b.ends l (client []) } = sym x.node ∙ y.node in
+    let links = inserted_once a.ends.open_links b.ends.open_links l (client []) x.fresh y.fresh (ap (λ (z : NodeState). z.ends.open_links) same) in
+    let count : a.ends.opened ≡ b.ends.opened = sym x.generation ∙ y.generation in
+    λ k. record { core = (same k).core; ends = record { open_links = links k; opened = count k }; follow = (same k).follow }
 
-follows_on : (ends : Links EndState) (l : LinkId) (o : Option (LinkId × FollowState)) → FollowedAt ends o → end_at ends l ≡ None → follow_without l o ≡ o
-follows_on ends l None h fresh = refl
-follows_on ends l (Some f) h fresh = at_or_other f.0 l (λ b. cond b None (Some f) ≡ Some f) (λ same. absurd (no_some upstream (sym fresh ∙ (ap (end_at ends) (sym same) ∙ h)))) (λ ne. refl)
-
-pub closed_again : (a b : NodeState) (l : LinkId) → FollowedAt a.ends a.follow → Opens a l b → closed_at l b ≡ counted_on a
-closed_again a b l h o =
-    ap (closed_at l) o.node
-    ∙ (ap (λ z. record a { ends = record { open_links = z; opened = a.ends.opened + 1 }; follow = follow_without l a.follow }) (removed a.ends.open_links l (client []) o.fresh)
-    ∙ ap (λ z. record a { ends = record a.ends { opened = a.ends.opened + 1 }; follow = z }) (follows_on a.ends l a.follow h o.fresh))
+-- .. also where it stops between
+pub opened_stopped : (a b : NodeState) (l : LinkId) → Opens a l b → Opens (stopped_as a) l (stopped_as b)
+opened_stopped a b l o = record { fresh = o.fresh; generation = o.generation; agrees = record { is = o.agrees.is }; node = ap stopped_as o.node }
 
 other_end : (ends : Links EndState) (l x : LinkId) (e : EndState) → x ≢ l → end_at (opened_as ends l e) x ≡ end_at ends x
 other_end ends l x e ne = get-insert ids_total ends.open_links l e x ∙ at_or_other x l (λ b. cond b (Some e) (get ends.open_links x) ≡ get ends.open_links x) (λ same. absurd (ne same)) (λ other. refl)
-
--- ---- a node that counts a link more
-pub counts_world : (w : WorldState) (m : ℕ) (t : Slot) → IsWorld w → slice_get w.slots m ≡ Some t → IsWorld (put_node w m t (counted_on t.node))
-counts_world w m t is at = node_world w m t (record t { node = counted_on t.node }) is at (record {
-  here = λ j y e to up q. served_end w is m t at up j y e to q;
-  sound = λ up. let i = is.nodes m t at up in record {
-    node = record { followed = i.node.followed; only = i.node.only; sends = i.node.sends; nobody = i.node.nobody };
-    window = i.window;
-    id = i.id;
-    second = i.second;
-    upstream = i.upstream;
-    reading = reads_on t.node (record t.node.ends { opened = t.node.ends.opened + 1 }) t.node.follow i.reading;
-  };
-  own = λ name f up e. let h = is.followers m t name f at up e in record { link = h.link; found = h.found; caller = h.caller; agrees = h.agrees };
-})
 
 -- ---- both ends are there
 module _ (w : WorldState) (n m : ℕ) (v : WorldState) (is : IsWorld w) (d : Connects w n m v) where
@@ -101,17 +82,11 @@ pub dial_keeps : (w v : WorldState) (n m : ℕ) (r : Result (Unit {0}) Refusal) 
 dial_keeps w v n m (Ok done) is c = elim c.1 [
   | Dialled.connects d ↦ subst (λ (z : WorldState). IsWorld z) (sym d.is) (connects_world w n m v is d)
   | Dialled.server_stops b d ↦ subst (λ (z : WorldState). IsWorld z) (sym d.is) (stops_world w m d.server (stopped_as d.server.node) is d.running.at refl)
-  | Dialled.dialler_stops b d ↦
-      (let k = d.counts in
-      let world = subst (λ (z : WorldState). IsWorld z) (sym k.is) (counts_world w m k.server is k.running.at) in
-      subst (λ (z : WorldState). IsWorld z) (sym d.is) (stops_world d.between n d.dialler (stopped_as d.dialler.node) world d.running.at refl))
+  | Dialled.dialler_stops b d ↦ subst (λ (z : WorldState). IsWorld z) (sym d.is) (stops_world w n d.dialler (stopped_as d.dialler.node) is d.dialling.at refl)
   | Dialled.dialler_rests d e ↦ subst (λ (z : WorldState). IsWorld z) (sym e) is
   | Dialled.server_rests d e ↦ subst (λ (z : WorldState). IsWorld z) (sym e) is
 ]
-dial_keeps w v n m (Err refusal.Memory) is c = elim c.1 [
-  | Lacks.same e ↦ subst (λ (z : WorldState). IsWorld z) (sym e) is
-  | Lacks.counts k ↦ subst (λ (z : WorldState). IsWorld z) (sym k.is) (counts_world w m k.server is k.running.at)
-]
+dial_keeps w v n m (Err refusal.Memory) is c = subst (λ (z : WorldState). IsWorld z) (sym c.1) is
 dial_keeps w v n m (Err refusal.Nobody) is c = subst (λ (z : WorldState). IsWorld z) (sym c.1) is
 dial_keeps w v n m (Err refusal.Drawn) is c = absurd c
 dial_keeps w v n m (Err refusal.TooMuch) is c = absurd c

@@ -15,7 +15,7 @@ use Rattle.mr_world.specs.Running.{AreMoments, EventCall, RunCall, TookAll, by_o
 use Rattle.mr_world.specs.Promises.{Ran, FilesAreDatasets}
 use Rattle.mr_world.proofs.Filed.{no_file, start_files, client_files, command_files, take_files, leave_files, break_files, deliver_files, listen_files, drop_files, tick_files}
 use Rattle.mr_world.proofs.FiledSteps.{step_files, follow_files, lacked_files, restart_files}
-use Rattle.mr_world.proofs.DialFiles.{counted_files, dial_files}
+use Rattle.mr_world.proofs.DialFiles.{dial_files}
 use Rattle.mr_world.proofs.Unchanged.{Stays, no_event, stays}
 
 -- ---- one event
@@ -42,7 +42,6 @@ module _ (w v : WorldState) where
   stayed : IsWorld w → Stays w v → FilesGoOn w v
   stayed world (Stays.same is) = no_file w v w is refl
   stayed world (Stays.lacked l h) = lacked_files w v l world h
-  stayed world (Stays.counted m c) = counted_files w m v c
 
 -- ---- events one after another, and runs
 -- the Worlds behind each other, from the one to the other

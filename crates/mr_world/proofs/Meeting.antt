@@ -1,23 +1,27 @@
 -- How the parts of it make it that a node dials another, or itself.
-use Rattle.std.proofs.Common.{zero, suc, ◌≡◌, ◌≢◌, ◌⊎◌, inl, inr, ◌<◌, ◌≤◌, ◌+◌, ◌^◌, ◌++◌, ◌∷◌, [], ℕ, List, Bool, true, false, None, Some, length, get_or, refl, sym, ap, ◌∙◌, arith}
+use Rattle.std.proofs.Common.{zero, suc, ◌≡◌, ◌≢◌, ◌⊎◌, inl, inr, ◌<◌, ◌≤◌, ◌+◌, ◌^◌, ◌++◌, ◌∷◌, [], ℕ, List, Bool, true, false, None, Some, Err, length, get_or, refl, sym, ap, subst, ◌∙◌, arith}
 use Rattle.std.specs.Prelude.{slice_get, slice_set}
 use Rattle.std.proofs.lemmas.Option.{slice_get-get_or}
+use Rattle.mr_links.specs.Links.{Links}
 use Rattle.mr_links.specs.declared.link_id.LinkId.{LinkId}
 use Rattle.mr_outs.specs.Outs.{OutsState}
 use Rattle.mr_follow.specs.Handshake.{ping_line}
-use Rattle.mr_rows.specs.State.{Core, NodeState, stopped_as}
+use Rattle.mr_ends.specs.State.{EndState, end_at}
+use Rattle.mr_rows.specs.State.{Agrees, Core, NodeState, stopped_as}
 use Rattle.mr_rows.specs.Sound.{IsSound}
-use Rattle.mr_rows.specs.LinkRows.{Opens, Dials, closed_at}
+use Rattle.mr_rows.specs.LinkRows.{Opens, Dials}
 use Rattle.mr_node.specs.Calls.{OpensNoMore}
+use Rattle.mr_node.specs.declared.fault.NodeFault.{NodeFault}
+use Rattle.mr_node.specs.declared.fault.NodeFault.TheVariants as fault
 use Rattle.mr_seen.specs.Way.{WayState, no_way, sent_on}
 use Rattle.mr_seen.specs.State.{Link, Slot, WorldState, a_node}
-use Rattle.mr_seen.specs.Worlds.{IsWorld}
 use Rattle.mr_seen.specs.Events.{IsRunning}
 use Rattle.mr_seen.specs.Carrying.{put_node}
 use Rattle.mr_seen.proofs.Places.{is_within, set_cases, set_here, set_there, some_is}
+use Rattle.mr_carrying.specs.AtNode.{DialsBy}
 use Rattle.mr_carrying.proofs.Places.{stands, set_twice}
-use Rattle.mr_world.specs.Connecting.{BothRun, CanDial, Counts, Dialled, DiallerStops, Lacks, counted_on}
-use Rattle.mr_world.proofs.Connects.{closed_again}
+use Rattle.mr_world.specs.Connecting.{BothRun, CanDial, Dialled, DiallerStops}
+use Rattle.mr_world.proofs.Connects.{opened_once, opened_stopped}
 use Rattle.mr_world.proofs.Joins.{put_same}
 
 -- what is read at a place where this was put
@@ -93,9 +97,9 @@ module _ (w : WorldState) (n m : ℕ) (x y : Slot) (n_in : n < length w.slots) (
       running : IsRunning w m y
       running = record { at = y_at; up = serving }
 
-      pub lacks_none : (t : Slot) (links : List Link) → t.node ≡ y.node → t ≡ record y { node = t.node } → links ≡ w.links → Lacks w m (record w { slots = slice_set w.slots m t; links = links })
-      lacks_none t links e rest ls = Lacks.same (ap (λ (z : List Link). record w { slots = slice_set w.slots m t; links = z }) ls
-          ∙ ap (λ (z : List Slot). record w { slots = z }) (put_same w.slots m y t server (rest ∙ ap (λ (z : NodeState). record y { node = z }) e)))
+      pub same_none : (t : Slot) (links : List Link) → t.node ≡ y.node → t ≡ record y { node = t.node } → links ≡ w.links → record w { slots = slice_set w.slots m t; links = links } ≡ w
+      same_none t links e rest ls = ap (λ (z : List Link). record w { slots = slice_set w.slots m t; links = z }) ls
+          ∙ ap (λ (z : List Slot). record w { slots = z }) (put_same w.slots m y t server (rest ∙ ap (λ (z : NodeState). record y { node = z }) e))
 
       pub server_stops_here : (t : Slot) (links : List Link) → OpensNoMore y.node t.node → t ≡ record y { node = t.node } → links ≡ w.links → Dialled w n m (record w { slots = slice_set w.slots m t; links = links })
       server_stops_here t links (OpensNoMore.down d e) rest ls = absurd (runs (sym serving ∙ d))
@@ -164,81 +168,98 @@ module _ (w : WorldState) (n m : ℕ) (x y : Slot) (n_in : n < length w.slots) (
               (asked ∙ ap (λ z. sent_on z no_way) (sym (ap (λ (z : OutsState). z.reply) d.outs_are))))));
         })
 
-        -- ---- .. and closes it again
-        module _ (is : IsWorld w) (r q c : Slot) (links : List Link) (rs : r ≡ record s { node = r.node }) (qs : q ≡ get_or (slice_set (slice_set w.slots m t) n r) m q) (cs : c ≡ record q { node = closed_at at q.node }) (ls : links ≡ w.links) where
-          counted : closed_at at t.node ≡ counted_on y.node
-          counted = closed_again y.node t.node at (is.nodes m y y_at serving).node.followed o
+        -- ---- .. and takes it back
+        module _ (r q : Slot) (links : List Link) (rs : r ≡ record s { node = r.node }) (qs : q ≡ get_or (slice_set (slice_set w.slots m t) n r) m q) where
+          flat : n ≡ m → slice_set (slice_set w.slots m t) n r ≡ slice_set w.slots m r
+          flat same = ap (λ i. slice_set (slice_set w.slots m t) i r) same ∙ set_twice w.slots m t r
 
-          abbrev back : Slot
-          back = record y { node = counted_on y.node }
+          -- what the server's place has: what the dialler left there, or what the server had behind its first change
+          read_itself : n ≡ m → q ≡ r
+          read_itself same = read_put w.slots m y r q y_at (qs ∙ ap (λ (z : List Slot). get_or z m q) (flat same))
 
-          -- where the server's place has what it had behind its first change
-          is_back : q ≡ t → c ≡ back
-          is_back one = cs ∙ (ap (λ (z : Slot). record z { node = closed_at at z.node }) (one ∙ rest) ∙ ap (λ (z : NodeState). record y { node = z }) counted)
-
-          pub lacks_again : r.node ≡ s.node → Lacks w m (record w { slots = slice_set (slice_set (slice_set w.slots m t) n r) m c; links = links })
-          lacks_again e =
-              let same : slice_set (slice_set w.slots m t) n r ≡ slice_set w.slots m t = put_same (slice_set w.slots m t) n s r again (rs ∙ ap (λ (z : NodeState). record s { node = z }) e) in
-              let one : q ≡ t = read_put w.slots m y t q y_at (qs ∙ ap (λ (z : List Slot). get_or z m q) same) in
-              Lacks.counts (record {
-                server = y;
-                running = running;
-                is = ap (λ (z : List Link). record w { slots = slice_set (slice_set (slice_set w.slots m t) n r) m c; links = z }) ls
-                    ∙ (ap (λ (z : List Slot). record w { slots = slice_set z m c }) same
-                    ∙ ap (λ (z : List Slot). record w { slots = z }) (set_twice w.slots m t c ∙ ap (slice_set w.slots m) (is_back one)));
-              })
-
-          abbrev between : WorldState
-          between = put_node w m y (counted_on y.node)
-
-          counts : Counts w m between
-          counts = record { server = y; running = running; is = refl }
-
-          -- the dialler is another node
-          stops_other : n ≢ m → slice_get w.slots n ≡ Some s → 2 ^ 62 ≤ s.node.ends.opened → r.node ≡ stopped_as s.node → DiallerStops w n m (record w { slots = slice_set (slice_set (slice_set w.slots m t) n r) m c; links = links })
-          stops_other ne e far stops =
+          read_other : n ≢ m → q ≡ t
+          read_other ne =
               let there : slice_get (slice_set (slice_set w.slots m t) n r) m ≡ Some t = set_there (slice_set w.slots m t) n m r (λ f. ne (sym f)) ∙ set_here w.slots m t y y_at in
-              let one : q ≡ t = some_is q t (sym (stands (slice_set (slice_set w.slots m t) n r) m q (is_within (slice_set (slice_set w.slots m t) n r) m t there) qs) ∙ there) in
-              record {
-                between = between;
-                counts = counts;
-                dialler = s;
-                running = record { at = set_there w.slots m n back ne ∙ e; up = up_still };
-                spent = far;
-                is = ap (λ (z : List Link). record w { slots = slice_set (slice_set (slice_set w.slots m t) n r) m c; links = z }) ls
-                    ∙ ap (λ (z : List Slot). record w { slots = z }) (set_apart (slice_set w.slots m t) n m r c ne
-                    ∙ (ap (λ (z : List Slot). slice_set z n r) (set_twice w.slots m t c ∙ ap (slice_set w.slots m) (is_back one))
-                    ∙ ap (slice_set (slice_set w.slots m back) n) (rs ∙ ap (λ (z : NodeState). record s { node = z }) stops)));
-              }
+              some_is q t (sym (stands (slice_set (slice_set w.slots m t) n r) m q (is_within (slice_set (slice_set w.slots m t) n r) m t there) qs) ∙ there)
 
-          -- .. the same
-          stops_itself : n ≡ m → s ≡ t → 2 ^ 62 ≤ s.node.ends.opened → r.node ≡ stopped_as s.node → DiallerStops w n m (record w { slots = slice_set (slice_set (slice_set w.slots m t) n r) m c; links = links })
-          stops_itself same one far stops =
-              let flat : slice_set (slice_set w.slots m t) n r ≡ slice_set w.slots m r = ap (λ i. slice_set (slice_set w.slots m t) i r) same ∙ set_twice w.slots m t r in
-              let read : q ≡ r = read_put w.slots m y r q y_at (qs ∙ ap (λ (z : List Slot). get_or z m q) flat) in
-              let opened : s.node.ends.opened ≡ y.node.ends.opened + 1 = ap (λ (z : Slot). z.node.ends.opened) one ∙ ap (λ (z : NodeState). z.ends.opened) o.node in
-              let whole : r ≡ record y { node = stopped_as t.node } = rs ∙ (ap (λ (z : NodeState). record s { node = z }) stops ∙ ap (λ (z : Slot). record z { node = stopped_as z.node }) (one ∙ rest)) in
-              let ends : c ≡ record back { node = stopped_as back.node } = cs ∙ (ap (λ (z : Slot). record z { node = closed_at at z.node }) (read ∙ whole) ∙ ap (λ (z : NodeState). record y { node = stopped_as z }) counted) in
-              record {
-                between = between;
-                counts = counts;
-                dialler = back;
-                running = record { at = ap (slice_get (slice_set w.slots m back)) same ∙ set_here w.slots m back y y_at; up = serving };
-                spent = omega (arith, far, opened);
-                is = ap (λ (z : List Link). record w { slots = slice_set (slice_set (slice_set w.slots m t) n r) m c; links = z }) ls
-                    ∙ ap (λ (z : List Slot). record w { slots = z }) (ap (λ (z : List Slot). slice_set z m c) flat
-                    ∙ (set_twice w.slots m r c
-                    ∙ (ap (slice_set w.slots m) ends
-                    ∙ (sym (set_twice w.slots m back (record back { node = stopped_as back.node }))
-                    ∙ ap (λ i. slice_set (slice_set w.slots m back) i (record back { node = stopped_as back.node })) (sym same)))));
-              }
+          ends_still : r.node.ends ≡ s.node.ends → q.node.ends ≡ t.node.ends
+          ends_still e = elim which [
+            | inl p ↦ ap (λ (z : Slot). z.node.ends) (read_itself p.0) ∙ (e ∙ ap (λ (z : Slot). z.node.ends) p.1)
+            | inr p ↦ ap (λ (z : Slot). z.node.ends) (read_other p.0)
+          ]
 
-          pub stops_again : OpensNoMore s.node r.node → Dialled w n m (record w { slots = slice_set (slice_set (slice_set w.slots m t) n r) m c; links = links })
-          stops_again (OpensNoMore.down d e) = absurd (runs (sym up_still ∙ d))
-            where
-              runs : true ≡ false → ⊥
-              runs z = cc
-          stops_again (OpensNoMore.spent u far e) = Dialled.dialler_stops both (elim which [
-            | inl p ↦ stops_itself p.0 p.1 far e
-            | inr p ↦ stops_other p.0 p.1 far e
-          ])
+          dial_ends : (f : NodeFault) → DialsBy s.node r.node (Err f) → r.node.ends ≡ s.node.ends
+          dial_ends fault.Memory d = ap (λ (z : NodeState). z.ends) d.1
+          dial_ends fault.Stopped (OpensNoMore.down u e) = ap (λ (z : NodeState). z.ends) e
+          dial_ends fault.Stopped (OpensNoMore.spent u far e) = ap (λ (z : NodeState). z.ends) e
+          dial_ends fault.NoLink d = absurd d
+          dial_ends fault.InputFull d = absurd d
+
+          -- the server's end is still as it was opened, and the last one
+          pub still_open : (f : NodeFault) → DialsBy s.node r.node (Err f) → Agrees q.node at []
+          still_open f d = record { is = ap (λ (z : Links EndState). end_at z at) (ends_still (dial_ends f d)) ∙ o.agrees.is }
+
+          pub still_last : (f : NodeFault) → DialsBy s.node r.node (Err f) → q.node.ends.opened ≡ at.generation + 1
+          still_last f d = ap (λ (z : Links EndState). z.opened) (ends_still (dial_ends f d)) ∙ (ap (λ (z : NodeState). z.ends.opened) o.node ∙ ap (λ i. i + 1) (sym o.generation))
+
+          module _ (c : Slot) (back : Opens c.node at q.node) (cs : c ≡ record q { node = c.node }) (ls : links ≡ w.links) where
+            -- where the server's place has what it had behind its first change
+            is_back : q ≡ t → c ≡ y
+            is_back one =
+                let node : c.node ≡ y.node = opened_once c.node y.node t.node at (subst (λ (z : Slot). Opens c.node at z.node) one back) o in
+                cs ∙ (ap (λ (z : Slot). record z { node = c.node }) (one ∙ rest) ∙ ap (λ (z : NodeState). record y { node = z }) node)
+
+            pub same_again : r.node ≡ s.node → record w { slots = slice_set (slice_set (slice_set w.slots m t) n r) m c; links = links } ≡ w
+            same_again e =
+                let same : slice_set (slice_set w.slots m t) n r ≡ slice_set w.slots m t = put_same (slice_set w.slots m t) n s r again (rs ∙ ap (λ (z : NodeState). record s { node = z }) e) in
+                let one : q ≡ t = read_put w.slots m y t q y_at (qs ∙ ap (λ (z : List Slot). get_or z m q) same) in
+                ap (λ (z : List Link). record w { slots = slice_set (slice_set (slice_set w.slots m t) n r) m c; links = z }) ls
+                ∙ ap (λ (z : List Slot). record w { slots = z }) (ap (λ (z : List Slot). slice_set z m c) same ∙ (set_twice w.slots m t c ∙ put_same w.slots m y c server (is_back one)))
+
+            abbrev behind : WorldState
+            behind = record w { slots = slice_set (slice_set (slice_set w.slots m t) n r) m c; links = links }
+
+            stops_as : (d : Slot) → IsRunning w n d → 2 ^ 62 ≤ s.node.ends.opened → behind ≡ put_node w n d (stopped_as d.node) → DiallerStops w n m behind
+            stops_as d runs far is = record {
+              server = y;
+              running = running;
+              at = at;
+              served = t.node;
+              opens = o;
+              behind = s;
+              found = ap (λ (z : Slot). slice_get (slice_set w.slots m z) n) (sym rest) ∙ found;
+              spent = far;
+              dialler = d;
+              dialling = runs;
+              is = is;
+            }
+
+            -- the dialler is another node
+            stops_other : n ≢ m → slice_get w.slots n ≡ Some s → 2 ^ 62 ≤ s.node.ends.opened → r.node ≡ stopped_as s.node → DiallerStops w n m behind
+            stops_other ne e far stops = stops_as s (record { at = e; up = up_still }) far
+                (ap (λ (z : List Link). record w { slots = slice_set (slice_set (slice_set w.slots m t) n r) m c; links = z }) ls
+                ∙ ap (λ (z : List Slot). record w { slots = z }) (set_apart (slice_set w.slots m t) n m r c ne
+                ∙ (ap (λ (z : List Slot). slice_set z n r) (set_twice w.slots m t c ∙ put_same w.slots m y c server (is_back (read_other ne)))
+                ∙ ap (slice_set w.slots n) (rs ∙ ap (λ (z : NodeState). record s { node = z }) stops))))
+
+            -- .. the same
+            stops_itself : n ≡ m → s ≡ t → 2 ^ 62 ≤ s.node.ends.opened → r.node ≡ stopped_as s.node → DiallerStops w n m behind
+            stops_itself same one far stops =
+                let whole : r ≡ record y { node = stopped_as t.node } = rs ∙ (ap (λ (z : NodeState). record s { node = z }) stops ∙ ap (λ (z : Slot). record z { node = stopped_as z.node }) (one ∙ rest)) in
+                let read : q ≡ record y { node = stopped_as t.node } = read_itself same ∙ whole in
+                let node : c.node ≡ stopped_as y.node = opened_once c.node (stopped_as y.node) (stopped_as t.node) at (subst (λ (z : Slot). Opens c.node at z.node) read back) (opened_stopped y.node t.node at o) in
+                let ends : c ≡ record y { node = stopped_as y.node } = cs ∙ (ap (λ (z : Slot). record z { node = c.node }) read ∙ ap (λ (z : NodeState). record y { node = z }) node) in
+                stops_as y (record { at = ap (slice_get w.slots) same ∙ y_at; up = serving }) far
+                (ap (λ (z : List Link). record w { slots = slice_set (slice_set (slice_set w.slots m t) n r) m c; links = z }) ls
+                ∙ ap (λ (z : List Slot). record w { slots = z }) (ap (λ (z : List Slot). slice_set z m c) (flat same)
+                ∙ (set_twice w.slots m r c ∙ (ap (slice_set w.slots m) ends ∙ ap (λ i. slice_set w.slots i (record y { node = stopped_as y.node })) (sym same)))))
+
+            pub stops_again : OpensNoMore s.node r.node → Dialled w n m behind
+            stops_again (OpensNoMore.down d e) = absurd (runs (sym up_still ∙ d))
+              where
+                runs : true ≡ false → ⊥
+                runs z = cc
+            stops_again (OpensNoMore.spent u far e) = Dialled.dialler_stops both (elim which [
+              | inl p ↦ stops_itself p.0 p.1 far e
+              | inr p ↦ stops_other p.0 p.1 far e
+            ])

@@ -15,18 +15,14 @@ use Rattle.mr_world.specs.Calls.{LeaveCall, TakeCall}
 use Rattle.mr_world.specs.Linking.{DropCall}
 use Rattle.mr_world.specs.Hearing.{ListenCall}
 use Rattle.mr_world.specs.Following.{HasLacked}
-use Rattle.mr_world.specs.Connecting.{Counts, Lacks}
-use Rattle.mr_world.proofs.Connected.{counts_book, counts_unseen}
-use Rattle.mr_world.proofs.Connects.{counts_world}
 use Rattle.mr_world.proofs.Happening.{lacks_unseen}
 use Rattle.mr_world.proofs.Happened.{nothing}
 use Rattle.mr_world.specs.Running.{EventCall, by_opener, is_between_nodes}
 
--- The World is the same; or a node took what was there of a snapshot, and lacked memory then; or a node has counted a link more.
+-- The World is the same; or a node took what was there of a snapshot, and lacked memory then.
 pub data Stays (w v : WorldState) : Type 0 where
   same : v ≡ w → Stays w v
   lacked : (l : ℕ) → HasLacked w l v → Stays w v
-  counted : (m : ℕ) → Counts w m v → Stays w v
 
 -- .. which is no event of histories, and a World
 pub no_event : (w v : WorldState) → IsWorld w → Stays w v → Happens w v × IsWorld v
@@ -36,10 +32,6 @@ no_event w v is (lacked l h) =
       nothing_seen (λ b holds. (subst (λ z. IsBook z b) (sym book) holds.kept, lacks_unseen w b l v holds h)),
       subst IsWorld (sym h.carried) (lacks_keep w h.number h.who.slot h.who.link h.name h.node is h.who.by.followed h.sound h.row),
     )
-no_event w v is (counted m c) = (
-  nothing_seen (λ b holds. (subst (λ z. IsBook z b) (sym (counts_book w m v c)) holds.kept, counts_unseen w b m v c)),
-  subst IsWorld (sym c.is) (counts_world w m c.server is c.running.at),
-)
 
 module _ (w v : WorldState) where
   by_end : (b : Bool) (of_node of_client : Type 0) → (of_node → v ≡ w) → (of_client → v ≡ w) → by_opener b of_node of_client → v ≡ w
@@ -74,10 +66,6 @@ module _ (w v : WorldState) where
   left l refusal.Memory c = absurd c
   left l refusal.InputFull c = absurd c
 
-  lacks : (m : ℕ) → Lacks w m v → Stays w v
-  lacks m (Lacks.same e) = same e
-  lacks m (Lacks.counts c) = counted m c
-
   pub stays : (e : Event) (r : Refusal) → EventCall w e v (Err r) → Stays w v
   stays (event.Start id config) refusal.Drawn c = same c.1
   stays (event.Start id config) refusal.Memory c = same c.1
@@ -111,7 +99,7 @@ module _ (w v : WorldState) where
   stays (event.Step l side.Opener given fresh) refusal.TooMuch c = absurd c
   stays (event.Step l side.Opener given fresh) refusal.InputFull c = absurd c
   stays (event.Dial n m) refusal.Nobody c = same c.1
-  stays (event.Dial n m) refusal.Memory c = lacks m c.1
+  stays (event.Dial n m) refusal.Memory c = same c.1
   stays (event.Dial n m) refusal.Drawn c = absurd c
   stays (event.Dial n m) refusal.TooMuch c = absurd c
   stays (event.Dial n m) refusal.InputFull c = absurd c

@@ -1,6 +1,5 @@
--- What comes of a node that dials another, or itself. As in `Calls`. A refusal leaves the World as it is, but that the node that was dialled may have
--- counted a link that it opened and closed again.
-use Rattle.std.specs.Prelude.{◌≡◌, ◌≤◌, ◌+◌, ◌^◌, ℕ, true, false, Some, None, Result, Ok, Err, slice_get, slice_set}
+-- What comes of a node that dials another, or itself. As in `Calls`.
+use Rattle.std.specs.Prelude.{◌≡◌, ◌≤◌, ◌^◌, ℕ, true, false, Some, None, Result, Ok, Err, slice_get, slice_set}
 use Rattle.mr_links.specs.declared.link_id.LinkId.{LinkId}
 use Rattle.mr_outs.specs.Outs.{OutsState}
 use Rattle.mr_rows.specs.State.{NodeState, stopped_as}
@@ -28,10 +27,6 @@ pub record BothRun (w : WorldState) (n m : ℕ) : Type 0 where
   pub dialler_up : can.dialler.node.core.up ≡ true
   pub server_up : can.server.node.core.up ≡ true
 
--- the node, which has counted one link more that it opened, and which isn't there
-abbrev pub counted_on : NodeState → NodeState
-counted_on a = record a { ends = record a.ends { opened = a.ends.opened + 1 } }
-
 -- m opens its end, and n, as it is behind that, its own; n says its first line
 pub record Connects (w : WorldState) (n m : ℕ) (v : WorldState) : Type 0 where
   pub server : Slot
@@ -56,20 +51,19 @@ pub record ServerStops (w : WorldState) (m : ℕ) (v : WorldState) : Type 0 wher
   pub spent : 2 ^ 62 ≤ server.node.ends.opened
   pub is : v ≡ put_node w m server (stopped_as server.node)
 
--- m has counted a link more
-pub record Counts (w : WorldState) (m : ℕ) (v : WorldState) : Type 0 where
+-- m could open its end, but n, as it is behind that, has opened as many links as it may: n stops, and m has no end more
+pub record DiallerStops (w : WorldState) (n m : ℕ) (v : WorldState) : Type 0 where
   pub server : Slot
   pub running : IsRunning w m server
-  pub is : v ≡ put_node w m server (counted_on server.node)
-
--- .. and n, as it is behind that, has opened as many as it may, and stops
-pub record DiallerStops (w : WorldState) (n m : ℕ) (v : WorldState) : Type 0 where
-  pub between : WorldState
-  pub counts : Counts w m between
+  pub at : LinkId
+  pub served : NodeState
+  pub opens : Opens server.node at served
+  pub behind : Slot
+  pub found : slice_get (slice_set w.slots m (record server { node = served })) n ≡ Some behind
+  pub spent : 2 ^ 62 ≤ behind.node.ends.opened
   pub dialler : Slot
-  pub running : IsRunning between n dialler
-  pub spent : 2 ^ 62 ≤ dialler.node.ends.opened
-  pub is : v ≡ put_node between n dialler (stopped_as dialler.node)
+  pub dialling : IsRunning w n dialler
+  pub is : v ≡ put_node w n dialler (stopped_as dialler.node)
 
 pub data Dialled (w : WorldState) (n m : ℕ) (v : WorldState) : Type 0 where
   connects : Connects w n m v → Dialled w n m v
@@ -78,15 +72,10 @@ pub data Dialled (w : WorldState) (n m : ℕ) (v : WorldState) : Type 0 where
   dialler_rests : IsDown w n → v ≡ w → Dialled w n m v
   server_rests : IsDown w m → v ≡ w → Dialled w n m v
 
--- what is left where memory was lacking: nothing, or that m has counted a link more
-pub data Lacks (w : WorldState) (m : ℕ) (v : WorldState) : Type 0 where
-  same : v ≡ w → Lacks w m v
-  counts : Counts w m v → Lacks w m v
-
 abbrev pub DialCall : WorldState → ℕ → ℕ → WorldState → Result (Unit {0}) Refusal → Type 0
 DialCall w n m v (Ok done) = CanDial w n m × Dialled w n m v
 DialCall w n m v (Err refusal.Nobody) = (CanDial w n m → ⊥) × (v ≡ w)
-DialCall w n m v (Err refusal.Memory) = BothRun w n m × Lacks w m v
+DialCall w n m v (Err refusal.Memory) = BothRun w n m × (v ≡ w)
 DialCall w n m v (Err refusal.Drawn) = ⊥
 DialCall w n m v (Err refusal.TooMuch) = ⊥
 DialCall w n m v (Err refusal.InputFull) = ⊥

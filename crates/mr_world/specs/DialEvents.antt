@@ -1,18 +1,12 @@
 -- What a dial is among histories.
 use Rattle.std.specs.Prelude.{ℕ}
 use Rattle.mr_history.specs.History.{Book}
-use Rattle.mr_history.specs.Changing.{Still}
 use Rattle.mr_history.specs.Event as events
 use Rattle.mr_language.specs.Minired.{minired}
 use Rattle.mr_seen.specs.State.{WorldState}
-use Rattle.mr_seen.specs.Seeing.{seen}
 use Rattle.mr_seen.specs.Events.{Holds, IsEvent}
-use Rattle.mr_world.specs.Connecting.{CanDial, Counts, Dialled}
+use Rattle.mr_world.specs.Connecting.{CanDial, Dialled}
 
 -- A dial, as it is taken, is one of histories, whatever came of it.
 abbrev pub DialsAreEvents : Type 0
 DialsAreEvents = (w : WorldState) (book : Book minired) (n m : ℕ) (v : WorldState) → Holds w book → CanDial w n m → Dialled w n m v → IsEvent w book (events.Event.Dial n m) v
-
--- Where a node has counted a link more nothing changes there.
-abbrev pub CountsAreUnseen : Type 0
-CountsAreUnseen = (w : WorldState) (book : Book minired) (m : ℕ) (v : WorldState) → Counts w m v → Still (seen w book) (seen v book)

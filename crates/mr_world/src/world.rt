@@ -176,8 +176,8 @@ impl World {
         self.parts.step_dialler(self.alloc, l, given, fresh)
     }
 
-    /// A replica that follows nobody dials a node, whichever it was told to follow. Where either is stopped nothing happens. Where memory is lacking
-    /// for the second end nothing is left but that the node that was dialled has counted a link more.
+    /// A replica that follows nobody dials a node, whichever it was told to follow. Where either is stopped nothing happens. Where memory is lacking,
+    /// for whichever end, nothing has changed.
     pub fn dial(&mut self, n: usize, m: usize) -> Result<(), Refusal>
         ensures { DialCall self.old n m self.new result }
     {

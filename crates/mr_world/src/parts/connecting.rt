@@ -40,7 +40,7 @@ impl Parts {
         self.connect(alloc, seed, n, m)
     }
 
-    /// The end of the node that is dialled comes, and then the other's. Where that one can't come, the first is closed again.
+    /// The end of the node that is dialled comes, and then the other's. Where that one can't come, the first is taken back.
     fn connect(
         &mut self,
         alloc: Global,
@@ -74,7 +74,7 @@ impl Parts {
                 Ok(())
             }
             Err(fault) => {
-                self.slots[m].close(at);
+                self.slots[m].take_back(at);
                 match fault {
                     NodeFault::Memory => Err(Refusal::Memory),
                     NodeFault::Stopped => Ok(()),

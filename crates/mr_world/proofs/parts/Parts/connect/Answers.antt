@@ -4,11 +4,10 @@ use Rattle.mr_follow.specs.Handshake.{ping_line}
 use Rattle.mr_node.specs.Calls.{OpenRow}
 use Rattle.mr_seen.specs.Way.{no_way, sent_on}
 use Rattle.mr_seen.specs.State.{Link, Slot, WorldState}
-use Rattle.mr_seen.specs.Worlds.{IsWorld}
 use Rattle.mr_seen.proofs.Places.{is_within}
 use Rattle.mr_carrying.specs.AtNode.{DialsBy}
-use Rattle.mr_world.specs.Connecting.{BothRun, Dialled, Lacks}
-use Rattle.mr_world.proofs.Meeting.{connects_here, lacks_again, lacks_none, read_of, server_stops_here, set_within, stood, stops_again, waits_alone, waits_replica}
+use Rattle.mr_world.specs.Connecting.{BothRun, Dialled}
+use Rattle.mr_world.proofs.Meeting.{connects_here, read_of, same_again, same_none, server_stops_here, set_within, still_last, still_open, stood, stops_again, waits_alone, waits_replica}
 use Rattle.mr_world.proofs.parts.Parts.connect.Goals as goal
 
 pub index_mut-requires : goal.index_mut-requires
@@ -49,7 +48,7 @@ dial-requires-clause-alone c =
 pub returns-then-is_err : goal.returns-then-is_err
 returns-then-is_err c =
     let w : WorldState = record { slots = c.self.inside.slots.items; links = c.self.inside.links.items; book = c.self.inside.book.items } in
-    (c.requires.both, subst (λ (z : WorldState). Lacks z c.args.m (record w { links = c.reserve.new.self.items })) c.self.view_is (Lacks.same (ap (λ (z : List Link). record w { links = z }) c.reserve.ensures.items)))
+    (c.requires.both, ap (λ (z : List Link). record w { links = z }) c.reserve.ensures.items ∙ c.self.view_is)
 
 pub returns-in-Err-Memory : goal.returns-in-Err-Memory
 returns-in-Err-Memory c =
@@ -59,7 +58,7 @@ returns-in-Err-Memory c =
     let m_in : c.args.m < length c.self.inside.slots.items = is_within c.self.inside.slots.items c.args.m runs.can.server runs.can.found in
     let serving : c.index_mut.result.now.node.core.up ≡ true = subst (λ (z : Slot). z.node.core.up ≡ true) (read_of c.self.inside.slots.items c.args.m runs.can.server c.index_mut.result.now runs.can.found c.index_mut.ensures.value) runs.server_up in
     let row = subst (λ r. OpenRow c.index_mut.result.now.node c.open.new.self.node r) (c.in-Err-Memory.is ∙ ap Err c.in-Err-Memory.field-0-is) c.open.ensures.row in
-    (c.requires.both, subst (λ (z : WorldState). Lacks z c.args.m (record w { slots = slice_set w.slots c.args.m c.open.new.self; links = c.reserve.new.self.items })) c.self.view_is (lacks_none w c.args.n c.args.m runs.can.dialler c.index_mut.result.now n_in (stood c.self.inside.slots.items c.args.n runs.can.dialler runs.can.at) m_in c.index_mut.ensures.value runs.can.replica runs.can.alone runs.dialler_up serving c.open.new.self c.reserve.new.self.items row.1 c.open.ensures.rest c.reserve.ensures.items))
+    (c.requires.both, same_none w c.args.n c.args.m runs.can.dialler c.index_mut.result.now n_in (stood c.self.inside.slots.items c.args.n runs.can.dialler runs.can.at) m_in c.index_mut.ensures.value runs.can.replica runs.can.alone runs.dialler_up serving c.open.new.self c.reserve.new.self.items row.1 c.open.ensures.rest c.reserve.ensures.items ∙ c.self.view_is)
 
 pub returns-in-Err-Stopped : goal.returns-in-Err-Stopped
 returns-in-Err-Stopped c =
@@ -97,6 +96,26 @@ index_mut-requires-in-Err c =
     let still : c.args.m < length (slice_set (slice_set c.self.inside.slots.items c.args.m c.open.new.self) c.args.n c.dial.new.self) = set_within (slice_set c.self.inside.slots.items c.args.m c.open.new.self) c.args.n c.args.m c.dial.new.self (set_within c.self.inside.slots.items c.args.m c.args.m c.open.new.self m_in) in
     search rules
 
+pub take_back-requires-clause-open : goal.take_back-requires-clause-open
+take_back-requires-clause-open c =
+    let w : WorldState = record { slots = c.self.inside.slots.items; links = c.self.inside.links.items; book = c.self.inside.book.items } in
+    let runs : BothRun w c.args.n c.args.m = subst (λ (z : WorldState). BothRun z c.args.n c.args.m) (sym c.self.view_is) c.requires.both in
+    let n_in : c.args.n < length c.self.inside.slots.items = is_within c.self.inside.slots.items c.args.n runs.can.dialler runs.can.at in
+    let m_in : c.args.m < length c.self.inside.slots.items = is_within c.self.inside.slots.items c.args.m runs.can.server runs.can.found in
+    let serving : c.index_mut.result.now.node.core.up ≡ true = subst (λ (z : Slot). z.node.core.up ≡ true) (read_of c.self.inside.slots.items c.args.m runs.can.server c.index_mut.result.now runs.can.found c.index_mut.ensures.value) runs.server_up in
+    let opens = c.in-Ok-open.ensures.row.1 in
+    still_open w c.args.n c.args.m runs.can.dialler c.index_mut.result.now n_in (stood c.self.inside.slots.items c.args.n runs.can.dialler runs.can.at) m_in c.index_mut.ensures.value runs.can.replica runs.can.alone runs.dialler_up serving c.open.new.self c.index_mut-2.result.now c.in-Ok-open.at c.open.ensures.rest opens c.index_mut-2.ensures.value c.dial.new.self c.index_mut-in-Err.result.now c.reserve.new.self.items c.in-Err.ensures.err c.index_mut-in-Err.ensures.value c.in-Err.fault c.in-Err.ensures.row
+
+pub take_back-requires-clause-last : goal.take_back-requires-clause-last
+take_back-requires-clause-last c =
+    let w : WorldState = record { slots = c.self.inside.slots.items; links = c.self.inside.links.items; book = c.self.inside.book.items } in
+    let runs : BothRun w c.args.n c.args.m = subst (λ (z : WorldState). BothRun z c.args.n c.args.m) (sym c.self.view_is) c.requires.both in
+    let n_in : c.args.n < length c.self.inside.slots.items = is_within c.self.inside.slots.items c.args.n runs.can.dialler runs.can.at in
+    let m_in : c.args.m < length c.self.inside.slots.items = is_within c.self.inside.slots.items c.args.m runs.can.server runs.can.found in
+    let serving : c.index_mut.result.now.node.core.up ≡ true = subst (λ (z : Slot). z.node.core.up ≡ true) (read_of c.self.inside.slots.items c.args.m runs.can.server c.index_mut.result.now runs.can.found c.index_mut.ensures.value) runs.server_up in
+    let opens = c.in-Ok-open.ensures.row.1 in
+    still_last w c.args.n c.args.m runs.can.dialler c.index_mut.result.now n_in (stood c.self.inside.slots.items c.args.n runs.can.dialler runs.can.at) m_in c.index_mut.ensures.value runs.can.replica runs.can.alone runs.dialler_up serving c.open.new.self c.index_mut-2.result.now c.in-Ok-open.at c.open.ensures.rest opens c.index_mut-2.ensures.value c.dial.new.self c.index_mut-in-Err.result.now c.reserve.new.self.items c.in-Err.ensures.err c.index_mut-in-Err.ensures.value c.in-Err.fault c.in-Err.ensures.row
+
 pub returns-in-Memory : goal.returns-in-Memory
 returns-in-Memory c =
     let w : WorldState = record { slots = c.self.inside.slots.items; links = c.self.inside.links.items; book = c.self.inside.book.items } in
@@ -105,12 +124,10 @@ returns-in-Memory c =
     let m_in : c.args.m < length c.self.inside.slots.items = is_within c.self.inside.slots.items c.args.m runs.can.server runs.can.found in
     let serving : c.index_mut.result.now.node.core.up ≡ true = subst (λ (z : Slot). z.node.core.up ≡ true) (read_of c.self.inside.slots.items c.args.m runs.can.server c.index_mut.result.now runs.can.found c.index_mut.ensures.value) runs.server_up in
     let opens = c.in-Ok-open.ensures.row.1 in
-    let world : IsWorld w = subst (λ (z : WorldState). IsWorld z) (sym c.self.view_is) c.requires.world in
     let row = subst (λ f. DialsBy c.index_mut-2.result.now.node c.dial.new.self.node (Err f)) c.in-Memory.is c.in-Err.ensures.row in (
       c.requires.both,
-      subst (λ (z : WorldState). Lacks z c.args.m (record w { slots = slice_set (slice_set (slice_set w.slots c.args.m c.open.new.self) c.args.n c.dial.new.self) c.args.m c.close.new.self; links = c.reserve.new.self.items })) c.self.view_is
-          (lacks_again w c.args.n c.args.m runs.can.dialler c.index_mut.result.now n_in (stood c.self.inside.slots.items c.args.n runs.can.dialler runs.can.at) m_in c.index_mut.ensures.value runs.can.replica runs.can.alone runs.dialler_up serving c.open.new.self c.index_mut-2.result.now c.in-Ok-open.at c.open.ensures.rest opens c.index_mut-2.ensures.value
-          world c.dial.new.self c.index_mut-in-Err.result.now c.close.new.self c.reserve.new.self.items c.in-Err.ensures.err c.index_mut-in-Err.ensures.value c.close.ensures c.reserve.ensures.items row.1),
+      same_again w c.args.n c.args.m runs.can.dialler c.index_mut.result.now n_in (stood c.self.inside.slots.items c.args.n runs.can.dialler runs.can.at) m_in c.index_mut.ensures.value runs.can.replica runs.can.alone runs.dialler_up serving c.open.new.self c.index_mut-2.result.now c.in-Ok-open.at c.open.ensures.rest opens c.index_mut-2.ensures.value
+          c.dial.new.self c.index_mut-in-Err.result.now c.reserve.new.self.items c.in-Err.ensures.err c.index_mut-in-Err.ensures.value c.take_back.new.self c.take_back.ensures.row c.take_back.ensures.rest c.reserve.ensures.items row.1 ∙ c.self.view_is,
     )
 
 pub returns-in-Stopped : goal.returns-in-Stopped
@@ -121,10 +138,9 @@ returns-in-Stopped c =
     let m_in : c.args.m < length c.self.inside.slots.items = is_within c.self.inside.slots.items c.args.m runs.can.server runs.can.found in
     let serving : c.index_mut.result.now.node.core.up ≡ true = subst (λ (z : Slot). z.node.core.up ≡ true) (read_of c.self.inside.slots.items c.args.m runs.can.server c.index_mut.result.now runs.can.found c.index_mut.ensures.value) runs.server_up in
     let opens = c.in-Ok-open.ensures.row.1 in
-    let world : IsWorld w = subst (λ (z : WorldState). IsWorld z) (sym c.self.view_is) c.requires.world in
     let row = subst (λ f. DialsBy c.index_mut-2.result.now.node c.dial.new.self.node (Err f)) c.in-Stopped.is c.in-Err.ensures.row in (
       c.requires.both.can,
-      subst (λ (z : WorldState). Dialled z c.args.n c.args.m (record w { slots = slice_set (slice_set (slice_set w.slots c.args.m c.open.new.self) c.args.n c.dial.new.self) c.args.m c.close.new.self; links = c.reserve.new.self.items })) c.self.view_is
+      subst (λ (z : WorldState). Dialled z c.args.n c.args.m (record w { slots = slice_set (slice_set (slice_set w.slots c.args.m c.open.new.self) c.args.n c.dial.new.self) c.args.m c.take_back.new.self; links = c.reserve.new.self.items })) c.self.view_is
           (stops_again w c.args.n c.args.m runs.can.dialler c.index_mut.result.now n_in (stood c.self.inside.slots.items c.args.n runs.can.dialler runs.can.at) m_in c.index_mut.ensures.value runs.can.replica runs.can.alone runs.dialler_up serving c.open.new.self c.index_mut-2.result.now c.in-Ok-open.at c.open.ensures.rest opens c.index_mut-2.ensures.value
-          world c.dial.new.self c.index_mut-in-Err.result.now c.close.new.self c.reserve.new.self.items c.in-Err.ensures.err c.index_mut-in-Err.ensures.value c.close.ensures c.reserve.ensures.items row),
+          c.dial.new.self c.index_mut-in-Err.result.now c.reserve.new.self.items c.in-Err.ensures.err c.index_mut-in-Err.ensures.value c.take_back.new.self c.take_back.ensures.row c.take_back.ensures.rest c.reserve.ensures.items row),
     )
