@@ -110,13 +110,13 @@ class Copies(Replicating):
         self.tells(master, offset=27, name=id, followers=2)
         for it in (first, second):
             # a whole copy leaves nothing in the backlog
-            self.tells(it, role="slave", offset=27, name=id, first=28, held=0)
+            self.tells(it, role="slave", offset=27, name=id, first=28)
             self.follows(it, master.port)
         self.assertEqual(master.asks("SET", "k", "w"), OK)
         self.caught_up(master, first, second)
         self.tells(master, offset=54, name=id, followers=2)
         for it in (first, second):
-            self.tells(it, role="slave", offset=54, name=id, first=28, held=27)
+            self.tells(it, role="slave", offset=54, name=id, first=28)
             self.follows(it, master.port)
         self.comes(lambda: master.asks("ROLE") == leads(54, (first, 54), (second, 54)))
 
