@@ -67,13 +67,14 @@ impl Dataset {
     }
 }
 
+/// Whether a key is expired at a moment: its deadline has come.
 fn is_expired(timed: &TimedKey, now: i64) -> bool
     ensures { result ≡ int_le timed.now.deadline now }
 {
     timed.deadline <= now
 }
 
-// A key with its deadline, if that has passed.
+/// A key with its deadline, if it is expired at a moment.
 fn if_expired(timed: &TimedKey, now: i64) -> Option<DueKey<'_>>
     ensures { MatchOption result (int_le timed.now.deadline now ≡ false) (λ d. (shown d ≡ entered timed.now) × (int_le timed.now.deadline now ≡ true)) }
 {

@@ -34,6 +34,7 @@ impl Dataset {
         self.effect_texts(alloc)
     }
 
+    /// The texts of effects that make the dataset again out of nothing, in byte order of keys.
     fn effect_texts(&self, alloc: Global) -> Result<Vec<u8>, AllocError>
         ensures text { IfOk result (λ text. text.items ≡ texts (rebuilding self.now)) }
         ensures kept { IsDataset self.now }
@@ -45,6 +46,7 @@ impl Dataset {
         Ok(out)
     }
 
+    /// Appends the texts of the effects that make one key again, and none where it isn't there.
     fn push_key(&self, alloc: Global, key: &[u8], out: &mut Vec<u8>) -> Result<(), AllocError>
         ensures text { OnOk result (out.new.items ≡ out.old.items ++ texts (rebuilt key.now (get self.now key.now))) }
         ensures kept { IsDataset self.now }
@@ -57,13 +59,14 @@ impl Dataset {
     }
 }
 
-// The text of one effect, which is dropped here: one function has to let go of every kind of effect.
+/// Appends the text of one effect, which is dropped here: one function has to let go of every kind of effect.
 fn push_effect(effect: Effect<'_>, out: &mut Vec<u8>) -> Result<(), AllocError>
     ensures { OnOk result (out.new.items ≡ out.old.items ++ text effect.entry) }
 {
     encode(&effect, out)
 }
 
+/// Appends the text of the effect that gives a key its deadline in milliseconds, if it has one.
 fn push_deadline(key: &[u8], deadline: Option<i64>, out: &mut Vec<u8>) -> Result<(), AllocError>
     ensures { OnOk result (out.new.items ≡ out.old.items ++ texts (rebuilt_deadline key.now deadline)) }
 {
@@ -74,6 +77,7 @@ fn push_deadline(key: &[u8], deadline: Option<i64>, out: &mut Vec<u8>) -> Result
     push_effect(Effect::Expire { key, deadline }, out)
 }
 
+/// Appends the texts of the effects that make a key's value again, without its deadline.
 fn push_value<'d>(
     alloc: Global,
     key: &'d [u8],
@@ -91,6 +95,7 @@ fn push_value<'d>(
     }
 }
 
+/// Appends the text of the effect that sets a key to a text.
 fn push_text<'d>(key: &'d [u8], text: &'d [u8], out: &mut Vec<u8>) -> Result<(), AllocError>
     ensures { OnOk result (out.new.items ≡ out.old.items ++ texts (rebuilt_value key.now (stored.Text text.now))) }
 {
@@ -99,6 +104,7 @@ fn push_text<'d>(key: &'d [u8], text: &'d [u8], out: &mut Vec<u8>) -> Result<(),
     push_effect(Effect::Set { key, value }, out)
 }
 
+/// Appends the texts of the effects that make a key's hash again, with at most `MOST_ITEMS` fields in each.
 fn push_hash<'d>(
     alloc: Global,
     key: &'d [u8],
@@ -118,7 +124,7 @@ fn push_hash<'d>(
     push_fields(key, group, out)
 }
 
-// The effect of a group, unless it is empty.
+/// Appends the text of the effect that sets a group of fields, and nothing where it is empty.
 fn push_fields<'d>(key: &'d [u8], pairs: Pairs<'d>, out: &mut Vec<u8>) -> Result<(), AllocError>
     requires { length pairs ≤ most_items }
     ensures { OnOk result (out.new.items ≡ out.old.items ++ texts (map (made.SetFields key.now) (cut pairs.entry))) }
@@ -130,6 +136,7 @@ fn push_fields<'d>(key: &'d [u8], pairs: Pairs<'d>, out: &mut Vec<u8>) -> Result
     push_effect(Effect::SetFields { key, pairs }, out)
 }
 
+/// Appends the texts of the effects that make a key's list again, with at most `MOST_ITEMS` items in each.
 fn push_list<'d>(
     alloc: Global,
     key: &'d [u8],
@@ -149,7 +156,7 @@ fn push_list<'d>(
     push_items(key, group, out)
 }
 
-// The effect of a group, unless it is empty.
+/// Appends the text of the effect that puts a group of items at the right end, and nothing where it is empty.
 fn push_items<'d>(key: &'d [u8], items: Words<'d>, out: &mut Vec<u8>) -> Result<(), AllocError>
     requires { length items ≤ most_items }
     ensures { OnOk result (out.new.items ≡ out.old.items ++ texts (map (made.Push key.now Right) (cut items.entry))) }
@@ -162,6 +169,7 @@ fn push_items<'d>(key: &'d [u8], items: Words<'d>, out: &mut Vec<u8>) -> Result<
     push_effect(Effect::Push { key, end, items }, out)
 }
 
+/// Appends the texts of the effects that make a key's set again, with at most `MOST_ITEMS` members in each.
 fn push_set<'d>(
     alloc: Global,
     key: &'d [u8],
@@ -181,7 +189,7 @@ fn push_set<'d>(
     push_members(key, group, out)
 }
 
-// The effect of a group, unless it is empty.
+/// Appends the text of the effect that adds a group of members, and nothing where it is empty.
 fn push_members<'d>(key: &'d [u8], members: Words<'d>, out: &mut Vec<u8>) -> Result<(), AllocError>
     requires { length members ≤ most_items }
     ensures { OnOk result (out.new.items ≡ out.old.items ++ texts (map (made.AddMembers key.now) (cut members.entry))) }
@@ -193,6 +201,7 @@ fn push_members<'d>(key: &'d [u8], members: Words<'d>, out: &mut Vec<u8>) -> Res
     push_effect(Effect::AddMembers { key, members }, out)
 }
 
+/// Appends the texts of the effects that make a key's sorted set again, with at most `MOST_ITEMS` members in each.
 fn push_sorted_set<'d>(
     alloc: Global,
     key: &'d [u8],
@@ -212,7 +221,7 @@ fn push_sorted_set<'d>(
     push_scores(key, group, out)
 }
 
-// The effect of a group, unless it is empty.
+/// Appends the text of the effect that sets a group of scores, and nothing where it is empty.
 fn push_scores<'d>(key: &'d [u8], scores: Scores<'d>, out: &mut Vec<u8>) -> Result<(), AllocError>
     requires { length scores ≤ most_items }
     ensures { OnOk result (out.new.items ≡ out.old.items ++ texts (map (made.SetScores key.now) (cut scores.entry))) }

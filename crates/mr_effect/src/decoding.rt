@@ -11,7 +11,7 @@ use mr_value::End;
 use std::alloc::{AllocError, Global};
 use std::borrow::CowSlice;
 
-// The name chooses how the arguments are read.
+/// The effect of this name whose arguments these words are, if one is spelled so.
 #[tactic(auto, unfolding(crate::specs::Reading::reading))]
 fn read_as<'a>(
     alloc: Global,
@@ -51,6 +51,7 @@ fn read_as<'a>(
     }
 }
 
+/// The effect that these words spell, if one does: its name and then its arguments.
 #[tactic(auto, unfolding(crate::specs::Reading::effect_of))]
 fn effect_of<'a>(
     alloc: Global,

@@ -243,7 +243,7 @@ impl Effect<'_> {
     }
 }
 
-// A number of this type always is one.
+/// Whether a number is one of 64 bits with a sign, as one of this type always is.
 fn is_i64(_number: i64) -> bool
     ensures { result ≡ is_i64 _number }
 {

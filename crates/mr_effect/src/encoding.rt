@@ -16,6 +16,7 @@ use mr_resp::{push_request, push_word, push_word_count};
 use mr_value::{End, Side, Word};
 use std::alloc::AllocError;
 
+/// The name of an effect that puts items at this end of a list.
 fn push_name(end: End) -> EffectName
     ensures { result ≡ push_name end }
 {
@@ -25,6 +26,7 @@ fn push_name(end: End) -> EffectName
     }
 }
 
+/// The name of an effect that takes items from this end of a list.
 fn pop_name(end: End) -> EffectName
     ensures { result ≡ pop_name end }
 {
@@ -34,6 +36,7 @@ fn pop_name(end: End) -> EffectName
     }
 }
 
+/// The word for an end of a list.
 fn end_word(end: End) -> &'static [u8]
     ensures { result.now ≡ end_word end }
 {
@@ -43,6 +46,7 @@ fn end_word(end: End) -> &'static [u8]
     }
 }
 
+/// The word for a side of a pivot.
 fn side_word(side: Side) -> &'static [u8]
     ensures { result.now ≡ side_word side }
 {
@@ -52,7 +56,8 @@ fn side_word(side: Side) -> &'static [u8]
     }
 }
 
-// The beginning of a request: a name and a key, to which so many words more are to come.
+/// Appends the beginning of a request: a name and a key, to which so many words more are to come. What was there stays
+/// in front, also after an `Err`.
 #[tactic(auto, using(crate::proofs::Appending::steps), unfolding(crate::specs::Parts::head))]
 fn push_head(
     name: EffectName,
@@ -69,7 +74,7 @@ fn push_head(
     push_word(out, key.as_slice())
 }
 
-// A name, a key and words.
+/// Appends a request: a name, a key and words. What was there stays in front, also after an `Err`.
 #[tactic(auto, using(crate::proofs::Appending::steps))]
 fn push_words(
     name: EffectName,
@@ -87,7 +92,7 @@ fn push_words(
     Ok(())
 }
 
-// A key or field, and its value behind it.
+/// Appends a key or field as a word, and its value behind it. What was there stays in front, also after an `Err`.
 #[tactic(auto, using(crate::proofs::Appending::steps))]
 fn push_pair(pair: &(Word<'_>, Word<'_>), out: &mut Vec<u8>) -> Result<(), AllocError>
     ensures ok { OnOk result (out.new.items ≡ out.old.items ++ flat_map bulk (pair_words pair.now)) }
@@ -97,7 +102,7 @@ fn push_pair(pair: &(Word<'_>, Word<'_>), out: &mut Vec<u8>) -> Result<(), Alloc
     push_word(out, pair.1.as_slice())
 }
 
-// Each key or field, with its value behind it.
+/// Appends each key or field as a word, with its value behind it. What was there stays in front, also after an `Err`.
 #[tactic(auto, using(crate::proofs::Appending::steps))]
 fn push_each_pair(pairs: &Pairs<'_>, out: &mut Vec<u8>) -> Result<(), AllocError>
     ensures ok { OnOk result (out.new.items ≡ out.old.items ++ flat_map bulk (flat_map pair_words pairs.now)) }
@@ -109,7 +114,7 @@ fn push_each_pair(pairs: &Pairs<'_>, out: &mut Vec<u8>) -> Result<(), AllocError
     Ok(())
 }
 
-// Keys, each with its value behind it.
+/// Appends a request: MSET, and keys each with its value behind it. What was there stays in front, also after an `Err`.
 #[tactic(auto, using(crate::proofs::Appending::steps))]
 fn push_keys(pairs: &Pairs<'_>, out: &mut Vec<u8>) -> Result<(), AllocError>
     ensures ok { OnOk result (out.new.items ≡ out.old.items ++ array (text_of EffectName.MSet ∷ flat_map pair_words pairs.now)) }
@@ -121,7 +126,8 @@ fn push_keys(pairs: &Pairs<'_>, out: &mut Vec<u8>) -> Result<(), AllocError>
     Ok(())
 }
 
-// A key, and fields each with its value behind it.
+/// Appends a request: HSET, a key, and fields each with its value behind it. What was there stays in front, also after
+/// an `Err`.
 #[tactic(auto, using(crate::proofs::Appending::steps))]
 fn push_fields(key: &Word<'_>, pairs: &Pairs<'_>, out: &mut Vec<u8>) -> Result<(), AllocError>
     ensures ok { OnOk result (out.new.items ≡ out.old.items ++ array (text_of EffectName.HSet ∷ key.now ∷ flat_map pair_words pairs.now)) }
@@ -132,7 +138,7 @@ fn push_fields(key: &Word<'_>, pairs: &Pairs<'_>, out: &mut Vec<u8>) -> Result<(
     Ok(())
 }
 
-// A score, and its member behind it.
+/// Appends a score as a word, and its member behind it. What was there stays in front, also after an `Err`.
 #[tactic(auto, using(crate::proofs::Appending::steps))]
 fn push_score(score: i64, member: &Word<'_>, out: &mut Vec<u8>) -> Result<(), AllocError>
     ensures ok { OnOk result (out.new.items ≡ out.old.items ++ flat_map bulk (score_words (member.now, score))) }
@@ -143,7 +149,7 @@ fn push_score(score: i64, member: &Word<'_>, out: &mut Vec<u8>) -> Result<(), Al
     push_word(out, member.as_slice())
 }
 
-// Each score, with its member behind it.
+/// Appends each score as a word, with its member behind it. What was there stays in front, also after an `Err`.
 #[tactic(auto, using(crate::proofs::Appending::steps))]
 fn push_each_score(scores: &Scores<'_>, out: &mut Vec<u8>) -> Result<(), AllocError>
     ensures ok { OnOk result (out.new.items ≡ out.old.items ++ flat_map bulk (flat_map score_words scores.now)) }
@@ -155,7 +161,8 @@ fn push_each_score(scores: &Scores<'_>, out: &mut Vec<u8>) -> Result<(), AllocEr
     Ok(())
 }
 
-// A key, and scores each with its member behind it.
+/// Appends a request: ZADD, a key, and scores each with its member behind it. What was there stays in front, also after
+/// an `Err`.
 #[tactic(auto, using(crate::proofs::Appending::steps))]
 fn push_scores(key: &Word<'_>, scores: &Scores<'_>, out: &mut Vec<u8>) -> Result<(), AllocError>
     ensures ok { OnOk result (out.new.items ≡ out.old.items ++ array (text_of EffectName.ZAdd ∷ key.now ∷ flat_map score_words scores.now)) }
@@ -166,7 +173,8 @@ fn push_scores(key: &Word<'_>, scores: &Scores<'_>, out: &mut Vec<u8>) -> Result
     Ok(())
 }
 
-// Requests of so many words. (The words of an array must stand at one lifetime.)
+/// Appends a request of one word. (The words of an array must stand at one lifetime.) What was there stays in front,
+/// also after an `Err`.
 fn push_one(first: &[u8], out: &mut Vec<u8>) -> Result<(), AllocError>
     ensures ok { OnOk result (out.new.items ≡ out.old.items ++ array (first.now ∷ [])) }
     ensures kept { Extends out.old.items out.new.items }
@@ -174,6 +182,7 @@ fn push_one(first: &[u8], out: &mut Vec<u8>) -> Result<(), AllocError>
     push_request(&[first], out)
 }
 
+/// Appends a request of two words. What was there stays in front, also after an `Err`.
 fn push_two<'x>(first: &'x [u8], second: &'x [u8], out: &mut Vec<u8>) -> Result<(), AllocError>
     ensures ok { OnOk result (out.new.items ≡ out.old.items ++ array (first.now ∷ second.now ∷ [])) }
     ensures kept { Extends out.old.items out.new.items }
@@ -181,6 +190,7 @@ fn push_two<'x>(first: &'x [u8], second: &'x [u8], out: &mut Vec<u8>) -> Result<
     push_request(&[first, second], out)
 }
 
+/// Appends a request of three words. What was there stays in front, also after an `Err`.
 fn push_three<'x>(
     first: &'x [u8],
     second: &'x [u8],
@@ -193,6 +203,7 @@ fn push_three<'x>(
     push_request(&[first, second, third], out)
 }
 
+/// Appends a request of four words. What was there stays in front, also after an `Err`.
 fn push_four<'x>(
     first: &'x [u8],
     second: &'x [u8],
@@ -206,6 +217,7 @@ fn push_four<'x>(
     push_request(&[first, second, third, fourth], out)
 }
 
+/// Appends a request of five words. What was there stays in front, also after an `Err`.
 fn push_five<'x>(
     first: &'x [u8],
     second: &'x [u8],
@@ -220,7 +232,7 @@ fn push_five<'x>(
     push_request(&[first, second, third, fourth, fifth], out)
 }
 
-// A name, a key and two numbers.
+/// Appends a request: LTRIM, a key, a first and a last place. What was there stays in front, also after an `Err`.
 fn push_range(key: &Word<'_>, first: i64, last: i64, out: &mut Vec<u8>) -> Result<(), AllocError>
     ensures ok { OnOk result (out.new.items ≡ out.old.items ++ array (text_of EffectName.LTrim ∷ key.now ∷ signed_decimal first ∷ signed_decimal last ∷ [])) }
     ensures kept { Extends out.old.items out.new.items }
@@ -236,7 +248,8 @@ fn push_range(key: &Word<'_>, first: i64, last: i64, out: &mut Vec<u8>) -> Resul
     )
 }
 
-// SET, a key, a value and a deadline.
+/// Appends a request: SET, a key, a value, PXAT and a deadline in milliseconds. What was there stays in front, also
+/// after an `Err`.
 fn push_until(
     key: &Word<'_>,
     value: &Word<'_>,
@@ -257,7 +270,7 @@ fn push_until(
     )
 }
 
-// A name, a key and a number.
+/// Appends a request: a name, a key and a number. What was there stays in front, also after an `Err`.
 fn push_number(
     name: EffectName,
     key: &Word<'_>,
@@ -276,7 +289,7 @@ fn push_number(
     )
 }
 
-// A name, a key, a number and an item.
+/// Appends a request: a name, a key, a number and an item. What was there stays in front, also after an `Err`.
 fn push_numbered(
     name: EffectName,
     key: &Word<'_>,
@@ -297,6 +310,7 @@ fn push_numbered(
     )
 }
 
+/// Appends the text of an effect. An `Err` may leave a beginning of it behind what was there.
 #[tactic(auto, unfolding(crate::specs::Spelling::words))]
 fn push_effect(effect: &Effect<'_>, out: &mut Vec<u8>) -> Result<(), AllocError>
     ensures ok { OnOk result (out.new.items ≡ out.old.items ++ text effect.now) }

@@ -74,7 +74,7 @@ impl EffectName {
         EffectName::ALL.iter().copied().find(|name| name.is(word))
     }
 
-    // Whether a word is this name.
+    /// Whether a word is this name.
     fn is(self, word: &[u8]) -> bool
         ensures { result ≡ is_named word.now self }
     {

@@ -11,12 +11,14 @@ use mr_value::{End, Side, Word, read_i64};
 use std::alloc::{AllocError, Global};
 use std::borrow::CowSlice;
 
+/// The word, borrowed.
 fn borrowed<'a>(word: &'a CowSlice<'_, u8>) -> Word<'a>
     ensures { result ≡ cow_slice_items word.now }
 {
     Word::borrowed(word.as_slice())
 }
 
+/// The end of a list that a word names, if it is `LEFT` or `RIGHT` in upper case.
 fn end_of(word: &[u8]) -> Option<End>
     ensures { result ≡ end_of word.now }
 {
@@ -29,6 +31,7 @@ fn end_of(word: &[u8]) -> Option<End>
     None
 }
 
+/// The side of a pivot that a word names, if it is `BEFORE` or `AFTER` in upper case.
 fn side_of(word: &[u8]) -> Option<Side>
     ensures { result ≡ side_of word.now }
 {
@@ -41,6 +44,7 @@ fn side_of(word: &[u8]) -> Option<Side>
     None
 }
 
+/// The place or offset that a word spells, if it is a number from 0 on.
 fn place_of(word: &[u8]) -> Option<i64>
     ensures { result ≡ place_of word.now }
 {
@@ -51,6 +55,7 @@ fn place_of(word: &[u8]) -> Option<i64>
     Some(place)
 }
 
+/// The deadline that a word spells, in milliseconds, if it is a number within the limits of deadlines.
 fn deadline_of(word: &[u8]) -> Option<i64>
     ensures { result ≡ deadline_of word.now }
 {
@@ -62,6 +67,7 @@ fn deadline_of(word: &[u8]) -> Option<i64>
     }
 }
 
+/// The score that a word spells, if it is a number within the limits of scores.
 fn score_of(word: &[u8]) -> Option<i64>
     ensures { result ≡ score_of word.now }
 {
@@ -69,6 +75,8 @@ fn score_of(word: &[u8]) -> Option<i64>
     if is_score(score) { Some(score) } else { None }
 }
 
+/// The keys or fields with their values that words are in turn. None where the last has no value; no word makes no
+/// pair.
 fn pairs_of<'a>(
     alloc: Global,
     words: &'a [CowSlice<'_, u8>],
@@ -88,6 +96,8 @@ fn pairs_of<'a>(
     }
 }
 
+/// The members with their scores, where each member stands behind its score. None where a word in a score's place
+/// spells none, or the last score has no member.
 fn scores_of<'a>(
     alloc: Global,
     words: &'a [CowSlice<'_, u8>],
@@ -110,6 +120,8 @@ fn scores_of<'a>(
     }
 }
 
+/// The effect of SET with these arguments, if they are a key and a value, with nothing behind them, KEEPTTL, or PXAT
+/// and a deadline.
 pub(crate) fn set_of<'a>(words: &'a [CowSlice<'_, u8>]) -> Option<Effect<'a>>
     ensures { result ≡ set_of (map cow_slice_items words.now) }
 {
@@ -135,6 +147,7 @@ pub(crate) fn set_of<'a>(words: &'a [CowSlice<'_, u8>]) -> Option<Effect<'a>>
     }
 }
 
+/// The effect of MSET with these arguments, if they are keys with their values, one at least.
 pub(crate) fn mset_of<'a>(
     alloc: Global,
     words: &'a [CowSlice<'_, u8>],
@@ -150,6 +163,7 @@ pub(crate) fn mset_of<'a>(
     Ok(Some(Effect::MSet { pairs }))
 }
 
+/// The effect of APPEND with these arguments, if they are a key and a value.
 pub(crate) fn append_of<'a>(words: &'a [CowSlice<'_, u8>]) -> Option<Effect<'a>>
     ensures { result ≡ append_of (map cow_slice_items words.now) }
 {
@@ -162,6 +176,7 @@ pub(crate) fn append_of<'a>(words: &'a [CowSlice<'_, u8>]) -> Option<Effect<'a>>
     }
 }
 
+/// The effect of SETRANGE with these arguments, if they are a key, an offset and a value.
 pub(crate) fn set_range_of<'a>(words: &'a [CowSlice<'_, u8>]) -> Option<Effect<'a>>
     ensures { result ≡ set_range_of (map cow_slice_items words.now) }
 {
@@ -175,6 +190,7 @@ pub(crate) fn set_range_of<'a>(words: &'a [CowSlice<'_, u8>]) -> Option<Effect<'
     }
 }
 
+/// The effect of INCRBY with these arguments, if they are a key and a number.
 pub(crate) fn increase_of<'a>(words: &'a [CowSlice<'_, u8>]) -> Option<Effect<'a>>
     ensures { result ≡ increase_of (map cow_slice_items words.now) }
 {
@@ -187,6 +203,7 @@ pub(crate) fn increase_of<'a>(words: &'a [CowSlice<'_, u8>]) -> Option<Effect<'a
     }
 }
 
+/// The effect of DEL with these arguments, if they are one key.
 pub(crate) fn del_of<'a>(words: &'a [CowSlice<'_, u8>]) -> Option<Effect<'a>>
     ensures { result ≡ del_of (map cow_slice_items words.now) }
 {
@@ -196,6 +213,7 @@ pub(crate) fn del_of<'a>(words: &'a [CowSlice<'_, u8>]) -> Option<Effect<'a>>
     }
 }
 
+/// The effect of PEXPIREAT with these arguments, if they are a key and a deadline.
 pub(crate) fn expire_of<'a>(words: &'a [CowSlice<'_, u8>]) -> Option<Effect<'a>>
     ensures { result ≡ expire_of (map cow_slice_items words.now) }
 {
@@ -208,6 +226,7 @@ pub(crate) fn expire_of<'a>(words: &'a [CowSlice<'_, u8>]) -> Option<Effect<'a>>
     }
 }
 
+/// The effect of PERSIST with these arguments, if they are one key.
 pub(crate) fn persist_of<'a>(words: &'a [CowSlice<'_, u8>]) -> Option<Effect<'a>>
     ensures { result ≡ persist_of (map cow_slice_items words.now) }
 {
@@ -217,6 +236,7 @@ pub(crate) fn persist_of<'a>(words: &'a [CowSlice<'_, u8>]) -> Option<Effect<'a>
     }
 }
 
+/// The effect of RENAME with these arguments, if they are two keys.
 pub(crate) fn rename_of<'a>(words: &'a [CowSlice<'_, u8>]) -> Option<Effect<'a>>
     ensures { result ≡ rename_of (map cow_slice_items words.now) }
 {
@@ -229,6 +249,7 @@ pub(crate) fn rename_of<'a>(words: &'a [CowSlice<'_, u8>]) -> Option<Effect<'a>>
     }
 }
 
+/// The effect of FLUSHALL with these arguments, if they are none.
 pub(crate) fn clear_of<'a>(words: &'a [CowSlice<'_, u8>]) -> Option<Effect<'a>>
     ensures { result ≡ clear_of (map cow_slice_items words.now) }
 {
@@ -238,6 +259,7 @@ pub(crate) fn clear_of<'a>(words: &'a [CowSlice<'_, u8>]) -> Option<Effect<'a>>
     }
 }
 
+/// The effect of PING with these arguments, if they are none.
 pub(crate) fn ping_of<'a>(words: &'a [CowSlice<'_, u8>]) -> Option<Effect<'a>>
     ensures { result ≡ ping_of (map cow_slice_items words.now) }
 {
@@ -247,6 +269,7 @@ pub(crate) fn ping_of<'a>(words: &'a [CowSlice<'_, u8>]) -> Option<Effect<'a>>
     }
 }
 
+/// The effect of HSET with these arguments, if they are a key, and fields with their values, one at least.
 pub(crate) fn set_fields_of<'a>(
     alloc: Global,
     words: &'a [CowSlice<'_, u8>],
@@ -267,6 +290,7 @@ pub(crate) fn set_fields_of<'a>(
     }
 }
 
+/// The effect of HDEL with these arguments, if they are a key and fields, one at least.
 pub(crate) fn remove_fields_of<'a>(
     alloc: Global,
     words: &'a [CowSlice<'_, u8>],
@@ -282,6 +306,7 @@ pub(crate) fn remove_fields_of<'a>(
     }
 }
 
+/// The effect of LPUSH or RPUSH, by the end, with these arguments, if they are a key and items, one at least.
 pub(crate) fn push_of<'a>(
     alloc: Global,
     end: End,
@@ -299,6 +324,7 @@ pub(crate) fn push_of<'a>(
     }
 }
 
+/// The effect of LPOP or RPOP, by the end, with these arguments, if they are a key and a count.
 pub(crate) fn pop_of<'a>(end: End, words: &'a [CowSlice<'_, u8>]) -> Option<Effect<'a>>
     ensures { result ≡ pop_of end (map cow_slice_items words.now) }
 {
@@ -312,6 +338,7 @@ pub(crate) fn pop_of<'a>(end: End, words: &'a [CowSlice<'_, u8>]) -> Option<Effe
     }
 }
 
+/// The effect of LSET with these arguments, if they are a key, a place from the front and an item.
 pub(crate) fn set_item_of<'a>(words: &'a [CowSlice<'_, u8>]) -> Option<Effect<'a>>
     ensures { result ≡ set_item_of (map cow_slice_items words.now) }
 {
@@ -325,6 +352,7 @@ pub(crate) fn set_item_of<'a>(words: &'a [CowSlice<'_, u8>]) -> Option<Effect<'a
     }
 }
 
+/// The effect of LINSERT with these arguments, if they are a key, a side, a pivot and an item.
 pub(crate) fn insert_item_of<'a>(words: &'a [CowSlice<'_, u8>]) -> Option<Effect<'a>>
     ensures { result ≡ insert_item_of (map cow_slice_items words.now) }
 {
@@ -339,6 +367,7 @@ pub(crate) fn insert_item_of<'a>(words: &'a [CowSlice<'_, u8>]) -> Option<Effect
     }
 }
 
+/// The effect of LREM with these arguments, if they are a key, a count and an item.
 pub(crate) fn remove_items_of<'a>(words: &'a [CowSlice<'_, u8>]) -> Option<Effect<'a>>
     ensures { result ≡ remove_items_of (map cow_slice_items words.now) }
 {
@@ -352,6 +381,7 @@ pub(crate) fn remove_items_of<'a>(words: &'a [CowSlice<'_, u8>]) -> Option<Effec
     }
 }
 
+/// The effect of LTRIM with these arguments, if they are a key, a first and a last place.
 pub(crate) fn trim_of<'a>(words: &'a [CowSlice<'_, u8>]) -> Option<Effect<'a>>
     ensures { result ≡ trim_of (map cow_slice_items words.now) }
 {
@@ -365,6 +395,7 @@ pub(crate) fn trim_of<'a>(words: &'a [CowSlice<'_, u8>]) -> Option<Effect<'a>>
     }
 }
 
+/// The effect of LMOVE with these arguments, if they are two keys and two ends.
 pub(crate) fn move_item_of<'a>(words: &'a [CowSlice<'_, u8>]) -> Option<Effect<'a>>
     ensures { result ≡ move_item_of (map cow_slice_items words.now) }
 {
@@ -379,6 +410,7 @@ pub(crate) fn move_item_of<'a>(words: &'a [CowSlice<'_, u8>]) -> Option<Effect<'
     }
 }
 
+/// The effect of SADD with these arguments, if they are a key and members, one at least.
 pub(crate) fn add_members_of<'a>(
     alloc: Global,
     words: &'a [CowSlice<'_, u8>],
@@ -394,6 +426,7 @@ pub(crate) fn add_members_of<'a>(
     }
 }
 
+/// The effect of SREM with these arguments, if they are a key and members, one at least.
 pub(crate) fn remove_members_of<'a>(
     alloc: Global,
     words: &'a [CowSlice<'_, u8>],
@@ -409,6 +442,7 @@ pub(crate) fn remove_members_of<'a>(
     }
 }
 
+/// The effect of SMOVE with these arguments, if they are two keys and a member.
 pub(crate) fn move_member_of<'a>(words: &'a [CowSlice<'_, u8>]) -> Option<Effect<'a>>
     ensures { result ≡ move_member_of (map cow_slice_items words.now) }
 {
@@ -422,6 +456,7 @@ pub(crate) fn move_member_of<'a>(words: &'a [CowSlice<'_, u8>]) -> Option<Effect
     }
 }
 
+/// The effect of ZADD with these arguments, if they are a key, and scores each with its member, one at least.
 pub(crate) fn set_scores_of<'a>(
     alloc: Global,
     words: &'a [CowSlice<'_, u8>],
@@ -442,6 +477,7 @@ pub(crate) fn set_scores_of<'a>(
     }
 }
 
+/// The effect of ZREM with these arguments, if they are a key and members, one at least.
 pub(crate) fn remove_scores_of<'a>(
     alloc: Global,
     words: &'a [CowSlice<'_, u8>],

@@ -93,6 +93,7 @@ impl<'a> Words<'a> {
     }
 }
 
+/// Whether each word is within the limit.
 fn all_fit(words: &[Word<'_>]) -> bool
     ensures { result ≡ list_all fits words.now }
 {
@@ -170,6 +171,7 @@ impl<'a> Pairs<'a> {
     }
 }
 
+/// Whether each key or field and each value is within the limit.
 fn all_pairs_fit(pairs: &[(Word<'_>, Word<'_>)]) -> bool
     ensures { result ≡ list_all pair_fits pairs.now }
 {
@@ -256,12 +258,14 @@ impl<'a> Scores<'a> {
     }
 }
 
+/// Whether each member is within the limit of words.
 fn all_members_fit(scores: &[(Word<'_>, i64)]) -> bool
     ensures { result ≡ list_all member_fits scores.now }
 {
     scores.iter().all(|pair| fits(pair.0.as_slice()))
 }
 
+/// Whether each score is within the limits of scores.
 fn all_have_scores(scores: &[(Word<'_>, i64)]) -> bool
     ensures { result ≡ list_all has_score scores.now }
 {

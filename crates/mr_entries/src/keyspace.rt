@@ -217,14 +217,14 @@ impl Keyspace {
     }
 }
 
-// Takes out a key that found no place in the index.
+/// Takes out a key that found no place in the index.
 fn take_back(by_key: &mut KeyedMap<Entry>, refused: TimedKey)
     ensures { by_key.new ≡ map.remove by_key.old refused.key }
 {
     let _ = by_key.remove(refused.key.as_slice());
 }
 
-// Makes this the deadline of a key in an index, or none. Where memory runs out nothing has changed.
+/// Makes this the deadline of a key in an index, in milliseconds, or none. Where memory runs out nothing has changed.
 fn reindex(
     alloc: Global,
     timed_keys: &mut BTreeSet<TimedKey>,
@@ -250,7 +250,7 @@ fn reindex(
     Ok(())
 }
 
-// Takes the deadline of a key out of an index.
+/// Takes the deadline of a key out of an index.
 fn unindex(timed_keys: &mut BTreeSet<TimedKey>, key: CompactBytes, deadline: i64)
     requires { IsDeadlineOf key (Some deadline) timed_keys.old }
     ensures { Reindexes key None timed_keys.old timed_keys.new }
@@ -258,7 +258,7 @@ fn unindex(timed_keys: &mut BTreeSet<TimedKey>, key: CompactBytes, deadline: i64
     let _ = timed_keys.remove(&TimedKey { deadline, key });
 }
 
-// Moves the deadline of a key in an index.
+/// Makes another moment the deadline of a key in an index. Where memory runs out nothing has changed.
 fn move_deadline(
     alloc: Global,
     timed_keys: &mut BTreeSet<TimedKey>,

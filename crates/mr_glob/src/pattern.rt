@@ -31,7 +31,7 @@ pub fn glob(pattern: &[u8], text: &[u8]) -> bool
     }
 }
 
-// Whether the pattern matches some rest of the text. Once a `*` is come to, no earlier one need be gone back to.
+/// Whether the pattern matches some rest of the text. Once a `*` is come to, no earlier one need be gone back to.
 fn matches_rest(pattern: &[u8], text: &[u8]) -> bool
     ensures { result ≡ matches (any_bytes ∷ parts_of pattern.now) text.now }
 {
@@ -69,7 +69,7 @@ enum Stop<'a> {
     Mismatch,
 }
 
-// Goes along the text with the parts before the first `*`, each of which takes one byte.
+/// Where the parts before the first `*`, each of which takes one byte, come to an end along the text.
 fn follow<'a>(pattern: &'a [u8], text: &'a [u8]) -> Stop<'a>
     ensures { StopsAt pattern.now text.now result }
 {
@@ -98,7 +98,7 @@ fn follow<'a>(pattern: &'a [u8], text: &'a [u8]) -> Stop<'a>
     }
 }
 
-// What follows the part for one byte that the sign begins, if the part takes the byte.
+/// What follows the part for one byte that the sign begins, if the part takes the byte.
 fn past<'a>(sign: Sign, behind: &'a [u8], byte: u8) -> Option<&'a [u8]>
     ensures { MatchOption result (set_at sign (signs behind.now) byte ≡ false) (λ rest. Passes sign behind.now byte rest.now) }
 {

@@ -25,6 +25,7 @@ impl<'a, T> Model for Iter<'a, T> {
 }
 
 impl<'a, T> Iter<'a, T> {
+    /// The open links that are still to come from a slab's walk, with their ids.
     pub(crate) fn new(inner: slab::Iter<'a, Row<T>>) -> Self
         ensures { result ≡ by_ids inner.entry }
     {
@@ -65,6 +66,7 @@ impl<'a, T> Model for Ids<'a, T> {
 }
 
 impl<'a, T> Ids<'a, T> {
+    /// The ids of the open links that are still to come.
     pub(crate) fn new(inner: Iter<'a, T>) -> Self
         ensures { result ≡ ids_of inner.entry }
     {

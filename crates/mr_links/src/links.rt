@@ -86,6 +86,7 @@ impl<T, A: Allocator> Links<T, A> {
         }
     }
 
+    /// The open link under this id, to be changed in place.
     fn link_mut(&mut self, id: LinkId) -> &mut T
         requires { IsSome (map.get self.old.open_links id) }
         ensures* writes_back { sem 𝓛 (lends_link T.row A.row A.Allocator self.entry id result) }

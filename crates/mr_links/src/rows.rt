@@ -59,6 +59,7 @@ impl<T, A: Allocator> Rows<T, A> {
     ghost use Rattle.std.specs.Borrow.{sem};
     ghost use Rattle.mr_links.specs.Lends.{lends_row};
 
+    /// No links.
     pub fn new(alloc: A) -> Self
         ensures { result ≡ map.empty }
     {
@@ -82,6 +83,7 @@ impl<T, A: Allocator> Rows<T, A> {
         Ok(LinkId { index, generation })
     }
 
+    /// The link under this id, if it is there.
     pub fn get(&self, id: LinkId) -> Option<&T>
         ensures { option_copied result ≡ map.get self.now id }
     {
@@ -106,6 +108,7 @@ impl<T, A: Allocator> Rows<T, A> {
         self.slab[id.index].link_mut()
     }
 
+    /// Takes the link under this id out, if it is there.
     pub fn remove(&mut self, id: LinkId) -> Option<T>
         ensures value { result ≡ map.get self.old id }
         ensures removed { self.new ≡ map.remove self.old id }
@@ -125,12 +128,14 @@ impl<T, A: Allocator> Rows<T, A> {
         Some(link)
     }
 
+    /// How many links there are.
     pub fn len(&self) -> usize
         ensures { result ≡ map.len self.now }
     {
         self.slab.len()
     }
 
+    /// The links with their ids, in the order of the ids.
     pub fn iter(&self) -> Iter<'_, T>
         ensures { result ≡ map.entries self.now }
     {

@@ -20,7 +20,7 @@ pub(crate) struct KeyHasher {
 }
 
 impl KeyHasher {
-    // A round of SipHash.
+    /// A round of SipHash.
     #[inline]
     #[tactic(auto, unfolding(crate::specs::Hashing::rounded))]
     fn round(self) -> KeyHasher
@@ -41,7 +41,7 @@ impl KeyHasher {
         }
     }
 
-    // A group goes in, and the next one is open.
+    /// This hasher once a group has gone in: the next one is open.
     #[inline]
     #[tactic(auto, unfolding(crate::specs::Hashing::absorbed))]
     fn absorb(self, word: u64) -> KeyHasher
@@ -64,6 +64,7 @@ impl KeyHasher {
         }
     }
 
+    /// A byte goes in, behind those that went in before.
     #[inline]
     #[tactic(auto, unfolding(crate::specs::Hashing::with_byte))]
     fn push(&mut self, byte: u8)
@@ -125,7 +126,7 @@ impl KeySeed {
     }
 }
 
-// What a seed makes of a number.
+/// What a seed makes of a number.
 fn drawn(seed: RandomState, which: u64) -> u64 {
     let mut hasher = seed.build_hasher();
     hasher.write_u64(which);

@@ -28,7 +28,7 @@ impl<'a, V> Model for Pairs<'a, V> {
     ghost view = { λ a. merged (led_by a.short (listed a.shorts)) (led_by a.long (by_bytes (listed a.longs))) };
 }
 
-// The first pair whose key is short.
+/// Takes the next pair whose key is short, if one is still to come.
 fn next_short<'a, V>(
     shorts: &mut Option<btree_map::Iter<'a, ShortKey, V>>,
 ) -> Option<(&'a [u8], &'a V)>
@@ -43,7 +43,7 @@ fn next_short<'a, V>(
     }
 }
 
-// The first pair whose key is longer.
+/// Takes the next pair whose key is longer, if one is still to come.
 fn next_long<'a, V>(
     longs: &mut Option<btree_map::Iter<'a, Vec<u8>, V>>,
 ) -> Option<(&'a [u8], &'a V)>
@@ -58,7 +58,7 @@ fn next_long<'a, V>(
     }
 }
 
-// Whether the next key is a short one.
+/// Whether the short key comes first in byte order, where one is there.
 fn is_short_next<V>(short: Option<(&[u8], &V)>, long: Option<(&[u8], &V)>) -> bool
     ensures { result ≡ comes_first short.entry long.entry }
 {

@@ -58,7 +58,7 @@ impl ShortKey {
     }
 }
 
-// The number that eight bytes spell, the first of them highest.
+/// The number that eight bytes spell, the first of them highest.
 #[inline]
 fn word_at(bytes: &[u8], at: usize) -> u64
     requires { at + 8 ≤ length bytes.now }
@@ -76,7 +76,7 @@ fn word_at(bytes: &[u8], at: usize) -> u64
     ])
 }
 
-// The number that the last bytes of a key's room spell with its length behind them.
+/// The number that the last bytes of a key's room spell with its length behind them.
 #[inline]
 fn last_word(bytes: &[u8], len: u8) -> u64
     requires { length bytes.now ≡ room }
@@ -87,7 +87,7 @@ fn last_word(bytes: &[u8], len: u8) -> u64
     ])
 }
 
-// Compares padded keys, and then their lengths, as three numbers each.
+/// Compares padded keys, and then their lengths, as three numbers each.
 #[inline]
 fn order(a: &[u8], a_len: u8, b: &[u8], b_len: u8) -> Ordering
     requires left { length a.now ≡ room }

@@ -22,6 +22,7 @@ impl<'m, 'a, V> Model for SlicePairs<'m, 'a, V> {
 }
 
 impl<'m, 'a, V> SlicePairs<'m, 'a, V> {
+    /// The pairs that are still to come from a walk, with their keys as slices.
     pub(crate) fn new(inner: btree_map::Iter<'m, &'a [u8], V>) -> Self
         ensures { result ≡ named_by slice_of inner.entry }
     {

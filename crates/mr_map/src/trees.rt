@@ -96,7 +96,8 @@ impl<V> Trees<V> {
 }
 
 impl<V: Drop> Trees<V> {
-    // Sets the value of a short key.
+    /// Sets the value of a short key, and answers the one that it had. Where memory runs out, or as many keys are there
+    /// as a map has at most, nothing changes.
     fn insert_short(&mut self, key: ShortKey, value: V) -> Result<Option<V>, AllocError>
         requires { length key ≤ room }
         ensures before { IfOk result (λ before. before ≡ map.get self.old key) }
@@ -109,7 +110,8 @@ impl<V: Drop> Trees<V> {
         Ok(self.short.insert(key, value)?)
     }
 
-    // Sets the value of a longer key.
+    /// Sets the value of a longer key, and answers the one that it had. Where memory runs out, or as many keys are
+    /// there as a map has at most, nothing changes.
     fn insert_long(&mut self, key: Vec<u8>, value: V) -> Result<Option<V>, AllocError>
         requires { room < length key.items }
         ensures before { IfOk result (λ before. before ≡ map.get self.old key.items) }

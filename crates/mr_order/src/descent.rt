@@ -39,7 +39,8 @@ pub(crate) fn put_into<P: Part>(
     }
 }
 
-// Puts an item where a search has found its place among so many.
+/// Puts an item where a search among so many has found its place, unless an equal one is there, and answers whether it
+/// is new. Where memory runs out, the items stay.
 fn put_by_place<P: Part>(parts: &mut Vec<P>, len: usize, item: P::Item) -> Result<bool, AllocError>
     requires sound { All (IsSound P.items P.is_kept) parts.old.items }
     requires len { len ≡ length (flat_map P.items parts.old.items) }
@@ -59,7 +60,8 @@ fn put_by_place<P: Part>(parts: &mut Vec<P>, len: usize, item: P::Item) -> Resul
     }
 }
 
-// Puts an item into the part in which it stands, and which has room.
+/// Puts an item into the part in which it stands, and which has room, and answers whether it is new. Where memory runs
+/// out, the items stay.
 fn put_in_part<P: Part>(parts: &mut Vec<P>, part: usize, item: P::Item) -> Result<bool, AllocError>
     requires sound { All (IsSound P.items P.is_kept) parts.old.items }
     requires part { part < length parts.old.items }
@@ -96,7 +98,7 @@ pub(crate) fn take_out<P: Part, Q: Query<P::Item>>(parts: &mut Vec<P>, query: Q)
     Some(item)
 }
 
-// Takes the item whose place a search has found.
+/// Takes the item to which a query is equal from the place that a search has found, if there is one.
 fn take_by_place<P: Part, Q: Query<P::Item>>(parts: &mut Vec<P>, query: Q) -> Option<P::Item>
     requires sound { All (IsSound P.items P.is_kept) parts.old.items }
     requires small { length (flat_map P.items parts.old.items) < 2 ^ 63 }
@@ -111,7 +113,8 @@ fn take_by_place<P: Part, Q: Query<P::Item>>(parts: &mut Vec<P>, query: Q) -> Op
     }
 }
 
-// Takes an item from the part in which the query stands, and which has others.
+/// Takes the item to which a query is equal, if there is one, from the part in which the query stands, and which has
+/// others.
 fn take_in_part<P: Part, Q: Query<P::Item>>(
     parts: &mut Vec<P>,
     part: usize,

@@ -34,7 +34,7 @@ pub(crate) fn insert_into<P: Part>(
     }
 }
 
-// Whether the last part has room.
+/// Whether the last part has room.
 fn has_room_behind<P: Part>(parts: &[P]) -> bool
     ensures { result ≡ true → 0 < length parts.now }
 {
@@ -44,7 +44,7 @@ fn has_room_behind<P: Part>(parts: &[P]) -> bool
     }
 }
 
-// Puts an item behind all others, in a part of its own.
+/// Puts an item behind all others, in a part of its own. Where memory runs out, the items stay.
 fn push_one<P: Part>(parts: &mut Vec<P>, item: P::Item) -> Result<(), AllocError>
     requires { All (IsSound P.items P.is_kept) parts.old.items }
     ensures sound { All (IsSound P.items P.is_kept) parts.new.items }
@@ -58,7 +58,7 @@ fn push_one<P: Part>(parts: &mut Vec<P>, item: P::Item) -> Result<(), AllocError
     Ok(())
 }
 
-// Puts an item into a part that has room.
+/// Puts an item at a place of a part that has room. Where memory runs out, the items stay.
 fn put<P: Part>(
     parts: &mut Vec<P>,
     part: usize,
@@ -78,7 +78,7 @@ fn put<P: Part>(
     Ok(())
 }
 
-// Cuts a full part in two, and puts an item into one of the two. All memory is taken before the parts change.
+/// Cuts a full part in two, and puts an item into one of the two. All memory is taken before the parts change.
 fn put_in_halves<P: Part>(
     parts: &mut Vec<P>,
     part: usize,
@@ -103,7 +103,8 @@ fn put_in_halves<P: Part>(
     }
 }
 
-// Puts an item into one of two parts that stand next to each other.
+/// Puts an item at a place of two parts that stand next to each other, into one that has it. Where memory runs out, the
+/// items stay.
 fn put_in_either<P: Part>(
     head: &mut P,
     tail: &mut P,

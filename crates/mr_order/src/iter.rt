@@ -28,6 +28,7 @@ impl<'a, T: Ord + Drop> Model for Iter<'a, T> {
 }
 
 impl<'a, T: Ord + Drop> Iter<'a, T> {
+    /// The items from one place on, up to another, which is not among them.
     pub(crate) fn new(places: &'a Places<T>, from: usize, to: usize) -> Self
         requires ordered { from ≤ to }
         requires within { to ≤ length places.now }
@@ -43,7 +44,7 @@ impl<'a, T: Ord + Drop> Iter<'a, T> {
     }
 }
 
-// The items at hand from a place on, of which there is one at least.
+/// The items at hand from a place on, of which there is one at least.
 fn ahead<'a, T: Ord + Drop>(places: &'a Places<T>, run: &'a [T], at: usize) -> &'a [T]
     requires within { at < length places.now }
     requires run { IsIn places.now run.now at }
@@ -57,7 +58,7 @@ fn ahead<'a, T: Ord + Drop>(places: &'a Places<T>, run: &'a [T], at: usize) -> &
     }
 }
 
-// The items at hand in front of a place, of which there is one at least.
+/// The items at hand in front of a place, of which there is one at least.
 fn behind<'a, T: Ord + Drop>(places: &'a Places<T>, run: &'a [T], at: usize) -> &'a [T]
     requires some { 0 < at }
     requires within { at ≤ length places.now }

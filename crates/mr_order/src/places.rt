@@ -106,7 +106,8 @@ impl<T: Ord + Drop> Places<T> {
         }
     }
 
-    // Puts an item where a search has found its place: one that is there takes no memory.
+    /// Puts an item where a search has found its place, and answers whether it is new: one that is there takes no
+    /// memory. Where memory runs out, the items stay.
     fn put_by_place(&mut self, item: T) -> Result<bool, AllocError>
         requires { IsDivided (T.cmp item) self.old }
         ensures ok { IfOk result (λ added. IsPut (T.cmp item) self.old item self.new added) }
@@ -217,7 +218,7 @@ impl<T: Ord + Drop> Places<T> {
         Iter::new(self, from, to)
     }
 
-    // Some items from a place on.
+    /// Some items from a place on.
     pub(crate) fn run_from(&self, at: usize) -> &[T]
         requires { at < length self.now }
         ensures some { 0 < length result.now }
@@ -229,7 +230,7 @@ impl<T: Ord + Drop> Places<T> {
         }
     }
 
-    // Some items in front of a place.
+    /// Some items in front of a place.
     pub(crate) fn run_to(&self, at: usize) -> &[T]
         requires some { 0 < at }
         requires within { at ≤ length self.now }

@@ -18,7 +18,7 @@ pub(crate) fn set<P: Part>(parts: &mut Vec<P>, at: usize, item: P::Item)
     set_in_part(parts, part, place, item);
 }
 
-// Puts an item in the place of one in a part.
+/// Puts an item in the place of one in a part.
 fn set_in_part<P: Part>(parts: &mut Vec<P>, part: usize, place: usize, item: P::Item)
     requires sound { All (IsSound P.items P.is_kept) parts.old.items }
     requires part { part < length parts.old.items }

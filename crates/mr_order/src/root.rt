@@ -75,7 +75,7 @@ impl<T: Ord + Drop> Root<T> {
     }
 }
 
-// Moves a chunk into a block. All memory is taken before the chunk changes.
+/// Moves a chunk into a block. All memory is taken before the chunk changes.
 fn to_blocks<T: Ord + Drop>(chunk: &mut Vec<T>) -> Result<Vec<Block<T>>, AllocError>
     requires some { 0 < length chunk.old.items }
     requires kept { IsChunk chunk.old }

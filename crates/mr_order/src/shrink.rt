@@ -24,7 +24,7 @@ pub(crate) fn remove_from<P: Part>(parts: &mut Vec<P>, at: usize) -> P::Item
     item
 }
 
-// Takes the only item of a part, and the part with it.
+/// Takes the only item of a part, and the part with it.
 fn take_single<P: Part>(parts: &mut Vec<P>, part: usize) -> P::Item
     requires sound { All (IsSound P.items P.is_kept) parts.old.items }
     requires part { part < length parts.old.items }
@@ -38,7 +38,7 @@ fn take_single<P: Part>(parts: &mut Vec<P>, part: usize) -> P::Item
     single.remove(0)
 }
 
-// Takes an item from a part with others.
+/// Takes an item from a part with others.
 fn take_from<P: Part>(parts: &mut Vec<P>, part: usize, place: usize) -> P::Item
     requires sound { All (IsSound P.items P.is_kept) parts.old.items }
     requires part { part < length parts.old.items }
@@ -71,7 +71,7 @@ pub(crate) fn join_around<P: Part>(parts: &mut Vec<P>, part: usize)
     }
 }
 
-// Joins a part with the next one, if they fit into one and memory suffices.
+/// Joins a part with the next one, if they fit into one and memory suffices.
 fn join_next<P: Part>(parts: &mut Vec<P>, part: usize)
     requires sound { All (IsSound P.items P.is_kept) parts.old.items }
     requires part { part + 1 < length parts.old.items }

@@ -24,14 +24,15 @@ pub fn read_score(text: &[u8]) -> Option<i64>
     within_limit(read_i64(whole_part(text)?)?)
 }
 
-// The number, if it is a score.
+/// The number, if it is a score.
 fn within_limit(number: i64) -> Option<i64>
     ensures { result ≡ within_limit number }
 {
     if is_score(number) { Some(number) } else { None }
 }
 
-// The text in front of its first point, if only zeros stand behind that.
+/// The text in front of its first point, if only zeros stand behind that, one at least. Without a point it is the whole
+/// text.
 fn whole_part(text: &[u8]) -> Option<&[u8]>
     ensures { option_copied result ≡ whole_part text.now }
 {
@@ -45,7 +46,7 @@ fn whole_part(text: &[u8]) -> Option<&[u8]>
     }
 }
 
-// The place of the first point.
+/// The place of the first point, if there is one.
 fn first_point(text: &[u8]) -> Option<usize>
     ensures place { result ≡ position (λ b. b == 46) text.now }
     ensures within { IfSome result (λ place. place < length text.now) }
@@ -53,13 +54,14 @@ fn first_point(text: &[u8]) -> Option<usize>
     text.iter().position(|byte| *byte == b'.')
 }
 
-// Whether a text is one or more zeros.
+/// Whether a text is one or more zeros.
 fn are_zeros(text: &[u8]) -> bool
     ensures { result ≡ are_zeros text.now }
 {
     !text.is_empty() && has_only_zeros(text)
 }
 
+/// Whether each byte of a text is a zero.
 fn has_only_zeros(text: &[u8]) -> bool
     ensures { result ≡ list_all (λ d. d == 48) text.now }
 {

@@ -78,6 +78,7 @@ impl CompactBytes {
         }
     }
 
+    /// The few bytes of a key, which lie in it.
     fn of_short(short: ShortKey) -> CompactBytes
         ensures { result ≡ short }
     {
@@ -86,6 +87,7 @@ impl CompactBytes {
         }
     }
 
+    /// These bytes, which keep their memory.
     fn of_long(bytes: Vec<u8>) -> CompactBytes
         ensures { result ≡ bytes.items }
     {
@@ -104,7 +106,7 @@ impl CompactBytes {
         }
     }
 
-    // How few bytes stand to these.
+    /// How few bytes compare to these.
     #[inline]
     fn compare_short(&self, short: &ShortKey) -> Ordering
         ensures { result ≡ bytes_cmp short.now self.now }
@@ -116,6 +118,7 @@ impl CompactBytes {
     }
 }
 
+/// How two byte strings compare, byte by byte.
 fn compare_slices<'x>(a: &'x [u8], b: &'x [u8]) -> Ordering
     ensures { result ≡ bytes_cmp a.now b.now }
 {

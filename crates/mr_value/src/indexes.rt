@@ -34,7 +34,7 @@ pub fn place(index: i64, len: usize) -> Option<usize>
     if place < len { Some(place) } else { None }
 }
 
-// The first place that a first index allows, which may lie past the end.
+/// The first place that a first index allows, which may lie past the end.
 fn first_place(index: i64, len: usize) -> usize
     ensures { pos result ≡ int_max (pos 0) (place_of index len) }
 {
@@ -45,7 +45,7 @@ fn first_place(index: i64, len: usize) -> usize
     }
 }
 
-// One past the last place that a last index allows.
+/// One past the last place that a last index allows.
 fn end_place(index: i64, len: usize) -> usize
     ensures { pos result ≡ int_max (pos 0) (int_min (place_of index len +ℤ pos 1) (pos len)) }
 {

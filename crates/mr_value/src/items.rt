@@ -23,6 +23,7 @@ impl<'a> Model for Items<'a> {
 }
 
 impl<'a> Items<'a> {
+    /// The items that are still to come from a deque's walk.
     pub(crate) fn new(inner: vec_deque::Iter<'a, Bytes>) -> Self
         ensures { result ≡ deque_iter_rest inner.entry }
     {

@@ -262,7 +262,7 @@ impl ListValue {
     }
 }
 
-// Drops so many items in front, or all.
+/// Drops so many items in front, or all.
 fn drop_front(items: &mut VecDeque<Bytes>, count: usize)
     ensures { items.new.items ≡ drop count items.old.items }
 {

@@ -7,7 +7,7 @@ ghost use Rattle.mr_value.specs.Lists.{are_equal, first_place, count_of};
 use crate::bytes::Bytes;
 use std::collections::VecDeque;
 
-// Whether an item has these bytes.
+/// Whether an item has these bytes.
 fn matches(other: &Bytes, item: &[u8]) -> bool
     ensures { result ≡ bytes_eq other.now item.now }
 {
@@ -47,7 +47,7 @@ pub(crate) fn place_from_back(items: &VecDeque<Bytes>, len: usize, item: &[u8]) 
     None
 }
 
-// Whether the item in front of so many at the back has these bytes.
+/// Whether the item in front of so many at the back has these bytes.
 fn matches_behind(items: &VecDeque<Bytes>, behind: usize, item: &[u8]) -> bool
     requires { behind < deque_len items.now }
     ensures { result ≡ bytes_eq (get_or (reverse items.now.items) behind []) item.now }

@@ -21,6 +21,7 @@ impl<'a> Model for Members<'a> {
 }
 
 impl<'a> Members<'a> {
+    /// The members that are still to come from an order's walk.
     pub(crate) fn new(inner: Iter<'a, CompactBytes>) -> Self
         ensures { result ≡ inner.entry }
     {

@@ -18,8 +18,8 @@ pub(crate) fn remove_first(items: &mut VecDeque<Bytes>, most: usize, item: &[u8]
     removed
 }
 
-// The same, but that the items in front of the last that goes lie behind the others: how many those are, and how many
-// went.
+/// Removes the first items that equal `item`, at most so many, but leaves the items in front of the last of them behind
+/// the others. How many those are, and how many went.
 fn pass_first(items: &mut VecDeque<Bytes>, most: usize, item: &[u8]) -> (usize, usize)
     ensures passed { result.0 ≤ deque_len items.new }
     ensures list { drop (deque_len items.new - result.0) items.new.items ++ take (deque_len items.new - result.0) items.new.items ≡ without_first most item.now items.old.items }
@@ -48,7 +48,8 @@ pub(crate) fn remove_last(items: &mut VecDeque<Bytes>, most: usize, item: &[u8])
     removed
 }
 
-// The same, but that the items behind the first that goes lie in front of the others.
+/// Removes the last items that equal `item`, at most so many, but leaves the items behind the first of them in front of
+/// the others. How many those are, and how many went.
 fn pass_last(items: &mut VecDeque<Bytes>, most: usize, item: &[u8]) -> (usize, usize)
     ensures passed { result.0 ≤ deque_len items.new }
     ensures list { drop result.0 items.new.items ++ take result.0 items.new.items ≡ without_last most item.now items.old.items }

@@ -111,6 +111,7 @@ impl SetValue {
         self.put(CompactBytes::from_word(alloc, member)?)
     }
 
+    /// Adds a member, and answers whether it is new. Where memory runs out, the set stays.
     fn put(&mut self, member: CompactBytes) -> Result<bool, AllocError>
         ensures new { IfOk result (λ new. new ≡ not (map.contains_key self.old member)) }
         ensures ok { OnOk result (self.new ≡ map.insert self.old member tt) }
@@ -130,7 +131,7 @@ impl SetValue {
     }
 }
 
-// Takes a member out, if it is there.
+/// Takes a member out, if it is there.
 fn take_out(members: &mut Ordered<CompactBytes>, member: &[u8]) -> Option<CompactBytes>
     ensures { IsTaken (bytes_cmp member.now) members.old result members.new }
 {

@@ -40,7 +40,7 @@ pub enum ExpiringCommand {
 }
 
 impl ExpiringCommand {
-    // The name that it is called by.
+    /// The name that it is called by.
     fn name(self) -> Name
         ensures { result ≡ expiring_name self }
     {
@@ -87,6 +87,7 @@ impl AskFault {
         Reply::Error(CowSlice::Borrowed(self.text()))
     }
 
+    /// The text of the error that is answered.
     fn text(self) -> &'static [u8]
         ensures { result.now ≡ fault_text self }
     {
@@ -101,6 +102,7 @@ impl AskFault {
     }
 }
 
+/// What is answered to an argument that a command doesn't take.
 fn bad_value(value: BadValue) -> &'static [u8]
     ensures { result.now ≡ bad_value value }
 {
@@ -114,7 +116,7 @@ fn bad_value(value: BadValue) -> &'static [u8]
     }
 }
 
-// What a command answers to a deadline that it doesn't take.
+/// What a command answers to a deadline that it doesn't take.
 fn invalid_time(command: ExpiringCommand) -> &'static [u8]
     ensures { result.now ≡ invalid_time command }
 {
@@ -129,7 +131,7 @@ fn invalid_time(command: ExpiringCommand) -> &'static [u8]
     }
 }
 
-// What a command answers to a wrong number of arguments.
+/// What a command answers to a wrong number of arguments.
 fn wrong_count(name: Name) -> &'static [u8]
     ensures { result.now ≡ wrong_count name }
 {

@@ -131,14 +131,14 @@ impl Name {
         Name::among(Name::of_length(word.len()), word)
     }
 
-    // The first of these names that the word is.
+    /// The first of these names that the word is.
     fn among(names: &[Name], word: &[u8]) -> Option<Name>
         ensures { result ≡ find (is_named (lowered word.now)) names.now }
     {
         names.iter().copied().find(|name| name.is(word))
     }
 
-    // The commands whose names have this many letters.
+    /// The commands whose names have this many letters.
     fn of_length(len: usize) -> &'static [Name]
         ensures { result.now ≡ filter (λ n. length (text_of n) == len) names }
     {
@@ -262,7 +262,7 @@ impl Name {
         }
     }
 
-    // Whether a word is this name, in any case.
+    /// Whether a word is this name, in any case.
     fn is(self, word: &[u8]) -> bool
         ensures { result ≡ is_named (lowered word.now) self }
     {
@@ -391,7 +391,7 @@ impl Name {
     }
 }
 
-// Whether the first letter of a word is that of a text in lower case, whatever its own case. Most names are told apart by it.
+/// Whether the first letter of a word is that of a text in lower case, whatever its own case. Most names are told apart by it.
 #[inline]
 fn begins_alike(word: &[u8], text: &[u8]) -> bool
     ensures { lowered word.now ≡ text.now → IsTrue result }

@@ -28,6 +28,7 @@ pub fn offset(word: &CowSlice<'_, u8>) -> Result<usize, AskFault>
     not_below_0(BadValue::Offset, integer(word)?)
 }
 
+/// A number from 0 on, or else that fault.
 fn not_below_0(otherwise: BadValue, number: i64) -> Result<usize, AskFault>
     ensures { result ≡ not_below_0 otherwise number }
 {

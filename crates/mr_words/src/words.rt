@@ -122,7 +122,7 @@ impl<'a, 't> Pairs<'a, 't> {
     }
 }
 
-// Whether no word is left over.
+/// Whether words come in pairs, with none left over.
 fn are_pairs(words: &[CowSlice<'_, u8>]) -> bool
     ensures { result ≡ are_pairs (map cow_slice_items words.now) }
 {

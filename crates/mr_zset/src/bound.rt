@@ -44,7 +44,7 @@ impl Bound {
         }
     }
 
-    // The bound without what lies on it.
+    /// The bound without what lies on it.
     fn excluding(self) -> Bound
         ensures { result ≡ excluding self }
     {
@@ -66,7 +66,7 @@ pub fn read_bound(text: &[u8]) -> Option<Bound>
     }
 }
 
-// The bound that a text without a parenthesis spells.
+/// The bound that a text without a parenthesis spells: a score, which is within it, or an infinity.
 #[tactic(auto, unfolding(crate::specs::Texts::limit_of))]
 fn read_limit(text: &[u8]) -> Option<Bound>
     ensures { result ≡ limit_of text.now }
@@ -80,6 +80,7 @@ fn read_limit(text: &[u8]) -> Option<Bound>
     Some(Bound::Included(read_score(text)?))
 }
 
+/// Whether a text is a name of the positive infinity, in any case.
 fn is_positive_infinity(text: &[u8]) -> bool
     ensures { result ≡ is_one_of positive_names (str_to_ascii_lowercase text.now) }
 {
@@ -89,12 +90,14 @@ fn is_positive_infinity(text: &[u8]) -> bool
         || is_in_any_case(text, b"+infinity")
 }
 
+/// Whether a text is a name of the negative infinity, in any case.
 fn is_negative_infinity(text: &[u8]) -> bool
     ensures { result ≡ is_one_of negative_names (str_to_ascii_lowercase text.now) }
 {
     is_in_any_case(text, b"-inf") || is_in_any_case(text, b"-infinity")
 }
 
+/// Whether a text is this name, in any case.
 fn is_in_any_case(text: &[u8], name: &[u8]) -> bool
     ensures { result ≡ str_eq_ignore_ascii_case text.now name.now }
 {

@@ -26,6 +26,7 @@ impl<'a> Model for MemberScores<'a> {
 }
 
 impl<'a> MemberScores<'a> {
+    /// The members that are still to come with their scores, of which there are none where no map is.
     pub(crate) fn new(inner: Option<Iter<'a, Scored>>) -> Self
         ensures { result ≡ map named (listed inner.entry) }
     {

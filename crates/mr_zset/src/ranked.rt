@@ -95,7 +95,8 @@ impl Ranked {
         Ok(before)
     }
 
-    // Gives a member that is there another score. The new pair is put in before the first one goes.
+    /// Gives a member that is there another score. The new pair is put in before the first one goes: where memory runs
+    /// out, the set is as it was.
     fn change(&mut self, member: &[u8], before: i64, score: i64) -> Result<(), AllocError>
         requires there { finite.get self.old member.now ≡ Some before }
         requires score { IsTrue (is_score score) }
@@ -127,7 +128,7 @@ impl Ranked {
         Ok(())
     }
 
-    // Adds a member that isn't there.
+    /// Adds a member that isn't there. Where memory runs out, the set is as it was.
     fn add(&mut self, member: &[u8], score: i64) -> Result<(), AllocError>
         requires absent { finite.get self.old member.now ≡ None }
         requires score { IsTrue (is_score score) }
@@ -227,7 +228,7 @@ impl Ranked {
     }
 }
 
-// Takes out of a map what it says of the member of a pair.
+/// Takes the member of a pair out of a map, if there is a pair.
 fn forget(scores: &mut Scores, popped: &Option<(Bytes, i64)>)
     ensures { scores.new ≡ without popped.now scores.old }
 {

@@ -102,7 +102,7 @@ impl Scores {
     }
 }
 
-// The score, where there is one.
+/// The score, where there is one.
 fn score_of(scored: Option<&Scored>) -> Option<i64>
     ensures { result ≡ option_map (λ x. x.score) (option_copied scored.entry) }
 {
@@ -112,7 +112,7 @@ fn score_of(scored: Option<&Scored>) -> Option<i64>
     }
 }
 
-// A member with its score, if it is there. One of few bytes is looked up as a number.
+/// A member with its score, if it is there. One of few bytes is looked up as a number.
 fn found<'a>(members: &'a Ordered<Scored>, member: &[u8]) -> Option<&'a Scored>
     ensures { IsFound (λ y. bytes_cmp member.now y.member) members.now (option_copied result) }
 {
@@ -122,7 +122,7 @@ fn found<'a>(members: &'a Ordered<Scored>, member: &[u8]) -> Option<&'a Scored>
     }
 }
 
-// The place of a member, or the one where it would stand.
+/// The place of a member, or the one where it would stand.
 fn place_of(members: &Ordered<Scored>, member: &[u8]) -> Result<usize, usize>
     ensures { IsPlaceOf (λ y. bytes_cmp member.now y.member) members.now result }
 {
@@ -132,7 +132,7 @@ fn place_of(members: &Ordered<Scored>, member: &[u8]) -> Result<usize, usize>
     }
 }
 
-// Takes a member out, if it is there.
+/// Takes a member out, if it is there.
 fn taken(members: &mut Ordered<Scored>, member: &[u8]) -> Option<Scored>
     ensures { IsTaken (λ y. bytes_cmp member.now y.member) members.old result members.new }
 {

@@ -15,7 +15,7 @@ use mr_order::{Ordered, Steps};
 use mr_value::Bytes;
 use std::alloc::{AllocError, Global};
 
-// Puts a pair where it stands in order, unless it is there. Where memory runs out, all is as it was.
+/// Puts a pair where it stands in order, unless it is there. Where memory runs out, all is as it was.
 pub(crate) fn put_in(pairs: &mut Ordered<Entry>, entry: Entry) -> Result<(), AllocError>
     ensures ok { OnOk result (map stored pairs.new ≡ insert_key pair_cmp (map stored pairs.old) (stored entry)) }
     ensures err { OnErr result (pairs.new ≡ pairs.old) }
@@ -24,7 +24,7 @@ pub(crate) fn put_in(pairs: &mut Ordered<Entry>, entry: Entry) -> Result<(), All
     Ok(())
 }
 
-// Takes a pair out, if it is there, and answers it.
+/// Takes a pair out, if it is there, and answers it.
 pub(crate) fn take_out(pairs: &mut Ordered<Entry>, pair: Pair<'_>) -> Option<Entry>
     ensures answer { MatchOption result (pairs.new ≡ pairs.old) (λ entry. stored entry ≡ shown pair.entry) }
     ensures rest { map stored pairs.new ≡ filter (is_other (shown pair.entry)) (map stored pairs.old) }
@@ -32,7 +32,7 @@ pub(crate) fn take_out(pairs: &mut Ordered<Entry>, pair: Pair<'_>) -> Option<Ent
     taken(pairs, pair)
 }
 
-// Takes a pair out, if it is there, and answers it. A member of few bytes is looked up as a number.
+/// Takes a pair out, if it is there, and answers it. A member of few bytes is looked up as a number.
 fn taken(pairs: &mut Ordered<Entry>, pair: Pair<'_>) -> Option<Entry>
     ensures { IsTaken (λ y. pair_cmp (shown pair.entry) (stored y)) pairs.old result pairs.new }
 {
@@ -45,7 +45,7 @@ fn taken(pairs: &mut Ordered<Entry>, pair: Pair<'_>) -> Option<Entry>
     }
 }
 
-// How many stored pairs are less than one.
+/// How many stored pairs are less than one.
 pub(crate) fn place_of(pairs: &Ordered<Entry>, pair: Pair<'_>, steps: &mut Steps) -> usize
     ensures count { result ≡ count_by (λ p. pair_lt p (shown pair.entry)) (map stored pairs.now) }
     ensures steps { (digits : ℕ) → length pairs.now < 2 ^ digits → steps.new.count ≤ steps.old.count + digits }
@@ -62,7 +62,7 @@ pub(crate) fn place_of(pairs: &Ordered<Entry>, pair: Pair<'_>, steps: &mut Steps
     }
 }
 
-// The places between which the scores are within two bounds, the second left out.
+/// The places between which the scores are within two bounds, the second left out.
 pub(crate) fn places_of(pairs: &Ordered<Entry>, from: Bound, to: Bound) -> (usize, usize)
     ensures ordered { result.0 ≤ result.1 }
     ensures within { result.1 ≤ length pairs.now }
@@ -73,7 +73,7 @@ pub(crate) fn places_of(pairs: &Ordered<Entry>, from: Bound, to: Bound) -> (usiz
     (first, past.max(first))
 }
 
-// The pairs from one place to another, the second left out.
+/// The pairs from one place to another, the second left out.
 pub(crate) fn pairs_between(
     alloc: Global,
     pairs: &Ordered<Entry>,
@@ -94,7 +94,7 @@ pub(crate) fn pairs_between(
     Ok(part)
 }
 
-// The pair at a place, counted from 0.
+/// The pair at a place, counted from 0.
 pub(crate) fn pair_at(pairs: &Ordered<Entry>, place: usize) -> Option<Pair<'_>>
     ensures { option_map shown result ≡ slice_get (map stored pairs.now) place }
 {
@@ -108,7 +108,7 @@ pub(crate) fn pair_at(pairs: &Ordered<Entry>, place: usize) -> Option<Pair<'_>>
     })
 }
 
-// A pair with a copy of its member.
+/// A pair with a copy of its member.
 pub(crate) fn copied(
     alloc: Global,
     pair: Option<&Entry>,
@@ -122,14 +122,14 @@ pub(crate) fn copied(
     )))
 }
 
-// Drops the first pair, if there is one.
+/// Drops the first pair, if there is one.
 pub(crate) fn drop_first(pairs: &mut Ordered<Entry>)
     ensures { MatchOption (slice_get pairs.old 0) ((pairs.old ≡ []) × (pairs.new ≡ [])) (λ pair. pairs.old ≡ pair ∷ pairs.new) }
 {
     pairs.pop_first();
 }
 
-// Drops the last pair, if there is one.
+/// Drops the last pair, if there is one.
 pub(crate) fn drop_last(pairs: &mut Ordered<Entry>)
     ensures { MatchOption (slice_get pairs.old (length pairs.old - 1)) ((pairs.old ≡ []) × (pairs.new ≡ [])) (λ pair. pairs.old ≡ pairs.new ++ pair ∷ []) }
 {

@@ -64,7 +64,7 @@ impl Dataset {
     }
 }
 
-// Whether an effect has a spelling, with words within the limit.
+/// Whether an effect has a spelling, with words within the limit.
 fn is_possible(effect: &Effect<'_>) -> bool
     ensures { result ≡ (has_spelling effect.now && words_fit effect.now) }
 {

@@ -94,6 +94,7 @@ impl Entries {
     }
 }
 
+/// Whether a value is a hash.
 fn is_hash(value: &Value) -> bool
     ensures { result ≡ is_some (hashes.of value.now) }
 {
@@ -103,6 +104,7 @@ fn is_hash(value: &Value) -> bool
     }
 }
 
+/// Whether a value is a list.
 fn is_list(value: &Value) -> bool
     ensures { result ≡ is_some (lists.of value.now) }
 {
@@ -112,6 +114,7 @@ fn is_list(value: &Value) -> bool
     }
 }
 
+/// Whether a value is a set.
 fn is_set(value: &Value) -> bool
     ensures { result ≡ is_some (sets.of value.now) }
 {
@@ -121,13 +124,14 @@ fn is_set(value: &Value) -> bool
     }
 }
 
-// The word, borrowed.
+/// The word, borrowed.
 pub(super) fn same<'a>(word: &'a Word<'_>) -> Word<'a>
     ensures { result ≡ word.now }
 {
     Word::borrowed(word.as_slice())
 }
 
+/// The words, borrowed.
 fn same_words<'a>(alloc: Global, words: &'a [Word<'_>]) -> Result<Words<'a>, AllocError>
     ensures { IfOk result (λ ws. ws ≡ words.now) }
 {
@@ -138,6 +142,7 @@ fn same_words<'a>(alloc: Global, words: &'a [Word<'_>]) -> Result<Words<'a>, All
     Ok(same_words)
 }
 
+/// The keys or fields with their values, borrowed.
 fn same_pairs<'a>(alloc: Global, pairs: &'a [(Word<'_>, Word<'_>)]) -> Result<Pairs<'a>, AllocError>
     ensures { IfOk result (λ ps. ps ≡ pairs.now) }
 {

@@ -56,7 +56,7 @@ impl Entries {
     }
 }
 
-// Sets fields, one after another.
+/// Sets fields of a hash, one after another.
 fn put_fields(alloc: Global, hash: &mut Hash, pairs: Pairs<'_>) -> Result<(), AllocError>
     ensures { OnOk result (hash.new ≡ with_fields pairs.entry hash.old) }
 {
@@ -68,7 +68,7 @@ fn put_fields(alloc: Global, hash: &mut Hash, pairs: Pairs<'_>) -> Result<(), Al
     Ok(())
 }
 
-// Removes fields, where they are there.
+/// Removes fields of a hash, where they are there.
 fn take_fields(hash: &mut Hash, fields: &[Word<'_>])
     ensures { hash.new ≡ without_fields fields.now hash.old }
 {

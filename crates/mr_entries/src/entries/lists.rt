@@ -213,7 +213,7 @@ impl Entries {
     }
 }
 
-// Puts items at an end, one after another.
+/// Puts items at an end of a list, one after another.
 fn push_items(
     alloc: Global,
     list: &mut ListValue,
@@ -228,6 +228,7 @@ fn push_items(
     Ok(())
 }
 
+/// Puts an item at an end of a list.
 fn push_item(list: &mut ListValue, end: End, item: Bytes) -> Result<(), AllocError>
     ensures { OnOk result (list.new ≡ put_item end item list.old) }
 {
@@ -237,7 +238,7 @@ fn push_item(list: &mut ListValue, end: End, item: Bytes) -> Result<(), AllocErr
     }
 }
 
-// Takes the item at an end.
+/// Takes the item at an end of a list. An empty one stays as it is.
 fn pop_item(list: &mut ListValue, end: End) -> Option<Bytes>
     ensures { MatchOption result ((end_item end list.old ≡ None) × (list.new ≡ list.old)) (λ item. (end_item end list.old ≡ Some item) × (list.new ≡ popped end 1 list.old) × (may_take (pos 1) (length list.old) ≡ true)) }
 {
@@ -247,7 +248,7 @@ fn pop_item(list: &mut ListValue, end: End) -> Option<Bytes>
     }
 }
 
-// Drops so many items at an end.
+/// Drops so many items at an end of a list, or all.
 fn pop_items(list: &mut ListValue, end: End, count: usize)
     ensures { list.new ≡ popped end count list.old }
 {
@@ -257,7 +258,7 @@ fn pop_items(list: &mut ListValue, end: End, count: usize)
     }
 }
 
-// Puts the item at one end at another, without taking memory.
+/// Takes the item at an end of a list and puts it at an end of the same. It takes no memory.
 fn turn_list(list: &mut ListValue, taken: End, put: End)
     requires { 0 < length list.old }
     ensures { turned taken put list.old ≡ Some list.new }
@@ -270,7 +271,7 @@ fn turn_list(list: &mut ListValue, taken: End, put: End)
     }
 }
 
-// The place beside the first pivot.
+/// The place beside the first pivot of a list, where an item is put. None where no item equals the pivot.
 fn place_beside(list: &ListValue, side: Side, pivot: &[u8]) -> Option<usize>
     ensures place { result ≡ place_beside side pivot.now list.now }
     ensures within { IfSome result (λ place. place ≤ length list.now) }
@@ -284,7 +285,7 @@ fn place_beside(list: &ListValue, side: Side, pivot: &[u8]) -> Option<usize>
     }
 }
 
-// How many that is, where as many may be taken from a list of this length.
+/// How many items a count takes from a list of this length. None for a count below 1 or past the length.
 fn taken_of(count: i64, len: usize) -> Option<usize>
     ensures { MatchOption result (may_take count len ≡ false) (λ n. (may_take count len ≡ true) × (n ≡ unsigned_abs count)) }
 {
@@ -298,7 +299,7 @@ fn taken_of(count: i64, len: usize) -> Option<usize>
     Some(taken)
 }
 
-// The place, where it is one of a list of this length.
+/// The place, where a list of this length has it.
 fn place_of(place: i64, len: usize) -> Option<usize>
     ensures { MatchOption result (is_place_of place len ≡ false) (λ i. (is_place_of place len ≡ true) × (i ≡ unsigned_abs place) × (i < len)) }
 {
@@ -312,7 +313,7 @@ fn place_of(place: i64, len: usize) -> Option<usize>
     Some(place)
 }
 
-// The first and the last place, where they are those of a part of a list of this length.
+/// The first and the last place of a part, where a list of this length has it and it isn't empty.
 fn part_of(first: i64, last: i64, len: usize) -> Option<(usize, usize)>
     ensures { MatchOption result (is_part_of first last len ≡ false) (λ p. (is_part_of first last len ≡ true) × (p.0 ≡ unsigned_abs first) × (p.1 ≡ unsigned_abs last) × (p.0 ≤ p.1) × (p.1 < len)) }
 {

@@ -28,6 +28,8 @@ impl Entries {
         self.carry_item(from, to, taken, put)
     }
 
+    /// Takes an item from an end of one key's list and puts it at an end of another's. Refused where there is no item,
+    /// or where the other holds another kind.
     fn carry_item(
         &mut self,
         from: &[u8],
@@ -65,6 +67,7 @@ impl Entries {
         self.carry_member(from, to, member)
     }
 
+    /// Takes a member from one key's set and puts it to another's. Refused where the other holds another kind.
     fn carry_member(
         &mut self,
         from: &[u8],
@@ -84,7 +87,7 @@ impl Entries {
         self.add_members(to, members)
     }
 
-    // Whether the key holds a set with this member.
+    /// Whether the key holds a set with this member.
     fn has_member(&self, key: &[u8], member: &[u8]) -> bool
         ensures { result ≡ has_member member.now (map.get self.now key.now) }
     {
@@ -95,6 +98,7 @@ impl Entries {
     }
 }
 
+/// Whether a value is a set with this member.
 fn is_member(value: &Value, member: &[u8]) -> bool
     ensures { result ≡ is_member member.now value.now }
 {

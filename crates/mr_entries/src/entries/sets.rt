@@ -60,7 +60,7 @@ impl Entries {
     }
 }
 
-// Adds members, one after another.
+/// Adds members to a set, one after another.
 fn put_members(alloc: Global, set: &mut SetValue, members: Words<'_>) -> Result<(), AllocError>
     ensures { OnOk result (set.new ≡ with_members members.entry set.old) }
 {
@@ -70,7 +70,7 @@ fn put_members(alloc: Global, set: &mut SetValue, members: Words<'_>) -> Result<
     Ok(())
 }
 
-// Removes members, where they are there.
+/// Removes members from a set, where they are there.
 fn take_members(set: &mut SetValue, members: &[Word<'_>])
     ensures { set.new ≡ without_members members.now set.old }
 {

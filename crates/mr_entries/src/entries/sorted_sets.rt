@@ -62,7 +62,7 @@ impl Entries {
     }
 }
 
-// Sets scores, one after another.
+/// Gives members of a sorted set these scores, one after another.
 fn put_scores(set: &mut ZSet, scores: &[(Word<'_>, i64)]) -> Result<(), AllocError>
     requires { IsTrue (list_all has_score scores.now) }
     ensures { OnOk result (set.new ≡ with_scores scores.now set.old) }
@@ -73,7 +73,7 @@ fn put_scores(set: &mut ZSet, scores: &[(Word<'_>, i64)]) -> Result<(), AllocErr
     Ok(())
 }
 
-// Removes members, where they are there.
+/// Removes members from a sorted set, where they are there.
 fn take_scores(set: &mut ZSet, members: &[Word<'_>])
     ensures { set.new ≡ without_scores members.now set.old }
 {

@@ -63,7 +63,7 @@ impl Entries {
         self.write_range(key, offset.unsigned_abs() as usize, part)
     }
 
-    // Changes nothing. A key that holds another kind is refused.
+    /// Changes nothing. A key that holds another kind is refused.
     fn keep_text(&mut self, key: &[u8]) -> Result<(), ApplyFault>
         ensures { Applies (at_key (same (texts [])) key.now self.old) self.old result self.new }
     {
@@ -73,7 +73,7 @@ impl Entries {
         Ok(())
     }
 
-    // Whether the key holds a text or is absent.
+    /// Whether the key holds a text or is absent.
     fn takes_text(&self, key: &[u8]) -> bool
         ensures { result ≡ is_some (held (texts []) (map.get self.now key.now)) }
     {
@@ -83,6 +83,8 @@ impl Entries {
         }
     }
 
+    /// Writes a part over the text at a key, from an offset on. A key that isn't there has an empty text; refused where
+    /// it holds another kind or the text grows past the limit.
     fn write_range(&mut self, key: Word<'_>, offset: usize, part: &[u8]) -> Result<(), ApplyFault>
         ensures { Applies (at_key (on (texts []) (λ text. fitting (overwritten offset part.now text))) key.entry self.old) self.old result self.new }
     {
@@ -114,6 +116,7 @@ impl Entries {
     }
 }
 
+/// Whether a value is a text.
 fn is_text(value: &Value) -> bool
     ensures { result ≡ is_some ((texts []).of value.now) }
 {
@@ -123,7 +126,7 @@ fn is_text(value: &Value) -> bool
     }
 }
 
-// Puts more behind a text.
+/// Puts more behind a text. Refused, with no change, where that is longer than the limit.
 fn extend(text: &mut Bytes, more: &[u8]) -> Result<(), ApplyFault>
     ensures ok { OnOk result (fitting (text.old ++ more.now) ≡ Some text.new) }
     ensures refused { (result ≡ Err ApplyFault.Refused) ↔ (fitting (text.old ++ more.now) ≡ None) }
@@ -136,7 +139,7 @@ fn extend(text: &mut Bytes, more: &[u8]) -> Result<(), ApplyFault>
     Ok(())
 }
 
-// Writes a part over a text.
+/// Writes a part over a text from an offset on. Refused, with no change, where that is longer than the limit.
 fn overwrite(text: &mut Bytes, offset: usize, part: &[u8]) -> Result<(), ApplyFault>
     ensures ok { OnOk result (fitting (overwritten offset part.now text.old) ≡ Some text.new) }
     ensures refused { (result ≡ Err ApplyFault.Refused) ↔ (fitting (overwritten offset part.now text.old) ≡ None) }
@@ -149,7 +152,8 @@ fn overwrite(text: &mut Bytes, offset: usize, part: &[u8]) -> Result<(), ApplyFa
     Ok(())
 }
 
-// The text of the number that a text spells, and this much, together.
+/// The text of the number that a text spells, and this much, together. Refused where it spells none, or the sum has no
+/// 64 bits.
 fn increased(alloc: Global, by: i64, text: &[u8]) -> Result<Bytes, ApplyFault>
     ensures ok { IfOk result (λ sum. increased by text.now ≡ Some sum) }
     ensures refused { (result ≡ Err ApplyFault.Refused) ↔ (increased by text.now ≡ None) }
@@ -161,7 +165,7 @@ fn increased(alloc: Global, by: i64, text: &[u8]) -> Result<Bytes, ApplyFault>
     Ok(text)
 }
 
-// The number that a text spells, and this much, together, where that has 64 bits.
+/// The number that a text spells, and this much, together. None where it spells none, or the sum has no 64 bits.
 fn sum_with(by: i64, text: &[u8]) -> Option<i64>
     ensures { result ≡ sum_with by text.now }
 {

@@ -45,7 +45,7 @@ impl Entries {
         self.put(to, entry)
     }
 
-    // Changes nothing. A key that isn't there is refused.
+    /// Changes nothing. A key that isn't there is refused.
     fn keep(&mut self, key: &[u8]) -> Result<(), ApplyFault>
         ensures { Applies (rename key.now key.now self.old) self.old result self.new }
     {

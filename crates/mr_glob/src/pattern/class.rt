@@ -14,7 +14,7 @@ enum Member<'a> {
     End(&'a [u8]),
 }
 
-// The byte that ends a range whose first byte was read, and what follows it.
+/// The byte that ends a range whose first byte was read, and what follows it. None where no range begins there.
 fn range_end<'a>(class: &'a [u8]) -> Option<(u8, &'a [u8])>
     ensures { MatchOption result (IsNoRange class.now) (λ end. EndsRange class.now end.0 end.1.now) }
 {
@@ -29,6 +29,7 @@ fn range_end<'a>(class: &'a [u8]) -> Option<(u8, &'a [u8])>
     Some((last.byte(), rest))
 }
 
+/// What comes next in an open class. A byte alone is a range from it to itself.
 fn next_member<'a>(class: &'a [u8]) -> Member<'a>
     ensures { HasMember class.now result }
 {
@@ -49,13 +50,14 @@ fn next_member<'a>(class: &'a [u8]) -> Member<'a>
     }
 }
 
+/// Whether the byte lies between the two ends of a range, whichever comes first.
 fn in_range(byte: u8, first: u8, last: u8) -> bool
     ensures { result ≡ in_range byte (first, last) }
 {
     first.min(last) <= byte && byte <= first.max(last)
 }
 
-// Whether the byte is in one of the ranges of an open class, and what follows the class.
+/// Whether the byte is in one of the ranges of an open class, and what follows the class.
 fn in_ranges<'a>(class: &'a [u8], byte: u8) -> (bool, &'a [u8])
     ensures holds { result.0 ≡ in_ranges (class_signs (signs class.now)) byte }
     ensures behind { parts_of result.1.now ≡ parts_behind_class (signs class.now) }

@@ -11,6 +11,7 @@ pub(super) enum Sign {
 }
 
 impl Sign {
+    /// The byte itself.
     pub(super) fn byte(self) -> u8
         ensures { result ≡ byte_of self }
     {
