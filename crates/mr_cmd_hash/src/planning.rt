@@ -37,7 +37,7 @@ pub fn plan(
     planned(alloc, held, ask, given)
 }
 
-// The plan, and what the dataset keeps.
+/// What a command is answered, and its effects. What the dataset keeps is known from here on.
 fn planned(
     alloc: Global,
     held: &Dataset,
@@ -57,6 +57,7 @@ fn planned(
     Ok(effects.into_plan(reply))
 }
 
+/// The key that a command names.
 fn key_of<'c, 'a>(ask: &'c HashAsk<'a, '_>) -> &'c Argument<'a>
     ensures { result.now ≡ key_of ask.now }
 {
@@ -74,7 +75,7 @@ fn key_of<'c, 'a>(ask: &'c HashAsk<'a, '_>) -> &'c Argument<'a>
     }
 }
 
-// The hash that an entry is: the empty one where there is no entry.
+/// The hash that an entry is: the empty one where there is no entry. None where it is another kind.
 fn hash_at<'h>(none: &'h Hash, live_entry: Option<&'h Entry>) -> Option<&'h Hash>
     requires { none.now ≡ empty }
     ensures { option_copied result ≡ held hashes (option_copied live_entry.entry) }
@@ -88,7 +89,7 @@ fn hash_at<'h>(none: &'h Hash, live_entry: Option<&'h Entry>) -> Option<&'h Hash
     }
 }
 
-// What a command does to a hash.
+/// What a command on a hash is answered. Its effects are put behind those that are there.
 fn change(
     alloc: Global,
     ask: &HashAsk<'_, '_>,

@@ -10,6 +10,7 @@ use mr_value::Hash;
 use mr_words::{Argument, Words};
 use std::alloc::{AllocError, Global};
 
+/// A value as it is answered, or nil.
 fn value(alloc: Global, value: Option<&[u8]>) -> Result<Reply, AllocError>
     ensures { IfOk result (λ r. view r ≡ value_reply (option_copied value.entry)) }
 {
@@ -73,6 +74,7 @@ pub fn hstrlen(field: &Argument<'_>, hash: &Hash) -> Reply
     }
 }
 
+/// What `HGETALL` answers: each field with its value behind it, in byte order of fields.
 fn pairs(alloc: Global, hash: &Hash) -> Result<Reply, AllocError>
     ensures { IfOk result (λ r. view r ≡ (list_hash HashPart.Pairs hash.now).reply) }
 {
@@ -84,6 +86,7 @@ fn pairs(alloc: Global, hash: &Hash) -> Result<Reply, AllocError>
     Ok(Reply::Array(replies))
 }
 
+/// What `HKEYS` answers: the fields, in byte order.
 fn fields(alloc: Global, hash: &Hash) -> Result<Reply, AllocError>
     ensures { IfOk result (λ r. view r ≡ (list_hash HashPart.Fields hash.now).reply) }
 {
@@ -94,6 +97,7 @@ fn fields(alloc: Global, hash: &Hash) -> Result<Reply, AllocError>
     Ok(Reply::Array(replies))
 }
 
+/// What `HVALS` answers: the values, in byte order of their fields.
 fn values(alloc: Global, hash: &Hash) -> Result<Reply, AllocError>
     ensures { IfOk result (λ r. view r ≡ (list_hash HashPart.Values hash.now).reply) }
 {

@@ -16,7 +16,7 @@ use mr_value::Hash;
 use mr_words::{Argument, Words};
 use std::alloc::{AllocError, Global};
 
-// Each field that is named, once. They are not copied.
+/// Each field that is named, once. They are not copied.
 fn names<'a>(alloc: Global, fields: &Words<'a, '_>) -> Result<SliceMap<'a, ()>, AllocError>
     ensures { IfOk result (λ names. names ≡ with_members fields.now empty) }
 {
@@ -27,7 +27,7 @@ fn names<'a>(alloc: Global, fields: &Words<'a, '_>) -> Result<SliceMap<'a, ()>, 
     Ok(names)
 }
 
-// Puts the effects of fields that go, where they are there, and answers how many they are.
+/// Puts the effects of fields that go, where they are there, and answers how many these are.
 fn push_removed(
     alloc: Global,
     key: &Argument<'_>,
@@ -50,7 +50,8 @@ fn push_removed(
     Ok(removed)
 }
 
-// One field goes, without putting fields in order.
+/// What `HDEL` of one field is answered, without putting fields in order. Its effect is put behind those that are
+/// there.
 fn remove_field(
     alloc: Global,
     key: &Argument<'_>,

@@ -18,7 +18,7 @@ use mr_value::{Hash, read_i64};
 use mr_words::{Argument, Pairs};
 use std::alloc::{AllocError, Global};
 
-// The fields that pairs name, each with its last value. They are not copied.
+/// The fields that pairs name, each with its last value. They are not copied.
 fn last_values<'a>(
     alloc: Global,
     pairs: &Pairs<'a, '_>,
@@ -32,7 +32,7 @@ fn last_values<'a>(
     Ok(values)
 }
 
-// Puts the effects of fields that get these values, and answers how many of them are new.
+/// Puts the effects of fields that get these values, and answers how many of them are new.
 fn push_changed(
     alloc: Global,
     key: &Argument<'_>,
@@ -55,6 +55,7 @@ fn push_changed(
     Ok(new)
 }
 
+/// What is answered where so many fields are new.
 fn fields_reply(reply: FieldsReply, new: usize) -> Reply
     requires { new < 2 ^ 63 }
     ensures { view result ≡ fields_reply reply new }
@@ -65,7 +66,7 @@ fn fields_reply(reply: FieldsReply, new: usize) -> Reply
     }
 }
 
-// The pair, where there is one alone.
+/// The field with its value, where pairs are one alone.
 fn only_pair<'a>(pairs: &Pairs<'a, '_>) -> Option<(&'a [u8], &'a [u8])>
     ensures one { IfSome result (λ p. pairs.now ≡ (p.0.now, p.1.now) ∷ []) }
     ensures other { IfNone result (length pairs.now ≢ 1) }
@@ -76,7 +77,7 @@ fn only_pair<'a>(pairs: &Pairs<'a, '_>) -> Option<(&'a [u8], &'a [u8])>
     pairs.iter().next()
 }
 
-// Puts the effect of one field that gets a value, unless it has it already.
+/// Puts the effect of one field that gets a value, unless it has it already.
 fn push_pair(
     alloc: Global,
     key: &Argument<'_>,
@@ -93,7 +94,8 @@ fn push_pair(
     Ok(())
 }
 
-// One field gets a value, without putting fields in order.
+/// What `HSET` or `HMSET` of one field is answered, without putting fields in order. Its effect is put behind those
+/// that are there.
 fn set_field(
     alloc: Global,
     key: &Argument<'_>,
@@ -154,7 +156,7 @@ pub fn hsetnx(
     Ok(integer(1))
 }
 
-// The number that a field holds: 0 where it isn't there.
+/// The number that a field holds: 0 where it isn't there. None where its value spells none.
 fn number_at(before: Option<&[u8]>) -> Option<i64>
     ensures { result ≡ number_at (option_copied before.entry) }
 {

@@ -9,7 +9,7 @@ use mr_data::{Dataset, Given};
 use mr_planning::see;
 use std::borrow::CowSlice;
 
-// Whether a key is there and not expired.
+/// Whether a key is there and not expired.
 fn is_present(held: &Dataset, key: &[u8], given: Given) -> bool
     ensures { result ≡ is_some (live given.now (get held.now key.now)) }
 {

@@ -44,7 +44,7 @@ pub fn expire(
     Ok(count(1))
 }
 
-// Whether the condition lets a key with this deadline get another.
+/// Whether the condition lets a key with this deadline get another.
 fn allows(condition: Option<ExpireCondition>, held: Option<i64>, deadline: i64) -> bool
     ensures { result ≡ allows condition held deadline }
 {
@@ -63,7 +63,7 @@ fn allows(condition: Option<ExpireCondition>, held: Option<i64>, deadline: i64) 
     }
 }
 
-// Whether this is the deadline.
+/// Whether this is the deadline that a key has.
 fn is_until(deadline: i64, held: Option<i64>) -> bool
     ensures { result ≡ is_until deadline held }
 {
@@ -118,6 +118,7 @@ pub fn answered_in(form: DeadlineForm, given: Given, live_entry: Option<&Entry>)
     }
 }
 
+/// The deadline of a key, as it is asked for: -1 where it has none.
 fn lifetime_in(form: DeadlineForm, given: Given, deadline: Option<i64>) -> i64
     requires { IsLifetime deadline }
     ensures { result ≡ lifetime_in form given.now deadline }
@@ -128,6 +129,7 @@ fn lifetime_in(form: DeadlineForm, given: Given, deadline: Option<i64>) -> i64
     }
 }
 
+/// A deadline, as it is asked for: what is left till then, or the moment itself.
 fn deadline_in(form: DeadlineForm, given: Given, deadline: i64) -> i64
     requires { IsLifetime (Some deadline) }
     ensures { result ≡ deadline_in form given.now deadline }
@@ -140,7 +142,7 @@ fn deadline_in(form: DeadlineForm, given: Given, deadline: i64) -> i64
     }
 }
 
-// Milliseconds in seconds, rounded to the nearest number.
+/// Milliseconds in seconds, rounded to the nearest number.
 fn in_seconds(milliseconds: i64) -> i64
     requires { milliseconds ≤ℤ pos (2 ^ 62) }
     ensures { result ≡ in_seconds milliseconds }

@@ -19,6 +19,7 @@ pub fn key_type(live_entry: Option<&Entry>) -> Reply
     }
 }
 
+/// The name of a value's kind, as it is answered.
 fn kind_name(value: &Value) -> Reply
     ensures { view result ≡ kind_name value.now }
 {
@@ -44,6 +45,7 @@ pub fn is_of_kind(kind: Option<KindName>, live_entry: Option<&Entry>) -> bool
     }
 }
 
+/// Whether a value is of the kind with this name.
 fn has_kind(kind: KindName, value: &Value) -> bool
     ensures { result ≡ has_kind kind value.now }
 {

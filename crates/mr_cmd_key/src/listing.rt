@@ -30,6 +30,7 @@ pub fn list_keys(
     Ok(Reply::Array(replies))
 }
 
+/// Whether a key is there and not expired, matches, and is of the kind, as far as these are asked for.
 fn is_listed(
     held: &Dataset,
     key: &[u8],
@@ -42,6 +43,7 @@ fn is_listed(
     is_matched(pattern, key) && is_of_kind(kind, see(held, key, given).0)
 }
 
+/// Whether a key matches the pattern, if there is one.
 fn is_matched(pattern: Option<&[u8]>, key: &[u8]) -> bool
     ensures { result ≡ is_matched (option_copied pattern.entry) key.now }
 {

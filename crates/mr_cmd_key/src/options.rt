@@ -9,7 +9,7 @@ use crate::key_ask::ExpireCondition;
 use mr_words::{Argument, Arguments, AskFault, Pairs};
 
 impl ExpireCondition {
-    // The condition that a word is, in any case.
+    /// The condition that a word is, in any case.
     fn of(word: &[u8]) -> Option<ExpireCondition>
         ensures { result ≡ expire_condition word.now }
     {
@@ -24,7 +24,7 @@ impl ExpireCondition {
         )
     }
 
-    // The first of these conditions that the word is.
+    /// The first of these conditions that the word is.
     fn among(conditions: &[ExpireCondition], word: &[u8]) -> Option<ExpireCondition>
         ensures { result ≡ find (is_expire_condition (lowered word.now)) conditions.now }
     {
@@ -34,6 +34,7 @@ impl ExpireCondition {
             .find(|condition| condition.is(word))
     }
 
+    /// Whether a word is this condition, in any case.
     fn is(self, word: &[u8]) -> bool
         ensures { result ≡ is_expire_condition (lowered word.now) self }
     {
@@ -69,7 +70,7 @@ pub(crate) enum ScanOption {
 }
 
 impl ScanOption {
-    // The option that a word is, in any case.
+    /// The option that a word is, in any case. It is a syntax fault where it is none.
     fn of(word: &[u8]) -> Result<ScanOption, AskFault>
         ensures { result ≡ scan_option word.now }
     {
@@ -84,6 +85,7 @@ impl ScanOption {
         }
     }
 
+    /// Whether a word is this option, in any case.
     fn is(self, word: &[u8]) -> bool
         ensures { result ≡ bytes_eq (lowered word.now) (scan_text self) }
     {
@@ -116,6 +118,7 @@ impl<'a> ScanOptions<'a> {
         Ok(options)
     }
 
+    /// No option.
     fn none() -> ScanOptions<'a>
         ensures { result ≡ no_scan_options }
     {
@@ -126,7 +129,7 @@ impl<'a> ScanOptions<'a> {
         }
     }
 
-    // With one option more, whose argument this is.
+    /// These options with one more, whose argument this is. It is a syntax fault where it is there already.
     fn and(self, option: ScanOption, argument: Argument<'a>) -> Result<ScanOptions<'a>, AskFault>
         ensures { result ≡ scan_also self.entry argument.entry option }
     {

@@ -24,6 +24,8 @@ pub(crate) fn positive_if_any(word: &Option<Argument<'_>>) -> Result<Option<i64>
     }
 }
 
+/// The number from 1 on that a text spells. It is a fault where it is no whole number, and a syntax fault where it is
+/// below 1.
 fn positive(text: &[u8]) -> Result<i64, AskFault>
     ensures { result ≡ positive text.now }
 {
@@ -37,6 +39,7 @@ pub(crate) fn cursor_of(word: &CowSlice<'_, u8>) -> Result<Cursor, AskFault>
     cursor_at(read_i64(word.as_slice()).ok_or(AskFault::Other(BadValue::Cursor))?)
 }
 
+/// Where a scan goes on at this number. It is a fault where it is below 0.
 fn cursor_at(number: i64) -> Result<Cursor, AskFault>
     ensures { result ≡ cursor_at number }
 {
@@ -62,6 +65,7 @@ pub(crate) fn timing_of(word: &CowSlice<'_, u8>) -> Result<Timing, AskFault>
     }
 }
 
+/// Whether a word says this of when keys go, in any case.
 fn is_timing(word: &CowSlice<'_, u8>, timing: Timing) -> bool
     ensures { result ≡ bytes_eq (lowered (cow_slice_items word.now)) (timing_text timing) }
 {
@@ -81,6 +85,7 @@ pub(crate) fn kind_if_any(word: &Option<Argument<'_>>) -> Option<KindName>
     }
 }
 
+/// The kind that a word names, in any case. A word that names none is an unknown kind, which no value is of.
 fn kind_of(word: &[u8]) -> KindName
     ensures { result ≡ kind_of word.now }
 {
@@ -99,6 +104,7 @@ fn kind_of(word: &[u8]) -> KindName
     }
 }
 
+/// Whether a word is the name of this kind, in any case. That of the unknown kind is empty.
 fn is_kind(word: &[u8], kind: KindName) -> bool
     ensures { result ≡ is_kind word.now kind }
 {
@@ -112,7 +118,7 @@ fn is_kind(word: &[u8], kind: KindName) -> bool
     }
 }
 
-// The command that sets a deadline in this unit.
+/// The command that sets a deadline in this unit.
 fn expiring(unit: ExpiryUnit) -> ExpiringCommand
     ensures { result ≡ expiring unit }
 {

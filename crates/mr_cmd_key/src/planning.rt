@@ -49,7 +49,7 @@ pub fn plan(
     planned(alloc, held, ask, given)
 }
 
-// The deadline that a command sets was read within limits. Where it lies ahead, it is within those of effects.
+/// The deadline that a command sets was read within limits. Where it lies ahead, it is within those of effects.
 fn deadline_can_be_named(ask: &KeyAsk<'_, '_>, given: Given)
     ensures { HasDeadline ask.now given.now }
 {
@@ -58,6 +58,7 @@ fn deadline_can_be_named(ask: &KeyAsk<'_, '_>, given: Given)
     }
 }
 
+/// What a command is answered, and its effects.
 fn planned(
     alloc: Global,
     held: &Dataset,
@@ -71,7 +72,7 @@ fn planned(
     Ok(effects.into_plan(reply))
 }
 
-// What a command is answered. Its effects are put behind those that are there.
+/// What a command is answered. Its effects are put behind those that are there.
 fn reply_to(
     alloc: Global,
     held: &Dataset,
@@ -132,6 +133,8 @@ fn reply_to(
     }
 }
 
+/// What `DEL` and `UNLINK` are answered: how many of the keys were there. The DELs of expired keys and of those that go
+/// are put behind the effects that are there.
 fn delete(
     alloc: Global,
     held: &Dataset,
@@ -146,6 +149,7 @@ fn delete(
     Ok(integer(count))
 }
 
+/// What `EXISTS` is answered. The DELs of expired keys are put behind the effects that are there.
 fn exists(
     alloc: Global,
     held: &Dataset,
@@ -160,6 +164,7 @@ fn exists(
     Ok(count(present))
 }
 
+/// What `TYPE` is answered. The DEL of an expired key is put behind the effects that are there.
 fn key_type(
     alloc: Global,
     held: &Dataset,
@@ -173,6 +178,7 @@ fn key_type(
     Ok(kinds::key_type(live_entry))
 }
 
+/// What `KEYS` is answered. It has no effect.
 fn keys(
     alloc: Global,
     held: &Dataset,
@@ -184,6 +190,7 @@ fn keys(
     listing::list_keys(alloc, held, Some(pattern.as_slice()), None, given)
 }
 
+/// What `SCAN` is answered. It has no effect.
 fn scan(
     alloc: Global,
     held: &Dataset,
@@ -197,6 +204,7 @@ fn scan(
     listing::scan(alloc, held, cursor, bytes_of(pattern), kind, given)
 }
 
+/// The bytes of a word, if there is one.
 fn bytes_of<'a>(word: &Option<Argument<'a>>) -> Option<&'a [u8]>
     ensures { option_copied result ≡ word.now }
 {
@@ -206,12 +214,15 @@ fn bytes_of<'a>(word: &Option<Argument<'a>>) -> Option<&'a [u8]>
     }
 }
 
+/// What `DBSIZE` is answered: how many keys are not expired.
 fn dbsize(held: &Dataset, given: Given) -> Reply
     ensures { view result ≡ (sized (seen given.now held.now)).reply }
 {
     count(held.live_len(given.now()))
 }
 
+/// What `FLUSHALL` and `FLUSHDB` are answered. Unless the dataset is empty, their effect is put behind those that are
+/// there.
 fn clear(held: &Dataset, given: Given, effects: &mut Effects) -> Result<Reply, AllocError>
     ensures { IfOk result (λ r. Plans (on_none cleared) given.now held.now (view r) effects.old effects.new) }
 {
@@ -221,6 +232,7 @@ fn clear(held: &Dataset, given: Given, effects: &mut Effects) -> Result<Reply, A
     Ok(done())
 }
 
+/// What `EXPIRE` and its kin are answered. Their effects are put behind those that are there.
 fn expire(
     alloc: Global,
     held: &Dataset,
@@ -237,6 +249,7 @@ fn expire(
     expiring::expire(alloc, key, condition, deadline, live_entry, given, effects)
 }
 
+/// What `PERSIST` is answered. Its effects are put behind those that are there.
 fn persist(
     alloc: Global,
     held: &Dataset,
@@ -250,6 +263,7 @@ fn persist(
     expiring::persist(alloc, key, live_entry, effects)
 }
 
+/// What `TTL` and its kin are answered. The DEL of an expired key is put behind the effects that are there.
 fn deadline(
     alloc: Global,
     held: &Dataset,

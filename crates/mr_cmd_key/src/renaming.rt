@@ -47,7 +47,7 @@ pub fn renamenx(
     carry_new(alloc, from, to, source, target, effects)
 }
 
-// The live entries at two keys, which may be one. Expired ones get their DELs.
+/// The live entries at two keys, which may be one. The DELs of expired ones are put behind the effects that are there.
 fn look_at_both<'d>(
     alloc: Global,
     held: &'d Dataset,
@@ -69,7 +69,7 @@ fn look_at_both<'d>(
     Ok((source, target))
 }
 
-// What the one key has goes to the other, and this is answered.
+/// Lets what the one key has go to the other, and answers this, or the error that there is no such key.
 fn carry(
     alloc: Global,
     from: &Argument<'_>,
@@ -92,7 +92,8 @@ fn carry(
     Ok(reply)
 }
 
-// .. unless the other is there.
+/// Lets what the one key has go to the other unless that is there, and answers whether it went, or the error that there
+/// is no such key.
 fn carry_new(
     alloc: Global,
     from: &Argument<'_>,
@@ -109,13 +110,14 @@ fn carry_new(
     carry(alloc, from, to, count(1), source, effects)
 }
 
+/// There is no such key.
 fn no_key() -> Reply
     ensures { view result ≡ no_key }
 {
     Reply::Error(CowSlice::Borrowed(b"ERR no such key"))
 }
 
-// Whether two keys are one.
+/// Whether two keys are one.
 fn same(from: &Argument<'_>, to: &Argument<'_>) -> bool
     ensures { result ≡ bytes_eq from.now to.now }
 {

@@ -45,7 +45,7 @@ pub fn lset(
     Ok(done())
 }
 
-// Whether this item is there already.
+/// Whether this item is there already.
 fn is_item(item: &[u8], there: Option<&[u8]>) -> bool
     ensures { result ≡ is_item item.now (option_copied there.entry) }
 {
@@ -114,7 +114,7 @@ pub fn lrem(
     Ok(integer(removed as i64))
 }
 
-// How many items go.
+/// How many items go, where so many that equal one are to be removed.
 fn removed_count(list: &ListValue, count: i64, item: &[u8]) -> usize
     ensures count { result ≡ removed_count count (count_of item.now list.now) }
     ensures small { result < 2 ^ 63 }

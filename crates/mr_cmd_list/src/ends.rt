@@ -15,6 +15,7 @@ pub fn end_item(list: &ListValue, end: End) -> Option<&[u8]>
     }
 }
 
+/// Whether two ends of a list are one.
 pub fn is_same_end(end: End, other: End) -> bool
     ensures { result ≡ is_same_end end other }
 {

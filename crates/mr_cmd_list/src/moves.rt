@@ -40,6 +40,7 @@ pub fn move_item(
     Ok(effects.into_plan(reply))
 }
 
+/// Whether two keys are one.
 fn is_same_key(key: &Argument<'_>, other: &Argument<'_>) -> bool
     ensures { result ≡ bytes_eq key.now other.now }
 {
@@ -78,7 +79,8 @@ pub fn rotate(
     Ok(reply)
 }
 
-// From one list to another.
+/// What is answered where an item goes from one list to another: the item, nil where there is none, or a refusal where
+/// one of the keys holds another kind. The effect is put behind those that are there.
 fn carry(
     alloc: Global,
     from: &Argument<'_>,
@@ -114,7 +116,7 @@ fn carry(
     Ok(reply)
 }
 
-// Whether the key is absent or holds a list.
+/// Whether the key is absent or holds a list.
 fn takes_items(target: Option<&Entry>) -> bool
     ensures { result ≡ is_some (held lists (option_copied target.entry)) }
 {

@@ -22,6 +22,7 @@ pub(crate) fn end_of(word: &CowSlice<'_, u8>) -> Result<End, AskFault>
     }
 }
 
+/// Whether a word names this end, in any case.
 fn is_end(word: &CowSlice<'_, u8>, end: End) -> bool
     ensures { result ≡ bytes_eq (lowered (cow_slice_items word.now)) (end_text end) }
 {
@@ -44,6 +45,7 @@ pub(crate) fn side_of(word: &CowSlice<'_, u8>) -> Result<Side, AskFault>
     }
 }
 
+/// Whether a word names this side, in any case.
 fn is_side(word: &CowSlice<'_, u8>, side: Side) -> bool
     ensures { result ≡ bytes_eq (lowered (cow_slice_items word.now)) (side_text side) }
 {

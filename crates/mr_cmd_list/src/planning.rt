@@ -38,7 +38,7 @@ pub fn plan(
     planned(alloc, held, ask, given)
 }
 
-// The plan, and what is known of the dataset.
+/// What a command is answered, and its effects. What the dataset keeps is known from here on.
 fn planned(
     alloc: Global,
     held: &Dataset,
@@ -71,7 +71,7 @@ fn planned(
     }
 }
 
-// The plan of a command on one key.
+/// What a command on one key is answered, and its effects.
 fn at_key(
     alloc: Global,
     held: &Dataset,
@@ -89,7 +89,7 @@ fn at_key(
     Ok(effects.into_plan(reply))
 }
 
-// What a command does at a key, where it names no other.
+/// What a command on one key is answered by what that holds. Its effects are put behind those that are there.
 fn answer_of(
     alloc: Global,
     ask: &ListAsk<'_, '_>,

@@ -14,6 +14,7 @@ use mr_value::{End, ListValue, Word};
 use mr_words::Argument;
 use std::alloc::{AllocError, Global};
 
+/// `LPOP`, `RPOP`
 pub fn pop(
     alloc: Global,
     key: &Argument<'_>,
@@ -31,6 +32,7 @@ pub fn pop(
     }
 }
 
+/// `LPOP` or `RPOP` without a count: the item at the end, or nil.
 fn pop_one(
     alloc: Global,
     key: &Argument<'_>,
@@ -58,6 +60,7 @@ fn pop_one(
     Ok(reply)
 }
 
+/// `LPOP` or `RPOP` with a count: at most so many items from the end on, or nil where there is no key.
 fn pop_some(
     alloc: Global,
     key: &Argument<'_>,
@@ -87,7 +90,7 @@ fn pop_some(
     Ok(reply)
 }
 
-// So many items at an end, in the order in which they are taken.
+/// The answer of so many items at an end, in the order in which they are taken.
 fn taken(alloc: Global, list: &ListValue, end: End, count: usize) -> Result<Reply, AllocError>
     requires { count ≤ length list.now }
     ensures { IfOk result (λ r. view r ≡ items_reply (taken_items end count list.now)) }

@@ -16,6 +16,7 @@ use mr_words::{Argument, Words};
 use std::alloc::{AllocError, Global};
 use std::borrow::CowSlice;
 
+/// `LPUSH`, `RPUSH`, `LPUSHX`, `RPUSHX`
 pub fn push(
     alloc: Global,
     key: &Argument<'_>,
@@ -46,7 +47,7 @@ pub fn push(
 /// The most items that one effect has.
 const MOST_ITEMS: usize = 64;
 
-// One effect for each group of items.
+/// Puts one effect for each group of items that come to an end of the list.
 fn push_groups(
     alloc: Global,
     key: &Argument<'_>,
@@ -69,7 +70,7 @@ fn push_groups(
     Ok(())
 }
 
-// The words, with memory of their own.
+/// The words, copied.
 fn copied(alloc: Global, words: &[CowSlice<'_, u8>]) -> Result<mr_data::Words<'static>, AllocError>
     ensures { IfOk result (λ ws. ws ≡ map cow_slice_items words.now) }
 {

@@ -9,12 +9,14 @@ use mr_value::Items;
 use std::alloc::{AllocError, Global};
 use std::borrow::CowSlice;
 
+/// There is no such key.
 pub fn no_such_key() -> Reply
     ensures { view result ≡ no_such_key }
 {
     Reply::Error(CowSlice::Borrowed(b"ERR no such key"))
 }
 
+/// The index names no item.
 pub fn out_of_range() -> Reply
     ensures { view result ≡ out_of_range }
 {

@@ -56,7 +56,7 @@ pub fn replicaof<'a, 't>(name: Name, arguments: Arguments<'a, 't>) -> Reading<'a
     }
 }
 
-// The offset that a replica holds. It is a syntax fault where it is no number.
+/// `REPLCONF ACK offset`. It is a syntax fault where the offset is no whole number.
 fn acknowledgement<'a, 't>(word: &CowSlice<'_, u8>) -> Reading<'a, 't>
     ensures { result ≡ acknowledgement (cow_slice_items word.now) }
 {
@@ -64,6 +64,7 @@ fn acknowledgement<'a, 't>(word: &CowSlice<'_, u8>) -> Reading<'a, 't>
     Ok(NodeAsk::Ack { offset })
 }
 
+/// `REPLCONF option value ..`. It is a syntax fault where a word is no option, or the last has no value.
 fn telling<'a, 't>(arguments: Arguments<'a, 't>) -> Reading<'a, 't>
     ensures { result ≡ telling (map cow_slice_items arguments.now) }
 {
@@ -71,12 +72,14 @@ fn telling<'a, 't>(arguments: Arguments<'a, 't>) -> Reading<'a, 't>
     Ok(NodeAsk::ReplConf { told })
 }
 
+/// The port that a word spells, from 1 to 65535, or else the fault that it is none.
 fn port(word: &CowSlice<'_, u8>) -> Result<u16, AskFault>
     ensures { result ≡ port (cow_slice_items word.now) }
 {
     port_of(integer(word)?)
 }
 
+/// The port of this number, from 1 to 65535, or else the fault that it is none.
 fn port_of(number: i64) -> Result<u16, AskFault>
     ensures { result ≡ port_of number }
 {
@@ -87,18 +90,21 @@ fn port_of(number: i64) -> Result<u16, AskFault>
     }
 }
 
+/// Whether a word is `ACK`, in any case.
 fn is_ack(word: &CowSlice<'_, u8>) -> bool
     ensures { result ≡ bytes_eq (lowered (cow_slice_items word.now)) ack }
 {
     word.as_slice().eq_ignore_ascii_case(b"ack")
 }
 
+/// Whether a word is `NO`, in any case.
 fn is_no(word: &CowSlice<'_, u8>) -> bool
     ensures { result ≡ bytes_eq (lowered (cow_slice_items word.now)) no }
 {
     word.as_slice().eq_ignore_ascii_case(b"no")
 }
 
+/// Whether a word is `ONE`, in any case.
 fn is_one(word: &CowSlice<'_, u8>) -> bool
     ensures { result ≡ bytes_eq (lowered (cow_slice_items word.now)) one }
 {

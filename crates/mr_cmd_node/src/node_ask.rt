@@ -49,7 +49,7 @@ impl ReplicaOption {
         }
     }
 
-    // Whether a word is this option's name, in any case.
+    /// Whether a word is this option's name, in any case.
     fn is(self, word: &[u8]) -> bool
         ensures { result ≡ bytes_eq (lowered word.now) (option_text self) }
     {

@@ -45,7 +45,7 @@ impl<'a, 't> Told<'a, 't> {
     }
 }
 
-// Whether the words are options, each with a value.
+/// Whether the words are options, each with a value.
 fn all_tell(words: &[CowSlice<'_, u8>]) -> bool
     ensures { result ≡ all_tell (map cow_slice_items words.now) }
 {

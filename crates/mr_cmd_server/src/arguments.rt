@@ -145,6 +145,7 @@ fn saving_of(word: &CowSlice<'_, u8>) -> Result<Saving, AskFault>
     }
 }
 
+/// Whether a word is this one of `SHUTDOWN`, in any case.
 fn is_saving(word: &CowSlice<'_, u8>, saving: Saving) -> bool
     ensures { result ≡ bytes_eq (lowered (cow_slice_items word.now)) (saving_text saving) }
 {
@@ -154,12 +155,14 @@ fn is_saving(word: &CowSlice<'_, u8>, saving: Saving) -> bool
     }
 }
 
+/// Whether a word is `SETNAME`, in any case.
 fn is_setname(word: &CowSlice<'_, u8>) -> bool
     ensures { result ≡ bytes_eq (lowered (cow_slice_items word.now)) setname }
 {
     word.as_slice().eq_ignore_ascii_case(b"setname")
 }
 
+/// Whether a word is `SETINFO`, in any case.
 fn is_setinfo(word: &CowSlice<'_, u8>) -> bool
     ensures { result ≡ bytes_eq (lowered (cow_slice_items word.now)) setinfo }
 {

@@ -29,6 +29,7 @@ pub fn plan(
     Ok(Effects::new(alloc).into_plan(reply))
 }
 
+/// What a command to the server itself is answered. One that the node answers is answered OK from here.
 fn reply_to(alloc: Global, ask: &ServerAsk<'_, '_>) -> Result<Reply, AllocError>
     ensures { IfOk result (λ r. view r ≡ server_reply ask.now) }
 {

@@ -31,6 +31,7 @@ impl ServerAsk<'_, '_> {
     }
 }
 
+/// What INFO asks with this section: of replication, or of a section that isn't there.
 fn section_question(section: &[u8]) -> Question
     ensures { result ≡ section_question section.now }
 {

@@ -60,6 +60,8 @@ struct Found<'d> {
     expired: bool,
 }
 
+/// The sets at these keys, this empty one where nothing is there; whether one of the keys holds another kind, and
+/// whether one is expired.
 fn find_all<'d>(
     alloc: Global,
     held: &'d Dataset,
@@ -106,7 +108,7 @@ pub fn combined(
     }
 }
 
-// The set with the fewest members: what is in all is in it, and it is the shortest to go over.
+/// The set with the fewest members: what is in all is in it, and it is the shortest to go over.
 fn smallest<'s>(first: &'s SetValue, others: &[&'s SetValue]) -> &'s SetValue
     ensures { IsSmallest (first.now ∷ members_of others.now) result.now }
 {
@@ -117,13 +119,14 @@ fn smallest<'s>(first: &'s SetValue, others: &[&'s SetValue]) -> &'s SetValue
     smallest
 }
 
+/// The one of two sets that has fewer members, or the first.
 fn smaller<'s>(a: &'s SetValue, b: &'s SetValue) -> &'s SetValue
     ensures { IsSmallest (a.now ∷ b.now ∷ []) result.now }
 {
     if a.len() <= b.len() { a } else { b }
 }
 
-// The members of a set that each of some others has, or lacks.
+/// The answer of the members of a set that each of some others has, or lacks, in byte order.
 fn members_where(
     alloc: Global,
     set: &SetValue,
@@ -141,13 +144,14 @@ fn members_where(
     Ok(Reply::Array(replies))
 }
 
-// Whether each of the sets has the member, or lacks it.
+/// Whether each of the sets has the member, or lacks it.
 fn is_wanted(member: &[u8], others: &[&SetValue], wanted: bool) -> bool
     ensures { result ≡ is_wanted wanted others.now member.now }
 {
     others.iter().all(|set| agrees(set, member, wanted))
 }
 
+/// Whether a set has the member, or lacks it, as is wanted.
 fn agrees(set: &SetValue, member: &[u8], wanted: bool) -> bool
     ensures { result ≡ agrees wanted set.now member.now }
 {
@@ -158,7 +162,7 @@ fn agrees(set: &SetValue, member: &[u8], wanted: bool) -> bool
     }
 }
 
-// The members of any.
+/// The answer of the members of any of the sets, in byte order.
 fn union(alloc: Global, first: &SetValue, others: &[&SetValue]) -> Result<Reply, AllocError>
     ensures { IfOk result (λ r. view r ≡ bulks (map.keys (of_all operation.Union first.now (members_of others.now)))) }
 {
@@ -179,6 +183,7 @@ struct Joined<'d> {
 }
 
 impl<'d> Joined<'d> {
+    /// Adds the members of a set.
     fn join(&mut self, set: &'d SetValue) -> Result<(), AllocError>
         ensures { OnOk result (self.new.members ≡ joined self.old.members set.now) }
     {
@@ -188,6 +193,7 @@ impl<'d> Joined<'d> {
         Ok(())
     }
 
+    /// The answer of the members, in byte order.
     fn reply(&self, alloc: Global) -> Result<Reply, AllocError>
         ensures { IfOk result (λ r. view r ≡ bulks (map.keys self.now.members)) }
     {

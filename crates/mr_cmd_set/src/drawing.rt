@@ -18,7 +18,7 @@ use mr_value::{Members, SetValue};
 use mr_words::Argument;
 use std::alloc::{AllocError, Global};
 
-// The place that a random word names.
+/// The place that a random word names among so many.
 fn place(word: u64, len: usize) -> usize
     requires { 0 < len }
     ensures { result ≡ word % len }
@@ -26,7 +26,7 @@ fn place(word: u64, len: usize) -> usize
     (word % len as u64) as usize
 }
 
-// The member that a random word names, if there is one.
+/// The member that a random word names, if there is one.
 fn draw_one(set: &SetValue, word: u64) -> Option<&[u8]>
     ensures some { IfSome result (λ x. drawn word 1 (map.keys set.now) ≡ x.now ∷ []) }
     ensures none { IfNone result (drawn word 1 (map.keys set.now) ≡ []) }
@@ -44,7 +44,7 @@ struct Drawn<'d> {
 }
 
 impl<'d> Drawn<'d> {
-    // Takes the next members, at most so many.
+    /// Puts the next members behind those that were drawn, at most so many.
     fn extend(&mut self, members: Members<'d>, count: usize) -> Result<(), AllocError>
         ensures { OnOk result (texts self.new.items.items ≡ texts self.old.items.items ++ take count members.entry) }
     {
@@ -58,7 +58,7 @@ impl<'d> Drawn<'d> {
     }
 }
 
-// The members that a random word names, at most so many.
+/// The members that a random word names, at most so many.
 fn draw<'d>(
     alloc: Global,
     set: &'d SetValue,
@@ -80,7 +80,7 @@ fn draw<'d>(
     Ok(drawn)
 }
 
-// The drawn members, in order of taking.
+/// The answer of the drawn members, in the order in which they were drawn.
 fn bulks_of(alloc: Global, drawn: &[&[u8]]) -> Result<Reply, AllocError>
     ensures { IfOk result (λ r. view r ≡ bulks (texts drawn.now)) }
 {
@@ -91,7 +91,7 @@ fn bulks_of(alloc: Global, drawn: &[&[u8]]) -> Result<Reply, AllocError>
     Ok(Reply::Array(replies))
 }
 
-// The drawn members, in byte order.
+/// The drawn members, in byte order.
 fn in_order<'d>(alloc: Global, drawn: &[&'d [u8]]) -> Result<SliceMap<'d, ()>, AllocError>
     ensures { IfOk result (λ s. s ≡ as_set (texts drawn.now)) }
 {
@@ -122,7 +122,7 @@ pub fn srandmember(
     bulks_of(alloc, drawn.items.as_slice())
 }
 
-// A member, or nil.
+/// The answer of a member, or nil.
 fn one_bulk(alloc: Global, member: Option<&[u8]>) -> Result<Reply, AllocError>
     ensures { IfOk result (λ r. view r ≡ one_bulk (option_copied member.entry)) }
 {
@@ -153,6 +153,7 @@ pub fn spop(
     }
 }
 
+/// `SPOP` without a count: the drawn member, which goes, or nil.
 fn take_one(
     alloc: Global,
     key: &Argument<'_>,
@@ -171,6 +172,7 @@ fn take_one(
     Ok(reply)
 }
 
+/// `SPOP` with a count: the drawn members, at most so many, which go.
 fn take_some(
     alloc: Global,
     key: &Argument<'_>,

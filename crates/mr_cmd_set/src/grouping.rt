@@ -20,7 +20,7 @@ pub enum Write {
 // So many members are in one effect at most.
 const MOST_ITEMS: usize = 64;
 
-// The words that change the set, each once.
+/// The words that change the set, each once.
 fn changed_by<'a>(
     alloc: Global,
     write: Write,
@@ -39,6 +39,7 @@ fn changed_by<'a>(
     Ok(changed)
 }
 
+/// Whether the write of a member changes the set.
 fn changes(write: Write, set: &SetValue, member: &[u8]) -> bool
     ensures { result ≡ changes write set.now member.now }
 {
@@ -69,7 +70,7 @@ pub fn push_changes(
     Ok(changed.len())
 }
 
-// The same of one word, without putting words in order.
+/// Puts the effect that writes one word, if that changes the set, and answers how many do. It puts no words in order.
 fn push_change(
     alloc: Global,
     write: Write,
@@ -129,7 +130,7 @@ pub fn push_groups(
     Ok(())
 }
 
-// The effect that writes these members.
+/// The effect that writes these members.
 fn group_effect(
     alloc: Global,
     write: Write,

@@ -38,6 +38,8 @@ pub fn plan(
     planned(alloc, held, ask, given)
 }
 
+/// What a command is answered, and its effects. What the dataset keeps is known from here on, where the command rests
+/// on it.
 fn planned(
     alloc: Global,
     held: &Dataset,
@@ -52,7 +54,7 @@ fn planned(
     Ok(effects.into_plan(reply))
 }
 
-// What a command is answered. Its effects are put behind those that are there.
+/// What a command is answered. Its effects are put behind those that are there.
 fn reply_to(
     alloc: Global,
     held: &Dataset,
@@ -83,6 +85,7 @@ fn reply_to(
     }
 }
 
+/// What `SADD` is answered. Its effects are put behind those that are there.
 fn sadd(
     alloc: Global,
     held: &Dataset,
@@ -98,6 +101,7 @@ fn sadd(
     changing::sadd(alloc, key, members, live_entry, effects)
 }
 
+/// What `SREM` is answered. Its effects are put behind those that are there.
 fn srem(
     alloc: Global,
     held: &Dataset,
@@ -113,6 +117,7 @@ fn srem(
     changing::srem(alloc, key, members, live_entry, effects)
 }
 
+/// What `SISMEMBER` is answered. The DEL of an expired key is put behind the effects that are there.
 fn sismember(
     alloc: Global,
     held: &Dataset,
@@ -128,6 +133,7 @@ fn sismember(
     Ok(telling::sismember(alloc, member, live_entry))
 }
 
+/// What `SMISMEMBER` is answered. The DEL of an expired key is put behind the effects that are there.
 fn smismember(
     alloc: Global,
     held: &Dataset,
@@ -143,6 +149,7 @@ fn smismember(
     telling::smismember(alloc, members, live_entry)
 }
 
+/// What `SMEMBERS` is answered. The DEL of an expired key is put behind the effects that are there.
 fn smembers(
     alloc: Global,
     held: &Dataset,
@@ -157,6 +164,7 @@ fn smembers(
     telling::smembers(alloc, live_entry)
 }
 
+/// What `SCARD` is answered. The DEL of an expired key is put behind the effects that are there.
 fn scard(
     alloc: Global,
     held: &Dataset,
@@ -171,6 +179,7 @@ fn scard(
     Ok(telling::scard(alloc, live_entry))
 }
 
+/// What `SPOP` is answered, by the random word that is given. Its effects are put behind those that are there.
 fn spop(
     alloc: Global,
     held: &Dataset,
@@ -186,6 +195,8 @@ fn spop(
     drawing::spop(alloc, key, count, given.word(), live_entry, effects)
 }
 
+/// What `SRANDMEMBER` is answered, by the random word that is given. The DEL of an expired key is put behind the
+/// effects that are there.
 fn srandmember(
     alloc: Global,
     held: &Dataset,
@@ -201,6 +212,7 @@ fn srandmember(
     drawing::srandmember(alloc, count, given.word(), live_entry)
 }
 
+/// What `SMOVE` is answered. Its effects are put behind those that are there.
 fn smove(
     alloc: Global,
     held: &Dataset,
@@ -222,6 +234,8 @@ fn smove(
     moved(alloc, from, to, member, source, target, effects)
 }
 
+/// What `SINTER`, `SUNION` and `SDIFF` are answered. The DELs of expired keys are put behind the effects that are
+/// there.
 fn combine(
     alloc: Global,
     held: &Dataset,

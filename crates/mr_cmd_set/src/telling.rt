@@ -37,6 +37,7 @@ pub fn smismember(
     }
 }
 
+/// The answer of whether each of the words is a member, in their order.
 fn flags_of(alloc: Global, members: &Words<'_, '_>, set: &SetValue) -> Result<Reply, AllocError>
     ensures { IfOk result (λ r. view r ≡ flags members.now set.now) }
 {

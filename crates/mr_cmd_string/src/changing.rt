@@ -16,7 +16,7 @@ use mr_value::{Bytes, Word, read_i64};
 use mr_words::Argument;
 use std::alloc::{AllocError, Global};
 
-// The text at a key: this one where nothing is there.
+/// The text at a key: this one where nothing is there. None where the key holds another kind.
 fn text_at<'t>(none: &'t Bytes, live_entry: Option<&'t Entry>) -> Option<&'t Bytes>
     ensures { option_copied result ≡ held (strings none.now) (option_copied live_entry.entry) }
 {
@@ -56,7 +56,7 @@ pub fn append(
     Ok(count(text.as_slice().len() + more.as_slice().len()))
 }
 
-// Whether a key has the same text once this is put behind it: it is there, and nothing is put.
+/// Whether a key has the same text once this is put behind it: it is there, and nothing is put.
 fn is_same(more: &[u8], live_entry: Option<&Entry>) -> bool
     ensures { result ≡ is_some (option_copied live_entry.entry) && (length more.now == 0) }
 {
@@ -96,7 +96,7 @@ pub fn setrange(
     Ok(count(len))
 }
 
-// Whether the bytes from an offset on are these already.
+/// Whether the bytes from an offset on are these already.
 fn holds_part(text: &[u8], offset: usize, part: &[u8]) -> bool
     requires { offset + length part.now < 2 ^ 63 }
     ensures { result ≡ bytes_eq text.now (overwritten offset part.now text.now) }
@@ -105,14 +105,14 @@ fn holds_part(text: &[u8], offset: usize, part: &[u8]) -> bool
     end <= text.len() && same(&text[offset..end], part)
 }
 
-// Whether two texts are one.
+/// Whether two texts are one.
 fn same(left: &[u8], right: &[u8]) -> bool
     ensures { result ≡ bytes_eq left.now right.now }
 {
     left == right
 }
 
-// How long a text is once another was written over it from an offset on.
+/// How long a text is once another was written over it from an offset on.
 fn overwritten_len(text: &[u8], offset: usize, part: &[u8]) -> usize
     requires { offset + length part.now < 2 ^ 63 }
     ensures { result ≡ length (overwritten offset part.now text.now) }
@@ -121,7 +121,7 @@ fn overwritten_len(text: &[u8], offset: usize, part: &[u8]) -> usize
     if end < text.len() { text.len() } else { end }
 }
 
-// The text at a key that is to be a number: that of 0 where nothing is there.
+/// The text at a key that is to be a number: that of 0 where nothing is there. None where the key holds another kind.
 fn number_text<'t>(live_entry: Option<&'t Entry>) -> Option<&'t [u8]>
     ensures { option_copied result ≡ held (strings (codes "0")) (option_copied live_entry.entry) }
 {
@@ -163,7 +163,7 @@ pub fn increase(
     Ok(integer(sum))
 }
 
-// Whether a key has the same number once this is added: it is there, and 0 is added.
+/// Whether a key has the same number once this is added: it is there, and 0 is added.
 fn adds_nothing(by: i64, live_entry: Option<&Entry>) -> bool
     ensures { result ≡ is_some (option_copied live_entry.entry) && int_eq by (pos 0) }
 {

@@ -66,7 +66,7 @@ impl NewDeadline {
     }
 }
 
-// The deadline of a key.
+/// The deadline of a key, in milliseconds, if it is there and has one.
 fn deadline_of(live_entry: Option<&Entry>) -> Option<i64>
     ensures { result ≡ deadline_of (option_copied live_entry.entry) }
 {

@@ -21,7 +21,7 @@ pub(crate) enum SetOption {
 }
 
 impl SetOption {
-    // The option that a word is, in any case.
+    /// The option that a word is, in any case.
     fn of(word: &[u8]) -> Option<SetOption>
         ensures { result ≡ set_option word.now }
     {
@@ -36,13 +36,14 @@ impl SetOption {
         )
     }
 
-    // The first of these options that the word is.
+    /// The first of these options that the word is.
     fn among(options: &[SetOption], word: &[u8]) -> Option<SetOption>
         ensures { result ≡ find (is_set_option (lowered word.now)) options.now }
     {
         options.iter().copied().find(|option| option.is(word))
     }
 
+    /// Whether a word is this option, in any case.
     fn is(self, word: &[u8]) -> bool
         ensures { result ≡ is_set_option (lowered word.now) self }
     {
@@ -55,7 +56,7 @@ impl SetOption {
     }
 }
 
-// The unit of the number behind a word of `SET`, in any case.
+/// The unit of the number behind a word of `SET`, in any case.
 fn unit_of(word: &[u8]) -> Option<ExpiryUnit>
     ensures { result ≡ unit_of word.now }
 {
@@ -70,13 +71,14 @@ fn unit_of(word: &[u8]) -> Option<ExpiryUnit>
     )
 }
 
-// The first of these units whose word it is.
+/// The first of these units whose word it is.
 fn unit_among(units: &[ExpiryUnit], word: &[u8]) -> Option<ExpiryUnit>
     ensures { result ≡ find (is_unit (lowered word.now)) units.now }
 {
     units.iter().copied().find(|unit| is_unit(*unit, word))
 }
 
+/// Whether a word of `SET` says that the number behind it is in this unit, in any case.
 fn is_unit(unit: ExpiryUnit, word: &[u8]) -> bool
     ensures { result ≡ is_unit (lowered word.now) unit }
 {
@@ -113,7 +115,8 @@ impl<'a> SetOptions<'a> {
         SetOptions::none().and_all(words)
     }
 
-    // With each option of these words. An option stands once, so this goes no deeper than there are options.
+    /// These options with each one of these words. An option stands once, so this goes no deeper than there are
+    /// options; else it is a syntax fault.
     fn and_all(self, words: Arguments<'a, '_>) -> Result<SetOptions<'a>, AskFault>
         ensures { result ≡ set_options self.entry (map cow_slice_items words.now) }
     {
@@ -126,6 +129,7 @@ impl<'a> SetOptions<'a> {
         }
     }
 
+    /// No option: any key is set, and gets no deadline.
     fn none() -> SetOptions<'a>
         ensures { result ≡ no_set_options }
     {
@@ -136,7 +140,8 @@ impl<'a> SetOptions<'a> {
         }
     }
 
-    // With the option that begins with this word, and the words behind it.
+    /// These options with the one that begins with this word, and the words behind it. It is a syntax fault where none
+    /// begins so, or one like it is there.
     fn with_first<'t>(
         self,
         word: &CowSlice<'_, u8>,
@@ -153,7 +158,8 @@ impl<'a> SetOptions<'a> {
         self.with_number(unit, after)
     }
 
-    // With an option in this unit, whose number is the first of these words, and the words behind it.
+    /// These options with one in this unit, whose number is the first of these words, and the words behind it. It is a
+    /// syntax fault where there is no word, or a lifetime is said already.
     fn with_number<'t>(
         self,
         unit: ExpiryUnit,
@@ -172,7 +178,7 @@ impl<'a> SetOptions<'a> {
         }
     }
 
-    // With one option more.
+    /// These options with one more. It is a syntax fault where one like it is there.
     fn and(self, option: SetOption) -> Result<SetOptions<'a>, AskFault>
         ensures { result ≡ set_also self.entry option }
     {
@@ -201,7 +207,7 @@ impl<'a> SetOptions<'a> {
         }
     }
 
-    // With an option in this unit, and its number.
+    /// These options with one in this unit, and its number. It is a syntax fault where a lifetime is said already.
     fn until(self, unit: ExpiryUnit, number: Argument<'a>) -> Result<SetOptions<'a>, AskFault>
         ensures { result ≡ until self.entry (Some unit) number.entry }
     {

@@ -48,6 +48,8 @@ pub(crate) fn lifetime_if_any(option: &Option<LifetimeOption<'_>>) -> Result<Lif
     }
 }
 
+/// When a value expires, by the number behind an option of `SET`. It is a fault where that is no whole number, below 1,
+/// or past the limit.
 fn set_expiry(unit: ExpiryUnit, text: &[u8]) -> Result<Expiry, AskFault>
     ensures { result ≡ set_expiry unit text.now }
 {

@@ -49,7 +49,7 @@ pub fn plan(
     planned(alloc, held, ask, given)
 }
 
-// What a request says of time is within its limit, and so is the moment.
+/// What a request says of time is within its limit, and so is the moment.
 fn times_are_limited(ask: &TextAsk<'_, '_>, given: Given)
     ensures moment { IsMoment given.now }
     ensures limit { HasLimit ask.now }
@@ -72,6 +72,7 @@ fn times_are_limited(ask: &TextAsk<'_, '_>, given: Given)
     }
 }
 
+/// What a command is answered, and its effects.
 fn planned(
     alloc: Global,
     held: &Dataset,
@@ -86,7 +87,7 @@ fn planned(
     Ok(effects.into_plan(reply))
 }
 
-// What a command is answered. Its effects are put behind those that are there.
+/// What a command is answered. Its effects are put behind those that are there.
 fn reply_to(
     alloc: Global,
     held: &Dataset,
@@ -157,6 +158,7 @@ fn reply_to(
     }
 }
 
+/// What `GET` is answered. The DEL of an expired key is put behind the effects that are there.
 fn get(
     alloc: Global,
     held: &Dataset,
@@ -170,6 +172,7 @@ fn get(
     texts::get(alloc, live_entry)
 }
 
+/// What `STRLEN` is answered. The DEL of an expired key is put behind the effects that are there.
 fn strlen(
     alloc: Global,
     held: &Dataset,
@@ -183,6 +186,7 @@ fn strlen(
     Ok(texts::strlen(live_entry))
 }
 
+/// What `GETRANGE` is answered. The DEL of an expired key is put behind the effects that are there.
 fn getrange(
     alloc: Global,
     held: &Dataset,
@@ -198,6 +202,7 @@ fn getrange(
     texts::getrange(alloc, first, last, live_entry)
 }
 
+/// What `MGET` is answered. The DELs of expired keys are put behind the effects that are there.
 fn mget(
     alloc: Global,
     held: &Dataset,
@@ -211,6 +216,7 @@ fn mget(
     texts::mget(alloc, held, keys, given)
 }
 
+/// What `SET` is answered, with these rules. Its effects are put behind those that are there.
 fn set(
     alloc: Global,
     held: &Dataset,
@@ -226,7 +232,7 @@ fn set(
     setting::set(alloc, key, value, rules, live_entry, effects)
 }
 
-// SETEX, PSETEX
+/// What `SETEX` and `PSETEX` are answered. Their effects are put behind those that are there.
 fn set_for(
     alloc: Global,
     held: &Dataset,
@@ -246,6 +252,7 @@ fn set_for(
     set(alloc, held, key, value, rules, given, effects)
 }
 
+/// What `SETNX` is answered. Its effects are put behind those that are there.
 fn setnx(
     alloc: Global,
     held: &Dataset,
@@ -260,6 +267,7 @@ fn setnx(
     setting::setnx(alloc, key, value, live_entry, effects)
 }
 
+/// What `GETSET` is answered. Its effects are put behind those that are there.
 fn getset(
     alloc: Global,
     held: &Dataset,
@@ -274,6 +282,7 @@ fn getset(
     setting::getset(alloc, key, value, live_entry, effects)
 }
 
+/// What `GETDEL` is answered. Its effects are put behind those that are there.
 fn getdel(
     alloc: Global,
     held: &Dataset,
@@ -287,6 +296,7 @@ fn getdel(
     setting::getdel(alloc, key, live_entry, effects)
 }
 
+/// What `APPEND` is answered. Its effects are put behind those that are there.
 fn append(
     alloc: Global,
     held: &Dataset,
@@ -301,6 +311,7 @@ fn append(
     changing::append(alloc, key, more, live_entry, effects)
 }
 
+/// What `SETRANGE` is answered. Its effects are put behind those that are there.
 fn setrange(
     alloc: Global,
     held: &Dataset,
@@ -316,6 +327,7 @@ fn setrange(
     changing::setrange(alloc, key, offset, part, live_entry, effects)
 }
 
+/// What `INCR`, `DECR`, `INCRBY` and `DECRBY` are answered. Their effects are put behind those that are there.
 fn increase(
     alloc: Global,
     held: &Dataset,

@@ -42,7 +42,7 @@ pub fn set(
     }
 }
 
-// SET without GET.
+/// What `SET` without `GET` is answered: whether the key was set. Its effect is put behind those that are there.
 fn set_and_say(
     alloc: Global,
     key: &Argument<'_>,
@@ -67,7 +67,8 @@ fn set_and_say(
     )
 }
 
-// SET with GET.
+/// What `SET` with `GET` is answered: the text that was there before, or a refusal where the key holds another kind.
+/// Its effect is put behind those that are there.
 fn set_and_get(
     alloc: Global,
     key: &Argument<'_>,
@@ -156,7 +157,7 @@ pub fn getdel(
     }
 }
 
-// The text is answered, and the key goes.
+/// The text is answered, and the key goes.
 fn take(
     alloc: Global,
     key: &Argument<'_>,
@@ -173,7 +174,7 @@ fn take(
     Ok(reply)
 }
 
-// The key gets the text with its deadline, and this is answered.
+/// The key gets the text with its deadline, and this is answered.
 fn put(
     alloc: Global,
     key: &Argument<'_>,
@@ -191,7 +192,7 @@ fn put(
     Ok(reply)
 }
 
-// Whether the condition lets the key be set.
+/// Whether the condition lets the key be set.
 fn allows(condition: Option<SetCondition>, live_entry: Option<&Entry>) -> bool
     ensures { result ≡ allows condition (option_copied live_entry.entry) }
 {
@@ -202,7 +203,7 @@ fn allows(condition: Option<SetCondition>, live_entry: Option<&Entry>) -> bool
     }
 }
 
-// Whether the key holds another kind of value.
+/// Whether the key holds another kind of value.
 fn holds_other(live_entry: Option<&Entry>) -> bool
     ensures { result ≡ holds_other (option_copied live_entry.entry) }
 {
@@ -212,6 +213,7 @@ fn holds_other(live_entry: Option<&Entry>) -> bool
     }
 }
 
+/// Whether a value is of another kind than a text.
 fn is_other(value: &Value) -> bool
     ensures { result ≡ is_other value.now }
 {
@@ -228,7 +230,7 @@ pub fn is_plain(text: &[u8], live_entry: Option<&Entry>) -> bool
     holds_until(text, None, live_entry)
 }
 
-// Whether the entry is this text already, with this deadline.
+/// Whether the entry is this text already, with this deadline.
 fn holds_until(text: &[u8], deadline: Option<i64>, live_entry: Option<&Entry>) -> bool
     ensures { result ≡ holds_until text.now deadline (option_copied live_entry.entry) }
 {
@@ -238,6 +240,7 @@ fn holds_until(text: &[u8], deadline: Option<i64>, live_entry: Option<&Entry>) -
     is_same(entry.deadline, deadline) && is_text(text, &entry.value)
 }
 
+/// Whether a value is this text.
 fn is_text(text: &[u8], value: &Value) -> bool
     ensures { result ≡ is_text text.now value.now }
 {

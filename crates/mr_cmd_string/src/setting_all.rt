@@ -59,7 +59,7 @@ pub fn msetnx(
     Ok(count(1))
 }
 
-// The keys that pairs name, each with its last text. They are not copied.
+/// The keys that pairs name, each with its last text. They are not copied.
 fn last_texts<'a>(
     alloc: Global,
     pairs: &Pairs<'a, '_>,
@@ -80,6 +80,8 @@ struct Changed {
     expired: bool,
 }
 
+/// The keys, with their texts, that don't have these already without a deadline, and whether one of the keys is
+/// expired.
 fn find_changed(
     alloc: Global,
     held: &Dataset,
@@ -106,7 +108,7 @@ fn find_changed(
     Ok(changed)
 }
 
-// Whether one of the keys is there and not expired, and whether one is expired.
+/// Whether one of the keys is there and not expired, and whether one is expired.
 fn find_any(held: &Dataset, pairs: &Pairs<'_, '_>, given: Given) -> (bool, bool)
     ensures there { result.0 ≡ is_any_live given.now pairs.now held.now }
     ensures expired { result.1 ≡ is_any_expired given.now pairs.now held.now }
@@ -121,7 +123,7 @@ fn find_any(held: &Dataset, pairs: &Pairs<'_, '_>, given: Given) -> (bool, bool)
     (any_there, any_expired)
 }
 
-// All keys with their texts.
+/// All keys with their texts, copied.
 fn copied(alloc: Global, values: &SliceMap<'_, Argument<'_>>) -> Result<Texts<'static>, AllocError>
     ensures { IfOk result (λ texts. texts ≡ entries values.now) }
 {
@@ -135,7 +137,7 @@ fn copied(alloc: Global, values: &SliceMap<'_, Argument<'_>>) -> Result<Texts<'s
     Ok(texts)
 }
 
-// A DEL for each of the keys that is expired.
+/// Puts a DEL for each of the keys that is expired, once.
 fn push_expired(
     alloc: Global,
     held: &Dataset,
@@ -154,7 +156,7 @@ fn push_expired(
     Ok(())
 }
 
-// The effect of texts that keys get, unless there is none.
+/// Puts the effect of texts that keys get, unless there is none.
 fn push_texts(texts: Texts<'static>, effects: &mut Effects) -> Result<(), AllocError>
     ensures { OnOk result (effects.new ≡ effects.old ++ set_effects texts.entry) }
 {

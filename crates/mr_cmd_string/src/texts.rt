@@ -57,7 +57,7 @@ pub fn getrange(
     part(alloc, text.as_slice(), first, last)
 }
 
-// The bytes from one place to another.
+/// The bytes from one place to another, both included, and an empty text where there are none.
 fn part(alloc: Global, text: &[u8], first: i64, last: i64) -> Result<Reply, AllocError>
     ensures { IfOk result (λ r. view r ≡ replies.bytes (part first last text.now)) }
 {
@@ -84,6 +84,7 @@ pub fn mget(
     Ok(Reply::Array(replies))
 }
 
+/// What `MGET` answers for a key: its text, or nil where it isn't there or holds another kind.
 fn found(alloc: Global, live_entry: Option<&Entry>) -> Result<Reply, AllocError>
     ensures { IfOk result (λ r. view r ≡ found (option_copied live_entry.entry)) }
 {
@@ -93,6 +94,7 @@ fn found(alloc: Global, live_entry: Option<&Entry>) -> Result<Reply, AllocError>
     }
 }
 
+/// The text, or nil for a value of another kind.
 fn text_or_null(alloc: Global, value: &Value) -> Result<Reply, AllocError>
     ensures { IfOk result (λ r. view r ≡ text_or_null value.now) }
 {

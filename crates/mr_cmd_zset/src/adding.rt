@@ -41,6 +41,7 @@ pub fn zadd(
     Ok(reply)
 }
 
+/// What `ZADD` on a set is answered. Its effects are put behind those that are there.
 fn add_to(
     alloc: Global,
     key: &Argument<'_>,
@@ -60,7 +61,7 @@ fn add_to(
     Ok(count(counted))
 }
 
-// The pair, where there is one alone.
+/// The score with its member, where pairs are one alone.
 fn only_pair<'a>(pairs: &ScoredMembers<'a, '_>) -> Option<(i64, &'a [u8])>
     ensures one { IfSome result (λ p. pairs.now ≡ (p.0, p.1.now) ∷ []) }
     ensures other { IfNone result (length pairs.now ≢ 1) }
@@ -72,7 +73,8 @@ fn only_pair<'a>(pairs: &ScoredMembers<'a, '_>) -> Option<(i64, &'a [u8])>
     pairs.iter().next()
 }
 
-// One pair, without putting members in order.
+/// What `ZADD` of one pair is answered, without putting members in order. Its effect is put behind those that are
+/// there.
 fn add_one(
     alloc: Global,
     key: &Argument<'_>,
@@ -90,7 +92,7 @@ fn add_one(
     Ok(count(usize::from(rules.counts(before, after))))
 }
 
-// The scores that pairs set, one after another, and how many of them are counted. The members are not copied.
+/// The scores that pairs set, one after another, and how many of them are counted. The members are not copied.
 fn put_pairs<'a>(
     alloc: Global,
     rules: Rules,
@@ -111,7 +113,7 @@ fn put_pairs<'a>(
     Ok((scores, counted))
 }
 
-// Puts a pair to the scores that were set so far, and says whether it is counted.
+/// Puts a pair to the scores that were set so far, and says whether it is counted.
 fn put_pair<'a>(
     rules: Rules,
     score: i64,
@@ -129,7 +131,7 @@ fn put_pair<'a>(
     Ok(rules.counts(before, rules.score_after(before, score)))
 }
 
-// The score that was set last, or that a set has.
+/// The score that was set last, or that a set has.
 fn score_so_far(scores: &SliceMap<'_, i64>, set: &ZSet, member: &[u8]) -> Option<i64>
     ensures { result ≡ get (over scores.now set.now) member.now }
 {
@@ -158,6 +160,8 @@ pub fn zincrby(
     Ok(reply)
 }
 
+/// What `ZINCRBY` on a set is answered: the sum, or a refusal where it is no score. Its effect is put behind those that
+/// are there.
 fn increase_in(
     alloc: Global,
     key: &Argument<'_>,
@@ -177,7 +181,7 @@ fn increase_in(
     Ok(reply)
 }
 
-// The sum, if it is a score. A member that isn't there counts as 0.
+/// The sum of a member's score and this much, if it is a score. A member that isn't there counts as 0.
 fn increased(before: Option<i64>, by: i64) -> Option<i64>
     ensures { result ≡ within_limit (score_or_0 before +ℤ by) }
 {

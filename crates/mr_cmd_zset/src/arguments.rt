@@ -28,6 +28,7 @@ pub fn zadd<'a, 't>(arguments: Arguments<'a, 't>) -> Reading<'a, 't>
     }
 }
 
+/// `ZADD` with these words behind its key. The first fault is that of the options, then that of the pairs.
 #[tactic(auto, unfolding(crate::specs::Arguments::add_scores))]
 fn add_scores<'a, 't>(key: &'a CowSlice<'t, u8>, words: Arguments<'a, 't>) -> Reading<'a, 't>
     ensures { result ≡ add_scores (cow_slice_items key.now) (map cow_slice_items words.now) }
@@ -43,7 +44,8 @@ fn add_scores<'a, 't>(key: &'a CowSlice<'t, u8>, words: Arguments<'a, 't>) -> Re
     })
 }
 
-// At least one score with its member.
+/// At least one score with its member. It is a syntax fault where there is none or a score is left over, and another
+/// where a score can't be read.
 fn score_pairs<'a, 't>(words: Arguments<'a, 't>) -> Result<ScoredMembers<'a, 't>, AskFault>
     ensures { result ≡ score_pairs (map cow_slice_items words.now) }
 {
@@ -256,6 +258,7 @@ pub fn range_by_score<'a, 't>(
     }
 }
 
+/// A range by ranks. It is a fault where the first or the last is no whole number.
 fn ranks<'a, 't>(
     key: &'a CowSlice<'t, u8>,
     first: &CowSlice<'_, u8>,
@@ -274,6 +277,7 @@ fn ranks<'a, 't>(
     })
 }
 
+/// A range by scores. It is a fault where a word of the limit is no whole number, or else where a bound is none.
 fn scores<'a, 't>(
     key: &'a CowSlice<'t, u8>,
     first: &CowSlice<'_, u8>,

@@ -37,7 +37,7 @@ pub fn plan(
     planned(alloc, held, ask, given)
 }
 
-// Each score that a command sets was read from its text, so it is within the limits of scores.
+/// Each score that a command sets was read from its text, so it is within the limits of scores.
 fn scores_are_limited(ask: &ZSetAsk<'_, '_>)
     ensures { HasScores ask.now }
 {
@@ -46,7 +46,7 @@ fn scores_are_limited(ask: &ZSetAsk<'_, '_>)
     }
 }
 
-// The plan, and what the dataset keeps.
+/// What a command is answered, and its effects. What the dataset keeps is known from here on.
 fn planned(
     alloc: Global,
     held: &Dataset,
@@ -62,6 +62,7 @@ fn planned(
     Ok(effects.into_plan(reply))
 }
 
+/// The key that a command names.
 fn key_of<'c, 'a>(ask: &'c ZSetAsk<'a, '_>) -> &'c Argument<'a>
     ensures { result.now ≡ key_of ask.now }
 {
@@ -82,7 +83,7 @@ fn key_of<'c, 'a>(ask: &'c ZSetAsk<'a, '_>) -> &'c Argument<'a>
     }
 }
 
-// What a command does at its key.
+/// What a command is answered by what its key holds. Its effects are put behind those that are there.
 fn answer_of(
     alloc: Global,
     ask: &ZSetAsk<'_, '_>,

@@ -63,7 +63,7 @@ pub fn by_score(
     listed(alloc, pairs.as_slice(), order, shape)
 }
 
-// The places, from the first to one past the last, that a limit leaves of so many.
+/// The places, from the first to one past the last, that a limit leaves of so many.
 fn limited_places(limit: Option<Limit>, count: usize) -> (usize, usize)
     ensures ordered { result.0 ≤ result.1 }
     ensures within { result.1 ≤ count }
@@ -82,7 +82,7 @@ fn limited_places(limit: Option<Limit>, count: usize) -> (usize, usize)
     (start, start + (count - start).min(limit.count as usize))
 }
 
-// Places, from the first to one past the last, that are counted in an order, counted from the least pair.
+/// Places, from the first to one past the last, that are counted in an order, counted from the least pair.
 fn places_in(order: Order, start: usize, end: usize, count: usize) -> (usize, usize)
     requires ordered { start ≤ end }
     requires within { end ≤ count }
@@ -96,7 +96,7 @@ fn places_in(order: Order, start: usize, end: usize, count: usize) -> (usize, us
     }
 }
 
-// Pairs that stand from the least on, answered in an order.
+/// The answer of pairs that stand from the least on, in an order.
 fn listed(
     alloc: Global,
     pairs: &[Pair<'_>],
@@ -122,7 +122,7 @@ pub fn forward(alloc: Global, pairs: &[Pair<'_>], shape: RangeReply) -> Result<R
     Ok(Reply::Array(replies))
 }
 
-// Pairs answered from the last on.
+/// The answer of pairs from the last on.
 fn backward(alloc: Global, pairs: &[Pair<'_>], shape: RangeReply) -> Result<Reply, AllocError>
     ensures { IfOk result (λ r. view r ≡ pairs_reply shape (reverse (map shown pairs.now))) }
 {
@@ -133,7 +133,7 @@ fn backward(alloc: Global, pairs: &[Pair<'_>], shape: RangeReply) -> Result<Repl
     Ok(Reply::Array(replies))
 }
 
-// How many replies there are to pairs.
+/// How many replies pairs are answered by.
 #[tactic(auto, using(crate::proofs::RangeLemmas::one_each, crate::proofs::RangeLemmas::two_each))]
 fn replies_to(pairs: &[Pair<'_>], shape: RangeReply) -> usize
     ensures { result ≡ length (flat_map (pair_replies shape) (map shown pairs.now)) }
@@ -144,6 +144,7 @@ fn replies_to(pairs: &[Pair<'_>], shape: RangeReply) -> usize
     }
 }
 
+/// Puts the replies to a pair behind others: its member, and its score where that is asked for.
 fn push_pair(
     alloc: Global,
     pair: &Pair<'_>,

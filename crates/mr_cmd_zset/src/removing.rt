@@ -45,6 +45,8 @@ pub fn zrem(
     Ok(reply)
 }
 
+/// What `ZREM` on a set is answered: how many of the members were there. Its effects are put behind those that are
+/// there.
 fn remove_named(
     alloc: Global,
     key: &Argument<'_>,
@@ -59,7 +61,7 @@ fn remove_named(
     Ok(count(lost.len()))
 }
 
-// The members that are named and there, each once. They are not copied.
+/// The members that are named and there, each once. They are not copied.
 fn named_there<'a>(
     alloc: Global,
     members: &Words<'a, '_>,
@@ -96,7 +98,8 @@ pub fn zremrangebyrank(
     Ok(reply)
 }
 
-// Takes the pairs between two indexes out, and answers how many they are. One alone takes no memory but that of its effect.
+/// Puts the effects that take the pairs between two indexes out, both included, and answers how many these are. One
+/// alone takes no memory but that of its effect.
 fn remove_between(
     alloc: Global,
     key: &Argument<'_>,
@@ -116,7 +119,7 @@ fn remove_between(
     remove_pairs(alloc, key, &pairs, effects)
 }
 
-// The pair between two indexes, both included, if it is the only one.
+/// The pair between two indexes, both included, if it is the only one.
 fn only_pair(set: &ZSet, first: i64, last: i64) -> Option<Pair<'_>>
     ensures { MatchOption result (length (windowed (window_of first last (finite.len set.now)) (pairs_of set.now)) ≢ 1) (λ pair. windowed (window_of first last (finite.len set.now)) (pairs_of set.now) ≡ shown pair ∷ []) }
 {
@@ -126,7 +129,7 @@ fn only_pair(set: &ZSet, first: i64, last: i64) -> Option<Pair<'_>>
     }
 }
 
-// The pairs between two indexes, both included.
+/// The pairs between two indexes, both included.
 fn pairs_at(alloc: Global, set: &ZSet, first: i64, last: i64) -> Result<Vec<Pair<'_>>, AllocError>
     ensures { IfOk result (λ pairs. map shown pairs.items ≡ windowed (window_of first last (finite.len set.now)) (pairs_of set.now)) }
 {
@@ -156,7 +159,7 @@ pub fn zremrangebyscore(
     Ok(reply)
 }
 
-// Takes pairs out, and answers how many they are.
+/// Puts the effects that take the members of pairs out, and answers how many these are.
 fn remove_pairs(
     alloc: Global,
     key: &Argument<'_>,
@@ -170,7 +173,7 @@ fn remove_pairs(
     Ok(count(removed))
 }
 
-// Effects that take the members of pairs out, and how many these are.
+/// Puts the effects that take the members of pairs out, and says how many these are.
 fn push_members(
     alloc: Global,
     key: &Argument<'_>,
@@ -191,7 +194,7 @@ fn push_members(
     Ok(lost.len())
 }
 
-// The members of pairs in byte order. They are not copied.
+/// The members of pairs in byte order. They are not copied.
 fn in_byte_order<'d>(alloc: Global, pairs: &[Pair<'d>]) -> Result<SliceMap<'d, ()>, AllocError>
     ensures { IfOk result (λ members. members ≡ as_set (members_of (map shown pairs.now))) }
 {
@@ -221,6 +224,7 @@ pub fn take_pairs(
     Ok(reply)
 }
 
+/// What `ZPOPMIN` and `ZPOPMAX` on a set are answered: the first pairs in the order, at most so many, which go.
 fn take_from(
     alloc: Global,
     key: &Argument<'_>,
@@ -237,7 +241,7 @@ fn take_from(
     Ok(reply)
 }
 
-// The first pairs in this order, at most so many.
+/// The first pairs in this order, at most so many.
 fn first_pairs(
     alloc: Global,
     order: Order,

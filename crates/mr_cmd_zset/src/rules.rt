@@ -42,6 +42,7 @@ impl Rules {
         }
     }
 
+    /// Whether a member with this score before, or none, meets the condition.
     fn meets(self, before: Option<i64>) -> bool
         ensures { result ≡ meets self.condition before }
     {
@@ -52,6 +53,7 @@ impl Rules {
         }
     }
 
+    /// Whether this score may replace the one before, if there is one, by the comparison.
     fn replaces(self, before: Option<i64>, score: i64) -> bool
         ensures { result ≡ replaces self.comparison before score }
     {

@@ -64,6 +64,7 @@ pub fn zmscore(
     }
 }
 
+/// The answer of the score of each of the words, in their order, or nil where it is no member.
 fn scores_in(alloc: Global, members: &Words<'_, '_>, set: &ZSet) -> Result<Reply, AllocError>
     ensures { IfOk result (λ r. view r ≡ found_scores members.now set.now) }
 {
@@ -75,6 +76,7 @@ fn scores_in(alloc: Global, members: &Words<'_, '_>, set: &ZSet) -> Result<Reply
     Ok(Reply::Array(replies))
 }
 
+/// The answer of a score, or nil.
 fn score_or_nil(alloc: Global, score: Option<i64>) -> Result<Reply, AllocError>
     ensures { IfOk result (λ r. view r ≡ score_or_nil score) }
 {
@@ -98,7 +100,7 @@ pub fn rank(alloc: Global, order: Order, member: &Argument<'_>, live_entry: Opti
     }
 }
 
-// A place of so many, counted from the least or from the greatest pair.
+/// A place of so many, counted from the least pair, as it is counted in an order.
 fn counted_from(order: Order, count: usize, place: usize) -> usize
     requires { place < count }
     ensures place { result ≡ counted_from order count place }

@@ -118,6 +118,7 @@ impl Seconds {
         }
     }
 
+    /// So many seconds in milliseconds.
     fn milliseconds(self) -> i64
         ensures value { result ≡ of_seconds self }
         ensures within { IsTrue (is_amount (of_seconds self)) }
@@ -157,6 +158,7 @@ impl Milliseconds {
         }
     }
 
+    /// How many there are.
     fn number(self) -> i64
         ensures value { result ≡ self }
         ensures within { IsTrue (is_amount self) }
@@ -165,13 +167,14 @@ impl Milliseconds {
     }
 }
 
+/// Whether so many milliseconds are within the limit.
 fn is_amount(number: i64) -> bool
     ensures { result ≡ is_amount number }
 {
     (-MOST..=MOST).contains(&number)
 }
 
-// Whether so many seconds are within the limit.
+/// Whether so many seconds are within the limit.
 fn are_seconds(number: i64) -> bool
     ensures { result ≡ is_amount (of_seconds number) }
 {

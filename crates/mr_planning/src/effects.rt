@@ -31,6 +31,7 @@ impl Effects {
         }
     }
 
+    /// Puts an effect behind the others.
     pub fn push(&mut self, effect: Effect<'static>) -> Result<(), AllocError>
         ensures { OnOk result (self.new ≡ self.old ++ effect.entry ∷ []) }
     {

@@ -58,7 +58,7 @@ pub fn look<'d>(
     Ok(None)
 }
 
-// Whether there is an entry, and it is expired as asked.
+/// Whether there is an entry, and it is expired as asked.
 fn is_stored(now: i64, expired: bool, entry: Option<&Entry>) -> bool
     ensures { result ≡ is_stored now expired (option_copied entry.entry) }
 {
@@ -68,7 +68,8 @@ fn is_stored(now: i64, expired: bool, entry: Option<&Entry>) -> bool
     }
 }
 
-// A DEL for one key, without a list of the keys that were taken.
+/// Puts the DEL of one key, if it is there and expired as asked, and answers how many that makes. It takes no list of
+/// the keys that were taken.
 fn push_del(
     alloc: Global,
     held: &Dataset,

@@ -22,6 +22,7 @@ impl<'a> Model for Taken<'a> {
 }
 
 impl<'a> Taken<'a> {
+    /// No key. It takes no memory.
     pub fn new(alloc: Global) -> Taken<'a>
         ensures { result ≡ [] }
     {

@@ -20,7 +20,7 @@ pub enum AddOption {
 }
 
 impl AddOption {
-    // The option that a word is, in any case.
+    /// The option that a word is, in any case.
     fn of(word: &[u8]) -> Option<AddOption>
         ensures { result ≡ add_option word.now }
     {
@@ -36,13 +36,14 @@ impl AddOption {
         )
     }
 
-    // The first of these options that the word is.
+    /// The first of these options that the word is.
     fn among(options: &[AddOption], word: &[u8]) -> Option<AddOption>
         ensures { result ≡ find (is_add_option (lowered word.now)) options.now }
     {
         options.iter().copied().find(|option| option.is(word))
     }
 
+    /// Whether a word is this option, in any case.
     fn is(self, word: &[u8]) -> bool
         ensures { result ≡ is_add_option (lowered word.now) self }
     {
@@ -64,7 +65,7 @@ pub fn cut_options<'a, 't>(words: Arguments<'a, 't>) -> (Arguments<'a, 't>, Argu
     words.split_at(option_count(words))
 }
 
-// How many words are options, up to the first that is none.
+/// How many words are options, up to the first that is none.
 fn option_count(words: Arguments<'_, '_>) -> usize
     ensures count { result ≡ option_count (map cow_slice_items words.now) }
     ensures within { result ≤ length words.now }
@@ -100,6 +101,7 @@ impl AddOptions {
         options.agreeing()
     }
 
+    /// No option: each score is set, and the members that are new are counted.
     fn none() -> AddOptions
         ensures { result ≡ no_add_options }
     {
@@ -110,7 +112,7 @@ impl AddOptions {
         }
     }
 
-    // With one option more.
+    /// These options with one more. It is a syntax fault where one like it is there.
     fn and(self, option: AddOption) -> Result<AddOptions, AskFault>
         ensures { result ≡ add_also self option }
     {
@@ -134,7 +136,7 @@ impl AddOptions {
         }
     }
 
-    // These options, unless scores are to be compared of members that aren't there.
+    /// These options. It is a syntax fault where scores are to be compared of members that aren't there.
     fn agreeing(self) -> Result<AddOptions, AskFault>
         ensures { result ≡ agreeing self }
     {

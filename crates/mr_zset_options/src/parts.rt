@@ -50,6 +50,7 @@ pub fn limit_if_any(words: &Option<LimitWords<'_>>) -> Result<Option<Limit>, Ask
     }
 }
 
+/// The limit that the words behind `LIMIT` spell. It is a fault where one of them is no whole number.
 fn limit_of(words: &LimitWords<'_>) -> Result<Limit, AskFault>
     ensures { result ≡ limit words.now }
 {
@@ -59,6 +60,7 @@ fn limit_of(words: &LimitWords<'_>) -> Result<Limit, AskFault>
     })
 }
 
+/// The whole number of 64 bits that a text spells, or else the fault that it is none.
 fn integer_text(text: &[u8]) -> Result<i64, AskFault>
     ensures { result ≡ integer text.now }
 {

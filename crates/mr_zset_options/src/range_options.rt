@@ -21,7 +21,7 @@ pub enum RangeOption {
 }
 
 impl RangeOption {
-    // The option that a word is, in any case.
+    /// The option that a word is, in any case.
     fn of(word: &[u8]) -> Option<RangeOption>
         ensures { result ≡ range_option word.now }
     {
@@ -35,13 +35,14 @@ impl RangeOption {
         )
     }
 
-    // The first of these options that the word is.
+    /// The first of these options that the word is.
     fn among(options: &[RangeOption], word: &[u8]) -> Option<RangeOption>
         ensures { result ≡ find (is_range_option (lowered word.now)) options.now }
     {
         options.iter().copied().find(|option| option.is(word))
     }
 
+    /// Whether a word is this option, in any case.
     fn is(self, word: &[u8]) -> bool
         ensures { result ≡ is_range_option (lowered word.now) self }
     {
@@ -86,7 +87,8 @@ impl<'a> RangeOptions<'a> {
         RangeOptions::none().and_all(words)
     }
 
-    // With each option of these words. An option stands once, so this goes no deeper than there are options.
+    /// These options with each one of these words. An option stands once, so this goes no deeper than there are
+    /// options; else it is a syntax fault.
     fn and_all(self, words: Arguments<'a, '_>) -> Result<RangeOptions<'a>, AskFault>
         ensures { result ≡ range_options self.entry (map cow_slice_items words.now) }
     {
@@ -99,6 +101,7 @@ impl<'a> RangeOptions<'a> {
         }
     }
 
+    /// No option: the members by rank, in ascending order.
     fn none() -> RangeOptions<'a>
         ensures { result ≡ no_range_options }
     {
@@ -110,7 +113,8 @@ impl<'a> RangeOptions<'a> {
         }
     }
 
-    // With the option that begins with this word, and the words behind it.
+    /// These options with the one that begins with this word, and the words behind it. It is a syntax fault where none
+    /// begins so, or it stands twice.
     fn with_first<'t>(
         self,
         word: &CowSlice<'_, u8>,
@@ -127,7 +131,8 @@ impl<'a> RangeOptions<'a> {
         self.with_limit(after)
     }
 
-    // With `LIMIT`, whose words are the first of these, and the words behind them.
+    /// These options with `LIMIT`, whose words are the first of these, and the words behind them. It is a syntax fault
+    /// where there are fewer than two, or `LIMIT` stands twice.
     fn with_limit<'t>(
         self,
         words: Arguments<'a, 't>,
@@ -145,7 +150,7 @@ impl<'a> RangeOptions<'a> {
         }
     }
 
-    // With one option more.
+    /// These options with one more. It is a syntax fault where it is there already.
     fn and(self, option: RangeOption) -> Result<RangeOptions<'a>, AskFault>
         ensures { result ≡ range_also self.entry option }
     {
@@ -178,7 +183,7 @@ impl<'a> RangeOptions<'a> {
         }
     }
 
-    // With `LIMIT` and its words.
+    /// These options with `LIMIT` and its words. It is a syntax fault where there is a limit already.
     fn limited(
         self,
         offset: Argument<'a>,
@@ -204,6 +209,7 @@ impl<'a> RangeOptions<'a> {
     }
 }
 
+/// Whether a word is `LIMIT`, in any case.
 fn is_limit(word: &CowSlice<'_, u8>) -> bool
     ensures { result ≡ is_limit (cow_slice_items word.now) }
 {

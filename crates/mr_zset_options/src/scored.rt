@@ -56,7 +56,7 @@ impl<'a, 't> ScoredMembers<'a, 't> {
     }
 }
 
-// Whether the first of each pair is the text of a score.
+/// Whether the first of each pair is the text of a score.
 fn have_scores(pairs: PairsIter<'_, '_>) -> bool
     ensures { result ≡ have_scores pairs.entry }
 {
@@ -68,6 +68,7 @@ fn have_scores(pairs: PairsIter<'_, '_>) -> bool
     true
 }
 
+/// Whether a text is that of a score.
 fn has_score(text: &[u8]) -> bool
     ensures { result ≡ has_score text.now }
 {

@@ -21,6 +21,7 @@ pub struct FieldGroup<'k> {
 }
 
 impl<'k> FieldGroup<'k> {
+    /// No field of this key.
     pub fn new(alloc: Global, key: &'k [u8]) -> FieldGroup<'k>
         ensures key { result.key.now ≡ key.now }
         ensures fields { result.fields ≡ [] }
@@ -49,6 +50,7 @@ impl<'k> FieldGroup<'k> {
         }
     }
 
+    /// Takes a field. The effect of a full group is put first.
     fn push_field(&mut self, field: &[u8], effects: &mut Effects) -> Result<(), AllocError>
         ensures key { self.new.key.now ≡ self.old.key.now }
         ensures takes { OnOk result (TakesItems (made.RemoveFields self.old.key.now) (field.now ∷ []) self.old.fields self.new.fields effects.old effects.new) }
@@ -60,6 +62,7 @@ impl<'k> FieldGroup<'k> {
         Ok(())
     }
 
+    /// Puts the effect that removes the fields of the group, which is empty from then on.
     fn flush(&mut self, effects: &mut Effects) -> Result<(), AllocError>
         ensures key { self.new.key.now ≡ self.old.key.now }
         ensures effects { OnOk result (effects.new ≡ effects.old ++ made.RemoveFields self.old.key.now self.old.fields ∷ []) }

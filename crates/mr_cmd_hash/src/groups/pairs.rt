@@ -22,6 +22,7 @@ pub struct PairGroup<'k> {
 }
 
 impl<'k> PairGroup<'k> {
+    /// No field of this key.
     pub fn new(alloc: Global, key: &'k [u8]) -> PairGroup<'k>
         ensures key { result.key.now ≡ key.now }
         ensures pairs { result.pairs ≡ [] }
@@ -50,6 +51,7 @@ impl<'k> PairGroup<'k> {
         self.push_pair(field, value, effects)
     }
 
+    /// Takes a field with its value. The effect of a full group is put first.
     fn push_pair(
         &mut self,
         field: &[u8],
@@ -68,6 +70,7 @@ impl<'k> PairGroup<'k> {
         Ok(())
     }
 
+    /// Puts the effect that sets the fields of the group, which is empty from then on.
     fn flush(&mut self, effects: &mut Effects) -> Result<(), AllocError>
         ensures key { self.new.key.now ≡ self.old.key.now }
         ensures effects { OnOk result (effects.new ≡ effects.old ++ made.SetFields self.old.key.now self.old.pairs ∷ []) }
@@ -90,7 +93,7 @@ pub fn end_pairs(mut group: PairGroup<'_>, effects: &mut Effects) -> Result<(), 
     group.flush(effects)
 }
 
-// Whether this is the value.
+/// Whether this is the value that was there before.
 fn is_value(value: &[u8], before: Option<&[u8]>) -> bool
     ensures { result ≡ is_value value.now (option_copied before.entry) }
 {

@@ -21,6 +21,7 @@ pub struct MemberGroup<'k> {
 }
 
 impl<'k> MemberGroup<'k> {
+    /// No member of this key.
     pub fn new(alloc: Global, key: &'k [u8]) -> MemberGroup<'k>
         ensures key { result.key.now ≡ key.now }
         ensures members { result.members ≡ [] }
@@ -44,6 +45,7 @@ impl<'k> MemberGroup<'k> {
         Ok(())
     }
 
+    /// Puts the effect that removes the members of the group, which is empty from then on.
     fn flush(&mut self, effects: &mut Effects) -> Result<(), AllocError>
         ensures key { self.new.key.now ≡ self.old.key.now }
         ensures effects { OnOk result (effects.new ≡ effects.old ++ made.RemoveScores self.old.key.now self.old.members ∷ []) }

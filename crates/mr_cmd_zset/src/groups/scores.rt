@@ -23,6 +23,7 @@ pub struct ScoreGroup<'k> {
 }
 
 impl<'k> ScoreGroup<'k> {
+    /// No score of this key.
     pub fn new(alloc: Global, key: &'k [u8]) -> ScoreGroup<'k>
         ensures key { result.key.now ≡ key.now }
         ensures scores { result.scores ≡ [] }
@@ -51,6 +52,7 @@ impl<'k> ScoreGroup<'k> {
         }
     }
 
+    /// Takes a member with its score. The effect of a full group is put first.
     fn push_score(
         &mut self,
         member: &[u8],
@@ -67,6 +69,7 @@ impl<'k> ScoreGroup<'k> {
         Ok(())
     }
 
+    /// Puts the effect that sets the scores of the group, which is empty from then on.
     fn flush(&mut self, effects: &mut Effects) -> Result<(), AllocError>
         ensures key { self.new.key.now ≡ self.old.key.now }
         ensures effects { OnOk result (effects.new ≡ effects.old ++ made.SetScores self.old.key.now self.old.scores ∷ []) }
