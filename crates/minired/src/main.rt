@@ -109,6 +109,8 @@ fn run_world(rt: &HostRuntime, backlog: usize) -> Result<(), Failure>
     Ok(())
 }
 
+/// Does what the program's words name: tells of the program, or runs a mode to its end. It fails as that does, and
+/// where the words name none.
 fn run(rt: &HostRuntime) -> Result<(), Failure> {
     let words = words(rt)?;
     if let Some(question) = asked(words.as_slice()) {
@@ -126,6 +128,7 @@ fn run(rt: &HostRuntime) -> Result<(), Failure> {
     }
 }
 
+/// Runs the program. What it fails with is told on standard error, and makes its exit status.
 fn main(rt: HostRuntime) -> ExitCode {
     match run(&rt) {
         Ok(()) => ExitCode::SUCCESS,

@@ -58,6 +58,7 @@ fn ask<S: Source>(node: &mut Node, request: &[u8], source: &mut S) -> Result<(),
     asked
 }
 
+/// Makes a step at a link, by the source's time and chance. What it gives out is dropped.
 fn step<S: Source>(node: &mut Node, link: LinkId, source: &mut S) -> Result<(), NodeFault> {
     let fresh = source.id();
     let now = source.now();

@@ -48,6 +48,7 @@ fn follows_stream(role: Role) -> bool {
     }
 }
 
+/// Tells whose stream the node follows, and at which offset in bytes.
 fn tell_stream(rt: &HostRuntime, node: &Node) {
     let offset = offset_of(node);
     if let Some(address) = node.upstream() {
@@ -61,6 +62,7 @@ fn tell_stream(rt: &HostRuntime, node: &Node) {
     }
 }
 
+/// Tells whom the node follows without being in its stream.
 fn tell_apart(rt: &HostRuntime, node: &Node) {
     if let Some(address) = node.upstream() {
         tell(

@@ -39,6 +39,8 @@ pub fn read<'a, 't>(words: &'a [CowSlice<'t, u8>]) -> Result<Ask<'a, 't>, AskFau
     command(words)
 }
 
+/// The command that the words of a request are, of which there is one at least. It is a fault where the first is no
+/// name, or what stands behind it are no arguments of its.
 fn command<'a, 't>(words: Arguments<'a, 't>) -> Reading<'a, 't>
     requires { 0 < length words.now }
     ensures { result ≡ asked (map cow_slice_items words.now) }
@@ -49,8 +51,8 @@ fn command<'a, 't>(words: Arguments<'a, 't>) -> Reading<'a, 't>
     }
 }
 
-// The name chooses whose arguments they are. Each kind of command is read by a function of its own, so that a request makes room on the
-// stack for the forms of one kind alone.
+/// The command of this name with these arguments, or the fault that they have. Each kind of command is read by a
+/// function of its own, so that a request makes room on the stack for the forms of one kind alone.
 fn read_arguments<'a, 't>(name: Name, arguments: Arguments<'a, 't>) -> Reading<'a, 't>
     ensures { result ≡ reading name (map cow_slice_items arguments.now) }
 {
@@ -166,6 +168,7 @@ fn read_arguments<'a, 't>(name: Name, arguments: Arguments<'a, 't>) -> Reading<'
     }
 }
 
+/// The command on strings of this name with these arguments, or the fault that they have.
 #[inline(never)]
 fn read_texts<'a, 't>(name: Name, arguments: Arguments<'a, 't>) -> Reading<'a, 't>
     requires { kind_of name ≡ kind.texts }
@@ -194,6 +197,7 @@ fn read_texts<'a, 't>(name: Name, arguments: Arguments<'a, 't>) -> Reading<'a, '
     }
 }
 
+/// The command on keys of this name with these arguments, or the fault that they have.
 #[inline(never)]
 fn read_keys<'a, 't>(name: Name, arguments: Arguments<'a, 't>) -> Reading<'a, 't>
     requires { kind_of name ≡ kind.keys }
@@ -224,6 +228,7 @@ fn read_keys<'a, 't>(name: Name, arguments: Arguments<'a, 't>) -> Reading<'a, 't
     }
 }
 
+/// The command on hashes of this name with these arguments, or the fault that they have.
 #[inline(never)]
 fn read_hashes<'a, 't>(name: Name, arguments: Arguments<'a, 't>) -> Reading<'a, 't>
     requires { kind_of name ≡ kind.hashes }
@@ -247,6 +252,7 @@ fn read_hashes<'a, 't>(name: Name, arguments: Arguments<'a, 't>) -> Reading<'a, 
     }
 }
 
+/// The command on lists of this name with these arguments, or the fault that they have.
 #[inline(never)]
 fn read_lists<'a, 't>(name: Name, arguments: Arguments<'a, 't>) -> Reading<'a, 't>
     requires { kind_of name ≡ kind.lists }
@@ -272,6 +278,7 @@ fn read_lists<'a, 't>(name: Name, arguments: Arguments<'a, 't>) -> Reading<'a, '
     }
 }
 
+/// The command on sets of this name with these arguments, or the fault that they have.
 #[inline(never)]
 fn read_sets<'a, 't>(name: Name, arguments: Arguments<'a, 't>) -> Reading<'a, 't>
     requires { kind_of name ≡ kind.sets }
@@ -294,6 +301,7 @@ fn read_sets<'a, 't>(name: Name, arguments: Arguments<'a, 't>) -> Reading<'a, 't
     }
 }
 
+/// The command on sorted sets of this name with these arguments, or the fault that they have.
 #[inline(never)]
 fn read_sorted_sets<'a, 't>(name: Name, arguments: Arguments<'a, 't>) -> Reading<'a, 't>
     requires { kind_of name ≡ kind.sorted_sets }
@@ -329,6 +337,7 @@ fn read_sorted_sets<'a, 't>(name: Name, arguments: Arguments<'a, 't>) -> Reading
     }
 }
 
+/// The command to the server itself of this name with these arguments, or the fault that they have.
 #[inline(never)]
 fn read_server<'a, 't>(name: Name, arguments: Arguments<'a, 't>) -> Reading<'a, 't>
     requires { kind_of name ≡ kind.server }
@@ -349,6 +358,7 @@ fn read_server<'a, 't>(name: Name, arguments: Arguments<'a, 't>) -> Reading<'a, 
     }
 }
 
+/// The command to the node of this name with these arguments, or the fault that they have.
 #[inline(never)]
 fn read_node<'a, 't>(name: Name, arguments: Arguments<'a, 't>) -> Reading<'a, 't>
     requires { kind_of name ≡ kind.node }
@@ -363,48 +373,56 @@ fn read_node<'a, 't>(name: Name, arguments: Arguments<'a, 't>) -> Reading<'a, 't
     }
 }
 
+/// A command on strings as a command, or its fault.
 fn of_texts<'a, 't>(reading: Result<TextAsk<'a, 't>, AskFault>) -> Reading<'a, 't>
     ensures { result ≡ of_kind ask.Texts reading.entry }
 {
     Ok(Ask::Texts(reading?))
 }
 
+/// A command on keys as a command, or its fault.
 fn of_keys<'a, 't>(reading: Result<KeyAsk<'a, 't>, AskFault>) -> Reading<'a, 't>
     ensures { result ≡ of_kind ask.Keys reading.entry }
 {
     Ok(Ask::Keys(reading?))
 }
 
+/// A command on hashes as a command, or its fault.
 fn of_hashes<'a, 't>(reading: Result<HashAsk<'a, 't>, AskFault>) -> Reading<'a, 't>
     ensures { result ≡ of_kind ask.Hashes reading.entry }
 {
     Ok(Ask::Hashes(reading?))
 }
 
+/// A command on lists as a command, or its fault.
 fn of_lists<'a, 't>(reading: Result<ListAsk<'a, 't>, AskFault>) -> Reading<'a, 't>
     ensures { result ≡ of_kind ask.Lists reading.entry }
 {
     Ok(Ask::Lists(reading?))
 }
 
+/// A command on sets as a command, or its fault.
 fn of_sets<'a, 't>(reading: Result<SetAsk<'a, 't>, AskFault>) -> Reading<'a, 't>
     ensures { result ≡ of_kind ask.Sets reading.entry }
 {
     Ok(Ask::Sets(reading?))
 }
 
+/// A command on sorted sets as a command, or its fault.
 fn of_sorted_sets<'a, 't>(reading: Result<ZSetAsk<'a, 't>, AskFault>) -> Reading<'a, 't>
     ensures { result ≡ of_kind ask.SortedSets reading.entry }
 {
     Ok(Ask::SortedSets(reading?))
 }
 
+/// A command to the server itself as a command, or its fault.
 fn of_server<'a, 't>(reading: Result<ServerAsk<'a, 't>, AskFault>) -> Reading<'a, 't>
     ensures { result ≡ of_kind ask.Server reading.entry }
 {
     Ok(Ask::Server(reading?))
 }
 
+/// A command to the node as a command, or its fault.
 fn of_node<'a, 't>(reading: Result<NodeAsk<'a, 't>, AskFault>) -> Reading<'a, 't>
     ensures { result ≡ of_kind ask.Node reading.entry }
 {

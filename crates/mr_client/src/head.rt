@@ -99,6 +99,7 @@ fn is_none(text: &[u8]) -> bool
     text == NONE
 }
 
+/// Whether these bytes are a line end.
 fn is_line_end(bytes: &[u8]) -> bool
     ensures { IsTrue result ↔ (bytes.now ≡ line_end) }
 {

@@ -42,6 +42,7 @@ fn feed_of(bytes: &[u8]) -> Option<usize>
     feed_place(bytes)
 }
 
+/// The place of the first line feed, if there is one.
 fn feed_place(bytes: &[u8]) -> Option<usize>
     ensures { result ≡ position (λ b. b == 10) bytes.now }
 {

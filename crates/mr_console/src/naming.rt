@@ -41,6 +41,7 @@ fn is_follow(word: &[u8]) -> bool
     word.eq_ignore_ascii_case(b"REPLICAOF") || word.eq_ignore_ascii_case(b"SLAVEOF")
 }
 
+/// Whether a word is the one that stands before the number of a node.
 fn is_node(word: &[u8]) -> bool
     ensures { IsTrue result ↔ (word.now ≡ node_word) }
 {

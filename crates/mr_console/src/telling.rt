@@ -38,6 +38,7 @@ pub(crate) fn end_line(alloc: Global, place: Place, ending: Ending) -> Result<Ve
     Ok(line)
 }
 
+/// The word for a master's or a replica's role.
 fn role_word(master: bool) -> &'static [u8]
     ensures { result.now ≡ role_word master }
 {

@@ -104,6 +104,7 @@ impl End {
 
 // What becomes of it.
 impl End {
+    /// An end of this kind, to which nothing was fed, and which said nothing of itself.
     #[tactic(auto, using(crate::proofs::Progressing::fresh_along))]
     fn of(alloc: Global, kind: Kind) -> End
         ensures client { kind ≡ Kind.Client → result ≡ client [] }
@@ -118,12 +119,14 @@ impl End {
         }
     }
 
+    /// A client's end, to which nothing was fed.
     pub(crate) fn client(alloc: Global) -> End
         ensures { result ≡ client [] }
     {
         End::of(alloc, Kind::Client)
     }
 
+    /// The end of a link to a master.
     pub(crate) fn upstream(alloc: Global) -> End
         ensures { result ≡ upstream }
     {

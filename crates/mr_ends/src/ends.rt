@@ -76,6 +76,7 @@ impl Ends {
 
 // What becomes of one.
 impl Ends {
+    /// Opens an end that the stream isn't sent to, under a new name. Where memory is lacking nothing has changed.
     fn insert(&mut self, end: End) -> Result<LinkId, AllocError>
         requires few { self.old.opened < 2 ^ 62 }
         requires quiet { streams (Some end) ≡ false }
@@ -224,6 +225,7 @@ impl Ends {
     }
 }
 
+/// Whether two names are not the same.
 fn is_another(name: LinkId, link: LinkId) -> bool
     ensures { result ≡ not (eq_by_cmp id_cmp name link) }
 {

@@ -5,6 +5,7 @@ ghost use Rattle.mr_ends.specs.Replicas.{ShutsNamed};
 use crate::end::End;
 use mr_links::{LinkId, Links};
 
+/// Closes the end of this name, if it is there.
 fn shut_one(links: &mut Links<End>, name: LinkId)
     ensures ends { ShutsNamed links.old.open_links (name ∷ []) links.new.open_links }
     ensures opened { links.new.opened ≡ links.old.opened }

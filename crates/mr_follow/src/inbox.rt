@@ -22,6 +22,7 @@ impl Model for Inbox {
 }
 
 impl Inbox {
+    /// Nothing was fed.
     pub(crate) fn new(alloc: Global) -> Inbox
         ensures { result ≡ [] }
     {
@@ -31,6 +32,7 @@ impl Inbox {
         }
     }
 
+    /// The bytes that were fed and not used.
     pub(crate) fn unread(&self) -> &[u8]
         ensures { result.now ≡ self.now }
     {

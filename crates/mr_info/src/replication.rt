@@ -39,6 +39,7 @@ pub fn info(
     Ok(text)
 }
 
+/// The name of a replica's or of a master's role.
 fn role_text(replica: bool) -> &'static [u8]
     ensures { result.now ≡ role_text replica }
 {
@@ -76,6 +77,7 @@ fn push_field(text: &mut Vec<u8>, name: &[u8], value: &[u8]) -> Result<(), Alloc
     text.extend_from_slice(b"\r\n")
 }
 
+/// Puts the line of a field that is a number behind the text.
 fn push_number(text: &mut Vec<u8>, name: &[u8], value: u64) -> Result<(), AllocError>
     ensures { OnOk result (text.new.items ≡ text.old.items ++ line name.now (decimal value)) }
 {

@@ -48,6 +48,7 @@ pub fn master_role(
     Ok(Reply::Array(parts))
 }
 
+/// What ROLE tells of replicas, in their order.
 fn replies_of(alloc: Global, replicas: &[Replica]) -> Result<Vec<Reply>, AllocError>
     ensures { IfOk result (λ replies. views replies.items ≡ trees_of (map replica_tree replicas.now)) }
 {
@@ -58,6 +59,7 @@ fn replies_of(alloc: Global, replicas: &[Replica]) -> Result<Vec<Reply>, AllocEr
     Ok(replies)
 }
 
+/// What ROLE tells of a replica: its address, its port, and the offset in bytes that it acknowledged last.
 fn reply_of(alloc: Global, replica: &Replica) -> Result<Reply, AllocError>
     ensures { IfOk result (λ reply. view reply ≡ replica_tree replica.now) }
 {
@@ -88,6 +90,7 @@ pub fn replica_role(
     Ok(Reply::Array(parts))
 }
 
+/// The word for where a replica's link to its master stands.
 fn link_word(link: MasterLink) -> &'static [u8]
     ensures { result.now ≡ link_word link }
 {
@@ -98,12 +101,14 @@ fn link_word(link: MasterLink) -> &'static [u8]
     }
 }
 
+/// The offset of a stream, in bytes.
 fn offset_of(stream: &Backlog) -> Reply
     ensures { view result ≡ int (pos stream.now.offset) }
 {
     Reply::Int(stream.end() as i64)
 }
 
+/// A word, copied, as a reply.
 fn bulk(alloc: Global, word: &[u8]) -> Result<Reply, AllocError>
     ensures { IfOk result (λ reply. view reply ≡ bytes word.now) }
 {
@@ -120,6 +125,7 @@ fn bulk_or(alloc: Global, given: Option<&[u8]>, other: &[u8]) -> Result<Reply, A
     }
 }
 
+/// The decimal text of a number, as a reply.
 fn number(alloc: Global, number: i64) -> Result<Reply, AllocError>
     ensures { IfOk result (λ reply. view reply ≡ bytes (signed_decimal number)) }
 {

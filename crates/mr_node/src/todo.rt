@@ -102,6 +102,7 @@ fn request_todo(
     }
 }
 
+/// What is to be done about a request of so many bytes, by what it is answered.
 fn carry_out(answer: Answer, used: usize) -> Todo
     ensures { result ≡ carry_out answer used }
 {

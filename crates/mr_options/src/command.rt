@@ -70,6 +70,7 @@ fn with_needed_number<'a>(
     command.arg(number_option(alloc, name, least, most).required(true))
 }
 
+/// The subcommand `pipe` with its options.
 fn pipe_command<'a>(alloc: Global) -> Result<Command<'a>, AllocError>
     ensures shape { IfOk result (λ c. app_of c ≡ pipe_line) }
     ensures local { IfOk result (λ c. (out-Command c).has_globals ≡ false) }
@@ -80,6 +81,7 @@ fn pipe_command<'a>(alloc: Global) -> Result<Command<'a>, AllocError>
     with_text(drawn, alloc, "aof")
 }
 
+/// The subcommand `serve` with its options.
 fn serve_command<'a>(alloc: Global) -> Result<Command<'a>, AllocError>
     ensures shape { IfOk result (λ c. app_of c ≡ serve_line) }
     ensures local { IfOk result (λ c. (out-Command c).has_globals ≡ false) }
@@ -93,6 +95,7 @@ fn serve_command<'a>(alloc: Global) -> Result<Command<'a>, AllocError>
     with_text(led, alloc, "bind")
 }
 
+/// The subcommand `world` with its option.
 fn world_command<'a>(alloc: Global) -> Result<Command<'a>, AllocError>
     ensures shape { IfOk result (λ c. app_of c ≡ world_line) }
     ensures local { IfOk result (λ c. (out-Command c).has_globals ≡ false) }
@@ -134,6 +137,7 @@ fn with_trio<'a>(alloc: Global) -> Result<Command<'a>, AllocError>
     with_serve(alloc)?.subcommand(Command::new(alloc, "trio"))
 }
 
+/// The program with all of its subcommands.
 pub(crate) fn whole_command<'a>(alloc: Global) -> Result<Command<'a>, AllocError>
     ensures { IfOk result (λ c. app_of c ≡ line) }
 {

@@ -68,6 +68,7 @@ impl<'a> Model for OutsIter<'a> {
 }
 
 impl<'a> OutsIter<'a> {
+    /// All outs of a step.
     pub(crate) fn new(outs: &'a Outs) -> OutsIter<'a>
         ensures { result ≡ outs_of outs.now }
     {

@@ -107,12 +107,14 @@ fn tell(alloc: Global, held: &Dataset, ask: &Ask<'_, '_>, given: Given) -> Resul
     Ok(plan.reply)
 }
 
+/// The error by which a replica refuses writes.
 fn readonly() -> Reply
     ensures { view result ≡ readonly }
 {
     Reply::Error(CowSlice::Borrowed(b"READONLY You can't write against a read only replica."))
 }
 
+/// Whether the command is QUIT.
 fn quits(ask: &Ask<'_, '_>) -> bool
     ensures { result ≡ is_quit ask.now }
 {
@@ -122,6 +124,7 @@ fn quits(ask: &Ask<'_, '_>) -> bool
     }
 }
 
+/// Whether the command is SHUTDOWN.
 fn halts(ask: &Ask<'_, '_>) -> bool
     ensures { result ≡ is_shutdown ask.now }
 {
@@ -131,6 +134,7 @@ fn halts(ask: &Ask<'_, '_>) -> bool
     }
 }
 
+/// What the command asks about the node, if it does.
 fn question_asked(ask: &Ask<'_, '_>) -> Option<Question>
     ensures { result ≡ question_asked ask.now }
 {
@@ -140,6 +144,7 @@ fn question_asked(ask: &Ask<'_, '_>) -> Option<Question>
     }
 }
 
+/// Whether the command is BGREWRITEAOF.
 fn rewrites(ask: &Ask<'_, '_>) -> bool
     ensures { result ≡ is_rewriting ask.now }
 {

@@ -25,6 +25,7 @@ pub fn writes(ask: &Ask<'_, '_>) -> bool
     }
 }
 
+/// Whether the command on strings may have an effect of its own.
 fn text_writes(ask: &TextAsk<'_, '_>) -> bool
     ensures { result ≡ text_writes ask.now }
 {
@@ -37,6 +38,7 @@ fn text_writes(ask: &TextAsk<'_, '_>) -> bool
     }
 }
 
+/// Whether the command on keys may have an effect of its own.
 fn key_writes(ask: &KeyAsk<'_, '_>) -> bool
     ensures { result ≡ key_writes ask.now }
 {
@@ -52,6 +54,7 @@ fn key_writes(ask: &KeyAsk<'_, '_>) -> bool
     }
 }
 
+/// Whether the command on a hash may have an effect of its own.
 fn hash_writes(ask: &HashAsk<'_, '_>) -> bool
     ensures { result ≡ hash_writes ask.now }
 {
@@ -64,6 +67,7 @@ fn hash_writes(ask: &HashAsk<'_, '_>) -> bool
     }
 }
 
+/// Whether the command on a list may have an effect of its own.
 fn list_writes(ask: &ListAsk<'_, '_>) -> bool
     ensures { result ≡ list_writes ask.now }
 {
@@ -73,6 +77,7 @@ fn list_writes(ask: &ListAsk<'_, '_>) -> bool
     }
 }
 
+/// Whether the command on sets may have an effect of its own.
 fn set_writes(ask: &SetAsk<'_, '_>) -> bool
     ensures { result ≡ set_writes ask.now }
 {
@@ -83,6 +88,7 @@ fn set_writes(ask: &SetAsk<'_, '_>) -> bool
     }
 }
 
+/// Whether the command on a sorted set may have an effect of its own.
 fn zset_writes(ask: &ZSetAsk<'_, '_>) -> bool
     ensures { result ≡ zset_writes ask.now }
 {

@@ -120,6 +120,7 @@ impl Desk {
         }
     }
 
+    /// Takes the link to the node at this place out, if there is one.
     fn take(&mut self, place: Place) -> Option<Client> {
         match place {
             Place::First => self.first.take(),
@@ -128,6 +129,7 @@ impl Desk {
         }
     }
 
+    /// Keeps a link to the node at this place, instead of the one before.
     fn put(&mut self, place: Place, client: Client) {
         match place {
             Place::First => self.first = Some(client),

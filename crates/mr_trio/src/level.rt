@@ -42,6 +42,7 @@ fn same_shown(replica: &Member, master: &Member) -> bool
     is_same(id, other) && offset == there
 }
 
+/// Whether two ids are the same.
 fn is_same(id: ReplId, other: ReplId) -> bool
     ensures { IsTrue result → id ≡ other }
 {

@@ -10,6 +10,7 @@ pub(crate) struct Failures {
 }
 
 impl Failures {
+    /// No failure so far.
     pub(crate) fn new() -> Failures
         ensures { result.count ≡ 0 }
     {

@@ -138,6 +138,7 @@ impl MemWire {
         None
     }
 
+    /// Reads bytes that came on a link into a room. Fails where the link isn't open.
     fn read_link(&mut self, link: LinkId, into: &mut [u8]) -> Moved
         ensures within { count_of result ≤ length into.new }
         ensures read { ChangesLink self.old.links link (behind_read true result into.new) self.new.links }
@@ -151,6 +152,7 @@ impl MemWire {
         }
     }
 
+    /// Writes bytes to a link, or the first of them. Fails where the link isn't open.
     fn write_link(&mut self, link: LinkId, bytes: &[u8]) -> Moved
         ensures within { count_of result ≤ length bytes.now }
         ensures written { ChangesLink self.old.links link (behind_write true result bytes.now) self.new.links }

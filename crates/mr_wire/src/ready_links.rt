@@ -93,6 +93,7 @@ impl ReadyLinks {
         self.queue.len()
     }
 
+    /// Whether no link is queued.
     pub(crate) fn is_empty(&self) -> bool {
         self.queue.is_empty()
     }

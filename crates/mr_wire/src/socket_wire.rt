@@ -124,6 +124,7 @@ impl SocketWire {
         }
     }
 
+    /// Reads bytes that came on a link into a room. Fails where the link isn't open.
     fn read_link(&mut self, link: LinkId, into: &mut [u8]) -> Moved
         ensures within { count_of result ≤ length into.new }
         ensures read { ChangesLink self.old.links link (behind_read false result into.new) self.new.links }
@@ -136,6 +137,7 @@ impl SocketWire {
         }
     }
 
+    /// Writes bytes to a link, or the first of them. Fails where the link isn't open.
     fn write_link(&mut self, link: LinkId, bytes: &[u8]) -> Moved
         ensures within { count_of result ≤ length bytes.now }
         ensures written { ChangesLink self.old.links link (behind_write false result bytes.now) self.new.links }

@@ -66,6 +66,7 @@ fn carry(step: UpstreamStep, told: Vec<u8>, outs: &mut Outs)
     }
 }
 
+/// Whether this is the text of a heartbeat.
 fn is_beat(text: &[u8]) -> bool
     ensures { result ≡ bytes_eq text.now beat }
 {

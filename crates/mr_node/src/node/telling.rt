@@ -41,6 +41,7 @@ impl Node {
         }
     }
 
+    /// The text of INFO's section on replication.
     fn info_text(&self) -> Result<Vec<u8>, AllocError>
         ensures { IfOk result (λ text. TellsInfo self.now text.items) }
     {
@@ -77,6 +78,7 @@ impl Node {
         Ok(Outcome::Done)
     }
 
+    /// What is answered to what is asked about the node.
     fn answer_about(&self, question: Question) -> Result<Reply, AllocError>
         ensures { IfOk result (λ reply. TellsOf question self.now (view reply)) }
     {
@@ -179,6 +181,7 @@ fn seen(end: Option<&End>) -> Replica<'_> {
     }
 }
 
+/// The bytes of a word, if there is one.
 fn option_slice(word: &Option<Vec<u8>>) -> Option<&[u8]> {
     match word {
         None => None,

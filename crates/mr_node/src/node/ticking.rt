@@ -92,6 +92,7 @@ impl Node {
         }
     }
 
+    /// A master's tick. Where memory runs out, the node stays as it was.
     fn beat(&mut self, now: i64) -> Result<Outs, NodeFault>
         requires up { self.old.core.up ≡ true }
         requires master { self.old.core.master ≡ true }
@@ -154,6 +155,8 @@ impl Node {
         }
     }
 
+    /// A replica's tick: its acknowledgement, where it is time for one. Where memory runs out, the node stays as it
+    /// was.
     fn rest(&mut self, now: i64) -> Result<Outs, NodeFault>
         requires up { self.old.core.up ≡ true }
         requires replica { self.old.core.master ≡ false }
@@ -254,6 +257,7 @@ fn tell(outs: &mut Outs, key: &[u8], room: u64) -> Result<bool, AllocError>
     Ok(fits)
 }
 
+/// The effect that deletes this key.
 fn deletion(alloc: Global, key: &[u8]) -> Result<Effect<'static>, AllocError>
     ensures { IfOk result (λ e. e ≡ effect.Del key.now) }
 {

@@ -135,6 +135,7 @@ impl State {
     }
 }
 
+/// Whether this link has the name, if there is one.
 fn is_name(name: Option<LinkId>, link: LinkId) -> bool
     ensures { result ≡ is_name name link }
 {

@@ -40,6 +40,7 @@ impl State {
     }
 }
 
+/// Takes the end of this name out, if there is one.
 fn remove_one(ends: &mut Ends, name: Option<LinkId>)
     ensures { ends.new ≡ without_one name ends.old }
 {
