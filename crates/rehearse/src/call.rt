@@ -66,6 +66,7 @@ impl Call {
     }
 }
 
+/// The call that a word names by itself. Fails where it names none.
 fn alone(name: &str) -> Result<Call, RehearsalFault> {
     match name {
         "master" => Ok(Call::Start(Role::Master)),
@@ -80,6 +81,7 @@ fn alone(name: &str) -> Result<Call, RehearsalFault> {
     }
 }
 
+/// The call that a name and one word name. Fails where they name none.
 fn with_one(alloc: Global, name: &str, word: &str) -> Result<Call, RehearsalFault> {
     match name {
         "step" => Ok(Call::OnNode(NodeCall::Step(place(word)?))),
@@ -89,6 +91,7 @@ fn with_one(alloc: Global, name: &str, word: &str) -> Result<Call, RehearsalFaul
     }
 }
 
+/// The call on the dataset that a name names, with these bytes. Fails where it names none.
 fn on_bytes(name: &str, bytes: Vec<u8>) -> Result<DatasetCall, RehearsalFault> {
     match name {
         "spell" => Ok(DatasetCall::Spell(bytes)),
@@ -99,6 +102,7 @@ fn on_bytes(name: &str, bytes: Vec<u8>) -> Result<DatasetCall, RehearsalFault> {
     }
 }
 
+/// The call that a name and two words name. Fails where they name none.
 fn with_two(alloc: Global, name: &str, first: &str, second: &str) -> Result<Call, RehearsalFault> {
     match name {
         "given" => given(first, second),
@@ -118,6 +122,7 @@ pub fn backlog_of(line: &str) -> Result<usize, RehearsalFault> {
     place(backlog)
 }
 
+/// The call that gives a moment in milliseconds and a random word. Fails where the moment is none.
 fn given(now: &str, word: &str) -> Result<Call, RehearsalFault> {
     match Given::new(number(now)?, number(word)?.unsigned_abs()) {
         Some(given) => Ok(Call::Given(given)),
@@ -125,6 +130,7 @@ fn given(now: &str, word: &str) -> Result<Call, RehearsalFault> {
     }
 }
 
+/// The place of a link that a word spells.
 fn place(word: &str) -> Result<usize, RehearsalFault> {
     Ok(number(word)?.unsigned_abs() as usize)
 }
@@ -137,6 +143,7 @@ fn number(word: &str) -> Result<i64, RehearsalFault> {
     }
 }
 
+/// The bytes that hexadecimal digits spell; a `-` is no byte.
 fn bytes_of(alloc: Global, word: &str) -> Result<Vec<u8>, RehearsalFault> {
     if word == "-" {
         return Ok(Vec::new(alloc));

@@ -39,6 +39,7 @@ fn spell(alloc: Global, text: &[u8], out: &mut Vec<u8>) -> Result<(), RehearsalF
     }
 }
 
+/// Writes the text of an effect.
 fn tell_spelled(
     alloc: Global,
     effect: &Effect<'_>,
@@ -70,6 +71,7 @@ fn apply(
     tell_applied(alloc, held.apply(&effect), out)
 }
 
+/// Writes whether an effect was applied, or why it was refused.
 fn tell_applied(
     alloc: Global,
     applied: Result<(), ApplyFault>,

@@ -46,6 +46,7 @@ impl Host {
         }
     }
 
+    /// The link that was opened at a place. Fails where none was.
     fn link(&self, place: usize) -> Result<LinkId, RehearsalFault> {
         match self.links.as_slice().get(place) {
             Some(link) => Ok(*link),
@@ -53,6 +54,7 @@ impl Host {
         }
     }
 
+    /// Opens a link, and writes that it was opened, or why not.
     fn open(&mut self, alloc: Global, out: &mut Vec<u8>) -> Result<(), RehearsalFault> {
         match self.node.open() {
             Ok(link) => {
@@ -63,6 +65,7 @@ impl Host {
         }
     }
 
+    /// Feeds bytes to a link, and writes that they were fed, or why not.
     fn feed(
         &mut self,
         alloc: Global,
@@ -77,6 +80,7 @@ impl Host {
         }
     }
 
+    /// Makes a step at a link, and writes what it gave out, or why it was refused.
     fn step(
         &mut self,
         alloc: Global,
@@ -93,6 +97,7 @@ impl Host {
         }
     }
 
+    /// Makes a tick, and writes what it gave out, or why it was refused.
     fn tick(
         &mut self,
         alloc: Global,
@@ -105,6 +110,7 @@ impl Host {
         }
     }
 
+    /// Writes the outs, and gives them back.
     fn tell_done(
         &mut self,
         alloc: Global,
@@ -116,6 +122,7 @@ impl Host {
         told
     }
 
+    /// Writes how many bytes may come on a link, or that it is gone.
     fn room(&self, alloc: Global, place: usize, out: &mut Vec<u8>) -> Result<(), RehearsalFault> {
         match self.node.room(self.link(place)?) {
             Some(room) => tell(out, format!(in alloc; "room {room}")?.as_str()),
@@ -123,17 +130,20 @@ impl Host {
         }
     }
 
+    /// Closes a link, and writes so.
     fn close(&mut self, place: usize, out: &mut Vec<u8>) -> Result<(), RehearsalFault> {
         let link = self.link(place)?;
         self.node.close(link);
         tell(out, "closed")
     }
 
+    /// Tells the node that its file failed, and writes that it is stopped.
     fn file_failed(&mut self, out: &mut Vec<u8>) -> Result<(), RehearsalFault> {
         self.node.file_failed();
         tell(out, "stopped")
     }
 
+    /// Writes the id and the offset that the node shows, if it does.
     fn shows(&self, alloc: Global, out: &mut Vec<u8>) -> Result<(), RehearsalFault> {
         match self.node.shows() {
             Some((id, offset)) => tell(out, format!(in alloc; "shows {id} {offset}")?.as_str()),

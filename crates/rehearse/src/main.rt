@@ -69,6 +69,8 @@ fn rehearse(rt: &HostRuntime, script: &str, out: &mut Vec<u8>) -> Result<(), Reh
     play(rt.alloc(), &mut stage, rest, out)
 }
 
+/// Plays the script on standard input, and writes what came of it to standard output. Where it fails nothing is
+/// written.
 fn run(rt: &HostRuntime) -> Result<(), RehearsalFault> {
     let mut script = String::new(rt.alloc());
     rt.stdin().read_to_string(&mut script)?;
@@ -78,6 +80,7 @@ fn run(rt: &HostRuntime) -> Result<(), RehearsalFault> {
     Ok(())
 }
 
+/// Runs the rehearsal. What it fails with is told on standard error.
 fn main(rt: HostRuntime) -> ExitCode {
     match run(&rt) {
         Ok(()) => ExitCode::SUCCESS,

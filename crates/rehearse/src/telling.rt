@@ -6,11 +6,13 @@ use mr_repl::ReplId;
 use std::alloc::Global;
 use std::fmt::Display;
 
+/// Writes a text behind what was written.
 pub fn tell(out: &mut Vec<u8>, text: &str) -> Result<(), RehearsalFault> {
     out.extend_from_slice(text.as_bytes())?;
     Ok(())
 }
 
+/// Writes why a call was refused.
 pub fn tell_refusal<F: Display + Drop>(
     alloc: Global,
     fault: F,
@@ -19,6 +21,7 @@ pub fn tell_refusal<F: Display + Drop>(
     tell(out, format!(in alloc; "refused: {fault}")?.as_str())
 }
 
+/// A space and the bytes.
 pub fn tell_bytes(alloc: Global, bytes: &[u8], out: &mut Vec<u8>) -> Result<(), RehearsalFault> {
     if bytes.is_empty() {
         return tell(out, " -");
@@ -41,6 +44,7 @@ pub fn tell_outs(alloc: Global, outs: &Outs, out: &mut Vec<u8>) -> Result<(), Re
     }
 }
 
+/// The letter of an out.
 fn letter_of(part: Out<'_>) -> u8 {
     match part {
         Out::Grow(_) => b'g',
@@ -54,14 +58,17 @@ fn letter_of(part: Out<'_>) -> u8 {
     }
 }
 
+/// The letter of an out that names a link.
 fn letter_of_link(letter: u8, _: LinkId) -> u8 {
     letter
 }
 
+/// The letter of an out that names an id.
 fn letter_of_id(_: ReplId) -> u8 {
     b'u'
 }
 
+/// The letter of an out that names an address.
 fn letter_of_address(_: &Address) -> u8 {
     b'f'
 }

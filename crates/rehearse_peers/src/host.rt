@@ -64,6 +64,7 @@ impl Host {
         }
     }
 
+    /// The link that was opened at the place that a word spells. Fails where none was.
     fn link(&self, word: &str) -> Result<LinkId, RehearsalFault> {
         match self.links.as_slice().get(place_of(word)?) {
             Some(link) => Ok(*link),
@@ -74,6 +75,7 @@ impl Host {
 
 // Calls that change it.
 impl Host {
+    /// Opens a client's link, and writes its number, or why it was refused.
     fn open(&mut self, out: &mut Vec<u8>) -> Result<(), RehearsalFault> {
         match self.node.open() {
             Ok(link) => self.tell_opened("opened", link, out),
@@ -97,6 +99,8 @@ impl Host {
         Ok(())
     }
 
+    /// Dials the master, and writes the link's number and the outs, or why it was refused, or that the node doesn't
+    /// wait for that.
     fn dial(&mut self, out: &mut Vec<u8>) -> Result<(), RehearsalFault> {
         if !self.node.waits() {
             return tell(out, "no dial");
@@ -117,6 +121,7 @@ impl Host {
         told
     }
 
+    /// Writes that a step is done, and its outs, and gives these back.
     fn tell_done(&mut self, outs: Outs, out: &mut Vec<u8>) -> Result<(), RehearsalFault> {
         match tell(out, "done") {
             Ok(()) => self.tell_given(outs, out),
@@ -124,6 +129,7 @@ impl Host {
         }
     }
 
+    /// Feeds bytes to a link, and writes that they were fed, or why not.
     fn feed(&mut self, line: Line<'_>, out: &mut Vec<u8>) -> Result<(), RehearsalFault> {
         let link = self.link(line.first)?;
         let bytes = bytes_of(self.alloc, line.second)?;
@@ -133,6 +139,7 @@ impl Host {
         }
     }
 
+    /// Makes the step that a line names, and writes what came of it.
     fn step(&mut self, line: Line<'_>, out: &mut Vec<u8>) -> Result<(), RehearsalFault> {
         let link = self.link(line.first)?;
         let given = given_of(line.second, line.third)?;
@@ -140,6 +147,7 @@ impl Host {
         self.make_step(link, given, fresh, out)
     }
 
+    /// Makes a step at a link, and writes what it gave out, or why it was refused.
     fn make_step(
         &mut self,
         link: LinkId,
@@ -155,6 +163,7 @@ impl Host {
         }
     }
 
+    /// Makes a tick, and writes what it gave out, or why it was refused.
     fn tick(&mut self, line: Line<'_>, out: &mut Vec<u8>) -> Result<(), RehearsalFault> {
         let given = given_of(line.first, "0")?;
         match self.node.tick(given) {
@@ -163,12 +172,14 @@ impl Host {
         }
     }
 
+    /// Closes a link, and writes so.
     fn close(&mut self, line: Line<'_>, out: &mut Vec<u8>) -> Result<(), RehearsalFault> {
         let link = self.link(line.first)?;
         self.node.close(link);
         tell(out, "closed")
     }
 
+    /// Tells the node that its file failed, and writes that it is stopped.
     fn file_failed(&mut self, out: &mut Vec<u8>) -> Result<(), RehearsalFault> {
         self.node.file_failed();
         tell(out, "stopped")
@@ -177,6 +188,7 @@ impl Host {
 
 // Calls that change nothing.
 impl Host {
+    /// Writes the id and the offset that the node shows, if it does.
     fn shows(&self, out: &mut Vec<u8>) -> Result<(), RehearsalFault> {
         match self.node.shows() {
             Some((id, offset)) => tell(
@@ -187,6 +199,7 @@ impl Host {
         }
     }
 
+    /// Writes INFO's text, or why it was refused.
     fn info(&self, out: &mut Vec<u8>) -> Result<(), RehearsalFault> {
         match self.node.info() {
             Ok(text) => {
@@ -197,6 +210,7 @@ impl Host {
         }
     }
 
+    /// Writes the node's role and, of a replica, how far it has come with the link to its master.
     fn role(&self, out: &mut Vec<u8>) -> Result<(), RehearsalFault> {
         match self.node.role() {
             Role::Master => tell(out, "master"),
@@ -206,6 +220,7 @@ impl Host {
         }
     }
 
+    /// Writes whether the node is a replica without a link to its master.
     fn waits(&self, out: &mut Vec<u8>) -> Result<(), RehearsalFault> {
         tell(
             out,
@@ -217,11 +232,13 @@ impl Host {
         )
     }
 
+    /// Writes how many bytes may come on a link.
     fn room(&self, line: Line<'_>, out: &mut Vec<u8>) -> Result<(), RehearsalFault> {
         let room = self.node.room(self.link(line.first)?);
         tell_count(self.alloc, "room", room, out)
     }
 
+    /// Writes how many bytes of a link are unread.
     fn unread(&self, line: Line<'_>, out: &mut Vec<u8>) -> Result<(), RehearsalFault> {
         let unread = self.node.unread(self.link(line.first)?);
         tell_count(self.alloc, "unread", unread, out)

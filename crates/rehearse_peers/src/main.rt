@@ -52,6 +52,7 @@ fn run(rt: &HostRuntime) -> Result<(), RehearsalFault> {
     Ok(())
 }
 
+/// Runs the rehearsal. What it fails with is told on standard error.
 fn main(rt: HostRuntime) -> ExitCode {
     match run(&rt) {
         Ok(()) => ExitCode::SUCCESS,

@@ -61,6 +61,8 @@ impl Stage {
         }
     }
 
+    /// A node with this dataset under a number that was given before, in place of that one, or under the next one.
+    /// Fails for a number behind that.
     fn put(
         &mut self,
         number: usize,

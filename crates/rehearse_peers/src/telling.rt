@@ -5,6 +5,7 @@ use mr_outs::{Address, Out, Outs};
 use std::alloc::Global;
 use std::fmt::Display;
 
+/// Writes a text behind what was written.
 pub fn tell(out: &mut Vec<u8>, text: &str) -> Result<(), RehearsalFault> {
     out.extend_from_slice(text.as_bytes())?;
     Ok(())
@@ -28,6 +29,7 @@ pub fn tell_shown<S: Display + Drop>(
     tell(out, format!(in alloc; " {shown}")?.as_str())
 }
 
+/// Writes why a call was refused.
 pub fn tell_refusal<F: Display + Drop>(
     alloc: Global,
     fault: F,
@@ -60,6 +62,7 @@ pub fn tell_outs(alloc: Global, outs: &Outs, out: &mut Vec<u8>) -> Result<(), Re
     Ok(())
 }
 
+/// An out behind a `;`.
 fn tell_out(alloc: Global, part: Out<'_>, out: &mut Vec<u8>) -> Result<(), RehearsalFault> {
     match part {
         Out::Grow(bytes) => tell_named(alloc, ";grow", bytes, out),
@@ -73,6 +76,7 @@ fn tell_out(alloc: Global, part: Out<'_>, out: &mut Vec<u8>) -> Result<(), Rehea
     }
 }
 
+/// The name of an out, and its bytes.
 fn tell_named(
     alloc: Global,
     name: &str,
@@ -94,6 +98,7 @@ fn tell_linked(
     tell_shown(alloc, link.generation, out)
 }
 
+/// What is sent on a link.
 fn tell_sent(
     alloc: Global,
     link: LinkId,
@@ -104,6 +109,7 @@ fn tell_sent(
     tell_bytes(alloc, bytes, out)
 }
 
+/// The address of the one that the node follows.
 fn tell_followed(
     alloc: Global,
     address: &Address,

@@ -24,6 +24,7 @@ impl HeardLink {
         self.link
     }
 
+    /// Whether it has this name.
     fn is(&self, link: LinkId) -> bool {
         match self.link {
             Some(name) => name == link,
@@ -74,6 +75,7 @@ impl HeardLinks {
         }
     }
 
+    /// The links, in the order in which they were asked for.
     pub fn links(&self) -> &[HeardLink] {
         self.links.as_slice()
     }
@@ -97,6 +99,7 @@ impl HeardLinks {
         self.push(connected.ok(), true, peer);
     }
 
+    /// Keeps a link, none where the wire failed in place of it, and whom it was dialled to.
     fn push(&mut self, link: Option<LinkId>, is_dialled: bool, peer: Option<SocketAddrV4>) {
         let pushed = self.links.push(HeardLink {
             link,
@@ -110,10 +113,12 @@ impl HeardLinks {
         }
     }
 
+    /// The place of the link of this name, if it was asked for.
     fn place_of(&self, link: LinkId) -> Option<usize> {
         self.links.iter().position(|heard| heard.is(link))
     }
 
+    /// The link of this name, if it was asked for, to be changed in place.
     fn find(&mut self, link: LinkId) -> Option<&mut HeardLink> {
         let place = self.place_of(link)?;
         self.links.get_mut(place)

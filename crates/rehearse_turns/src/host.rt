@@ -129,6 +129,7 @@ impl Host {
 
 // What it tells.
 impl Host {
+    /// Writes the id and the offset that the node shows, if it does.
     pub fn shows(&self, out: &mut Vec<u8>) -> Result<(), RehearsalFault> {
         match self.node.shows() {
             Some((id, offset)) => tell(
@@ -139,6 +140,7 @@ impl Host {
         }
     }
 
+    /// Writes the node's role and, of a replica, how far it has come with the link to its master.
     pub fn role(&self, out: &mut Vec<u8>) -> Result<(), RehearsalFault> {
         match self.node.role() {
             Role::Master => tell(out, "master"),

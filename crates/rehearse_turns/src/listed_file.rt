@@ -47,11 +47,13 @@ impl ListedFile {
         (file, mode)
     }
 
+    /// The file holds the bytes that a word spells.
     pub fn set_held(&mut self, word: &str) -> Result<(), RehearsalFault> {
         self.held = bytes_of(self.alloc, word)?;
         Ok(())
     }
 
+    /// Each append is synced, or none, as a word says. Fails where it says neither.
     pub fn set_mode(&mut self, word: &str) -> Result<(), RehearsalFault> {
         self.mode = match word {
             "always" => SyncMode::Always,
@@ -61,11 +63,13 @@ impl ListedFile {
         Ok(())
     }
 
+    /// The call fails whose number a word spells.
     pub fn set_fails(&mut self, word: &str) -> Result<(), RehearsalFault> {
         self.fails = count_of(word)?;
         Ok(())
     }
 
+    /// A write appends no more bytes than a word spells.
     pub fn set_most(&mut self, word: &str) -> Result<(), RehearsalFault> {
         self.most = count_of(word)? as usize;
         Ok(())

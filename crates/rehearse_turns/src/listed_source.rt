@@ -47,16 +47,19 @@ impl ListedSource {
         mem::replace(self, fresh)
     }
 
+    /// Lists the moment that a word spells, in milliseconds.
     pub fn list_moment(&mut self, word: &str) -> Result<(), RehearsalFault> {
         self.moments.push_back(count_of(word)?)?;
         Ok(())
     }
 
+    /// Lists the random word that a word spells.
     pub fn list_word(&mut self, word: &str) -> Result<(), RehearsalFault> {
         self.words.push_back(count_of(word)?)?;
         Ok(())
     }
 
+    /// Lists the id that a word spells.
     pub fn list_id(&mut self, word: &str) -> Result<(), RehearsalFault> {
         self.ids.push_back(id_of(word)?)?;
         Ok(())

@@ -39,6 +39,7 @@ impl ListedWire {
         MemWire::new(self.alloc, waits, accepts, connects)
     }
 
+    /// Lists what a wait is to come to. Fails where a word says none of it.
     pub fn list_wait(&mut self, word: &str) -> Result<(), RehearsalFault> {
         let waiting = match word {
             "done" => Waiting::Done,
@@ -49,6 +50,7 @@ impl ListedWire {
         Ok(())
     }
 
+    /// Lists what a read is to come to, of the link that is listed next. Fails where a word says none of it.
     pub fn list_read(&mut self, word: &str) -> Result<(), RehearsalFault> {
         let reading = match word {
             "not-ready" => Reading::NotReady,
@@ -60,6 +62,7 @@ impl ListedWire {
         Ok(())
     }
 
+    /// Lists what a write is to come to, of the link that is listed next. Fails where a word says none of it.
     pub fn list_write(&mut self, word: &str) -> Result<(), RehearsalFault> {
         let writing = match word {
             "all" => Writing::AtMost(usize::MAX),
@@ -71,6 +74,8 @@ impl ListedWire {
         Ok(())
     }
 
+    /// Lists what an accept is to come to: a link has the reads and writes that were listed for it. Fails where a word
+    /// says none of it.
     pub fn list_accept(&mut self, word: &str) -> Result<(), RehearsalFault> {
         match word {
             "link" => {
@@ -84,6 +89,8 @@ impl ListedWire {
         Ok(())
     }
 
+    /// Lists what a connect is to come to: a link has the reads and writes that were listed for it. Fails where a word
+    /// says none of it.
     pub fn list_connect(&mut self, word: &str) -> Result<(), RehearsalFault> {
         match word {
             "link" => {

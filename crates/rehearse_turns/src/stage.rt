@@ -61,6 +61,7 @@ impl Stage {
         Ok(())
     }
 
+    /// Lists a word in the list of this name, or says it of the file. Fails where there is no such list.
     fn list(&mut self, name: &str, word: &str) -> Result<(), RehearsalFault> {
         match name {
             "waits" => self.wire.list_wait(word),

@@ -6,6 +6,7 @@ use mr_loop::Turn;
 use std::alloc::Global;
 use std::fmt::Display;
 
+/// Writes a text behind what was written.
 pub fn tell(out: &mut Vec<u8>, text: &str) -> Result<(), RehearsalFault> {
     out.extend_from_slice(text.as_bytes())?;
     Ok(())
@@ -69,6 +70,7 @@ pub fn tell_link(
     }
 }
 
+/// Whether a link is open, or failed, and what went over it.
 fn tell_state(
     alloc: Global,
     wire: &HeardWire,
@@ -87,6 +89,7 @@ fn tell_state(
     }
 }
 
+/// The state of a link, how many bytes were read, and what was written.
 fn tell_moved(
     alloc: Global,
     state: &str,

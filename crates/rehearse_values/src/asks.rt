@@ -58,6 +58,7 @@ fn tell_group(alloc: Global, step: Step<'_>, out: &mut Vec<u8>) -> Result<(), Re
     }
 }
 
+/// What a command is about, as it is shown.
 fn name_of(group: Group) -> &'static str {
     match group {
         Group::Keys => "keys",
@@ -66,6 +67,7 @@ fn name_of(group: Group) -> &'static str {
     }
 }
 
+/// What is added to a number.
 fn tell_amount(alloc: Global, amount: Amount, out: &mut Vec<u8>) -> Result<(), RehearsalFault> {
     tell(out, "adds")?;
     tell_shown(alloc, amount.number(), out)

@@ -16,10 +16,12 @@ pub struct Stream {
 }
 
 impl Stream {
+    /// No backlog has begun.
     pub fn new() -> Stream {
         Stream { backlog: None }
     }
 
+    /// Begins a backlog of this capacity in bytes, whose next byte follows this offset. Fails outside their limits.
     fn begin(
         &mut self,
         alloc: Global,
@@ -53,6 +55,7 @@ impl Kind for Stream {
     }
 }
 
+/// Makes the call on a backlog that a step names.
 fn on_backlog(
     alloc: Global,
     backlog: &mut Backlog,
@@ -68,6 +71,7 @@ fn on_backlog(
     }
 }
 
+/// Puts bytes behind those of a backlog. Fails outside the limits of offsets and of bytes.
 fn push(
     alloc: Global,
     backlog: &mut Backlog,
@@ -84,6 +88,7 @@ fn push(
     tell(out, "pushed")
 }
 
+/// Drops all bytes of a backlog, which goes on behind this offset. Fails where that is past its limit.
 fn restart(backlog: &mut Backlog, step: Step<'_>, out: &mut Vec<u8>) -> Result<(), RehearsalFault> {
     let offset = count_of(step.first)?;
     if offset > MOST {

@@ -20,6 +20,7 @@ pub struct Node {
 }
 
 impl Node {
+    /// No course has begun, and the dataset is empty.
     pub fn new(alloc: Global, seed: RandomState) -> Node {
         Node {
             seed,
@@ -90,6 +91,8 @@ impl Kind for Node {
     }
 }
 
+/// Gives a replica a link of this name to the master, where it names this port. Fails where the course is a master's,
+/// or the port is none.
 fn dial(
     alloc: Global,
     seed: RandomState,
@@ -106,6 +109,7 @@ fn dial(
     tell(out, "dialled")
 }
 
+/// Feeds bytes that the master sent.
 fn feed(
     alloc: Global,
     course: &mut Course,
@@ -117,6 +121,8 @@ fn feed(
     tell(out, "fed")
 }
 
+/// Puts bytes behind a master's stream. Fails where the course is a replica's, or outside the limits of offsets and of
+/// bytes.
 fn grow(
     alloc: Global,
     course: &mut Course,

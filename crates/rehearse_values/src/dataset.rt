@@ -47,6 +47,7 @@ fn apply_made(
     }
 }
 
+/// Applies the effect that sets a key to a text.
 fn set(
     alloc: Global,
     held: &mut Dataset,
@@ -62,6 +63,7 @@ fn set(
     apply(held, effect, out)
 }
 
+/// Applies the effect that deletes a key.
 fn del(
     alloc: Global,
     held: &mut Dataset,
@@ -75,6 +77,7 @@ fn del(
     apply(held, effect, out)
 }
 
+/// Applies an effect that sets no key.
 fn set_no_texts(
     alloc: Global,
     held: &mut Dataset,
@@ -84,6 +87,7 @@ fn set_no_texts(
     apply(held, Effect::MSet { pairs }, out)
 }
 
+/// Applies an effect that adds no member.
 fn add_no_members(
     alloc: Global,
     held: &mut Dataset,
@@ -96,6 +100,7 @@ fn add_no_members(
     apply(held, effect, out)
 }
 
+/// Applies an effect that puts no item.
 fn push_no_items(
     alloc: Global,
     held: &mut Dataset,
@@ -109,6 +114,7 @@ fn push_no_items(
     apply(held, effect, out)
 }
 
+/// Applies an effect that sets this score.
 fn set_score(
     alloc: Global,
     held: &mut Dataset,
@@ -124,6 +130,7 @@ fn set_score(
     apply(held, effect, out)
 }
 
+/// Applies an effect that writes from this offset on.
 fn set_range(held: &mut Dataset, offset: i64, out: &mut Vec<u8>) -> Result<(), RehearsalFault> {
     let effect = Effect::SetRange {
         key: Word::borrowed(b"k"),
@@ -133,6 +140,7 @@ fn set_range(held: &mut Dataset, offset: i64, out: &mut Vec<u8>) -> Result<(), R
     apply(held, effect, out)
 }
 
+/// Applies an effect that sets the item at this place.
 fn set_item(held: &mut Dataset, place: i64, out: &mut Vec<u8>) -> Result<(), RehearsalFault> {
     let effect = Effect::SetItem {
         key: Word::borrowed(b"l"),
@@ -156,6 +164,7 @@ fn apply(held: &mut Dataset, effect: Effect<'_>, out: &mut Vec<u8>) -> Result<()
     tell_applied(given, out)
 }
 
+/// Whether an effect was applied. Fails where memory ran out.
 fn tell_applied(applied: Result<(), ApplyFault>, out: &mut Vec<u8>) -> Result<(), RehearsalFault> {
     match applied {
         Ok(()) => tell(out, "applied"),

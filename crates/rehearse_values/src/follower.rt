@@ -23,6 +23,7 @@ pub struct Replica {
 }
 
 impl Replica {
+    /// No follower has begun, and the dataset is empty, at offset 0.
     pub fn new(alloc: Global, seed: RandomState) -> Replica {
         Replica {
             seed,
@@ -54,11 +55,13 @@ impl Replica {
         tell_bytes(alloc, Follower::first_line(), out)
     }
 
+    /// The replica stands at this offset.
     fn stand(&mut self, step: Step<'_>, out: &mut Vec<u8>) -> Result<(), RehearsalFault> {
         self.offset = count_of(step.first)?;
         tell(out, "stands")
     }
 
+    /// Feeds bytes that the master sent. Fails where no follower has begun.
     fn feed(
         &mut self,
         alloc: Global,
@@ -142,6 +145,7 @@ impl Replica {
         }
     }
 
+    /// Keeps the offset of the snapshot that is to come, and tells it with its id.
     fn announce(
         &mut self,
         alloc: Global,
@@ -153,12 +157,14 @@ impl Replica {
         tell_place(alloc, "announces", id, offset, out)
     }
 
+    /// The dataset of a snapshot takes the place of the one before, at the offset that was announced.
     fn install(&mut self, held: Dataset, out: &mut Vec<u8>) -> Result<(), RehearsalFault> {
         self.held = held;
         self.offset = self.announced;
         tell(out, "installs")
     }
 
+    /// Goes on behind the text of an effect that was applied, and tells it.
     fn count(
         &mut self,
         alloc: Global,
@@ -206,10 +212,12 @@ impl Kind for Replica {
     }
 }
 
+/// Whether an effect was applied.
 fn is_applied(heard: Heard) -> bool {
     matches!(heard, Heard::Applied)
 }
 
+/// How many effects were applied.
 fn tell_count(alloc: Global, count: u64, out: &mut Vec<u8>) -> Result<(), RehearsalFault> {
     tell(out, "applied")?;
     tell_shown(alloc, count, out)
@@ -227,6 +235,7 @@ pub fn name_of(phase: Phase) -> &'static str {
     }
 }
 
+/// A name, and the bytes that were said.
 fn tell_said(
     alloc: Global,
     name: &str,
@@ -237,6 +246,7 @@ fn tell_said(
     tell_bytes(alloc, said, out)
 }
 
+/// A name, an id and an offset.
 fn tell_place(
     alloc: Global,
     name: &str,

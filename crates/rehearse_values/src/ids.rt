@@ -28,6 +28,7 @@ impl Kind for Ids {
     }
 }
 
+/// The id of twenty bytes, as it is shown. Fails for another number of bytes.
 fn new(alloc: Global, step: Step<'_>, out: &mut Vec<u8>) -> Result<(), RehearsalFault> {
     let bytes = bytes_of(alloc, step.first)?;
     match <[u8; 20]>::try_from(bytes.as_slice()) {
@@ -36,6 +37,7 @@ fn new(alloc: Global, step: Step<'_>, out: &mut Vec<u8>) -> Result<(), Rehearsal
     }
 }
 
+/// The id that forty digits spell, as it is shown, if they spell one.
 fn read(alloc: Global, step: Step<'_>, out: &mut Vec<u8>) -> Result<(), RehearsalFault> {
     match ReplId::read(step.first.as_bytes()) {
         Some(id) => tell_id(alloc, id, out),
@@ -43,6 +45,7 @@ fn read(alloc: Global, step: Step<'_>, out: &mut Vec<u8>) -> Result<(), Rehearsa
     }
 }
 
+/// Whether the id of one number is less than that of another.
 fn order(step: Step<'_>, out: &mut Vec<u8>) -> Result<(), RehearsalFault> {
     let one = ReplId::numbered(count_of(step.first)?);
     let other = ReplId::numbered(count_of(step.second)?);

@@ -19,10 +19,13 @@ pub struct NamedStream {
 }
 
 impl NamedStream {
+    /// No stream has begun.
     pub fn new() -> NamedStream {
         NamedStream { lineage: None }
     }
 
+    /// Begins a stream under this id, with a backlog of this capacity in bytes, whose next byte follows this offset.
+    /// Fails outside their limits.
     fn begin(
         &mut self,
         alloc: Global,
@@ -57,6 +60,7 @@ impl Kind for NamedStream {
     }
 }
 
+/// Makes the call on a stream that a step names.
 fn on_lineage(
     alloc: Global,
     lineage: &mut Lineage,
@@ -84,6 +88,7 @@ fn on_lineage(
     }
 }
 
+/// Puts bytes behind a stream. Fails outside the limits of offsets and of bytes.
 fn grow(
     alloc: Global,
     lineage: &mut Lineage,
@@ -100,6 +105,8 @@ fn grow(
     tell(out, "grown")
 }
 
+/// Another stream takes the place of this one: that under this id, from behind this offset on. Fails where that is past
+/// its limit.
 fn adopt(lineage: &mut Lineage, step: Step<'_>, out: &mut Vec<u8>) -> Result<(), RehearsalFault> {
     let id = id_of(step.first)?;
     let offset = count_of(step.second)?;

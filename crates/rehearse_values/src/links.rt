@@ -22,6 +22,7 @@ impl Kind for Links<u64> {
     }
 }
 
+/// Makes the call on the link of this id that a step names.
 fn on_link(
     alloc: Global,
     links: &mut Links<u64>,
@@ -39,6 +40,7 @@ fn on_link(
     }
 }
 
+/// Opens a link, and tells its id. Fails where as many were opened as may be.
 fn insert(
     alloc: Global,
     links: &mut Links<u64>,
@@ -54,6 +56,7 @@ fn insert(
     tell_id(alloc, id, out)
 }
 
+/// Changes the link of this id in its place, if it is open, and tells whether it is.
 fn set(
     links: &mut Links<u64>,
     id: LinkId,
@@ -69,6 +72,7 @@ fn set(
     }
 }
 
+/// Puts another link in the place of the one of this id, if it is open, and tells the one before.
 fn replace(
     alloc: Global,
     links: &mut Links<u64>,
@@ -82,6 +86,7 @@ fn replace(
     tell_before(alloc, Some(links.replace(id, link)), out)
 }
 
+/// An id: a place, and how many links were opened before.
 fn tell_id(alloc: Global, id: LinkId, out: &mut Vec<u8>) -> Result<(), RehearsalFault> {
     tell_shown(alloc, id.index, out)?;
     tell_shown(alloc, id.generation, out)
@@ -100,6 +105,7 @@ fn tell_links(alloc: Global, links: &Links<u64>, out: &mut Vec<u8>) -> Result<()
     Ok(())
 }
 
+/// The ids of the open links, in order.
 fn tell_ids(alloc: Global, links: &Links<u64>, out: &mut Vec<u8>) -> Result<(), RehearsalFault> {
     tell(out, "ids")?;
     for id in links.ids() {

@@ -23,6 +23,7 @@ impl Kind for ListValue {
     }
 }
 
+/// Puts an item behind the others.
 fn push(
     alloc: Global,
     list: &mut ListValue,
@@ -33,6 +34,7 @@ fn push(
     tell(out, "pushed")
 }
 
+/// Puts an item in front of the first that equals the pivot, and tells whether there is one.
 fn insert_before(
     alloc: Global,
     list: &mut ListValue,
@@ -45,6 +47,7 @@ fn insert_before(
     tell_whether(out, inserted, "inserted", "no pivot")
 }
 
+/// Puts an item behind the first that equals the pivot, and tells whether there is one.
 fn insert_after(
     alloc: Global,
     list: &mut ListValue,
@@ -57,6 +60,7 @@ fn insert_after(
     tell_whether(out, inserted, "inserted", "no pivot")
 }
 
+/// The items, in order.
 fn tell_items(alloc: Global, list: &ListValue, out: &mut Vec<u8>) -> Result<(), RehearsalFault> {
     tell(out, "items")?;
     for item in list.iter() {

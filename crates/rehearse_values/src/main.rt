@@ -100,6 +100,7 @@ fn play_line(
     }
 }
 
+/// Plays steps on a new value of this kind. Fails where there is no such kind.
 fn play_value(
     alloc: Global,
     seed: RandomState,
@@ -119,6 +120,7 @@ fn play_value(
     }
 }
 
+/// Plays steps on a new value of this kind, which needs no seed. Fails where there is no such kind.
 fn play_stateless(
     alloc: Global,
     kind: &str,
@@ -141,6 +143,7 @@ fn play_stateless(
     }
 }
 
+/// Makes the calls of each line, and writes a line on each.
 fn rehearse(rt: &HostRuntime, script: &str, out: &mut Vec<u8>) -> Result<(), RehearsalFault> {
     let seed = RandomState::new(rt)?;
     for line in script.lines() {
@@ -149,6 +152,8 @@ fn rehearse(rt: &HostRuntime, script: &str, out: &mut Vec<u8>) -> Result<(), Reh
     Ok(())
 }
 
+/// Plays the script on standard input, and writes what came of it to standard output. Where it fails nothing is
+/// written.
 fn run(rt: &HostRuntime) -> Result<(), RehearsalFault> {
     let mut script = String::new(rt.alloc());
     rt.stdin().read_to_string(&mut script)?;
@@ -158,6 +163,7 @@ fn run(rt: &HostRuntime) -> Result<(), RehearsalFault> {
     Ok(())
 }
 
+/// Runs the rehearsal. What it fails with is told on standard error.
 fn main(rt: HostRuntime) -> ExitCode {
     match run(&rt) {
         Ok(()) => ExitCode::SUCCESS,

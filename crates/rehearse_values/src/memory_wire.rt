@@ -22,6 +22,7 @@ pub struct MemoryWire {
 }
 
 impl MemoryWire {
+    /// Nothing is listed, and no wire has begun.
     pub fn new(alloc: Global) -> MemoryWire {
         MemoryWire {
             waits: VecDeque::new(alloc),
@@ -33,6 +34,7 @@ impl MemoryWire {
         }
     }
 
+    /// Begins a wire whose calls come to what was listed.
     fn begin(&mut self, alloc: Global, out: &mut Vec<u8>) -> Result<(), RehearsalFault> {
         let waits = mem::replace(&mut self.waits, VecDeque::new(alloc));
         let accepts = mem::replace(&mut self.accepts, VecDeque::new(alloc));
@@ -41,6 +43,7 @@ impl MemoryWire {
         tell(out, "begun")
     }
 
+    /// Lists what a wait is to come to. Fails where a step says none of it.
     fn list_wait(&mut self, step: Step<'_>, out: &mut Vec<u8>) -> Result<(), RehearsalFault> {
         let waiting = match step.first {
             "done" => Waiting::Done,
@@ -51,6 +54,8 @@ impl MemoryWire {
         tell(out, "listed")
     }
 
+    /// Lists what a read is to come to, of the link that is accepted or connected next. Fails where a step says none of
+    /// it.
     fn list_read(
         &mut self,
         alloc: Global,
@@ -67,6 +72,8 @@ impl MemoryWire {
         tell(out, "listed")
     }
 
+    /// Lists what a write is to come to, of the link that is accepted or connected next. Fails where a step says none
+    /// of it.
     fn list_write(&mut self, step: Step<'_>, out: &mut Vec<u8>) -> Result<(), RehearsalFault> {
         let writing = match step.first {
             "not-ready" => Writing::NotReady,
@@ -77,6 +84,8 @@ impl MemoryWire {
         tell(out, "listed")
     }
 
+    /// Lists what an accept is to come to: a link has the reads and writes that were listed for it. Fails where a step
+    /// says none of it.
     fn list_accept(
         &mut self,
         alloc: Global,
@@ -95,6 +104,8 @@ impl MemoryWire {
         tell(out, "listed")
     }
 
+    /// Lists what a connect is to come to: a link has the reads and writes that were listed for it. Fails where a step
+    /// says none of it.
     fn list_connect(
         &mut self,
         alloc: Global,
@@ -142,6 +153,7 @@ impl Kind for MemoryWire {
     }
 }
 
+/// Makes the call on a wire in memory that a step names.
 fn on_memory(
     alloc: Global,
     wire: &mut MemWire,

@@ -50,6 +50,7 @@ fn tell_line(alloc: Global, step: Step<'_>, out: &mut Vec<u8>) -> Result<(), Reh
     }
 }
 
+/// What a line says: a status, a refusal or a length.
 fn tell_said(alloc: Global, line: PeerLine<'_>, out: &mut Vec<u8>) -> Result<(), RehearsalFault> {
     match line {
         PeerLine::Status(text) => tell_text(alloc, " status", text, out),
@@ -61,6 +62,7 @@ fn tell_said(alloc: Global, line: PeerLine<'_>, out: &mut Vec<u8>) -> Result<(),
     }
 }
 
+/// A name, and the bytes of a text.
 fn tell_text(
     alloc: Global,
     name: &str,
@@ -78,6 +80,7 @@ fn tell_answer(alloc: Global, step: Step<'_>, out: &mut Vec<u8>) -> Result<(), R
     tell_reply(alloc, &reply, out)
 }
 
+/// What a master answers to PSYNC, if it is an answer.
 fn tell_reply(
     alloc: Global,
     reply: &Option<PsyncReply>,
@@ -90,11 +93,13 @@ fn tell_reply(
     }
 }
 
+/// The answer that the stream goes on under this id.
 fn tell_continue(alloc: Global, id: ReplId, out: &mut Vec<u8>) -> Result<(), RehearsalFault> {
     tell(out, "continue")?;
     tell_shown(alloc, id, out)
 }
 
+/// The answer that a snapshot comes, of this id at this offset.
 fn tell_full(
     alloc: Global,
     id: ReplId,
@@ -106,6 +111,7 @@ fn tell_full(
     tell_shown(alloc, offset, out)
 }
 
+/// The offset that a text spells, if it does.
 fn tell_offset(alloc: Global, step: Step<'_>, out: &mut Vec<u8>) -> Result<(), RehearsalFault> {
     let text = bytes_of(alloc, step.first)?;
     match read_offset(text.as_slice()) {

@@ -18,6 +18,7 @@ pub struct Requests {
 }
 
 impl Requests {
+    /// Requests within a server's limits.
     pub fn new() -> Requests {
         Requests {
             limits: Limits::usual(),
@@ -51,6 +52,8 @@ impl Kind for Requests {
 }
 
 impl Requests {
+    /// Sets the limits of a word in bytes, of the number of words, and of a request in bytes, and tells whether they
+    /// may be such.
     fn limit(&mut self, step: Step<'_>, out: &mut Vec<u8>) -> Result<(), RehearsalFault> {
         let word = count_of(step.first)? as usize;
         let words = count_of(step.second)? as usize;
@@ -65,6 +68,7 @@ impl Requests {
     }
 }
 
+/// What was found at the front of the bytes.
 fn tell_scan(alloc: Global, scan: Scan<'_>, out: &mut Vec<u8>) -> Result<(), RehearsalFault> {
     match scan {
         Scan::Whole { words: _, used } => tell_used(alloc, used, out),
@@ -74,11 +78,13 @@ fn tell_scan(alloc: Global, scan: Scan<'_>, out: &mut Vec<u8>) -> Result<(), Reh
     }
 }
 
+/// How many bytes a whole request has.
 fn tell_used(alloc: Global, used: usize, out: &mut Vec<u8>) -> Result<(), RehearsalFault> {
     tell(out, "whole")?;
     tell_shown(alloc, used, out)
 }
 
+/// The name of a fault, as it is shown.
 fn name_of(fault: Fault) -> &'static str {
     match fault {
         Fault::MultibulkLength => "no count",
@@ -104,6 +110,7 @@ fn tell_kept(alloc: Global, step: Step<'_>, out: &mut Vec<u8>) -> Result<(), Reh
     Ok(())
 }
 
+/// `b` where a word is borrowed, and `o` where it is owned.
 fn letter_of(word: &CowSlice<'_, u8>) -> u8 {
     match word {
         CowSlice::Borrowed(_) => b'b',
@@ -143,6 +150,7 @@ fn write(alloc: Global, step: Step<'_>, out: &mut Vec<u8>) -> Result<(), Rehears
     tell_bytes(alloc, text.as_slice(), out)
 }
 
+/// Appends a request of two words, part by part.
 fn push_parts(words: [&[u8]; 2], text: &mut Vec<u8>) -> Result<(), RehearsalFault> {
     push_word_count(text, 2)?;
     push_word(text, words[0])?;

@@ -92,6 +92,7 @@ fn tell_following(
     )
 }
 
+/// The text of a reply.
 fn tell_reply(alloc: Global, reply: Reply, out: &mut Vec<u8>) -> Result<(), RehearsalFault> {
     let mut text = Vec::new(alloc);
     write_reply(&reply, &mut text)?;

@@ -16,6 +16,7 @@ pub struct Sockets {
 }
 
 impl Sockets {
+    /// No wire listens.
     pub fn new(rt: HostRuntime) -> Sockets {
         Sockets { rt, wire: None }
     }

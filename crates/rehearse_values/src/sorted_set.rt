@@ -25,6 +25,7 @@ impl Kind for ZSet {
     }
 }
 
+/// Sets the score of a member, and tells the one before. Fails outside the limits of scores.
 fn put(
     alloc: Global,
     set: &mut ZSet,
@@ -39,6 +40,7 @@ fn put(
     tell_before(alloc, set.put(member.as_slice(), score)?, out)
 }
 
+/// The pair that was taken, if one was.
 fn tell_pair(
     alloc: Global,
     taken: Option<(Bytes, i64)>,

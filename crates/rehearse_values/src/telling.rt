@@ -3,6 +3,7 @@ use crate::fault::RehearsalFault;
 use std::alloc::Global;
 use std::fmt::Display;
 
+/// Writes a text behind what was written.
 pub fn tell(out: &mut Vec<u8>, text: &str) -> Result<(), RehearsalFault> {
     out.extend_from_slice(text.as_bytes())?;
     Ok(())

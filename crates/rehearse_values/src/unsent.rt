@@ -37,6 +37,7 @@ impl Kind for Unsent {
     }
 }
 
+/// Puts bytes behind what waits.
 fn push(unsent: &mut Unsent, bytes: &[u8], out: &mut Vec<u8>) -> Result<(), RehearsalFault> {
     unsent.push(bytes)?;
     tell(out, "pushed")
@@ -57,6 +58,7 @@ fn fill(
     push(unsent, zeros.as_slice(), out)
 }
 
+/// So many bytes were sent. Fails where fewer wait.
 fn advance(unsent: &mut Unsent, step: Step<'_>, out: &mut Vec<u8>) -> Result<(), RehearsalFault> {
     let count = count_of(step.first)? as usize;
     if count > unsent.waiting().len() {

@@ -40,6 +40,7 @@ pub fn on_wire<W: Wire>(
     }
 }
 
+/// Waits for so many milliseconds at most, and tells whether that succeeded.
 fn wait<W: Wire>(wire: &mut W, step: Step<'_>, out: &mut Vec<u8>) -> Result<(), RehearsalFault> {
     let millis = count_of(step.first)?;
     match wire.wait(millis) {
@@ -59,12 +60,14 @@ fn wait_for<W: Wire>(wire: &mut W) -> Result<(), Failed> {
     Ok(())
 }
 
+/// Closes a link.
 fn close<W: Wire>(wire: &mut W, step: Step<'_>, out: &mut Vec<u8>) -> Result<(), RehearsalFault> {
     let link = link_of(step)?;
     wire.close(link);
     tell(out, "closed")
 }
 
+/// Opens a link to a host and a port, and tells its name, or that it failed.
 fn connect<W: Wire>(
     alloc: Global,
     wire: &mut W,
@@ -101,6 +104,7 @@ fn name_ready<W: Wire>(wire: &mut W) -> Result<Option<LinkId>, Failed> {
     Ok(None)
 }
 
+/// The name of the link that was accepted, if one was, or that it failed.
 fn tell_accepted(
     alloc: Global,
     accepted: Result<Option<LinkId>, Failed>,
@@ -112,6 +116,7 @@ fn tell_accepted(
     }
 }
 
+/// The name of a link, if there is one.
 fn tell_named(
     alloc: Global,
     named: Option<LinkId>,
@@ -136,6 +141,7 @@ fn buffer_of(alloc: Global, word: &str) -> Result<Vec<u8>, RehearsalFault> {
     Ok(Vec::from_elem(alloc, 0u8, room as usize)?)
 }
 
+/// Reads on a link into a room of this size in bytes, and tells what came.
 fn read<W: Wire>(
     alloc: Global,
     wire: &mut W,
@@ -148,6 +154,7 @@ fn read<W: Wire>(
     tell_read(alloc, moved, buffer.as_slice(), out)
 }
 
+/// Reads on a link, once something is ready for it, into a room of this size in bytes, and tells what came.
 fn read_once_ready<W: Wire>(
     alloc: Global,
     wire: &mut W,
@@ -176,6 +183,7 @@ fn read_ready<W: Wire>(wire: &mut W, link: LinkId, into: &mut [u8]) -> Moved
     Moved::NotReady
 }
 
+/// The bytes that a read moved, or what it came to.
 fn tell_read(
     alloc: Global,
     moved: Moved,
@@ -195,6 +203,7 @@ fn tell_read(
     }
 }
 
+/// Writes bytes to a link once, and tells how many were moved, or what it came to.
 fn write<W: Wire>(
     alloc: Global,
     wire: &mut W,
@@ -214,6 +223,7 @@ fn write<W: Wire>(
     }
 }
 
+/// Writes all of the bytes to a link, and tells whether that took one write or more, or failed.
 fn write_all<W: Wire>(
     alloc: Global,
     wire: &mut W,
