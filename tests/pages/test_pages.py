@@ -1,10 +1,12 @@
-"""The pages: each file that one of them links to or names is there; each edit stands in its crate's table, and each named edit is one; lines of prose are short."""
+"""The pages: each file that one of them links to or names is there; each edit stands in its crate's table, and each named edit is one; lines of prose are short.
+Beside them each function of a crate says what it is for."""
 
 import glob
 import os
 import re
 import unittest
 
+from tests.sources import FUNCTION
 from tests.support.program import ROOT
 
 # how many columns a line of prose has at most
@@ -24,9 +26,16 @@ DOTTED = re.compile(r"\btests((?:\.\w+)+)")
 # a crate whose edits are named behind it, or an edit; a star stands for all that begin so
 EDIT = re.compile(r"`(mr_\w+|minired)`|(?<![\w`./:])([a-z][a-z0-9]*(?:_[a-z0-9]+)*_\*|[a-z][a-z0-9]*(?:_[a-z0-9]+)+)(?![\w*`])")
 
+# what stands right above a function's head: its comments and its attributes
+ABOVE = re.compile(r" *(?://|#\[)")
+# the head of an impl, and in it a trait
+IMPL = re.compile(r"(?:unsafe )?impl\b(.* for )?")
+# crates with functions that say nothing yet
+SILENT = ("mr_carrying", "mr_loop")
+
 
 def found(pattern):
-    return [os.path.relpath(path, ROOT) for path in sorted(glob.glob(os.path.join(ROOT, pattern)))]
+    return [os.path.relpath(path, ROOT) for path in sorted(glob.glob(os.path.join(ROOT, pattern), recursive=True))]
 
 
 def read(page):
@@ -226,6 +235,35 @@ class Edits(unittest.TestCase):
             ("(law)", []),
         ]:
             self.assertEqual(named("a", cell), edits)
+
+
+def undocumented(text):
+    """The functions of a file without `///`. What a trait's impl has needs none, nor does a test."""
+    names, above, is_of_trait = [], [], False
+    for line in text.split("\n"):
+        begins, impl = FUNCTION.match(line), IMPL.match(line)
+        if impl or line == "}":
+            is_of_trait = bool(impl and impl[1])
+        if begins and not is_of_trait and not any(it.startswith(("///", "#[test]")) for it in above):
+            names.append(begins[2])
+        above = [*above, line.lstrip()] if ABOVE.match(line) else []
+    return names
+
+
+class Functions(unittest.TestCase):
+    def test_each_function_says_what_it_is_for(self):
+        paths = [it for it in found("crates/*/src/**/*.rt") if it.split("/")[1] not in SILENT]
+        self.assertEqual([(path, name) for path in paths for name in undocumented(read(path))], [])
+
+    def test_which_functions_need_to(self):
+        for text, names in [
+            ("/// Says it.\n#[inline]\npub fn one() {}\n\nfn two() {}", ["two"]),
+            ("// Says it to nobody.\npub(crate) const fn one() {}", ["one"]),
+            ("trait Named {\n    /// Says it.\n    fn one(&self);\n\n    fn two(&self);\n}", ["two"]),
+            ("impl<T: Drop> Named for &T {\n    fn one() {}\n}\n\nimpl<T: Drop> Of<T> {\n    fn two() {}\n}", ["two"]),
+            ("#[test]\nfn one() {}", []),
+        ]:
+            self.assertEqual(undocumented(text), names)
 
 
 if __name__ == "__main__":

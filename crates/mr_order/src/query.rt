@@ -41,7 +41,7 @@ impl<T: Ord> Query<Vec<T>> for &[T] {
     }
 }
 
-/// How a query's items compare to an item's, one after another.
+/// How a query's items stand to an item's, in order.
 fn compare_slices<'x, T: Ord>(query: &'x [T], item: &'x [T]) -> Ordering
     ensures { result ≡ slice_cmp T.cmp query.now item.now }
 {

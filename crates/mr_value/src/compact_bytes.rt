@@ -106,7 +106,7 @@ impl CompactBytes {
         }
     }
 
-    /// How few bytes compare to these.
+    /// How few bytes stand to these.
     #[inline]
     fn compare_short(&self, short: &ShortKey) -> Ordering
         ensures { result ≡ bytes_cmp short.now self.now }
@@ -118,7 +118,7 @@ impl CompactBytes {
     }
 }
 
-/// How two byte strings compare, byte by byte.
+/// How two byte strings stand to each other, in byte order.
 fn compare_slices<'x>(a: &'x [u8], b: &'x [u8]) -> Ordering
     ensures { result ≡ bytes_cmp a.now b.now }
 {
