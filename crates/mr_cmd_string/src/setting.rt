@@ -157,7 +157,7 @@ pub fn getdel(
     }
 }
 
-/// The text is answered, and the key goes.
+/// The text is answered, and the key goes. Its DEL is put behind the effects that are there.
 fn take(
     alloc: Global,
     key: &Argument<'_>,
@@ -174,7 +174,8 @@ fn take(
     Ok(reply)
 }
 
-/// The key gets the text with its deadline, and this is answered.
+/// The key gets the text with its deadline, unless it has both, and this is answered. The effect is put behind those
+/// that are there.
 fn put(
     alloc: Global,
     key: &Argument<'_>,

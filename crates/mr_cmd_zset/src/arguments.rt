@@ -28,7 +28,8 @@ pub fn zadd<'a, 't>(arguments: Arguments<'a, 't>) -> Reading<'a, 't>
     }
 }
 
-/// `ZADD` with these words behind its key. The first fault is that of the options, then that of the pairs.
+/// `ZADD` with these words behind its key. It is the fault of the options, or else that of the pairs, where they have
+/// one.
 #[tactic(auto, unfolding(crate::specs::Arguments::add_scores))]
 fn add_scores<'a, 't>(key: &'a CowSlice<'t, u8>, words: Arguments<'a, 't>) -> Reading<'a, 't>
     ensures { result ≡ add_scores (cow_slice_items key.now) (map cow_slice_items words.now) }

@@ -310,7 +310,7 @@ fn push_numbered(
     )
 }
 
-/// Appends the text of an effect. An `Err` may leave a beginning of it behind what was there.
+/// Appends the text of an effect. What was there stays in front, also after an `Err`.
 #[tactic(auto, unfolding(crate::specs::Spelling::words))]
 fn push_effect(effect: &Effect<'_>, out: &mut Vec<u8>) -> Result<(), AllocError>
     ensures ok { OnOk result (out.new.items ≡ out.old.items ++ text effect.now) }

@@ -20,7 +20,7 @@ pub(crate) struct KeyHasher {
 }
 
 impl KeyHasher {
-    /// A round of SipHash.
+    /// This hasher after one round of SipHash (its authors' SipRound).
     #[inline]
     #[tactic(auto, unfolding(crate::specs::Hashing::rounded))]
     fn round(self) -> KeyHasher

@@ -218,7 +218,7 @@ impl<T: Ord + Drop> Places<T> {
         Iter::new(self, from, to)
     }
 
-    /// Some items from a place on.
+    /// Some items from a place on, one at least.
     pub(crate) fn run_from(&self, at: usize) -> &[T]
         requires { at < length self.now }
         ensures some { 0 < length result.now }
@@ -230,7 +230,7 @@ impl<T: Ord + Drop> Places<T> {
         }
     }
 
-    /// Some items in front of a place.
+    /// Some items in front of a place, one at least.
     pub(crate) fn run_to(&self, at: usize) -> &[T]
         requires some { 0 < at }
         requires within { at ≤ length self.now }

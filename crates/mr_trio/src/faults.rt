@@ -16,7 +16,7 @@ pub(crate) fn of_loop(fault: LoopFault) -> TrioFault
     }
 }
 
-/// The fault of the three nodes that a client's fault is.
+/// A client's fault as a trio's: its link failed, or there was no memory.
 pub(crate) fn of_client(fault: ClientFault) -> TrioFault
     ensures { result ≡ of_client fault }
 {

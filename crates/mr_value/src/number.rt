@@ -23,7 +23,7 @@ pub fn read_i64(text: &[u8]) -> Option<i64>
     }
 }
 
-/// The number that a text spells after a `-`.
+/// The number that digits spell behind a `-`, if they spell one below 0 that has 64 bits.
 fn read_below_zero(digits: &[u8]) -> Option<i64>
     ensures spelled { IfSome result (λ n. IsTrue (is_i64 n) × (45 ∷ digits.now ≡ signed_decimal n)) }
     ensures other { IfNone result ((n : ℤ) → IsTrue (is_i64 n) → 45 ∷ digits.now ≢ signed_decimal n) }
@@ -31,7 +31,7 @@ fn read_below_zero(digits: &[u8]) -> Option<i64>
     negated(read_digits(digits)?)
 }
 
-/// The number from 0 on that a text spells.
+/// The number from 0 on that a text spells, if it spells one that has 64 bits.
 fn read_natural(text: &[u8]) -> Option<i64>
     ensures spelled { IfSome result (λ n. IsTrue (is_i64 n) × (text.now ≡ signed_decimal n)) }
     ensures other { IfNone result ((n : ℕ) → n < 2 ^ 63 → text.now ≢ decimal n) }
@@ -39,7 +39,7 @@ fn read_natural(text: &[u8]) -> Option<i64>
     i64::try_from(read_digits(text)?).ok()
 }
 
-/// The number of at most 19 digits that a text spells.
+/// The number of at most 19 digits that a text spells, if it spells one: no zero stands in front of others.
 fn read_digits(text: &[u8]) -> Option<u64>
     ensures small { IfSome result (λ n. n < 10 ^ 19) }
     ensures spelled { IfSome result (λ n. text.now ≡ decimal n) }

@@ -131,7 +131,7 @@ impl Name {
         Name::among(Name::of_length(word.len()), word)
     }
 
-    /// The first of these names that the word is.
+    /// The first of these names that the word is, if it is one.
     fn among(names: &[Name], word: &[u8]) -> Option<Name>
         ensures { result ≡ find (is_named (lowered word.now)) names.now }
     {

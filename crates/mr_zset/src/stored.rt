@@ -45,7 +45,7 @@ fn taken(pairs: &mut Ordered<Entry>, pair: Pair<'_>) -> Option<Entry>
     }
 }
 
-/// How many stored pairs are less than one.
+/// How many stored pairs are less than this one. It is compared with at most as many as their number has binary digits.
 pub(crate) fn place_of(pairs: &Ordered<Entry>, pair: Pair<'_>, steps: &mut Steps) -> usize
     ensures count { result ≡ count_by (λ p. pair_lt p (shown pair.entry)) (map stored pairs.now) }
     ensures steps { (digits : ℕ) → length pairs.now < 2 ^ digits → steps.new.count ≤ steps.old.count + digits }
