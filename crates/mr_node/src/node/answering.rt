@@ -171,7 +171,11 @@ impl Node {
         if outs.grown().is_empty() {
             return Ok(());
         }
-        outs.feed(self.state.ends().replicas())
+        let replicas = self.state.ends().replicas();
+        if replicas.is_empty() {
+            return Ok(());
+        }
+        outs.feed(replicas)
     }
 
     /// Applies the effects, puts their texts behind the stream, and sends them to all replicas.

@@ -19,6 +19,8 @@ const BEAT: &[u8] = b"*1\r\n$4\r\nPING\r\n";
 
 impl Node {
     /// Makes a step at the link to the master.
+    // its locals are a thousand bytes, which each step at a client's end would clear
+    #[inline(never)]
     pub(crate) fn follow(&mut self, link: LinkId, outs: &mut Outs) -> Result<Outcome, NodeFault>
         requires up { self.old.core.up ≡ true }
         requires followed { name_of self.old.follow ≡ Some link }

@@ -19,6 +19,8 @@ use std::alloc::AllocError;
 
 impl Node {
     /// Makes a step on a link: uses what stands at the front of what was fed there. `fresh` is the id that a promotion takes.
+    // in the body of a host its outs would be moved field by field
+    #[inline(never)]
     pub fn step(&mut self, link: LinkId, given: Given, fresh: ReplId) -> Result<Step, NodeFault>
         ensures { Steps self.old link given fresh self.new result }
     {
