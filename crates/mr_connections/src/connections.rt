@@ -12,6 +12,9 @@ use mr_links::LinkId;
 use std::alloc::{AllocError, Global};
 use std::marker::Model;
 
+/// So many rounds of writes there are from one connection's rest to the next one's.
+const ROUNDS_APART: u8 = 8;
+
 /// The connections of an event loop, each under the name of its socket.
 #[derive(Drop)]
 pub struct Connections {
@@ -27,6 +30,8 @@ pub struct Connections {
     done: Vec<LinkId>,
     /// In this place who rests next is looked for.
     resting: usize,
+    /// How often it was said that nobody is written to next any more, as a count that begins anew.
+    rounds: u8,
     /// How many connections there are.
     count: usize,
 }
@@ -59,6 +64,7 @@ impl Connections {
             noted: Vec::new(alloc),
             done: Vec::new(alloc),
             resting: 0,
+            rounds: 0,
             count: 0,
         }
     }
@@ -261,13 +267,16 @@ impl Connections {
         self.noted.get(index).copied()
     }
 
-    /// Nobody is written to next any more. One connection after another rests: each time another.
+    /// Nobody is written to next any more. One connection after another rests: each eighth time another.
     pub fn forget_noted(&mut self)
         ensures { self.new ≡ self.old }
     {
         forget_each(&mut self.rows, &self.noted);
         self.noted.clear();
-        self.rest_next();
+        self.rounds = self.rounds.wrapping_add(1);
+        if self.rounds % ROUNDS_APART == 0 {
+            self.rest_next();
+        }
     }
 
     /// The connection in the next place rests, if there is one.
