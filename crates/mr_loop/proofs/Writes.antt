@@ -1,11 +1,10 @@
 -- What is filed and written: the rows of these events, and how the calls that make them go on from one another.
-use Rattle.std.proofs.Common.{◌≡◌, ◌≢◌, ◌<◌, ◌≤◌, ◌+◌, ◌-◌, ◌⊎◌, inl, inr, ℕ, ℤ, zero, suc, List, [], Bool, true, false, cond, length, take, drop, Option, None, Some, MutBor, if◌then◌else◌, arith, refl, sym, ap, subst, ◌∙◌}
+use Rattle.std.proofs.Common.{◌≡◌, ◌≢◌, ◌<◌, ◌≤◌, ◌+◌, ◌-◌, ◌⊎◌, inl, inr, ℕ, ℤ, zero, suc, List, [], Bool, true, cond, length, take, drop, Option, None, Some, MutBor, if◌then◌else◌, arith, refl, sym, ap, subst, ◌∙◌}
 use Rattle.std.specs.Option.{option_map}
 use Rattle.std.proofs.lemmas.List.{length-drop}
-use Rattle.std.specs.FinMap.{get, remove, get-remove}
+use Rattle.std.specs.FinMap.{get}
 use Rattle.mr_links.specs.Links.{Links}
 use Rattle.mr_links.specs.declared.link_id.LinkId.{LinkId}
-use Rattle.mr_links.proofs.LinkRows.{ids_total}
 use Rattle.mr_file.specs.LogFile.{Rose}
 use Rattle.mr_file.specs.declared.sync_mode.SyncMode.{SyncMode}
 use Rattle.mr_rows.specs.State.{NodeState}
@@ -27,7 +26,7 @@ use Rattle.mr_loop.specs.Going.{Goes}
 use Rattle.mr_loop.specs.Quiet.{AllWait}
 use Rattle.mr_loop.proofs.Same.{same_here, same_on}
 use Rattle.mr_loop.proofs.Runs.{still_event, still_here, still_moded, still_on, still_one}
-use Rattle.mr_loop.proofs.Waiting.{itself, none_some, some_is}
+use Rattle.mr_loop.proofs.Waiting.{itself}
 use Rattle.mr_loop.proofs.Touching.{here_put, touched_links}
 
 -- ---- one connection
