@@ -80,7 +80,7 @@ does_first bytes used ws old new within command done = record {
 }
 
 -- the effect whose text begins with a command text has its words
-words_are : (e : Effect) (command : List ℕ) (ws : List Bytes) (x y : List ℕ) → IsGoodEffect e → length command < 2 ^ 64 → IsCommand commands command ws → command ++ x ≡ text e ++ y → words e ≡ ws
+pub words_are : (e : Effect) (command : List ℕ) (ws : List Bytes) (x y : List ℕ) → IsGoodEffect e → length command < 2 ^ 64 → IsCommand commands command ws → command ++ x ≡ text e ++ y → words e ≡ ws
 words_are e command ws x y kept small is q =
     let there = command_text e kept.spelled kept.fits kept.short in
     let same = commands_apart commands command (text e) x y ws there.0 is there.1 q in

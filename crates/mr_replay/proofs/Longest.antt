@@ -21,7 +21,7 @@ some_is x y e = cc
 few : (e : Effect) → IsShort e → length (words e) < 2 ^ 64
 few e s = omega (arith, s, commands-words)
 
-one_effect : (e f : Effect) (x y : List ℕ) → IsGoodEffect e → IsGoodEffect f → text e ++ x ≡ text f ++ y → (e ≡ f) × (x ≡ y)
+pub one_effect : (e f : Effect) (x y : List ℕ) → IsGoodEffect e → IsGoodEffect f → text e ++ x ≡ text f ++ y → (e ≡ f) × (x ≡ y)
 one_effect e f x y g h q = one_text e f x y g.spelled h.spelled g.fits h.fits (few e g.short) (few f h.short) q
 
 -- the first of some effects can be applied, and the others behind it
