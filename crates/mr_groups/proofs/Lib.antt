@@ -1,0 +1,9 @@
+pub mod Framing
+pub mod Apart
+pub mod Openings
+pub mod Sizes
+pub mod Readings
+pub mod Runs
+pub mod Cuts
+pub mod Doing
+pub mod Going

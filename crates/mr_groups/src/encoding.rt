@@ -1,0 +1,47 @@
+// The text of a group.
+ghost use Rattle.std.specs.Prelude.{◌≡◌, ◌++◌, ◌∷◌, [], OnErr, OnOk};
+ghost use Rattle.mr_resp.specs.Appends.{Extends};
+ghost use Rattle.mr_resp.specs.Spelling.{array};
+ghost use Rattle.mr_effect.specs.Spelling.{texts};
+ghost use Rattle.mr_groups.specs.Groups.{IsGroup, group_text, multi, exec};
+
+use mr_data::{Effect, encode, encode_all};
+use mr_resp::push_request;
+use std::alloc::AllocError;
+
+// A request of one word.
+fn push_one(word: &[u8], out: &mut Vec<u8>) -> Result<(), AllocError>
+    ensures ok { OnOk result (out.new.items ≡ out.old.items ++ array (word.now ∷ [])) }
+    ensures kept { Extends out.old.items out.new.items }
+{
+    push_request(&[word], out)
+}
+
+// The texts of effects in a frame.
+#[tactic(auto, using(crate::proofs::Framing::steps), unfolding(crate::specs::Groups::multi, crate::specs::Groups::exec))]
+fn push_framed(effects: &[Effect<'_>], out: &mut Vec<u8>) -> Result<(), AllocError>
+    ensures ok { OnOk result (out.new.items ≡ out.old.items ++ (multi ++ (texts effects.now ++ exec))) }
+    ensures kept { Extends out.old.items out.new.items }
+{
+    push_one(b"MULTI", out)?;
+    encode_all(effects, out)?;
+    push_one(b"EXEC", out)
+}
+
+/// Appends the text of a group. An `Err` changes nothing.
+#[tactic(auto, using(crate::proofs::Framing::take_front))]
+pub fn encode_group(effects: &[Effect<'_>], out: &mut Vec<u8>) -> Result<(), AllocError>
+    requires { IsGroup effects.now }
+    ensures ok { OnOk result (out.new.items ≡ out.old.items ++ group_text effects.now) }
+    ensures err { OnErr result (out.new.items ≡ out.old.items) }
+{
+    if let [effect] = effects {
+        return encode(effect, out);
+    }
+    let start = out.len();
+    let written = push_framed(effects, out);
+    if written.is_err() {
+        out.truncate(start);
+    }
+    written
+}

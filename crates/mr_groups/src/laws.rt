@@ -1,0 +1,40 @@
+//! Laws of the definitions that the contracts cite. The calls do nothing: each promise is a law.
+ghost use Rattle.std.specs.Prelude.{ℕ, ◌≡◌, ◌<◌, ◌++◌, ◌∷◌, [], All, List, length, map};
+ghost use Rattle.mr_effect.specs.Spelling.{texts};
+ghost use Rattle.mr_effect.specs.declared.effect.Effect.{Effect};
+ghost use Rattle.mr_entries.specs.Dataset.{Dataset};
+ghost use Rattle.mr_data.specs.Meaning.{apply_all};
+ghost use Rattle.mr_groups.specs.Groups.{IsGoodGroup, group_text, group_texts};
+ghost use Rattle.mr_groups.specs.Reading.{BeginsWithGroup, IsBad, IsFirstGroup, IsOpen};
+ghost use Rattle.mr_groups.specs.Folding.{LoadsGroups, MakesByGroups, apply_groups};
+
+/// A group's text determines the group and where it ends, so no group's text is a proper beginning of another's. Texts one after
+/// another determine the groups.
+pub fn groups_are_told_apart()
+    ensures one { (es fs : List Effect) (x y : List ℕ) → IsGoodGroup es → IsGoodGroup fs → group_text es ++ x ≡ group_text fs ++ y → (es ≡ fs) × (x ≡ y) }
+    ensures many { (gs hs : List (List Effect)) → All IsGoodGroup gs → All IsGoodGroup hs → group_texts gs ≡ group_texts hs → gs ≡ hs }
+{}
+
+/// Groups of one effect each have the texts of the effects, and do what these do: without larger groups a stream is what it was.
+pub fn single_effects_are_groups()
+    ensures texts { (es : List Effect) → group_texts (map (λ e. e ∷ []) es) ≡ texts es }
+    ensures applied { (es : List Effect) (m : Dataset) → apply_groups (map (λ e. e ∷ []) es) m ≡ apply_all es m }
+{}
+
+/// Nothing is done of a group whose text isn't whole: no group's text begins it, and behind groups that can be done a file is read
+/// up to it.
+pub fn torn_groups_do_nothing()
+    ensures none { (es : List Effect) (front more : List ℕ) → IsGoodGroup es → front ++ more ≡ group_text es → 0 < length more → BeginsWithGroup front → ⊥ }
+    ensures loaded { (bytes : List ℕ) (m : Dataset) (es : List Effect) (front more : List ℕ) → MakesByGroups bytes m → IsGoodGroup es
+        → front ++ more ≡ group_text es → 0 < length more → LoadsGroups (bytes ++ front) (length bytes) m }
+{}
+
+/// What stands at the front of bytes is one thing: one group, a beginning of one, or nothing that a group's text can come of,
+/// however the bytes go on.
+pub fn answer_is_one()
+    ensures whole { (bytes : List ℕ) (es fs : List Effect) (n k : ℕ) → IsFirstGroup bytes es n → IsFirstGroup bytes fs k → (es ≡ fs) × (n ≡ k) }
+    ensures not_open { (bytes : List ℕ) (es : List Effect) (n : ℕ) → IsFirstGroup bytes es n → IsOpen bytes → ⊥ }
+    ensures not_bad { (bytes : List ℕ) (es : List Effect) (n : ℕ) → IsFirstGroup bytes es n → IsBad bytes → ⊥ }
+    ensures open_or_bad { (bytes : List ℕ) → IsOpen bytes → IsBad bytes → ⊥ }
+    ensures for_good { (bytes more : List ℕ) → IsBad bytes → BeginsWithGroup (bytes ++ more) → ⊥ }
+{}

@@ -1,0 +1,19 @@
+//! Groups of effects: all of one or nothing, in a stream, in a file and on a dataset.
+#![tactic(auto)]
+
+mod applying;
+mod encoding;
+mod laws;
+mod loading;
+mod owning;
+mod part;
+mod reading;
+
+pub use applying::{GroupFault, apply_group, apply_group_owned};
+pub use encoding::encode_group;
+pub use laws::{
+    answer_is_one, groups_are_told_apart, single_effects_are_groups, torn_groups_do_nothing,
+};
+pub use loading::load_groups;
+pub use mr_replay::Loaded;
+pub use reading::{Next, next_group};
