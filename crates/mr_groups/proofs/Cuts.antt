@@ -127,3 +127,7 @@ bad_for_good bytes more b g = by_order (compare b.front (parts g.group) (b.rest 
     by_order (inr e) = is_there (e.next ++ (concat e.more ++ b.rest))
         (b.cut.is ∙ (ap (λ (ts : List (List ℕ)). concat ts ++ b.rest) e.is ∙ (ap (λ (t : List ℕ). t ++ b.rest) (concat-append (parts g.group) (e.next ∷ e.more))
         ∙ (append_assoc (concat (parts g.group)) (concat (e.next ∷ e.more)) b.rest ∙ ap (λ (t : List ℕ). concat (parts g.group) ++ t) (append_assoc e.next (concat e.more) b.rest)))))
+
+-- a beginning of a group's text isn't bad
+pub begun_is_not_bad : (es : List Effect) (front more : List ℕ) → IsGoodGroup es → front ++ more ≡ group_text es → IsBad front → ⊥
+begun_is_not_bad es front more good is b = bad_for_good front more b (record { group = es; good = good; behind = []; is = is ∙ sym (append-nil (group_text es)) })

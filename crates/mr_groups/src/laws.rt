@@ -21,10 +21,11 @@ pub fn single_effects_are_groups()
     ensures applied { (es : List Effect) (m : Dataset) → apply_groups (map (λ e. e ∷ []) es) m ≡ apply_all es m }
 {}
 
-/// Nothing is done of a group whose text isn't whole: no group's text begins it, and behind groups that can be done a file is read
-/// up to it.
+/// Nothing is done of a group whose text isn't whole: no group's text begins it, it isn't bad, and behind groups that can be done
+/// a file is read up to it.
 pub fn torn_groups_do_nothing()
     ensures none { (es : List Effect) (front more : List ℕ) → IsGoodGroup es → front ++ more ≡ group_text es → 0 < length more → BeginsWithGroup front → ⊥ }
+    ensures not_bad { (es : List Effect) (front more : List ℕ) → IsGoodGroup es → front ++ more ≡ group_text es → IsBad front → ⊥ }
     ensures loaded { (bytes : List ℕ) (m : Dataset) (es : List Effect) (front more : List ℕ) → MakesByGroups bytes m → IsGoodGroup es
         → front ++ more ≡ group_text es → 0 < length more → LoadsGroups (bytes ++ front) (length bytes) m }
 {}
