@@ -21,6 +21,7 @@
 //! | `ask` | `name WORD`: `name NAME` or `no name`; `group BYTES`: what the request is about, or `no command`; `one`, `minus-one`, `number NUMBER`, `opposite NUMBER`: `adds NUMBER` |
 //! | `part` | `words WORD`, `pairs NAME VALUE`, `scores MEMBER SCORE`: `list LENGTH fits LENGTH`, with `within` or `past` the limits of scores; `name WORD`: `name TEXT` or `no name` |
 //! | `dataset` | `set KEY VALUE`, `del KEY`, `no-texts`, `no-members`, `no-items`, `score SCORE`, `offset OFFSET`, `place PLACE`: whether the effect's words are within the limit (`fits`, `too long`), whether it has a spelling (`spelled`, `unspelled`), and `applied` or `refused`, by reference and then moved in; `nothing`: `applied`; `at KEY`: `entry value DEADLINE`, each with `no` before it where there is none; `keys`: `keys COUNT KEY ..`; `given NOW WORD`: `given NOW WORD` or `no moment` |
+//! | `group` | `read BYTES`: `whole COUNT USED`, `more` or `bad`, of the group at the front; `write BYTES`: `text BYTES`, that of the group at the front; `apply BYTES`, and `move BYTES` by value: `applied`, `refused` or `torn`; `shows`: `commands BYTES`, which make the dataset; `load BYTES`: `loads USED commands BYTES` |
 //! | `unsent` | `push BYTES`, `fill COUNT` of so many zeros: `pushed`; `advance COUNT`: `advanced`; `clear`: `cleared`; `waiting`: `waiting BYTES`; `shows`: `shows LENGTH`, with `too much` behind it where a client may not leave so much unread |
 //! | `source` | `now`, `word`: `now MILLIS`, `word NUMBER`; `id`: as of `id` |
 //! | `memory` | before `begin`, which answers `begun`, what the calls are to come to, each `listed`: `waits done`, `waits failed`; `reads BYTES`, `reads not-ready`, `reads end`, `reads failed` and `writes COUNT`, `writes not-ready`, `writes failed` of the next link; `accepts link`, `accepts not-ready`, `accepts failed`, `connects link`, `connects failed`. Then `written LINK`: `written BYTES` or `none`; `asked LINK`: `asked ADDRESS PORT` or `none`; and as of `sockets` |
@@ -37,6 +38,7 @@ mod course;
 mod dataset;
 mod fault;
 mod follower;
+mod groups;
 mod ids;
 mod kind;
 mod lineage;
@@ -62,6 +64,7 @@ use backlog::Stream;
 use course::Node;
 use fault::RehearsalFault;
 use follower::Replica;
+use groups::Groups;
 use ids::Ids;
 use kind::play;
 use lineage::NamedStream;
@@ -113,6 +116,7 @@ fn play_value(
         "sorted" => play(alloc, ZSet::new(alloc), steps, out),
         "keyed" => play(alloc, KeyedMap::<u64>::new(alloc, seed), steps, out),
         "dataset" => play(alloc, Dataset::new(alloc, seed), steps, out),
+        "group" => play(alloc, Groups::new(alloc, seed), steps, out),
         "follower" => play(alloc, Replica::new(alloc, seed), steps, out),
         "course" => play(alloc, Node::new(alloc, seed), steps, out),
         "slices" => play(alloc, SliceMap::<'static, u64>::new(alloc), steps, out),
