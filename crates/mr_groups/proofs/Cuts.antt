@@ -10,14 +10,14 @@ use Rattle.mr_effect.specs.declared.effect.Effect.{Effect}
 use Rattle.mr_groups.specs.Groups.{IsGoodGroup, multi, exec, group_text, parts}
 use Rattle.mr_groups.specs.Reading.{IsFirstGroup, BeginsWithGroup, BeginGroup, IsOpen, IsBad}
 use Rattle.mr_groups.proofs.Apart.{one_group}
-use Rattle.mr_groups.proofs.Openings.{IsCommand, same_text, no_command, no_doomed, multi_text, exec_text, concat_texts, all_commands}
+use Rattle.mr_groups.proofs.Openings.{IsWhole, same_text, no_command, no_doomed, multi_text, exec_text, concat_texts, all_commands}
 
 -- the second texts are the first ones and more, and the first rest has these more in front of the second
 record GoesOn (ts us : List (List ℕ)) (x y : List ℕ) : Type 0 where
   pub more : List (List ℕ)
   pub is : us ≡ ts ++ more
   pub rest : x ≡ concat more ++ y
-  pub each : All IsCommand more
+  pub each : All IsWhole more
 
 -- .. or the other way round, by one text at least
 record EndsBefore (ts us : List (List ℕ)) (x y : List ℕ) : Type 0 where
@@ -25,16 +25,16 @@ record EndsBefore (ts us : List (List ℕ)) (x y : List ℕ) : Type 0 where
   pub more : List (List ℕ)
   pub is : ts ≡ us ++ (next ∷ more)
   pub rest : next ++ (concat more ++ x) ≡ y
-  pub command : IsCommand next
+  pub command : IsWhole next
 
-compare : (ts us : List (List ℕ)) (x y : List ℕ) → All IsCommand ts → All IsCommand us → concat ts ++ x ≡ concat us ++ y → GoesOn ts us x y ⊎ EndsBefore ts us x y
+compare : (ts us : List (List ℕ)) (x y : List ℕ) → All IsWhole ts → All IsWhole us → concat ts ++ x ≡ concat us ++ y → GoesOn ts us x y ⊎ EndsBefore ts us x y
 compare [] us x y c d q = inl (record { more = us; is = refl; rest = q; each = d })
-compare (t ∷ ts) [] x y c d q = inr (record { next = t; more = ts; is = refl; rest = sym (append_assoc t (concat ts) x) ∙ q; command = All-head IsCommand t ts c })
+compare (t ∷ ts) [] x y c d q = inr (record { next = t; more = ts; is = refl; rest = sym (append_assoc t (concat ts) x) ∙ q; command = All-head IsWhole t ts c })
 compare (t ∷ ts) (u ∷ us) x y c d q =
     let split : t ++ (concat ts ++ x) ≡ u ++ (concat us ++ y) = sym (append_assoc t (concat ts) x) ∙ (q ∙ append_assoc u (concat us) y) in
-    let same = same_text t u (concat ts ++ x) (concat us ++ y) (All-head IsCommand t ts c) (All-head IsCommand u us d) split in
+    let same = same_text t u (concat ts ++ x) (concat us ++ y) (All-head IsWhole t ts c) (All-head IsWhole u us d) split in
     let behind = append_cancel_left t (concat ts ++ x) (concat us ++ y) (split ∙ ap (λ (z : List ℕ). z ++ (concat us ++ y)) (sym same)) in
-    longer t u ts us x y same (compare ts us x y (All-tail IsCommand t ts c) (All-tail IsCommand u us d) behind)
+    longer t u ts us x y same (compare ts us x y (All-tail IsWhole t ts c) (All-tail IsWhole u us d) behind)
   where
     both_heads : (a b : List ℕ) (xs ys : List (List ℕ)) → a ≡ b → xs ≡ ys → a ∷ xs ≡ b ∷ ys
     both_heads a b xs ys p r = cc
@@ -53,10 +53,10 @@ joined [] = joined_inside []
 joined (e ∷ []) = append-nil (text e)
 joined (e ∷ f ∷ es) = joined_inside (e ∷ f ∷ es)
 
-framed_commands : (es : List Effect) → IsGoodGroup es → All IsCommand (multi ∷ (map text es ++ exec ∷ []))
-framed_commands es g = All-cons IsCommand multi (map text es ++ exec ∷ []) multi_text (All-append IsCommand (map text es) (exec ∷ []) (all_commands es g.good) (All-cons IsCommand exec [] exec_text (All-nil IsCommand)))
+framed_commands : (es : List Effect) → IsGoodGroup es → All IsWhole (multi ∷ (map text es ++ exec ∷ []))
+framed_commands es g = All-cons IsWhole multi (map text es ++ exec ∷ []) multi_text (All-append IsWhole (map text es) (exec ∷ []) (all_commands es g.good) (All-cons IsWhole exec [] exec_text (All-nil IsWhole)))
 
-each_command : (es : List Effect) → IsGoodGroup es → All IsCommand (parts es)
+each_command : (es : List Effect) → IsGoodGroup es → All IsWhole (parts es)
 each_command [] g = framed_commands [] g
 each_command (e ∷ []) g = all_commands (e ∷ []) g.good
 each_command (e ∷ f ∷ es) g = framed_commands (e ∷ f ∷ es) g
@@ -75,17 +75,17 @@ one_whole_group bytes es fs n k w v =
     let wide : length (group_text fs) ≡ k = ap length (sym v.is_text) ∙ length-take-le k bytes v.within in
     (same, sym long ∙ (ap (λ gs. length (group_text gs)) same ∙ wide))
 
-open_end_is_not_doomed : (rest : List ℕ) → Continues IsCommand rest → IsDoomed IsCommand rest → ⊥
+open_end_is_not_doomed : (rest : List ℕ) → Continues IsWhole rest → IsDoomed IsWhole rest → ⊥
 open_end_is_not_doomed rest begun doomed = doomed.never begun.more (rest ++ begun.more) [] begun.whole (sym (append-nil (rest ++ begun.more)))
 
 pub open_is_not_bad : (bytes : List ℕ) → IsOpen bytes → IsBad bytes → ⊥
 open_is_not_bad bytes o b = by_order (compare o.front b.front o.rest b.rest o.cut.each b.cut.each (sym o.cut.is ∙ b.cut.is))
   where
-    goes_on : (more : List (List ℕ)) → b.front ≡ o.front ++ more → o.rest ≡ concat more ++ b.rest → All IsCommand more → ⊥
-    goes_on (v ∷ vs) is rest each = no_command v (concat vs ++ b.rest) o.rest (All-head IsCommand v vs each) o.open_end (rest ∙ append_assoc v (concat vs) b.rest)
+    goes_on : (more : List (List ℕ)) → b.front ≡ o.front ++ more → o.rest ≡ concat more ++ b.rest → All IsWhole more → ⊥
+    goes_on (v ∷ vs) is rest each = no_command v (concat vs ++ b.rest) o.rest (All-head IsWhole v vs each) o.open_end (rest ∙ append_assoc v (concat vs) b.rest)
     goes_on [] is rest each = elim b.bad [
       | inl none ↦ none (subst BeginGroup (sym (is ∙ append-nil o.front)) o.begin)
-      | inr doomed ↦ open_end_is_not_doomed b.rest (subst (Continues IsCommand) rest o.open_end) doomed
+      | inr doomed ↦ open_end_is_not_doomed b.rest (subst (Continues IsWhole) rest o.open_end) doomed
     ]
 
     ends_before : EndsBefore o.front b.front o.rest b.rest → ⊥
@@ -112,15 +112,15 @@ bad_for_good bytes more b g = by_order (compare b.front (parts g.group) (b.rest 
     is_there : (behind : List ℕ) → bytes ≡ concat (parts g.group) ++ behind → ⊥
     is_there behind is = b.none (record { group = g.group; good = g.good; behind = behind; is = is ∙ ap (λ (t : List ℕ). t ++ behind) (joined g.group) })
 
-    goes_on : (vs : List (List ℕ)) → parts g.group ≡ b.front ++ vs → b.rest ++ more ≡ concat vs ++ g.behind → All IsCommand vs → ⊥
+    goes_on : (vs : List (List ℕ)) → parts g.group ≡ b.front ++ vs → b.rest ++ more ≡ concat vs ++ g.behind → All IsWhole vs → ⊥
     goes_on vs is rest each = elim b.bad [
       | inl none ↦ none (record { group = g.group; good = g.good; more = vs; is = is })
       | inr doomed ↦ by_more vs is rest each doomed
     ]
       where
-        by_more : (ws : List (List ℕ)) → parts g.group ≡ b.front ++ ws → b.rest ++ more ≡ concat ws ++ g.behind → All IsCommand ws → IsDoomed IsCommand b.rest → ⊥
+        by_more : (ws : List (List ℕ)) → parts g.group ≡ b.front ++ ws → b.rest ++ more ≡ concat ws ++ g.behind → All IsWhole ws → IsDoomed IsWhole b.rest → ⊥
         by_more [] same left all doomed = is_there b.rest (b.cut.is ∙ ap (λ (ts : List (List ℕ)). concat ts ++ b.rest) (sym (same ∙ append-nil b.front)))
-        by_more (v ∷ ws) same left all doomed = doomed.never more v (concat ws ++ g.behind) (All-head IsCommand v ws all) (left ∙ append_assoc v (concat ws) g.behind)
+        by_more (v ∷ ws) same left all doomed = doomed.never more v (concat ws ++ g.behind) (All-head IsWhole v ws all) (left ∙ append_assoc v (concat ws) g.behind)
 
     by_order : GoesOn b.front (parts g.group) (b.rest ++ more) g.behind ⊎ EndsBefore b.front (parts g.group) (b.rest ++ more) g.behind → ⊥
     by_order (inl o) = goes_on o.more o.is o.rest o.each

@@ -18,8 +18,9 @@ use Rattle.mr_groups.specs.Parts.{HasOther, multi_words, exec_words}
 use Rattle.mr_groups.specs.Reading.{BeginsWithGroup, IsCut, BeginGroup, IsOpen, IsBad}
 use Rattle.mr_groups.proofs.Apart.{first, second, heads, tails, no_empty, multi_command, exec_command, effect_command, no_multi, no_exec, multi_no_exec, regroup}
 
-abbrev pub IsCommand : List ℕ → Type 0
-IsCommand t = IsCommandText commands t
+-- a whole command text
+abbrev pub IsWhole : List ℕ → Type 0
+IsWhole t = IsCommandText commands t
 
 -- ---- what a part of a group's text isn't
 
@@ -37,7 +38,7 @@ pub record FitsNowhere (count : ℕ) (t : List ℕ) : Type 0 where
   pub no_effect : (f : Effect) → IsGoodEffect f → IsTrue (can_join f) → t ≡ text f → ⊥
   pub no_end : 2 ≤ count → t ≡ exec → ⊥
 
-pub same_text : (a b x y : List ℕ) → IsCommand a → IsCommand b → a ++ x ≡ b ++ y → a ≡ b
+pub same_text : (a b x y : List ℕ) → IsWhole a → IsWhole b → a ++ x ≡ b ++ y → a ≡ b
 same_text a b x y c d q = (commands_apart commands a b x y c.0 d.0 c.1 d.1 q).0
 
 pub exec_text : IsCommandText commands exec
@@ -47,25 +48,25 @@ pub multi_text : IsCommandText commands multi
 multi_text = (multi_words, multi_command)
 
 -- a command text that fits nowhere, at the front
-pub stuck_behind : (count : ℕ) (t behind rest : List ℕ) → IsCommand t → rest ≡ t ++ behind → FitsNowhere count t → IsStuckInside count rest
+pub stuck_behind : (count : ℕ) (t behind rest : List ℕ) → IsWhole t → rest ≡ t ++ behind → FitsNowhere count t → IsStuckInside count rest
 stuck_behind count t behind rest command is fits = record {
   no_effect = λ f z good joins q. fits.no_effect f good joins (same_text t (text f) behind z command (effect_command f good) (sym is ∙ q));
   no_end = λ z some q. fits.no_end some (same_text t exec behind z command exec_text (sym is ∙ q));
 }
 
-pub no_command : (t z rest : List ℕ) → IsCommand t → Continues IsCommand rest → rest ≡ t ++ z → ⊥
-no_command t z rest command begun q = command_wants_no_more commands t z command (subst (Continues IsCommand) q begun)
+pub no_command : (t z rest : List ℕ) → IsWhole t → Continues IsWhole rest → rest ≡ t ++ z → ⊥
+no_command t z rest command begun q = command_wants_no_more commands t z command (subst (Continues IsWhole) q begun)
 
-pub no_doomed : (t z rest : List ℕ) → IsCommand t → IsDoomed IsCommand rest → rest ≡ t ++ z → ⊥
+pub no_doomed : (t z rest : List ℕ) → IsWhole t → IsDoomed IsWhole rest → rest ≡ t ++ z → ⊥
 no_doomed t z rest command doomed q = doomed.never [] t z command (append-nil rest ∙ q)
 
-pub stuck_open : (count : ℕ) (rest : List ℕ) → Continues IsCommand rest → IsStuckInside count rest
+pub stuck_open : (count : ℕ) (rest : List ℕ) → Continues IsWhole rest → IsStuckInside count rest
 stuck_open count rest begun = record {
   no_effect = λ f z good joins q. no_command (text f) z rest (effect_command f good) begun q;
   no_end = λ z some q. no_command exec z rest exec_text begun q;
 }
 
-pub stuck_doomed : (count : ℕ) (rest : List ℕ) → IsDoomed IsCommand rest → IsStuckInside count rest
+pub stuck_doomed : (count : ℕ) (rest : List ℕ) → IsDoomed IsWhole rest → IsStuckInside count rest
 stuck_doomed count rest doomed = record {
   no_effect = λ f z good joins q. no_doomed (text f) z rest (effect_command f good) doomed q;
   no_end = λ z some q. no_doomed exec z rest exec_text doomed q;
@@ -133,21 +134,21 @@ pub concat_texts : (es : List Effect) → concat (map text es) ≡ texts es
 concat_texts [] = refl
 concat_texts (e ∷ es) = ap (λ (t : List ℕ). text e ++ t) (concat_texts es)
 
-pub all_commands : (es : List Effect) → All IsGoodEffect es → All IsCommand (map text es)
-all_commands [] g = All-nil IsCommand
-all_commands (e ∷ es) g = All-cons IsCommand (text e) (map text es) (effect_command e (All-head IsGoodEffect e es g)) (all_commands es (All-tail IsGoodEffect e es g))
+pub all_commands : (es : List Effect) → All IsGoodEffect es → All IsWhole (map text es)
+all_commands [] g = All-nil IsWhole
+all_commands (e ∷ es) g = All-cons IsWhole (text e) (map text es) (effect_command e (All-head IsGoodEffect e es g)) (all_commands es (All-tail IsGoodEffect e es g))
 
 pub cut_inside : (bytes : List ℕ) (es : List Effect) (rest : List ℕ) → IsInside bytes es rest → IsCut bytes (multi ∷ map text es) rest
 cut_inside bytes es rest in_frame = record {
   is = in_frame.is ∙ (ap (λ (t : List ℕ). multi ++ (t ++ rest)) (sym (concat_texts es)) ∙ sym (append_assoc multi (concat (map text es)) rest));
-  each = All-cons IsCommand multi (map text es) multi_text (all_commands es in_frame.good);
+  each = All-cons IsWhole multi (map text es) multi_text (all_commands es in_frame.good);
 }
 
-pub cut_further : (bytes : List ℕ) (ts : List (List ℕ)) (t behind rest : List ℕ) → IsCut bytes ts rest → IsCommand t → rest ≡ t ++ behind → IsCut bytes (ts ++ t ∷ []) behind
+pub cut_further : (bytes : List ℕ) (ts : List (List ℕ)) (t behind rest : List ℕ) → IsCut bytes ts rest → IsWhole t → rest ≡ t ++ behind → IsCut bytes (ts ++ t ∷ []) behind
 cut_further bytes ts t behind rest cut command is = record {
   is = cut.is ∙ (ap (λ (x : List ℕ). concat ts ++ x) is ∙ (sym (append_assoc (concat ts) t behind)
       ∙ ap (λ (x : List ℕ). x ++ behind) (ap (λ (x : List ℕ). concat ts ++ x) (sym (append-nil t)) ∙ sym (concat-append ts (t ∷ [])))));
-  each = All-append IsCommand ts (t ∷ []) cut.each (All-cons IsCommand t [] command (All-nil IsCommand));
+  each = All-append IsWhole ts (t ∷ []) cut.each (All-cons IsWhole t [] command (All-nil IsWhole));
 }
 
 -- ---- two effects more, and a frame's end, make a whole group of effects inside a frame
@@ -215,7 +216,7 @@ no_begin es t good fits b = by_group b.group b.more b.good b.is
 
 -- ---- what is answered inside a frame
 
-pub bad_inside : (bytes : List ℕ) (es : List Effect) (rest t behind : List ℕ) → IsInside bytes es rest → IsCommand t → rest ≡ t ++ behind → FitsNowhere (length es) t → IsBad bytes
+pub bad_inside : (bytes : List ℕ) (es : List Effect) (rest t behind : List ℕ) → IsInside bytes es rest → IsWhole t → rest ≡ t ++ behind → FitsNowhere (length es) t → IsBad bytes
 bad_inside bytes es rest t behind inside command is fits = record {
   none = none_begins bytes es rest inside (stuck_behind (length es) t behind rest command is fits);
   front = (multi ∷ map text es) ++ t ∷ [];
@@ -224,7 +225,7 @@ bad_inside bytes es rest t behind inside command is fits = record {
   bad = inl (no_begin es t inside.good fits);
 }
 
-pub doomed_inside : (bytes : List ℕ) (es : List Effect) (rest : List ℕ) → IsInside bytes es rest → IsDoomed IsCommand rest → IsBad bytes
+pub doomed_inside : (bytes : List ℕ) (es : List Effect) (rest : List ℕ) → IsInside bytes es rest → IsDoomed IsWhole rest → IsBad bytes
 doomed_inside bytes es rest inside doomed = record {
   none = none_begins bytes es rest inside (stuck_doomed (length es) rest doomed);
   front = multi ∷ map text es;
@@ -233,7 +234,7 @@ doomed_inside bytes es rest inside doomed = record {
   bad = inr doomed;
 }
 
-pub open_inside : (bytes : List ℕ) (es : List Effect) (rest : List ℕ) → IsInside bytes es rest → Continues IsCommand rest → IsOpen bytes
+pub open_inside : (bytes : List ℕ) (es : List Effect) (rest : List ℕ) → IsInside bytes es rest → Continues IsWhole rest → IsOpen bytes
 open_inside bytes es rest inside begun = record {
   none = none_begins bytes es rest inside (stuck_open (length es) rest begun);
   front = multi ∷ map text es;
@@ -245,18 +246,18 @@ open_inside bytes es rest inside begun = record {
 
 -- ---- what is answered at the start
 
-first_command : (bytes : List ℕ) → BeginsWithGroup bytes → (t : List ℕ) × (z : List ℕ) × IsCommand t × (bytes ≡ t ++ z)
+first_command : (bytes : List ℕ) → BeginsWithGroup bytes → (t : List ℕ) × (z : List ℕ) × IsWhole t × (bytes ≡ t ++ z)
 first_command bytes b = by_group b.group b.behind b.good b.is
   where
-    by_group : (fs : List Effect) (y : List ℕ) → IsGoodGroup fs → bytes ≡ group_text fs ++ y → (t : List ℕ) × (z : List ℕ) × IsCommand t × (bytes ≡ t ++ z)
+    by_group : (fs : List Effect) (y : List ℕ) → IsGoodGroup fs → bytes ≡ group_text fs ++ y → (t : List ℕ) × (z : List ℕ) × IsWhole t × (bytes ≡ t ++ z)
     by_group [] y k q = no_empty k.group
     by_group (f ∷ []) y k q = (text f, y, effect_command f (All-head IsGoodEffect f [] k.good), q)
     by_group (f ∷ f2 ∷ fs) y k q = (multi, texts (f ∷ f2 ∷ fs) ++ (exec ++ y), multi_text, q ∙ regroup (f ∷ f2 ∷ fs) y)
 
 no_cut : (bytes : List ℕ) → IsCut bytes [] bytes
-no_cut bytes = record { is = refl; each = All-nil IsCommand }
+no_cut bytes = record { is = refl; each = All-nil IsWhole }
 
-pub open_start : (bytes : List ℕ) → Continues IsCommand bytes → IsOpen bytes
+pub open_start : (bytes : List ℕ) → Continues IsWhole bytes → IsOpen bytes
 open_start bytes begun = record {
   none = λ b. let f = first_command bytes b in no_command f.0 f.1 bytes f.2 begun f.3;
   front = [];
@@ -271,7 +272,7 @@ open_start bytes begun = record {
   open_end = begun;
 }
 
-pub doomed_start : (bytes : List ℕ) → IsDoomed IsCommand bytes → IsBad bytes
+pub doomed_start : (bytes : List ℕ) → IsDoomed IsWhole bytes → IsBad bytes
 doomed_start bytes doomed = record {
   none = λ b. let f = first_command bytes b in no_doomed f.0 f.1 bytes f.2 doomed f.3;
   front = [];
@@ -285,7 +286,7 @@ pub record StartsNone (t : List ℕ) : Type 0 where
   pub no_multi : t ≡ multi → ⊥
   pub no_effect : (f : Effect) → IsGoodEffect f → t ≡ text f → ⊥
 
-pub bad_start : (bytes t behind : List ℕ) → IsCommand t → bytes ≡ t ++ behind → StartsNone t → IsBad bytes
+pub bad_start : (bytes t behind : List ℕ) → IsWhole t → bytes ≡ t ++ behind → StartsNone t → IsBad bytes
 bad_start bytes t behind command is starts = record {
   none = λ b. none b.group b.behind b.good (sym is ∙ b.is);
   front = t ∷ [];
