@@ -51,6 +51,7 @@ impl Entry {
         })
     }
 
+    /// Whether it is under this id.
     fn is_of(&self, id: ReplId) -> bool
         ensures { result ≡ bytes_eq self.now.id id }
     {

@@ -9,7 +9,7 @@ use mr_data::{Effect, encode, encode_all};
 use mr_resp::push_request;
 use std::alloc::AllocError;
 
-// A request of one word.
+/// Appends a request of one word.
 fn push_one(word: &[u8], out: &mut Vec<u8>) -> Result<(), AllocError>
     ensures ok { OnOk result (out.new.items ≡ out.old.items ++ array (word.now ∷ [])) }
     ensures kept { Extends out.old.items out.new.items }
@@ -17,7 +17,7 @@ fn push_one(word: &[u8], out: &mut Vec<u8>) -> Result<(), AllocError>
     push_request(&[word], out)
 }
 
-// The texts of effects in a frame.
+/// Appends the texts of effects in their frame.
 #[tactic(auto, using(crate::proofs::Framing::steps), unfolding(crate::specs::Groups::multi, crate::specs::Groups::exec))]
 fn push_framed(effects: &[Effect<'_>], out: &mut Vec<u8>) -> Result<(), AllocError>
     ensures ok { OnOk result (out.new.items ≡ out.old.items ++ (multi ++ (texts effects.now ++ exec))) }

@@ -106,6 +106,7 @@ impl Links {
         self.piece = piece;
     }
 
+    /// Says whether the next turn is to wait for nothing.
     pub(crate) fn set_hurries(&mut self, hurries: bool)
         ensures { self.new ≡ record self.old { hurries = hurries } }
     {
@@ -156,6 +157,7 @@ impl Links {
 
 // What waits for the file.
 impl Links {
+    /// The bytes that wait for the file.
     pub(crate) fn batch(&self) -> &[u8]
         ensures { result.now ≡ self.now.batch }
     {

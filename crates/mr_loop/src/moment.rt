@@ -34,6 +34,7 @@ impl Moment {
         self.fresh
     }
 
+    /// The moment, in milliseconds.
     pub(crate) fn time(&self) -> i64
         ensures { result ≡ self.now.time }
     {

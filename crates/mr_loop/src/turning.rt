@@ -219,6 +219,7 @@ impl<W: Wire, F: LogFile, S: Source> Host<'_, '_, W, F, S> {
         read
     }
 
+    /// Reads of each connection whose socket is ready, and steps as far as its bytes go. It answers whether more is left to read.
     fn read_each(&mut self, piece: &mut [u8]) -> Result<bool, LoopFault>
         ensures went { GoesAs W.tells W.links W.failures F.told F.synced result self.old self.new }
         ensures same { IsSame W.waited S.clock self.old self.new }
