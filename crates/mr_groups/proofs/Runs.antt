@@ -1,5 +1,5 @@
 -- Groups one after another, and why no longer beginning can be done than one behind which no group can.
-use Rattle.std.proofs.Common.{◌≡◌, ℕ, ◌<◌, ◌≤◌, List, [], ◌∷◌, ◌++◌, length, take, map, Option, Some, None, refl, sym, ap, subst, ◌∙◌, append_assoc, arith, All}
+use Rattle.std.proofs.Common.{◌≡◌, ℕ, ◌<◌, ◌≤◌, List, [], ◌∷◌, ◌++◌, length, take, Option, Some, None, refl, sym, ap, subst, ◌∙◌, append_assoc, arith, All}
 use Rattle.std.specs.Option.{option_and_then}
 use Rattle.std.specs.FinMap.{empty}
 use Rattle.std.proofs.lemmas.List.{append-nil, length-append, take_at}
@@ -8,7 +8,7 @@ use Rattle.mr_effect.specs.Spelling.{text, texts}
 use Rattle.mr_effect.specs.declared.effect.Effect.{Effect}
 use Rattle.mr_entries.specs.Dataset.{Dataset}
 use Rattle.mr_data.specs.Meaning.{apply, apply_all}
-use Rattle.mr_groups.specs.Groups.{IsGoodGroup, multi, exec, group_text, group_texts}
+use Rattle.mr_groups.specs.Groups.{IsGoodGroup, multi, exec, group_text, group_texts, singles}
 use Rattle.mr_groups.specs.Reading.{BeginsWithGroup}
 use Rattle.mr_groups.specs.Folding.{apply_groups, LeadsByGroups, MakesByGroups, LoadsGroups, IsStuckByGroups}
 use Rattle.mr_groups.proofs.Apart.{no_empty, one_group}
@@ -40,14 +40,14 @@ many_groups (g ∷ gs) (h ∷ hs) p q e =
 
 -- ---- groups of one effect
 
-pub single_texts : (es : List Effect) → group_texts (map (λ e. e ∷ []) es) ≡ texts es
+pub single_texts : (es : List Effect) → group_texts (singles es) ≡ texts es
 single_texts [] = refl
 single_texts (e ∷ es) = ap (λ (t : List ℕ). text e ++ t) (single_texts es)
 
-pub single_applied : (es : List Effect) (m : Dataset) → apply_groups (map (λ e. e ∷ []) es) m ≡ apply_all es m
+pub single_applied : (es : List Effect) (m : Dataset) → apply_groups (singles es) m ≡ apply_all es m
 single_applied [] m = refl
 single_applied (e ∷ es) m =
-    elim (apply e m) as (λ o. option_and_then (apply_groups (map (λ d. d ∷ []) es)) (option_and_then Some o) ≡ option_and_then (apply_all es) o) [
+    elim (apply e m) as (λ o. option_and_then (apply_groups (singles es)) (option_and_then Some o) ≡ option_and_then (apply_all es) o) [
       | None ↦ refl
       | Some n ↦ single_applied es n
     ]

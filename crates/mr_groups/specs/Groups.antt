@@ -42,6 +42,10 @@ group_text es = multi ++ (texts es ++ exec)
 abbrev pub group_texts : List (List Effect) → List ℕ
 group_texts gs = flat_map group_text gs
 
+-- each effect as a group of its own
+abbrev pub singles : List Effect → List (List Effect)
+singles es = map (λ e. e ∷ []) es
+
 -- the command texts that a group's text is made of
 abbrev pub parts : List Effect → List (List ℕ)
 parts (e ∷ []) = text e ∷ []

@@ -1,10 +1,10 @@
 //! Laws of the definitions that the contracts cite. The calls do nothing: each promise is a law.
-ghost use Rattle.std.specs.Prelude.{ℕ, ◌≡◌, ◌<◌, ◌++◌, ◌∷◌, [], All, List, length, map};
+ghost use Rattle.std.specs.Prelude.{ℕ, ◌≡◌, ◌<◌, ◌++◌, ◌∷◌, [], All, List, length};
 ghost use Rattle.mr_effect.specs.Spelling.{texts};
 ghost use Rattle.mr_effect.specs.declared.effect.Effect.{Effect};
 ghost use Rattle.mr_entries.specs.Dataset.{Dataset};
 ghost use Rattle.mr_data.specs.Meaning.{apply_all};
-ghost use Rattle.mr_groups.specs.Groups.{IsGoodGroup, group_text, group_texts};
+ghost use Rattle.mr_groups.specs.Groups.{IsGoodGroup, group_text, group_texts, singles};
 ghost use Rattle.mr_groups.specs.Reading.{BeginsWithGroup, IsBad, IsFirstGroup, IsOpen};
 ghost use Rattle.mr_groups.specs.Folding.{LoadsGroups, MakesByGroups, apply_groups};
 
@@ -17,8 +17,8 @@ pub fn groups_are_told_apart()
 
 /// Groups of one effect each have the texts of the effects, and do what these do: without larger groups a stream is what it was.
 pub fn single_effects_are_groups()
-    ensures texts { (es : List Effect) → group_texts (map (λ e. e ∷ []) es) ≡ texts es }
-    ensures applied { (es : List Effect) (m : Dataset) → apply_groups (map (λ e. e ∷ []) es) m ≡ apply_all es m }
+    ensures texts { (es : List Effect) → group_texts (singles es) ≡ texts es }
+    ensures applied { (es : List Effect) (m : Dataset) → apply_groups (singles es) m ≡ apply_all es m }
 {}
 
 /// Nothing is done of a group whose text isn't whole: no group's text begins it, it isn't bad, and behind groups that can be done
