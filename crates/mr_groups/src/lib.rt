@@ -7,6 +7,7 @@ mod laws;
 mod loading;
 mod owning;
 mod part;
+mod reader;
 mod reading;
 
 pub use applying::{GroupFault, apply_group, apply_group_owned};
@@ -16,4 +17,5 @@ pub use laws::{
 };
 pub use loading::load_groups;
 pub use mr_replay::Loaded;
+pub use reader::Reader;
 pub use reading::{Next, next_group};

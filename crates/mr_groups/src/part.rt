@@ -12,6 +12,7 @@ use mr_resp::{Scan, next_command};
 use std::alloc::{AllocError, Global};
 use std::borrow::CowSlice;
 use std::marker::Model;
+use std::mem::replace;
 
 /// The effects that were read so far, which own their words, seen as a list.
 pub(crate) struct Gathered {
@@ -46,7 +47,8 @@ impl Gathered {
 
     /// Puts the same effect with words of its own behind the others.
     fn push(&mut self, alloc: Global, effect: &Effect<'_>) -> Result<(), AllocError>
-        ensures { OnOk result (self.new ≡ self.old ++ effect.now ∷ []) }
+        ensures ok { OnOk result (self.new ≡ self.old ++ effect.now ∷ []) }
+        ensures err { OnErr result (self.new ≡ self.old) }
     {
         self.effects.push(owned_effect(alloc, effect)?)?;
         Ok(())
@@ -57,6 +59,21 @@ impl Gathered {
         ensures { result ≡ length self.now }
     {
         self.effects.len()
+    }
+
+    /// Lets them go.
+    pub(crate) fn clear(&mut self)
+        ensures { self.new ≡ [] }
+    {
+        self.effects.clear();
+    }
+
+    /// Takes them out.
+    pub(crate) fn take(&mut self, alloc: Global) -> Vec<Effect<'static>>
+        ensures taken { result.items ≡ self.old }
+        ensures left { self.new ≡ [] }
+    {
+        replace(&mut self.effects, Vec::new(alloc))
     }
 
     /// The vector of the effects.
@@ -107,7 +124,8 @@ fn take_effect(
     used: usize,
     effects: &mut Gathered,
 ) -> Result<Part, AllocError>
-    ensures { IfOk result (λ part. (part ≡ Part.Effect used (can_join effect.entry)) × (effects.new ≡ effects.old ++ effect.entry ∷ [])) }
+    ensures ok { IfOk result (λ part. (part ≡ Part.Effect used (can_join effect.entry)) × (effects.new ≡ effects.old ++ effect.entry ∷ [])) }
+    ensures err { OnErr result (effects.new ≡ effects.old) }
 {
     let joins = can_join(&effect);
     let put = effects.push(alloc, &effect);
@@ -125,7 +143,8 @@ fn take_words(
     used: usize,
     effects: &mut Gathered,
 ) -> Result<Part, AllocError>
-    ensures { IfOk result (λ part. ReadsEffect (map cow_slice_items words.now) used effects.old part effects.new) }
+    ensures ok { IfOk result (λ part. ReadsEffect (map cow_slice_items words.now) used effects.old part effects.new) }
+    ensures err { OnErr result (effects.new ≡ effects.old) }
 {
     match decode(alloc, words) {
         Err(e) => Err(e),
@@ -141,7 +160,8 @@ fn part_of(
     used: usize,
     effects: &mut Gathered,
 ) -> Result<Part, AllocError>
-    ensures { IfOk result (λ part. ReadsWords (map cow_slice_items words.now) used effects.old part effects.new) }
+    ensures ok { IfOk result (λ part. ReadsWords (map cow_slice_items words.now) used effects.old part effects.new) }
+    ensures err { OnErr result (effects.new ≡ effects.old) }
 {
     if is_only(words, b"MULTI") {
         return Ok(Part::Begin(used));
@@ -161,6 +181,7 @@ pub(crate) fn next_part(
 ) -> Result<Part, AllocError>
     ensures found { IfOk result (λ part. ReadsPart bytes.now effects.old part effects.new) }
     ensures refused { OnErr result (BeginsWithCommand commands bytes.now) }
+    ensures kept { OnErr result (effects.new ≡ effects.old) }
 {
     match next_command(alloc, bytes) {
         Err(e) => Err(e),

@@ -1,0 +1,95 @@
+// A group whose text comes in pieces.
+ghost use Rattle.std.specs.Prelude.{◌≡◌, ◌<◌, IfOk, OnErr};
+ghost use Rattle.mr_resp.specs.Command.{BeginsWithCommand};
+ghost use Rattle.mr_resp.specs.Usual.{commands};
+ghost use Rattle.mr_groups.specs.Reading.{ReadsGroup};
+ghost use Rattle.mr_groups.specs.Readers.{AreRead, HasRead, IsFresh, LeavesOf, MayRead};
+
+use crate::part::{Gathered, Part, next_part};
+use crate::reading::Next;
+use std::alloc::{AllocError, Global};
+
+/// Reads the group at the front of bytes that come in pieces, each part of it once: what it has read of a frame so far is kept.
+#[derive(Drop)]
+pub struct Reader {
+    used: usize,
+    effects: Gathered,
+}
+
+impl Reader {
+    /// Nothing was read. It takes no memory.
+    pub fn new(alloc: Global) -> Reader
+        ensures { IsFresh result }
+    {
+        Reader {
+            used: 0,
+            effects: Gathered::new(alloc),
+        }
+    }
+
+    /// Lets go of what was read.
+    pub fn reset(&mut self)
+        ensures { IsFresh self.new }
+    {
+        self.used = 0;
+        self.effects.clear();
+    }
+
+    /// Reads the group whose text begins the bytes, as `next_group` does, but goes on behind the last part that was read before,
+    /// where it is among them. Only whole command texts take memory.
+    pub fn next(&mut self, alloc: Global, bytes: &[u8]) -> Result<Next, AllocError>
+        requires { MayRead self.old bytes.now }
+        ensures found { IfOk result (λ next. ReadsGroup bytes.now next) }
+        ensures left { IfOk result (λ next. LeavesOf next self.new) }
+        ensures refused { OnErr result (BeginsWithCommand commands bytes.now) }
+        ensures kept { HasRead self.new bytes.now }
+    {
+        if bytes.len() < self.used {
+            self.reset();
+        }
+        if self.used > 0 {
+            return self.go_on(alloc, bytes);
+        }
+        let mut effects = Gathered::new(alloc);
+        match next_part(alloc, bytes, &mut effects) {
+            Err(e) => Err(e),
+            Ok(Part::Begin(used)) => {
+                self.used = used;
+                self.go_on(alloc, bytes)
+            }
+            Ok(Part::Effect(used, _)) => Ok(Next::Whole {
+                effects: effects.into_vec(),
+                used,
+            }),
+            Ok(Part::End(_)) => Ok(Next::Bad),
+            Ok(Part::More) => Ok(Next::More),
+            Ok(Part::Bad) => Ok(Next::Bad),
+        }
+    }
+
+    /// Reads on behind the last part of a frame.
+    fn go_on(&mut self, alloc: Global, bytes: &[u8]) -> Result<Next, AllocError>
+        requires { AreRead bytes.now self.old.used self.old.effects }
+        ensures found { IfOk result (λ next. ReadsGroup bytes.now next) }
+        ensures left { IfOk result (λ next. LeavesOf next self.new) }
+        ensures kept { HasRead self.new bytes.now }
+    {
+        'parts: loop {
+            let part = next_part(alloc, &bytes[self.used..], &mut self.effects)?;
+            match part {
+                Part::Effect(more, true) => self.used += more,
+                Part::End(more) if self.effects.len() >= 2 => {
+                    let used = self.used + more;
+                    self.used = 0;
+                    let effects = self.effects.take(alloc);
+                    return Ok(Next::Whole { effects, used });
+                }
+                Part::More => return Ok(Next::More),
+                Part::Begin(_) | Part::Effect(_, false) | Part::End(_) | Part::Bad => {
+                    self.reset();
+                    return Ok(Next::Bad);
+                }
+            }
+        }
+    }
+}
