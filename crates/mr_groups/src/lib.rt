@@ -17,5 +17,6 @@ pub use laws::{
 };
 pub use loading::load_groups;
 pub use mr_replay::Loaded;
+pub use part::begins_frame;
 pub use reader::Reader;
 pub use reading::{Next, next_group};

@@ -1,10 +1,10 @@
 // The command text at the front of bytes, as a part of a group's text.
-ghost use Rattle.std.specs.Prelude.{◌≡◌, ◌++◌, ◌∷◌, [], IfOk, OnErr, OnOk, length, map};
+ghost use Rattle.std.specs.Prelude.{◌≡◌, ◌↔◌, true, ◌++◌, ◌∷◌, [], IfOk, OnErr, OnOk, length, map};
 ghost use Rattle.std.specs.Cow.{cow_slice_items};
 ghost use Rattle.mr_resp.specs.Command.{BeginsWithCommand};
 ghost use Rattle.mr_resp.specs.Usual.{commands};
 ghost use Rattle.mr_groups.specs.Groups.{can_join};
-ghost use Rattle.mr_groups.specs.Parts.{ReadsEffect, ReadsPart, ReadsWords, is_only};
+ghost use Rattle.mr_groups.specs.Parts.{ReadsEffect, ReadsPart, ReadsWords, is_only, multi_words};
 
 use crate::owning::owned_effect;
 use mr_data::{Effect, decode};
@@ -115,6 +115,13 @@ fn is_only(words: &[CowSlice<'_, u8>], name: &[u8]) -> bool
         [word] => word.as_slice() == name,
         _ => false,
     }
+}
+
+/// Whether these are the words of the text that begins a frame.
+pub fn begins_frame(words: &[CowSlice<'_, u8>]) -> bool
+    ensures { (result ≡ true) ↔ (map cow_slice_items words.now ≡ multi_words) }
+{
+    is_only(words, b"MULTI")
 }
 
 /// Puts the same effect, whose text has so many bytes, behind the others.
