@@ -6,6 +6,7 @@ pub mod Readings
 pub mod Runs
 pub mod Cuts
 pub mod Doing
+pub mod Singles
 pub mod Going
 pub mod Lone
 pub mod Resuming

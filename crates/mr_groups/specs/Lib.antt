@@ -3,4 +3,5 @@ pub mod Parts
 pub mod Reading
 pub mod Readers
 pub mod Folding
+pub mod Replaying
 pub mod Fronts

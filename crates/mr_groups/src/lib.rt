@@ -3,15 +3,18 @@
 
 mod applying;
 mod encoding;
+mod front;
 mod laws;
 mod loading;
 mod owning;
 mod part;
 mod reader;
 mod reading;
+mod replay;
 
 pub use applying::{GroupFault, apply_group, apply_group_owned};
 pub use encoding::encode_group;
+pub use front::Rest;
 pub use laws::{
     answer_is_one, groups_are_told_apart, single_effects_are_groups, torn_groups_do_nothing,
 };
@@ -20,3 +23,4 @@ pub use mr_replay::Loaded;
 pub use part::begins_frame;
 pub use reader::Reader;
 pub use reading::{Next, next_group};
+pub use replay::GroupReplay;

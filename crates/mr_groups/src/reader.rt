@@ -1,5 +1,5 @@
 // A group whose text comes in pieces.
-ghost use Rattle.std.specs.Prelude.{◌≡◌, ◌<◌, IfOk, OnErr};
+ghost use Rattle.std.specs.Prelude.{◌≡◌, ◌==◌, IfOk, OnErr};
 ghost use Rattle.mr_resp.specs.Command.{BeginsWithCommand};
 ghost use Rattle.mr_resp.specs.Usual.{commands};
 ghost use Rattle.mr_groups.specs.Reading.{ReadsGroup};
@@ -25,6 +25,13 @@ impl Reader {
             used: 0,
             effects: Gathered::new(alloc),
         }
+    }
+
+    /// Whether nothing was read.
+    pub(crate) fn is_fresh(&self) -> bool
+        ensures { result ≡ (self.now.used == 0) }
+    {
+        self.used == 0
     }
 
     /// Lets go of what was read.
