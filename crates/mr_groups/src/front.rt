@@ -41,6 +41,7 @@ pub(crate) struct Turn {
 }
 
 /// How many bytes were done, and what is left, if memory wasn't lacking.
+#[derive(Clone, Copy)]
 pub(crate) struct Applied {
     pub(crate) used: usize,
     pub(crate) rest: Result<Rest, AllocError>,
