@@ -1,10 +1,9 @@
 -- A command text in front that begins no frame: it is a group of its own, or no group's.
-use Rattle.std.proofs.Common.{◌≡◌, ℕ, ◌<◌, ◌^◌, List, [], ◌∷◌, ◌++◌, length, refl, sym, ap, subst, ◌∙◌, append_assoc, append-nil, All}
+use Rattle.std.proofs.Common.{◌≡◌, ℕ, List, [], ◌∷◌, ◌++◌, refl, sym, ap, ◌∙◌, append_assoc, All}
 use Rattle.std.specs.List.{concat}
-use Rattle.std.proofs.lemmas.List.Elements.{All-head, All-nil, All-cons}
+use Rattle.std.proofs.lemmas.List.Elements.{All-head}
 use Rattle.mr_map.specs.Bytes.{Bytes}
-use Rattle.mr_inline.specs.Language.{Continues}
-use Rattle.mr_resp.specs.Command.{IsCommand, IsCommandText}
+use Rattle.mr_resp.specs.Command.{IsCommand}
 use Rattle.mr_resp.specs.Usual.{commands}
 use Rattle.mr_resp.proofs.Commands.{commands_apart}
 use Rattle.mr_effect.specs.Spelling.{text, texts}
@@ -12,7 +11,7 @@ use Rattle.mr_effect.specs.declared.effect.Effect.{Effect}
 use Rattle.mr_replay.specs.Effects.{IsGoodEffect}
 use Rattle.mr_groups.specs.Groups.{IsGoodGroup, multi, exec, group_text, parts}
 use Rattle.mr_groups.specs.Parts.{multi_words}
-use Rattle.mr_groups.specs.Reading.{IsOpen, IsCut, BeginGroup}
+use Rattle.mr_groups.specs.Reading.{IsOpen}
 use Rattle.mr_groups.proofs.Apart.{no_empty, multi_command, effect_command}
 use Rattle.mr_groups.proofs.Openings.{IsWhole, same_text, multi_text, no_command}
 

@@ -31,6 +31,12 @@ LeavesOf (Whole effects used) r = IsFresh r
 LeavesOf More r = Unit {0}
 LeavesOf Bad r = IsFresh r
 
+-- these effects are given away, whose group's text has so many bytes
+abbrev pub GivesAll : List Effect → ℕ → Next → Type 0
+GivesAll es n (Whole effects used) = (effects.items ≡ es) × (used ≡ n)
+GivesAll es n More = ⊥
+GivesAll es n Bad = ⊥
+
 -- the bytes begin those that a part was read of
 abbrev pub MayRead : Reader → List ℕ → Type 0
 MayRead r bytes = (more : List ℕ) × HasRead r (bytes ++ more)

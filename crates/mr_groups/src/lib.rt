@@ -16,7 +16,8 @@ pub use applying::{GroupFault, apply_group, apply_group_owned};
 pub use encoding::encode_group;
 pub use front::Rest;
 pub use laws::{
-    answer_is_one, groups_are_told_apart, single_effects_are_groups, torn_groups_do_nothing,
+    answer_is_one, groups_are_told_apart, reading_goes_on, single_effects_are_groups,
+    torn_groups_do_nothing,
 };
 pub use loading::load_groups;
 pub use mr_replay::Loaded;

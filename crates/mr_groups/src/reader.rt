@@ -3,7 +3,7 @@ ghost use Rattle.std.specs.Prelude.{◌≡◌, ◌==◌, IfOk, OnErr};
 ghost use Rattle.mr_resp.specs.Command.{BeginsWithCommand};
 ghost use Rattle.mr_resp.specs.Usual.{commands};
 ghost use Rattle.mr_groups.specs.Reading.{ReadsGroup};
-ghost use Rattle.mr_groups.specs.Readers.{AreRead, HasRead, IsFresh, LeavesOf, MayRead};
+ghost use Rattle.mr_groups.specs.Readers.{AreRead, GivesAll, HasRead, IsFresh, LeavesOf, MayRead};
 
 use crate::part::{Gathered, Part, next_part};
 use crate::reading::Next;
@@ -51,12 +51,21 @@ impl Reader {
         ensures refused { OnErr result (BeginsWithCommand commands bytes.now) }
         ensures kept { HasRead self.new bytes.now }
     {
-        if bytes.len() < self.used {
-            self.reset();
-        }
-        if self.used > 0 {
+        if 0 < self.used && self.used <= bytes.len() {
             return self.go_on(alloc, bytes);
         }
+        self.reset();
+        self.begin(alloc, bytes)
+    }
+
+    /// Reads from the start.
+    fn begin(&mut self, alloc: Global, bytes: &[u8]) -> Result<Next, AllocError>
+        requires { IsFresh self.old }
+        ensures found { IfOk result (λ next. ReadsGroup bytes.now next) }
+        ensures left { IfOk result (λ next. LeavesOf next self.new) }
+        ensures refused { OnErr result (BeginsWithCommand commands bytes.now) }
+        ensures kept { HasRead self.new bytes.now }
+    {
         let mut effects = Gathered::new(alloc);
         match next_part(alloc, bytes, &mut effects) {
             Err(e) => Err(e),
@@ -74,25 +83,50 @@ impl Reader {
         }
     }
 
+    /// Gives the effects away, whose group's text has so many bytes.
+    fn give(&mut self, alloc: Global, used: usize) -> Next
+        ensures given { GivesAll self.old.effects used result }
+        ensures fresh { IsFresh self.new }
+    {
+        self.used = 0;
+        Next::Whole {
+            effects: self.effects.take(alloc),
+            used,
+        }
+    }
+
     /// Reads on behind the last part of a frame.
     fn go_on(&mut self, alloc: Global, bytes: &[u8]) -> Result<Next, AllocError>
         requires { AreRead bytes.now self.old.used self.old.effects }
         ensures found { IfOk result (λ next. ReadsGroup bytes.now next) }
         ensures left { IfOk result (λ next. LeavesOf next self.new) }
+        ensures refused { OnErr result (BeginsWithCommand commands bytes.now) }
         ensures kept { HasRead self.new bytes.now }
     {
         'parts: loop {
             let part = next_part(alloc, &bytes[self.used..], &mut self.effects)?;
             match part {
-                Part::Effect(more, true) => self.used += more,
-                Part::End(more) if self.effects.len() >= 2 => {
+                Part::Begin(_) => {
+                    self.reset();
+                    return Ok(Next::Bad);
+                }
+                Part::Effect(more, joins) => {
+                    if !joins {
+                        self.reset();
+                        return Ok(Next::Bad);
+                    }
+                    self.used += more;
+                }
+                Part::End(more) => {
+                    if self.effects.len() < 2 {
+                        self.reset();
+                        return Ok(Next::Bad);
+                    }
                     let used = self.used + more;
-                    self.used = 0;
-                    let effects = self.effects.take(alloc);
-                    return Ok(Next::Whole { effects, used });
+                    return Ok(self.give(alloc, used));
                 }
                 Part::More => return Ok(Next::More),
-                Part::Begin(_) | Part::Effect(_, false) | Part::End(_) | Part::Bad => {
+                Part::Bad => {
                     self.reset();
                     return Ok(Next::Bad);
                 }
