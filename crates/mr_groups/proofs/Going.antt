@@ -1,5 +1,5 @@
 -- Groups that are done at the front of bytes, and what is loaded so.
-use Rattle.std.proofs.Common.{◌≡◌, ℕ, ◌+◌, ◌-◌, ◌<◌, ◌≤◌, List, [], ◌∷◌, ◌++◌, length, take, drop, Some, None, Result, Ok, Err, refl, sym, ap, subst, ◌∙◌, append_assoc, arith, All, take-add}
+use Rattle.std.proofs.Common.{◌≡◌, ℕ, ◌+◌, ◌-◌, ◌≤◌, List, [], ◌∷◌, ◌++◌, length, take, drop, Some, None, Result, Ok, Err, refl, sym, ap, subst, ◌∙◌, append_assoc, arith, take-add}
 use Rattle.std.specs.Option.{option_and_then}
 use Rattle.std.specs.FinMap.{empty}
 use Rattle.std.specs.declared.alloc.AllocError.{AllocError}
@@ -9,13 +9,12 @@ use Rattle.mr_effect.specs.declared.effect.Effect.{Effect}
 use Rattle.mr_entries.specs.Dataset.{Dataset}
 use Rattle.mr_data.specs.Meaning.{apply_all}
 use Rattle.mr_data.proofs.Folding.{apply_all-append}
-use Rattle.mr_replay.specs.Effects.{Leads}
-use Rattle.mr_replay.specs.Steps.{Replays, Waits, IsHalt as IsRunHalt}
+use Rattle.mr_replay.specs.Steps.{Replays, IsHalt as IsRunHalt}
 use Rattle.mr_replay.specs.declared.replaying.Halt.{Halt}
 use Rattle.mr_replay.specs.declared.replaying.Halt.TheVariants as halt
 use Rattle.mr_replay.proofs.Pieces.{rest_from, rest_is}
 use Rattle.mr_groups.specs.Groups.{IsGoodGroup, group_text, group_texts}
-use Rattle.mr_groups.specs.Reading.{IsFirstGroup, BeginsWithGroup, IsOpen, IsBad}
+use Rattle.mr_groups.specs.Reading.{IsFirstGroup, IsOpen, IsBad}
 use Rattle.mr_groups.specs.Folding.{IsRefused, IsTorn, apply_groups, LeadsByGroups, MakesByGroups, LoadsGroups, IsStuckByGroups}
 use Rattle.mr_groups.specs.Replaying.{IsStuckByGroupsForGood, IsReadByGroups, IsReadUpTo, IsRest}
 use Rattle.mr_groups.specs.Fronts.{TriesWhole, IsHalt, IsEnd, IsLeft, TakesTurn, AppliesFront, EndsAt}
@@ -126,7 +125,7 @@ leads_further front behind old mid new one two = record {
   applied = both_applied one.groups two.groups old mid new one.applied two.applied;
 }
 
-behind_is : (bytes : List ℕ) (used more : ℕ) → drop more (rest_from used bytes) ≡ drop (used + more) bytes
+pub behind_is : (bytes : List ℕ) (used more : ℕ) → drop more (rest_from used bytes) ≡ drop (used + more) bytes
 behind_is bytes used more = ap (drop more) (rest_is used bytes) ∙ drop-drop more used bytes
 
 led_further : (bytes : List ℕ) (used more : ℕ) (old mid new : Dataset) → LeadsByGroups (take used bytes) old mid → LeadsByGroups (take more (rest_from used bytes)) mid new → LeadsByGroups (take (used + more) bytes) old new

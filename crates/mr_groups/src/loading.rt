@@ -23,7 +23,8 @@ fn load_again(
     let mut dataset = Dataset::new(alloc, seed);
     let mut reader = Reader::new(alloc);
     let applied = apply_front(alloc, &mut dataset, &mut reader, &bytes[..used]);
-    match applied.rest? {
+    let rest = applied.rest?;
+    match rest {
         Rest::Open | Rest::Bad => Ok(Loaded {
             dataset,
             used: applied.used as u64,
@@ -41,7 +42,8 @@ pub fn load_groups(alloc: Global, seed: RandomState, bytes: &[u8]) -> Result<Loa
     let mut dataset = Dataset::new(alloc, seed);
     let mut reader = Reader::new(alloc);
     let applied = apply_front(alloc, &mut dataset, &mut reader, bytes);
-    match applied.rest? {
+    let rest = applied.rest?;
+    match rest {
         Rest::Open | Rest::Bad => Ok(Loaded {
             dataset,
             used: applied.used as u64,

@@ -1,0 +1,18 @@
+use Rattle.mr_groups.proofs.Going.{run_lacks, run_waits, run_goes_on}
+use Rattle.mr_groups.proofs.front.take_turn.Goals as goal
+
+pub returns-in-Open-clause-done : goal.returns-in-Open-clause-done
+returns-in-Open-clause-done c =
+    let run = c.replay_front-run.result in
+    run_waits c.args.bytes.now run.used c.args.dataset.now c.replay_front-run.new.dataset run.halt c.in-Open.is c.replay_front-run.ensures
+
+pub returns-in-Bad-clause-done : goal.returns-in-Bad-clause-done
+returns-in-Bad-clause-done c =
+    let run = c.replay_front-run.result in
+    let turn = c.try_group-turn.result in
+    run_goes_on c.args.bytes.now run.used turn.used c.args.dataset.now c.replay_front-run.new.dataset c.try_group-turn.new.dataset run.halt turn.end c.in-Bad.is c.replay_front-run.ensures c.try_group-turn.ensures.done
+
+pub returns-in-Lack-clause-done : goal.returns-in-Lack-clause-done
+returns-in-Lack-clause-done c =
+    let run = c.replay_front-run.result in
+    run_lacks c.args.bytes.now run.used c.args.dataset.now c.replay_front-run.new.dataset run.halt c.replay_front-run.ensures

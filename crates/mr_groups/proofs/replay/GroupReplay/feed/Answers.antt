@@ -1,0 +1,16 @@
+use Rattle.std.proofs.Common.{rules, ◌≡◌, ◌++◌, List, ℕ, drop, subst, sym}
+use Rattle.mr_groups.specs.Replaying.{IsReadUpTo}
+use Rattle.mr_groups.specs.Fronts.{AppliesFront}
+use Rattle.mr_groups.proofs.Going.{reads_on}
+use Rattle.mr_groups.proofs.replay.GroupReplay.feed.Goals as goal
+
+pub returns-clause-read : goal.returns-clause-read
+returns-clause-read c = λ bytes read.
+    let unread = c.args.self.now.unread.items in
+    let piece = c.args.piece.now in
+    let old = c.args.self.now.dataset in
+    let applied = c.apply_front-applied.result in
+    let new = c.apply_front-applied.new.dataset in
+    let done : AppliesFront (unread ++ piece) applied.used old new applied.rest = search rules in
+    let left : c.drop_front.new.bytes.items ≡ drop applied.used (unread ++ piece) = search rules in
+    subst (λ (xs : List ℕ). IsReadUpTo (bytes ++ piece) new xs c.in_ok-rest.rest) (sym left) (reads_on bytes unread piece applied.used old new applied.rest c.in_ok-rest.rest c.in_ok-rest.was done read)
