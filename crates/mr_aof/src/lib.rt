@@ -7,5 +7,5 @@ mod no_file;
 
 pub use fault::LogFault;
 pub use log::Log;
-pub use mr_replay::{Loaded, load};
+pub use mr_groups::{Loaded, load_groups};
 pub use no_file::NoFile;
