@@ -57,6 +57,7 @@ taken a b m n made offset o id u later said fault.Undecodable announced s (inl b
 taken a b m n made offset o id u later said fault.Undecodable announced s (inr bad, stays) = not_stream a.phase id o announced bad.streams
 taken a b m n made offset o id u later said fault.Memory announced s row = tt
 taken a b m n made offset o id u later said fault.Spent announced s row = tt
+taken a b m n made offset o id u later said fault.Torn announced s row = not_stream a.phase id o announced row.at.streams
 
 -- where its line is whole, no more of it is waited for
 not_begun : (u later : List ℕ) (made : Dataset) → BeginsSnapshot u [] made → Continues IsLineText u → ⊥

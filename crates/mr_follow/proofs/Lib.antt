@@ -1,4 +1,5 @@
 pub mod Loadings
+pub mod Fronts
 pub mod Stepping
 pub mod Followings
 pub mod Honest

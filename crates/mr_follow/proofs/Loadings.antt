@@ -1,37 +1,29 @@
 -- Effects by their words, and snapshots piece by piece.
-use Rattle.std.proofs.Common.{◌≡◌, ◌≢◌, ℕ, ◌+◌, ◌-◌, ◌<◌, ◌≤◌, ◌^◌, ◌⊎◌, zero, suc, inl, inr, Bool, true, false, cond, ◌&&◌, List, [], ◌∷◌, ◌++◌, length, take, drop, Option, Some, None, Result, Ok, Err, All, refl, sym, ap, ◌∙◌, subst, arith, append-nil, append_assoc, length-append, take_all}
+use Rattle.std.proofs.Common.{◌≡◌, ◌≢◌, ℕ, ◌+◌, ◌-◌, ◌<◌, ◌≤◌, ◌^◌, ◌⊎◌, zero, suc, inl, inr, Bool, true, false, cond, ◌&&◌, List, [], ◌∷◌, ◌++◌, length, take, drop, Option, Some, None, All, refl, sym, ap, ◌∙◌, subst, arith, append-nil, append_assoc, length-append, take_all}
 use Rattle.std.specs.FinMap.{empty}
 use Rattle.std.specs.Option.{option_and_then}
 use Rattle.std.proofs.lemmas.Bool.{and_parts}
 use Rattle.std.proofs.lemmas.List.{append_cancel_left, length-take-le, length-take, length-drop, take-append-drop, take-take, drop-take}
 use Rattle.std.proofs.lemmas.List.Elements.{All-head, All-tail}
 use Rattle.std.proofs.Math.Seq.{take-append_seam}
-use Rattle.mr_inline.specs.Language.{Continues, IsDoomed, Fails}
-use Rattle.mr_resp.proofs.OneFault.{fails_doomed}
-use Rattle.mr_resp.specs.Command.{IsCommand, IsCommandText, HasCommandFault, BeginsWithCommand, ReadsCommand}
-use Rattle.mr_resp.specs.declared.fault.Fault.{Fault}
-use Rattle.mr_resp.specs.declared.request.Scan.{Scan}
-use Rattle.mr_resp.specs.declared.request.Scan.TheVariants as scan
+use Rattle.mr_inline.specs.Language.{Continues}
+use Rattle.mr_resp.specs.Command.{IsCommand, IsCommandText, BeginsWithCommand}
 use Rattle.mr_resp.specs.Spelling.{array}
 use Rattle.mr_resp.specs.Usual.{commands, commands-words}
-use Rattle.mr_resp.proofs.Commands.{command_wants_no_more}
 use Rattle.mr_effect.specs.Effects.{has_spelling, words_fit}
 use Rattle.mr_effect.specs.Spelling.{words, text, texts, IsShort}
 use Rattle.mr_effect.specs.declared.effect.Effect.{Effect}
-use Rattle.mr_effect.proofs.Texts.{one_text, command_text}
+use Rattle.mr_effect.proofs.Texts.{one_text}
 use Rattle.mr_entries.specs.Dataset.{Dataset}
 use Rattle.mr_entries.specs.Changes.{change}
 use Rattle.mr_data.specs.Meaning.{apply, apply_all}
 use Rattle.mr_replay.specs.Effects.{IsGoodEffect, Leads, Makes, IsStuck, IsStuckForGood}
-use Rattle.mr_replay.specs.Steps.{RefusesWords, SpendsFirst, IsHalt, Replays}
+use Rattle.mr_replay.specs.Steps.{SpendsFirst, IsHalt, Replays}
 use Rattle.mr_replay.specs.declared.replaying.Halt.{Halt}
 use Rattle.mr_replay.specs.declared.replaying.Halt.TheVariants as halt
-use Rattle.mr_replay.proofs.Commands.{refuses_first, stops}
 use Rattle.mr_follow.specs.Loading.{HasCommandWithin, HasEffectWithin, IsDeadEnd, pause_of, Pauses, GoesOn}
-use Rattle.mr_follow.specs.Stream.{HasCommand, IsStuckWithin, IsRefusedFront, AppliesText, AppliesFront}
+use Rattle.mr_follow.specs.Stream.{HasCommand}
 use Rattle.mr_follow.specs.declared.taking.Taking.{Taking}
-use Rattle.mr_follow.specs.declared.heard.FollowFault.{FollowFault}
-use Rattle.mr_follow.specs.declared.heard.FollowFault.TheVariants as fault
 
 cond_some : (b : Bool) (o : Option Dataset) (x : Dataset) → cond b o None ≡ Some x → b ≡ true
 cond_some true o x h = refl
@@ -249,53 +241,7 @@ gone_on t unread used made h there ended fits r all few end some =
     some_left : t.done + used ≢ t.size → 0 < t.size - (t.done + used)
     some_left other = let few = r.within in let cut = (few_taken (t.size - t.done) unread).0 in omega (arith, other, few, cut, fits)
 
--- ---- the effect at the front of the stream
-stuck_front : (room : ℕ) (m : Dataset) (u : List ℕ) → IsStuckForGood m (take room u) → IsStuckWithin room m u
-stuck_front room m u stuck e n more behind good applied few q =
-    stuck (drop room u ++ more) e n behind good applied (sym (append_assoc (take room u) (drop room u) more) ∙ (ap (λ (l : List ℕ). l ++ more) (take-append-drop room u) ∙ q))
-
--- what is doomed begins no command text
-doomed_front : (u : List ℕ) (room : ℕ) → IsDoomed (IsCommandText commands) (take room u) → Continues (IsCommandText commands) u → ⊥
-doomed_front u room d c =
-    let whole : take room u ++ (drop room u ++ c.more) ≡ (u ++ c.more) ++ [] =
-    sym (append_assoc (take room u) (drop room u) c.more) ∙ (ap (λ (l : List ℕ). l ++ c.more) (take-append-drop room u) ∙ sym (append-nil (u ++ c.more))) in
-    d.never (drop room u ++ c.more) (u ++ c.more) [] c.whole whole
-
--- what a reader finds doomed is refused
-pub bad_stuck : (u : List ℕ) (room : ℕ) (m : Dataset) (found : Scan) (f : Fault) → found ≡ scan.Bad f → ReadsCommand commands (take room u) found → IsRefusedFront room m u
-bad_stuck u room m found f is h =
-    let fails : Fails (IsCommandText commands) (HasCommandFault commands f) (take room u) = subst (λ (s : Scan). ReadsCommand commands (take room u) s) is h in
-    let cut = few_taken room u in
-    record {
-      some = omega (arith, ap length fails.is, length-append fails.front (fails.byte ∷ fails.rest), cut.1);
-      past = λ c. absurd (doomed_front u room (fails_doomed (IsCommandText commands) (HasCommandFault commands f) (take room u) fails) c);
-      stuck = stuck_front room m u (stops (take room u) m f fails);
-    }
-
--- a command text that isn't whole yet and has more bytes already is no effect's of at most so many
-pub long_stuck : (u : List ℕ) (room : ℕ) (m : Dataset) (found : Scan) → found ≡ scan.More → ReadsCommand commands (take room u) found → length (take room u) < length u → IsRefusedFront room m u
-long_stuck u room m found is h long =
-    let full = full_of (taken_or room u) in
-    record { some = omega (arith, long); past = λ c. omega (arith, full, long); stuck = λ e n more behind good applied few q. too_long e more behind good few full q }
-  where
-    full_of : (length (take room u) ≡ room) ⊎ (length (take room u) ≡ length u) → length (take room u) ≡ room
-    full_of (inl is_room) = is_room
-    full_of (inr is_all) = absurd (omega (arith, is_all, long))
-
-    too_long : (e : Effect) (more behind : List ℕ) → IsGoodEffect e → length (text e) ≤ room → length (take room u) ≡ room → u ++ more ≡ text e ++ behind → ⊥
-    too_long e more behind good few full q =
-        let all : take room u ++ (drop room u ++ more) ≡ text e ++ behind = sym (append_assoc (take room u) (drop room u) more) ∙ (ap (λ (l : List ℕ). l ++ more) (take-append-drop room u) ∙ q) in
-        let r = split_longer (take room u) (drop room u ++ more) (text e) behind all (omega (arith, few, full)) in
-        command_wants_no_more commands (text e) r.0 (command_text e good.spelled good.fits good.short)
-        (subst (λ (l : List ℕ). Continues (IsCommandText commands) l) r.1.0 (subst (λ (s : Scan). ReadsCommand commands (take room u) s) is h))
-
-pub more_wanted : (u : List ℕ) (room : ℕ) (found : Scan) → found ≡ scan.More → ReadsCommand commands (take room u) found → length u ≤ length (take room u) → Continues (IsCommandText commands) u
-more_wanted u room found is h all = subst (λ (l : List ℕ). Continues (IsCommandText commands) l) (whole_of (taken_or room u)) (subst (λ (s : Scan). ReadsCommand commands (take room u) s) is h)
-  where
-    whole_of : (length (take room u) ≡ room) ⊎ (length (take room u) ≡ length u) → take room u ≡ u
-    whole_of (inl is_room) = take_all room u (omega (arith, is_room, all))
-    whole_of (inr is_all) = take_all room u (omega (arith, all, (few_taken room u).0))
-
+-- ---- the front of the stream
 pub lacks : (u : List ℕ) (room : ℕ) → BeginsWithCommand commands (take room u) → HasCommand u room
 lacks u room h =
     let parts = within_parts u room h.used h.inside in record {
@@ -306,52 +252,6 @@ lacks u room h =
       within = parts.1;
       command = h.command;
     }
-
--- a command text whose words are refused is
-text_stuck : (u : List ℕ) (used room : ℕ) (ws : List (List ℕ)) (m : Dataset) → used ≤ length (take room u) → used < 2 ^ 64 → IsCommand commands (take used (take room u)) ws → RefusesWords ws m → IsRefusedFront room m u
-text_stuck u used room ws m inside small c refused =
-    let parts = within_parts u room used inside in
-    let front = take used (take room u) in
-    let behind = drop used (take room u) ++ drop room u in
-    record {
-      some = omega (arith, ap length parts.0, length-append front behind, some_text front ws c);
-      past = λ k. absurd (command_wants_no_more commands front behind (ws, c) (subst (λ (l : List ℕ). Continues (IsCommandText commands) l) parts.0 k));
-      stuck = stuck_front room m u (refuses_first (take room u) used ws m inside small c refused);
-    }
-
--- a whole command text stands in front, whose words are applied or aren't
-pub text_in_front : (u : List ℕ) (used room : ℕ) (ws : List (List ℕ)) (m n : Dataset) (r : Result (Option ℕ) FollowFault) (before after : List ℕ) → used ≤ length (take room u) → used < 2 ^ 64 → IsCommand commands (take used (take room u)) ws
-    → AppliesText (take used (take room u)) ws m r n before after → AppliesFront u room m r n before after
-text_in_front u used room ws m n (Ok None) before after inside small c h = absurd h
-text_in_front u used room ws m n (Ok (Some k)) before after inside small c h =
-    let cut = few_taken room u in
-    let size : k ≡ used = h.0 ∙ length-take-le used (take room u) inside in
-    let front : take used (take room u) ≡ take k u = two_fronts room used u (omega (arith, inside, cut.0)) ∙ ap (λ (x : ℕ). take x u) (sym size) in (
-      record {
-        inside = omega (arith, size, inside, cut.1);
-        within = omega (arith, size, inside, cut.0);
-        words = ws;
-        command = subst (λ (l : List ℕ). IsCommand commands l ws) front c;
-        applies = h.1.0;
-      },
-      h.1.1 ∙ ap (λ (l : List ℕ). before ++ l) front,
-    )
-text_in_front u used room ws m n (Err fault.BadLine) before after inside small c h = absurd h
-text_in_front u used room ws m n (Err fault.Refused) before after inside small c h = absurd h
-text_in_front u used room ws m n (Err fault.Undecodable) before after inside small c h = (text_stuck u used room ws m inside small c h.0, h.1)
-text_in_front u used room ws m n (Err fault.Memory) before after inside small c h = (lacks u room (record { words = ws; used = used; inside = inside; command = c }), h)
-text_in_front u used room ws m n (Err fault.Spent) before after inside small c h =
-    let cut = few_taken room u in (
-      record {
-        used = used;
-        inside = omega (arith, inside, cut.1);
-        within = omega (arith, inside, cut.0);
-        words = ws;
-        command = subst (λ (l : List ℕ). IsCommand commands l ws) (two_fronts room used u (omega (arith, inside, cut.0))) c;
-        spends = h.0;
-      },
-      h.1,
-    )
 
 -- what was put behind the others is cut off
 pub cut_back : (xs ys zs all : List ℕ) (k : ℕ) → all ≡ xs ++ ys → k ≡ length xs → zs ≡ take k all → zs ≡ xs

@@ -27,7 +27,9 @@ use Rattle.mr_follow.specs.declared.taking.Pause.TheVariants as pause
 use Rattle.mr_follow.proofs.Loadings.{leads_behind}
 use Rattle.mr_follow.specs.State.{FollowState, AgreesBy, Agrees, Moves, IsTaken, IsTaking}
 use Rattle.mr_follow.specs.Stream.{AppliesFront}
-use Rattle.mr_follow.specs.Rows.{Waits, MayLack, LacksWithin, WantsLine, IsOutOfPlace, IsWrongLine, IsAmid, Stays, FollowRow, Steps, StepsAside}
+use Rattle.mr_effect.specs.declared.effect.Effect.{Effect}
+use Rattle.mr_groups.specs.Reading.{IsFirstGroup}
+use Rattle.mr_follow.specs.Rows.{BeginsGroup, Waits, MayLack, LacksWithin, WantsLine, IsOutOfPlace, IsWrongLine, IsAmid, Stays, FollowRow, Steps, StepsAside}
 use Rattle.mr_follow.specs.declared.phase.Phase.{Phase}
 use Rattle.mr_follow.specs.declared.phase.Phase.TheVariants as phase
 use Rattle.mr_follow.specs.declared.heard.Heard.{Heard}
@@ -166,6 +168,7 @@ status_fault a fault.Refused wants none h out ag m o =
 status_fault a fault.Undecodable wants none h out ag m o = absurd h
 status_fault a fault.Memory wants none h out ag m o = absurd h
 status_fault a fault.Spent wants none h out ag m o = absurd h
+status_fault a fault.Torn wants none h out ag m o = absurd h
 
 pub greet_fault : (a : FollowState) (f : FollowFault) → IsGreeting a.phase → HearsStatus a.kept (Err f) → (out : List ℕ) → StepsAside a (Err f) a out out
 greet_fault a f g h out = aside a (Err f) a out out (greeting_only a g) (status_fault a f (greeting_wants a.phase g) (λ n. greeting_no_size a.phase a.offer n g) h out)
@@ -263,6 +266,7 @@ answer_fault a fault.Refused asked h out = aside a (Err fault.Refused) a out out
 answer_fault a fault.Undecodable asked h out = absurd h
 answer_fault a fault.Memory asked h out = absurd h
 answer_fault a fault.Spent asked h out = absurd h
+answer_fault a fault.Torn asked h out = absurd h
 
 -- a text that answers CONTINUE answers nothing else
 pub only_continue : (text id : List ℕ) (r : PsyncReply) → text ≡ codes "CONTINUE " ++ digits_of id → IsReplyText text r → (other : List ℕ) × (r ≡ reply.Continue other)
@@ -305,6 +309,7 @@ length_fault a fault.Refused id o announced h out ag m offset =
 length_fault a fault.Undecodable id o announced h out ag m offset = absurd h
 length_fault a fault.Memory id o announced h out ag m offset = absurd h
 length_fault a fault.Spent id o announced h out ag m offset = absurd h
+length_fault a fault.Torn id o announced h out ag m offset = absurd h
 
 pub load_fault : (a b : FollowState) (f : FollowFault) (id : List ℕ) (o : ℕ) → a.phase ≡ phase.Snapshot id o → TakesOut a (Err f) b → (out : List ℕ) → StepsAside a (Err f) b out out
 load_fault a b f id o announced h out = subst (λ (x : FollowState). StepsAside a (Err f) x out out) (sym h.0)
@@ -539,6 +544,7 @@ load_whole a d b t s kept id o used (Err fault.Memory) before after announced ta
       );
     }
 load_whole a d b t s kept id o used (Err fault.Spent) before after announced takes g is h = absurd h
+load_whole a d b t s kept id o used (Err fault.Torn) before after announced takes g is h = absurd h
 
 -- ---- the stream
 -- a step of the stream, where the unread bytes are those that are kept
@@ -558,6 +564,18 @@ follow_idle a m n offset room before after streams h = at_unread a m offset (Ok 
   row = (subst (λ (p : Phase). Waits p a.kept a.kept) (sym streams) h.0, kept_still a m n ag h.1.0);
 })
 
+-- the group at the front isn't used
+at_group : (a : FollowState) (room offset used : ℕ) (es : List Effect) → a.phase ≡ phase.Stream → offset + room ≡ most_counted → Agrees a a.kept → IsFirstGroup a.kept es used → used ≤ room → BeginsGroup a a.kept offset a
+at_group a room offset used es streams all ag first few = record {
+  streams = streams;
+  unread = ag;
+  group = es;
+  good = first.good;
+  rest = drop used a.kept;
+  begins = sym (take-append-drop used a.kept) ∙ ap (λ (l : List ℕ). l ++ drop used a.kept) first.is_text;
+  within = omega (arith, few, all, ap length first.is_text, length-take-le used a.kept first.within);
+}
+
 follow_fails : (a : FollowState) (m n : Dataset) (offset room : ℕ) (f : FollowFault) (before after : List ℕ) → a.phase ≡ phase.Stream → offset + room ≡ most_counted → AppliesFront a.kept room m (Err f) n before after
     → Agrees a a.kept → Steps a a.kept m offset (Err f) a n before after
 follow_fails a m n offset room fault.BadLine before after streams all h ag = absurd h
@@ -573,29 +591,24 @@ follow_fails a m n offset room fault.Memory before after streams all h ag = reco
   row = (subst (λ (p : Phase). MayLack p offset a.kept a.kept) (sym streams) (room, (all, h.0)), kept_still a m n ag h.1.0);
 }
 follow_fails a m n offset room fault.Spent before after streams all h ag =
-    let s = h.0 in let few = s.within in
+    let s = h.0 in
     record {
       told = [];
       put = h.1 ∙ sym (append-nil before);
       row = record {
-        cause = inl (record {
-          streams = streams;
-          unread = ag;
-          words = s.words;
-          text = take s.used a.kept;
-          rest = drop s.used a.kept;
-          begins = record { is = sym (take-append-drop s.used a.kept); command = s.command };
-          within = omega (arith, few, length-take-le s.used a.kept s.inside, all);
-          can = s.spends.can;
-          applies = s.spends.does;
-          heavy = s.spends.heavy;
-          emptied = s.spends.emptied;
-        });
+        cause = inl (record { at = at_group a room offset s.used s.group streams all ag s.first s.within; begun = s.begun; heavy = s.heavy; emptied = s.emptied });
         waits = refl;
         offer = refl;
         port = refl;
         silent = refl;
       };
+    }
+follow_fails a m n offset room fault.Torn before after streams all h ag =
+    let s = h.0 in
+    record {
+      told = [];
+      put = h.1 ∙ sym (append-nil before);
+      row = record { at = at_group a room offset s.used s.group streams all ag s.first s.within; torn = s.torn; waits = refl; offer = refl; port = refl; silent = refl };
     }
 
 pub follow_fault : (a : FollowState) (m n : Dataset) (offset room : ℕ) (f : FollowFault) (before after : List ℕ) → a.phase ≡ phase.Stream → offset + room ≡ most_counted → AppliesFront a.kept room m (Err f) n before after
@@ -609,11 +622,13 @@ follow_applied a b m n offset room used before after streams all h is = at_unrea
   put = h.1;
   row = record {
     streams = streams;
-    words = h.0.words;
+    group = h.0.group;
+    good = h.0.first.good;
+    is_text = h.0.first.is_text;
     rest = drop used a.kept;
-    begins = record { is = sym (take-append-drop used a.kept); command = h.0.command };
-    within = omega (arith, h.0.within, length-take-le used a.kept h.0.inside, all);
-    applies = h.0.applies;
+    begins = sym (take-append-drop used a.kept);
+    within = omega (arith, h.0.within, length-take-le used a.kept h.0.first.within, all);
+    applied = h.0.applied;
     state = moved a b phase.Stream (drop used a.kept) is;
   };
 })

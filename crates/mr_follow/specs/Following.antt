@@ -1,10 +1,10 @@
 -- Calls on a follower in its stream, one after another.
 use Rattle.std.specs.Prelude.{◌≡◌, ℕ, ◌+◌, ◌≤◌, List, [], ◌∷◌, ◌++◌, length, All, Some, Ok, Err}
-use Rattle.mr_data.specs.Meaning.{apply_all}
-use Rattle.mr_effect.specs.Spelling.{texts, IsShort}
 use Rattle.mr_effect.specs.declared.effect.Effect.{Effect}
 use Rattle.mr_entries.specs.Dataset.{Dataset}
 use Rattle.mr_lines.specs.Lines.{most_counted, size, IsPeerLine}
+use Rattle.mr_groups.specs.Groups.{IsGoodGroup, group_texts}
+use Rattle.mr_groups.specs.Folding.{apply_groups}
 use Rattle.mr_follow.specs.State.{FollowState, heard}
 use Rattle.mr_follow.specs.Rows.{FollowRow}
 use Rattle.mr_follow.specs.declared.phase.Phase.TheVariants as phase
@@ -12,7 +12,7 @@ use Rattle.mr_replay.specs.Effects.{Makes}
 use Rattle.mr_follow.specs.declared.heard.Heard.{Heard}
 use Rattle.mr_follow.specs.declared.heard.Heard.TheVariants as heard_of
 use Rattle.mr_follow.specs.declared.heard.FollowFault.{FollowFault}
-use Rattle.mr_follow.specs.declared.heard.FollowFault.TheVariants.{BadLine, Refused, Undecodable, Memory, Spent}
+use Rattle.mr_follow.specs.declared.heard.FollowFault.TheVariants.{BadLine, Refused, Undecodable, Memory, Spent, Torn}
 
 -- bytes are fed, or a step is made
 pub data Call : Type 0 where
@@ -38,29 +38,29 @@ Runs [] a m offset b n end = (b ≡ a) × ((n ≡ m) × (end ≡ offset))
 Runs (feed bytes ∷ calls) a m offset b n end = Runs calls (heard a bytes) m offset b n end
 Runs (step ∷ calls) a m offset b n end = (c : FollowState) × ((k : Dataset) × ((mid : ℕ) × (Stepped a m offset c k mid × Runs calls c k mid b n end)))
 
--- These effects can be applied one after another, and lead up to no offset past the limit.
-pub record IsStream (effects : List Effect) (m : Dataset) (offset : ℕ) : Type 0 where
+-- These groups can be applied one after another, and lead up to no offset past the limit.
+pub record IsStream (groups : List (List Effect)) (m : Dataset) (offset : ℕ) : Type 0 where
   pub last : Dataset
-  pub applied : apply_all effects m ≡ Some last
-  pub short : All IsShort effects
-  pub within : offset + length (texts effects) ≤ most_counted
+  pub applied : apply_groups groups m ≡ Some last
+  pub good : All IsGoodGroup groups
+  pub within : offset + length (group_texts groups) ≤ most_counted
 
--- Of these effects the first were applied, and the bytes left to read are behind their texts.
-pub record HasFollowed (effects : List Effect) (bytes : List ℕ) (m : Dataset) (offset : ℕ) (b : FollowState) (n : Dataset) (end : ℕ) : Type 0 where
-  pub done : List Effect
-  pub left : List Effect
-  pub first : effects ≡ done ++ left
-  pub applied : apply_all done m ≡ Some n
-  pub counted : end ≡ offset + length (texts done)
-  pub unread : bytes ≡ texts done ++ b.kept
+-- Of these groups the first were applied, and the bytes left to read are behind their texts.
+pub record HasFollowed (groups : List (List Effect)) (bytes : List ℕ) (m : Dataset) (offset : ℕ) (b : FollowState) (n : Dataset) (end : ℕ) : Type 0 where
+  pub done : List (List Effect)
+  pub left : List (List Effect)
+  pub first : groups ≡ done ++ left
+  pub applied : apply_groups done m ≡ Some n
+  pub counted : end ≡ offset + length (group_texts done)
+  pub unread : bytes ≡ group_texts done ++ b.kept
   pub streams : b.phase ≡ phase.Stream
 
--- Fed a beginning of the texts of effects that can be applied, in any pieces and with any steps between, a follower in its
--- stream has applied the first of them, and keeps the rest of what it was fed.
+-- Fed a beginning of the texts of groups that can be applied, in any pieces and with any steps between, a follower in its
+-- stream has applied the first of them, each as a whole, and keeps the rest of what it was fed.
 abbrev pub FollowsBy : List Call → Type 0
-FollowsBy calls = (a b : FollowState) (m n : Dataset) (offset end : ℕ) (effects : List Effect) (later : List ℕ)
-    → a.phase ≡ phase.Stream → IsStream effects m offset → texts effects ≡ (a.kept ++ fed_by calls) ++ later
-    → Runs calls a m offset b n end → HasFollowed effects (a.kept ++ fed_by calls) m offset b n end
+FollowsBy calls = (a b : FollowState) (m n : Dataset) (offset end : ℕ) (groups : List (List Effect)) (later : List ℕ)
+    → a.phase ≡ phase.Stream → IsStream groups m offset → group_texts groups ≡ (a.kept ++ fed_by calls) ++ later
+    → Runs calls a m offset b n end → HasFollowed groups (a.kept ++ fed_by calls) m offset b n end
 
 abbrev pub FollowsTheStream : Type 0
 FollowsTheStream = (calls : List Call) → FollowsBy calls
@@ -72,11 +72,12 @@ IsWant Refused = ⊥
 IsWant Undecodable = ⊥
 IsWant Memory = Unit {0}
 IsWant Spent = Unit {0}
+IsWant Torn = ⊥
 
 -- then no step is refused but for want of memory
 abbrev pub StreamIsTaken : Type 0
-StreamIsTaken = (a b : FollowState) (m n : Dataset) (offset : ℕ) (effects : List Effect) (later told : List ℕ) (fault : FollowFault)
-    → a.phase ≡ phase.Stream → IsStream effects m offset → texts effects ≡ a.kept ++ later
+StreamIsTaken = (a b : FollowState) (m n : Dataset) (offset : ℕ) (groups : List (List Effect)) (later told : List ℕ) (fault : FollowFault)
+    → a.phase ≡ phase.Stream → IsStream groups m offset → group_texts groups ≡ a.kept ++ later
     → FollowRow a a.kept m offset (Err fault) b n told → IsWant fault
 
 -- The bytes begin a snapshot that makes a dataset, or they are one with something behind it.

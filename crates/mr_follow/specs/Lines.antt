@@ -5,7 +5,7 @@ use Rattle.mr_lines.specs.Lines.{Line, status, refusal, size, IsLineText, IsPeer
 use Rattle.mr_lines.specs.Replies.{IsReplyText}
 use Rattle.mr_lines.specs.declared.psync.PsyncReply.{PsyncReply}
 use Rattle.mr_follow.specs.declared.heard.FollowFault.{FollowFault}
-use Rattle.mr_follow.specs.declared.heard.FollowFault.TheVariants.{BadLine, Refused, Undecodable, Memory, Spent}
+use Rattle.mr_follow.specs.declared.heard.FollowFault.TheVariants.{BadLine, Refused, Undecodable, Memory, Spent, Torn}
 use Rattle.mr_follow.specs.declared.status.Status.{Status}
 use Rattle.mr_follow.specs.declared.status.Answered.{Answered}
 use Rattle.mr_follow.specs.declared.status.Announced.{Announced}
@@ -43,6 +43,7 @@ HearsStatus u (Err Refused) = HasRefusal u
 HearsStatus u (Err Undecodable) = ⊥
 HearsStatus u (Err Memory) = ⊥
 HearsStatus u (Err Spent) = ⊥
+HearsStatus u (Err Torn) = ⊥
 
 -- a `+` line that is no answer to PSYNC
 pub record HasOther (u : List ℕ) : Type 0 where
@@ -66,6 +67,7 @@ HearsAnswer u (Err Refused) = HasRefusal u
 HearsAnswer u (Err Undecodable) = ⊥
 HearsAnswer u (Err Memory) = ⊥
 HearsAnswer u (Err Spent) = ⊥
+HearsAnswer u (Err Torn) = ⊥
 
 -- a `$` line
 abbrev pub HearsLength : List ℕ → Result (Option Announced) FollowFault → Type 0
@@ -76,6 +78,7 @@ HearsLength u (Err Refused) = HasRefusal u
 HearsLength u (Err Undecodable) = ⊥
 HearsLength u (Err Memory) = ⊥
 HearsLength u (Err Spent) = ⊥
+HearsLength u (Err Torn) = ⊥
 
 -- a length stands at the front, and so many bytes don't follow yet
 pub record IsShortOf (u : List ℕ) : Type 0 where

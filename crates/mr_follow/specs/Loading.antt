@@ -23,7 +23,7 @@ use Rattle.mr_follow.specs.declared.taking.Pause.TheVariants as pause
 use Rattle.mr_follow.specs.declared.heard.Heard.{Heard}
 use Rattle.mr_follow.specs.declared.heard.Heard.TheVariants as told
 use Rattle.mr_follow.specs.declared.heard.FollowFault.{FollowFault}
-use Rattle.mr_follow.specs.declared.heard.FollowFault.TheVariants.{BadLine, Refused, Undecodable, Memory, Spent}
+use Rattle.mr_follow.specs.declared.heard.FollowFault.TheVariants.{BadLine, Refused, Undecodable, Memory, Spent, Torn}
 
 -- A command text begins the bytes, within so many of them.
 pub record HasCommandWithin (left : ℕ) (bytes : List ℕ) : Type 0 where
@@ -98,3 +98,4 @@ HandsOver a t (Err Refused) b before after = ⊥
 HandsOver a t (Err Undecodable) b before after = ⊥
 HandsOver a t (Err Memory) b before after = (b ≡ record a { taking = Some t }) × (after ≡ before)
 HandsOver a t (Err Spent) b before after = ⊥
+HandsOver a t (Err Torn) b before after = ⊥

@@ -1,11 +1,12 @@
 -- What a step of a follower may do, one row for each outcome.
-use Rattle.std.specs.Prelude.{◌≡◌, ◌≢◌, ℕ, ◌+◌, ◌≤◌, ◌⊎◌, List, [], ◌++◌, length, Option, None, IsSome, Result, Ok, Err}
+use Rattle.std.specs.Prelude.{◌≡◌, ◌≢◌, ℕ, ◌+◌, ◌≤◌, ◌⊎◌, List, [], ◌++◌, length, Option, Some, None, IsSome, Result, Ok, Err}
 use Rattle.mr_inline.specs.Language.{Continues}
 use Rattle.mr_effect.specs.Spelling.{texts}
 use Rattle.mr_entries.specs.Changes.{NeedsNoMemory}
 use Rattle.mr_data.specs.Rebuilding.{rebuilding}
 use Rattle.std.specs.FinMap.{empty}
-use Rattle.mr_resp.specs.Command.{IsCommand, IsCommandText}
+use Rattle.std.specs.List.{AllByRecursion}
+use Rattle.mr_resp.specs.Command.{IsCommandText}
 use Rattle.mr_resp.specs.Usual.{commands}
 use Rattle.mr_entries.specs.Dataset.{Dataset}
 use Rattle.mr_lines.specs.Lines.{Line, status, refusal, size, IsLineText, most_counted}
@@ -13,7 +14,11 @@ use Rattle.mr_lines.specs.Replies.{IsReplyText}
 use Rattle.mr_lines.specs.declared.psync.PsyncReply.{PsyncReply}
 use Rattle.mr_lines.specs.declared.psync.PsyncReply.TheVariants as reply
 use Rattle.mr_replay.specs.Effects.{Makes}
-use Rattle.mr_replay.specs.Steps.{DoesWords}
+use Rattle.mr_effect.specs.declared.effect.Effect.{Effect}
+use Rattle.mr_data.specs.Meaning.{apply_all}
+use Rattle.mr_groups.specs.Groups.{IsGoodGroup, group_text}
+use Rattle.mr_groups.specs.Reading.{IsOpen}
+use Rattle.mr_groups.specs.Folding.{IsRefused, IsTorn}
 use Rattle.mr_follow.specs.Handshake.{IsGreeting, next_of, line_after}
 use Rattle.mr_follow.specs.Lines.{Begins, IsNoLine, IsShortOf, HasStatus}
 use Rattle.mr_follow.specs.Loading.{HasCommandWithin, HasEffectWithin}
@@ -26,11 +31,6 @@ use Rattle.mr_follow.specs.declared.heard.Heard.TheVariants as heard
 use Rattle.mr_follow.specs.declared.heard.FollowFault.{FollowFault}
 use Rattle.mr_follow.specs.declared.heard.FollowFault.TheVariants as fault
 
--- The bytes begin with a command text of these words, and the rest is left.
-pub record Commands (u : List ℕ) (words : List (List ℕ)) (text rest : List ℕ) : Type 0 where
-  pub is : u ≡ text ++ rest
-  pub command : IsCommand commands text words
-
 -- lines are waited for
 abbrev pub WantsLine : Phase → Type 0
 WantsLine p = p ≢ phase.Stream
@@ -42,7 +42,7 @@ Waits phase.Port u kept = Continues IsLineText u
 Waits phase.Capabilities u kept = Continues IsLineText u
 Waits phase.Psync u kept = Continues IsLineText u
 Waits (phase.Snapshot id offset) u kept = Continues IsLineText u ⊎ (IsShortOf u × Continues (IsCommandText commands) kept)
-Waits phase.Stream u kept = Continues (IsCommandText commands) u
+Waits phase.Stream u kept = IsOpen u
 
 -- An answer to a line of the handshake is used, and the next line is put out.
 pub record Greets (a : FollowState) (u : List ℕ) (b : FollowState) (told : List ℕ) : Type 0 where
@@ -75,14 +75,16 @@ pub record Installs (a : FollowState) (u : List ℕ) (loaded : Dataset) (b : Fol
   pub again : Makes told loaded
   pub state : Moves a phase.Stream rest b
 
--- The effect at the front of the stream is used and applied, and its text is put out.
+-- The group at the front of the stream is used and applied, and its text is put out.
 pub record Follows (a : FollowState) (u : List ℕ) (m : Dataset) (offset : ℕ) (b : FollowState) (n : Dataset) (told : List ℕ) : Type 0 where
   pub streams : a.phase ≡ phase.Stream
-  pub words : List (List ℕ)
+  pub group : List Effect
+  pub good : IsGoodGroup group
+  pub is_text : told ≡ group_text group
   pub rest : List ℕ
-  pub begins : Commands u words told rest
+  pub begins : u ≡ told ++ rest
   pub within : offset + length told ≤ most_counted
-  pub applies : DoesWords words m n
+  pub applied : apply_all group m ≡ Some n
   pub state : Moves a phase.Stream rest b
 
 -- the line may not stand here: for a line of the handshake, as the answer to PSYNC, in the place of a snapshot's length
@@ -129,7 +131,7 @@ pub record IsBadSnapshot (a : FollowState) (u : List ℕ) : Type 0 where
   pub begins : Begins u (size length_of) rest
   pub bad : (bytes more behind : List ℕ) (n : Dataset) → length bytes ≡ length_of → rest ++ more ≡ bytes ++ behind → Makes bytes n → ⊥
 
--- However the bytes go on, no text of an effect begins them that can be applied here and leads up to the offset limit at most.
+-- However the bytes go on, no text of a group begins them that can be applied here and leads up to the offset limit at most.
 pub record IsBadStream (a : FollowState) (u : List ℕ) (m : Dataset) (offset : ℕ) : Type 0 where
   pub streams : a.phase ≡ phase.Stream
   pub room : ℕ
@@ -163,18 +165,21 @@ MayLack phase.Psync offset u kept = ⊥
 MayLack (phase.Snapshot id o) offset u kept = LacksWithin u kept
 MayLack phase.Stream offset u kept = LacksBelow offset u
 
--- Memory ran out within the first effect of the stream, which can be applied here and takes some: the dataset is spent.
-pub record SpendsHeld (a : FollowState) (u : List ℕ) (m : Dataset) (offset : ℕ) (b : FollowState) (n : Dataset) : Type 0 where
+-- a group's text begins the stream that leads up to the offset limit at most, and it isn't used
+pub record BeginsGroup (a : FollowState) (u : List ℕ) (offset : ℕ) (b : FollowState) : Type 0 where
   pub streams : a.phase ≡ phase.Stream
   pub unread : Agrees b u
-  pub words : List (List ℕ)
-  pub text : List ℕ
+  pub group : List Effect
+  pub good : IsGoodGroup group
   pub rest : List ℕ
-  pub begins : Commands u words text rest
-  pub within : offset + length text ≤ most_counted
-  pub can : Dataset
-  pub applies : DoesWords words m can
-  pub heavy : NeedsNoMemory applies.effect → ⊥
+  pub begins : u ≡ group_text group ++ rest
+  pub within : offset + length (group_text group) ≤ most_counted
+
+-- Memory ran out within such a group, whose first effect can be applied and of which one takes some: the dataset is spent.
+pub record SpendsHeld (a : FollowState) (u : List ℕ) (m : Dataset) (offset : ℕ) (b : FollowState) (n : Dataset) : Type 0 where
+  pub at : BeginsGroup a u offset b
+  pub begun : IsRefused at.group m → ⊥
+  pub heavy : AllByRecursion NeedsNoMemory at.group → ⊥
   pub emptied : n ≡ empty
 
 -- Memory ran out within an effect of a snapshot, the next to be done, which can be applied there and takes some. The dataset that
@@ -193,6 +198,15 @@ pub record SpendsMade (a : FollowState) (u : List ℕ) (m : Dataset) (b : Follow
 -- What it waits for is the same.
 pub record Spends (a : FollowState) (u : List ℕ) (m : Dataset) (offset : ℕ) (b : FollowState) (n : Dataset) (told : List ℕ) : Type 0 where
   pub cause : SpendsHeld a u m offset b n ⊎ SpendsMade a u m b n
+  pub waits : b.phase ≡ a.phase
+  pub offer : b.offer ≡ a.offer
+  pub port : b.port ≡ a.port
+  pub silent : told ≡ []
+
+-- A later effect of such a group can't be applied: the dataset is spent. It is that after those before it.
+pub record Tears (a : FollowState) (u : List ℕ) (m : Dataset) (offset : ℕ) (b : FollowState) (n : Dataset) (told : List ℕ) : Type 0 where
+  pub at : BeginsGroup a u offset b
+  pub torn : IsTorn at.group m n
   pub waits : b.phase ≡ a.phase
   pub offer : b.offer ≡ a.offer
   pub port : b.port ≡ a.port
@@ -222,6 +236,7 @@ FollowRow a u m offset (Err fault.Refused) b n told = IsRefused a u × Stays a u
 FollowRow a u m offset (Err fault.Undecodable) b n told = (IsBadSnapshot a u ⊎ IsBadStream a u m offset) × Stays a u m b n told
 FollowRow a u m offset (Err fault.Memory) b n told = MayLack a.phase offset u b.kept × Stays a u m b n told
 FollowRow a u m offset (Err fault.Spent) b n told = Spends a u m offset b n told
+FollowRow a u m offset (Err fault.Torn) b n told = Tears a u m offset b n told
 
 -- a step, and what it puts out
 pub record Steps (a : FollowState) (u : List ℕ) (m : Dataset) (offset : ℕ) (result : Result Heard FollowFault) (b : FollowState) (n : Dataset) (before after : List ℕ) : Type 0 where

@@ -1,33 +1,46 @@
--- The effect at the front of the stream.
+-- The group at the front of the stream.
 use Rattle.std.specs.Prelude.{◌≡◌, ℕ, ◌<◌, ◌≤◌, List, ◌++◌, length, take, Option, Some, None, Result, Ok, Err}
-use Rattle.mr_inline.specs.Language.{Continues}
-use Rattle.mr_resp.specs.Command.{IsCommand, IsCommandText}
+use Rattle.std.specs.List.{AllByRecursion}
+use Rattle.std.specs.FinMap.{empty}
+use Rattle.mr_resp.specs.Command.{IsCommand}
 use Rattle.mr_resp.specs.Usual.{commands}
-use Rattle.mr_effect.specs.Spelling.{text}
 use Rattle.mr_effect.specs.declared.effect.Effect.{Effect}
+use Rattle.mr_entries.specs.Changes.{NeedsNoMemory}
 use Rattle.mr_entries.specs.Dataset.{Dataset}
-use Rattle.mr_data.specs.Meaning.{apply}
-use Rattle.mr_replay.specs.Effects.{IsGoodEffect}
+use Rattle.mr_data.specs.Meaning.{apply_all}
 use Rattle.mr_replay.specs.Steps.{DoesWords, RefusesWords, SpendsWords}
+use Rattle.mr_groups.specs.Groups.{IsGoodGroup, group_text}
+use Rattle.mr_groups.specs.Reading.{IsFirstGroup, IsOpen}
+use Rattle.mr_groups.specs.Folding.{IsRefused, IsTorn}
+use Rattle.mr_groups.specs.declared.applying.GroupFault.{GroupFault}
+use Rattle.mr_groups.specs.declared.applying.GroupFault.TheVariants as group
 use Rattle.mr_follow.specs.declared.heard.FollowFault.{FollowFault}
-use Rattle.mr_follow.specs.declared.heard.FollowFault.TheVariants.{BadLine, Refused, Undecodable, Memory, Spent}
+use Rattle.mr_follow.specs.declared.heard.FollowFault.TheVariants.{BadLine, Refused, Undecodable, Memory, Spent, Torn}
 
--- the first bytes are a command text, of an effect that makes the one dataset of the other
+-- the first bytes are the text of a group, which makes the one dataset of the other
 pub record HasFront (u : List ℕ) (room used : ℕ) (m n : Dataset) : Type 0 where
-  pub inside : used ≤ length u
+  pub group : List Effect
+  pub first : IsFirstGroup u group used
   pub within : used ≤ room
-  pub words : List (List ℕ)
-  pub command : IsCommand commands (take used u) words
-  pub applies : DoesWords words m n
+  pub applied : apply_all group m ≡ Some n
 
--- the first bytes are a command text, of an effect that takes memory: it emptied the dataset
+-- The first bytes are the text of a group that isn't refused and takes memory: it emptied the dataset.
 pub record HasSpent (u : List ℕ) (room : ℕ) (m n : Dataset) : Type 0 where
   pub used : ℕ
-  pub inside : used ≤ length u
+  pub group : List Effect
+  pub first : IsFirstGroup u group used
   pub within : used ≤ room
-  pub words : List (List ℕ)
-  pub command : IsCommand commands (take used u) words
-  pub spends : SpendsWords words m n
+  pub begun : IsRefused group m → ⊥
+  pub heavy : AllByRecursion NeedsNoMemory group → ⊥
+  pub emptied : n ≡ empty
+
+-- The first bytes are the text of a group of which a later effect can't be applied: the dataset is that after those before it.
+pub record HasTorn (u : List ℕ) (room : ℕ) (m n : Dataset) : Type 0 where
+  pub used : ℕ
+  pub group : List Effect
+  pub first : IsFirstGroup u group used
+  pub within : used ≤ room
+  pub torn : IsTorn group m n
 
 -- a command text of at most so many bytes begins these
 pub record HasCommand (u : List ℕ) (room : ℕ) : Type 0 where
@@ -38,14 +51,14 @@ pub record HasCommand (u : List ℕ) (room : ℕ) : Type 0 where
   pub within : length front ≤ room
   pub command : IsCommand commands front words
 
--- no text of an effect that can be applied here, of at most so many bytes, begins these, however they go on
+-- no text of a group that can be applied here, of at most so many bytes, begins these, however they go on
 abbrev pub IsStuckWithin : ℕ → Dataset → List ℕ → Type 0
-IsStuckWithin room m u = (e : Effect) (n : Dataset) (more behind : List ℕ) → IsGoodEffect e → apply e m ≡ Some n → length (text e) ≤ room → u ++ more ≡ text e ++ behind → ⊥
+IsStuckWithin room m u = (g : List Effect) (n : Dataset) (more behind : List ℕ) → IsGoodGroup g → apply_all g m ≡ Some n → length (group_text g) ≤ room → u ++ more ≡ group_text g ++ behind → ⊥
 
--- .. and they aren't the beginning of a command text, unless they are more than so many already
+-- .. and they aren't the beginning of a group's text, unless they are more than so many already
 pub record IsRefusedFront (room : ℕ) (m : Dataset) (u : List ℕ) : Type 0 where
   pub some : 0 < length u
-  pub past : Continues (IsCommandText commands) u → room < length u
+  pub past : IsOpen u → room < length u
   pub stuck : IsStuckWithin room m u
 
 -- nothing has changed
@@ -61,13 +74,43 @@ AppliesText front ws m (Err Refused) n before after = ⊥
 AppliesText front ws m (Err Undecodable) n before after = RefusesWords ws m × IsSame m n before after
 AppliesText front ws m (Err Memory) n before after = IsSame m n before after
 AppliesText front ws m (Err Spent) n before after = SpendsWords ws m n × (after ≡ before)
+AppliesText front ws m (Err Torn) n before after = ⊥
 
--- The effect at the front is applied; none is whole; or what stands there is none of at most so many bytes that can be.
+-- why a group wasn't applied, as a follower tells it
+abbrev pub told_as : GroupFault → FollowFault
+told_as group.Refused = Undecodable
+told_as group.Memory = Spent
+told_as group.Torn = Torn
+
+-- a group whose text isn't whole is waited for among the first so many bytes, and no further
+abbrev pub WaitsWithin : List ℕ → ℕ → Result (Option ℕ) FollowFault → Type 0
+WaitsWithin u room (Ok None) = length u ≤ room
+WaitsWithin u room (Ok (Some used)) = ⊥
+WaitsWithin u room (Err BadLine) = ⊥
+WaitsWithin u room (Err Refused) = ⊥
+WaitsWithin u room (Err Undecodable) = room < length u
+WaitsWithin u room (Err Memory) = ⊥
+WaitsWithin u room (Err Spent) = ⊥
+WaitsWithin u room (Err Torn) = ⊥
+
+-- the group of these effects, whose text this is, is applied, or can't be
+abbrev pub AppliesEffects : List ℕ → List Effect → Dataset → Result (Option ℕ) FollowFault → Dataset → List ℕ → List ℕ → Type 0
+AppliesEffects front es m (Ok None) n before after = ⊥
+AppliesEffects front es m (Ok (Some used)) n before after = (used ≡ length front) × ((apply_all es m ≡ Some n) × (after ≡ before ++ front))
+AppliesEffects front es m (Err BadLine) n before after = ⊥
+AppliesEffects front es m (Err Refused) n before after = ⊥
+AppliesEffects front es m (Err Undecodable) n before after = IsRefused es m × IsSame m n before after
+AppliesEffects front es m (Err Memory) n before after = IsSame m n before after
+AppliesEffects front es m (Err Spent) n before after = ((IsRefused es m → ⊥) × ((AllByRecursion NeedsNoMemory es → ⊥) × (n ≡ empty))) × (after ≡ before)
+AppliesEffects front es m (Err Torn) n before after = IsTorn es m n × (after ≡ before)
+
+-- The group at the front is applied; none is whole; or what stands there is none of at most so many bytes that can be.
 abbrev pub AppliesFront : List ℕ → ℕ → Dataset → Result (Option ℕ) FollowFault → Dataset → List ℕ → List ℕ → Type 0
-AppliesFront u room m (Ok None) n before after = Continues (IsCommandText commands) u × IsSame m n before after
+AppliesFront u room m (Ok None) n before after = IsOpen u × IsSame m n before after
 AppliesFront u room m (Ok (Some used)) n before after = HasFront u room used m n × (after ≡ before ++ take used u)
 AppliesFront u room m (Err BadLine) n before after = ⊥
 AppliesFront u room m (Err Refused) n before after = ⊥
 AppliesFront u room m (Err Undecodable) n before after = IsRefusedFront room m u × IsSame m n before after
 AppliesFront u room m (Err Memory) n before after = HasCommand u room × IsSame m n before after
 AppliesFront u room m (Err Spent) n before after = HasSpent u room m n × (after ≡ before)
+AppliesFront u room m (Err Torn) n before after = HasTorn u room m n × (after ≡ before)

@@ -23,7 +23,7 @@ use std::marker::Model;
 const MOST: u64 = 1 << 62;
 
 /// A replica's end of its master's link: it answers the handshake, makes a dataset of a snapshot as it comes, which it hands
-/// over with the last byte, and applies the stream, an effect at a step.
+/// over with the last byte, and applies the stream, a group of effects at a step.
 #[derive(Drop)]
 pub struct Follower {
     phase: Phase,
@@ -121,7 +121,7 @@ impl Follower {
         self.inbox.hear(bytes)
     }
 
-    /// Uses a line, a snapshot or an effect, if one is whole: of this dataset, up to this offset. What is to be sent, or was
+    /// Uses a line, a snapshot or a group of effects, if one is whole: of this dataset, up to this offset. What is to be sent, or was
     /// applied, is put behind what stands in `out`.
     pub fn step(
         &mut self,
@@ -274,7 +274,7 @@ impl Follower {
         }
     }
 
-    /// Applies the effect at the front of the stream.
+    /// Applies the group at the front of the stream.
     fn follow(
         &mut self,
         alloc: Global,
@@ -287,7 +287,7 @@ impl Follower {
         ensures { (u : List ℕ) → Agrees self.old u → Steps self.old u held.old offset result self.new held.new out.old.items out.new.items }
     {
         let room = MOST - offset;
-        let Some(used) = apply_front(alloc, self.inbox.unread(), room, held, out)? else {
+        let Some(used) = apply_front(alloc, &mut self.inbox, room, held, out)? else {
             return Ok(Heard::Idle);
         };
         self.take(used, Phase::Stream);

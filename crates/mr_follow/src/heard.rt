@@ -15,7 +15,7 @@ pub enum Heard {
     Continue(ReplId),
     /// The snapshot is whole: this is its dataset.
     Snapshot(Dataset),
-    /// An effect of the stream was applied. Its text was put out.
+    /// A group of the stream was applied. Its text was put out.
     Applied,
 }
 
@@ -28,7 +28,8 @@ pub enum FollowFault {
     /// The master refused.
     #[error("refused by the master")]
     Refused,
-    /// What stands in the snapshot or in the stream is no effect, or one that can't be applied here.
+    /// What stands in the snapshot is no effect, or one that can't be applied there; or what stands in the stream is no group, or
+    /// one whose first effect can't be applied here.
     #[error("undecodable stream")]
     Undecodable,
     /// Memory ran out, and nothing has changed.
@@ -37,4 +38,7 @@ pub enum FollowFault {
     /// Memory ran out while an effect was applied: the dataset is spent.
     #[error("out of memory, and the dataset is spent")]
     Spent,
+    /// Of the group that stands in the stream a later effect can't be applied here: the dataset is spent.
+    #[error("a group that does not apply as a whole, and the dataset is spent")]
+    Torn,
 }

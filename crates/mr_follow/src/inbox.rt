@@ -1,14 +1,20 @@
 //! Bytes that were fed and not yet used.
-ghost use Rattle.std.specs.Prelude.{◌≡◌, ◌≤◌, ◌++◌, [], length, drop, OnOk, OnErr};
+ghost use Rattle.std.specs.Prelude.{◌≡◌, ◌≤◌, ◌++◌, [], length, drop, take, IfOk, OnOk, OnErr};
+ghost use Rattle.mr_resp.specs.Command.{BeginsWithCommand};
+ghost use Rattle.mr_resp.specs.Usual.{commands};
+ghost use Rattle.mr_groups.specs.Reading.{ReadsGroup};
 
+use crate::taking::at_most;
+use mr_groups::{Next, Reader};
 use std::alloc::{AllocError, Global};
 use std::marker::Model;
 
-/// What was fed, of which the bytes before `used` were used.
+/// What was fed, of which the bytes before `used` were used. Of those behind it `reader` has read a part of a group.
 #[derive(Drop)]
 pub(crate) struct Inbox {
     input: Vec<u8>,
     used: usize,
+    reader: Reader,
 }
 
 impl Model for Inbox {
@@ -18,7 +24,9 @@ impl Model for Inbox {
 
     ghost view = { λ i. drop i.used i.input.items };
 
-    ghost invariant = { λ i. i.used ≤ length i.input.items };
+    ghost use Rattle.mr_groups.specs.Readers.{HasRead};
+
+    ghost invariant = { λ i. (i.used ≤ length i.input.items) × HasRead i.reader (drop i.used i.input.items) };
 }
 
 impl Inbox {
@@ -29,6 +37,7 @@ impl Inbox {
         Inbox {
             input: Vec::new(alloc),
             used: 0,
+            reader: Reader::new(alloc),
         }
     }
 
@@ -45,6 +54,7 @@ impl Inbox {
         ensures { self.new ≡ drop count self.old }
     {
         self.used += count;
+        self.reader.reset();
     }
 
     /// Used bytes go where they are more than what is left, so that fewer bytes are moved than were used.
@@ -72,5 +82,14 @@ impl Inbox {
         self.compact();
         self.input.extend_from_slice(bytes)?;
         Ok(())
+    }
+
+    /// Reads the group at the front of the first `most` unread bytes. What was read of it before isn't read again.
+    pub(crate) fn next_group(&mut self, alloc: Global, most: u64) -> Result<Next, AllocError>
+        ensures found { IfOk result (λ next. ReadsGroup (take most self.old) next) }
+        ensures refused { OnErr result (BeginsWithCommand commands (take most self.old)) }
+        ensures kept { self.new ≡ self.old }
+    {
+        self.reader.next(alloc, at_most(&self.input[self.used..], most))
     }
 }

@@ -13,6 +13,6 @@ pub enum Phase {
     Psync,
     /// The last byte of a snapshot of the stream under this id, up to this offset.
     Snapshot(ReplId, u64),
-    /// The next effect.
+    /// The next group of effects.
     Stream,
 }

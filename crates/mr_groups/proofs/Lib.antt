@@ -7,3 +7,5 @@ pub mod Runs
 pub mod Cuts
 pub mod Doing
 pub mod Going
+pub mod Lone
+pub mod Resuming

@@ -23,6 +23,7 @@ use Rattle.mr_replay.proofs.Pieces.{rest_from, rest_is}
 use Rattle.mr_groups.specs.Groups.{can_join, IsGroup, IsGoodGroup, multi, exec, group_text}
 use Rattle.mr_groups.specs.Parts.{StartsWith, TakesEffect, HasOther, TakesWords, AreOther, ReadsEffect, ReadsWords, ReadsPart, is_only, multi_words, exec_words}
 use Rattle.mr_groups.specs.Reading.{IsFirstGroup, IsOpen, IsBad}
+use Rattle.mr_groups.specs.Readers.{AreRead}
 use Rattle.mr_groups.specs.declared.part.Part.{Part}
 use Rattle.mr_groups.specs.declared.part.Part.TheVariants as part
 use Rattle.mr_groups.proofs.Apart.{multi_command, exec_command, effect_command}
@@ -148,13 +149,6 @@ on_err (Ok x) P p = tt
 on_err (Err e) P p = p
 
 -- ---- inside a frame
-
--- the first bytes are a frame's beginning and effects that can stand beside one another
-pub record AreRead (bytes : List ℕ) (used : ℕ) (es : List Effect) : Type 0 where
-  pub within : used ≤ length bytes
-  pub is_text : take used bytes ≡ multi ++ texts es
-  pub good : All IsGoodEffect es
-  pub join : IsTrue (list_all can_join es)
 
 pub none_read : (bytes : List ℕ) (n : ℕ) (es : List Effect) → es ≡ [] → StartsWith multi bytes n → AreRead bytes n es
 none_read bytes n es none s = record {

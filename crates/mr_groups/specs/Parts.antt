@@ -46,7 +46,7 @@ abbrev pub ReadsPart : List ℕ → List Effect → Part → List Effect → Typ
 ReadsPart bytes old (part.Begin used) new = StartsWith multi bytes used × (new ≡ old)
 ReadsPart bytes old (part.End used) new = StartsWith exec bytes used × (new ≡ old)
 ReadsPart bytes old (part.Effect used joins) new = TakesEffect bytes used joins old new
-ReadsPart bytes old part.More new = Continues (IsCommandText commands) bytes
+ReadsPart bytes old part.More new = Continues (IsCommandText commands) bytes × (new ≡ old)
 ReadsPart bytes old part.Bad new = HasOther bytes ⊎ IsDoomed (IsCommandText commands) bytes
 
 -- there is one word, and it is this one

@@ -6,6 +6,7 @@ ghost use Rattle.mr_entries.specs.Dataset.{Dataset};
 ghost use Rattle.mr_data.specs.Meaning.{apply_all};
 ghost use Rattle.mr_groups.specs.Groups.{IsGoodGroup, group_text, group_texts, singles};
 ghost use Rattle.mr_groups.specs.Reading.{BeginsWithGroup, IsBad, IsFirstGroup, IsOpen};
+ghost use Rattle.mr_groups.specs.Readers.{ReadsAny, ReadsOn};
 ghost use Rattle.mr_groups.specs.Folding.{LoadsGroups, MakesByGroups, apply_groups};
 
 /// A group's text determines the group and where it ends, so no group's text is a proper beginning of another's. Texts one after
@@ -38,4 +39,10 @@ pub fn answer_is_one()
     ensures not_bad { (bytes : List ℕ) (es : List Effect) (n : ℕ) → IsFirstGroup bytes es n → IsBad bytes → ⊥ }
     ensures open_or_bad { (bytes : List ℕ) → IsOpen bytes → IsBad bytes → ⊥ }
     ensures for_good { (bytes more : List ℕ) → IsBad bytes → BeginsWithGroup (bytes ++ more) → ⊥ }
+{}
+
+/// What a reader has read of some bytes it has read of more that go on from them; and one that has read nothing may begin anywhere.
+pub fn reading_goes_on()
+    ensures on { ReadsOn }
+    ensures any { ReadsAny }
 {}

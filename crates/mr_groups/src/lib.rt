@@ -7,13 +7,17 @@ mod laws;
 mod loading;
 mod owning;
 mod part;
+mod reader;
 mod reading;
 
 pub use applying::{GroupFault, apply_group, apply_group_owned};
 pub use encoding::encode_group;
 pub use laws::{
-    answer_is_one, groups_are_told_apart, single_effects_are_groups, torn_groups_do_nothing,
+    answer_is_one, groups_are_told_apart, reading_goes_on, single_effects_are_groups,
+    torn_groups_do_nothing,
 };
 pub use loading::load_groups;
 pub use mr_replay::Loaded;
+pub use part::begins_frame;
+pub use reader::Reader;
 pub use reading::{Next, next_group};

@@ -1,10 +1,10 @@
 // The command text at the front of bytes, as a part of a group's text.
-ghost use Rattle.std.specs.Prelude.{◌≡◌, ◌++◌, ◌∷◌, [], IfOk, OnErr, OnOk, length, map};
+ghost use Rattle.std.specs.Prelude.{◌≡◌, ◌↔◌, true, ◌++◌, ◌∷◌, [], IfOk, OnErr, OnOk, length, map};
 ghost use Rattle.std.specs.Cow.{cow_slice_items};
 ghost use Rattle.mr_resp.specs.Command.{BeginsWithCommand};
 ghost use Rattle.mr_resp.specs.Usual.{commands};
 ghost use Rattle.mr_groups.specs.Groups.{can_join};
-ghost use Rattle.mr_groups.specs.Parts.{ReadsEffect, ReadsPart, ReadsWords, is_only};
+ghost use Rattle.mr_groups.specs.Parts.{ReadsEffect, ReadsPart, ReadsWords, is_only, multi_words};
 
 use crate::owning::owned_effect;
 use mr_data::{Effect, decode};
@@ -12,6 +12,7 @@ use mr_resp::{Scan, next_command};
 use std::alloc::{AllocError, Global};
 use std::borrow::CowSlice;
 use std::marker::Model;
+use std::mem::replace;
 
 /// The effects that were read so far, which own their words, seen as a list.
 pub(crate) struct Gathered {
@@ -46,7 +47,8 @@ impl Gathered {
 
     /// Puts the same effect with words of its own behind the others.
     fn push(&mut self, alloc: Global, effect: &Effect<'_>) -> Result<(), AllocError>
-        ensures { OnOk result (self.new ≡ self.old ++ effect.now ∷ []) }
+        ensures ok { OnOk result (self.new ≡ self.old ++ effect.now ∷ []) }
+        ensures err { OnErr result (self.new ≡ self.old) }
     {
         self.effects.push(owned_effect(alloc, effect)?)?;
         Ok(())
@@ -57,6 +59,21 @@ impl Gathered {
         ensures { result ≡ length self.now }
     {
         self.effects.len()
+    }
+
+    /// Lets them go.
+    pub(crate) fn clear(&mut self)
+        ensures { self.new ≡ [] }
+    {
+        self.effects.clear();
+    }
+
+    /// Takes them out.
+    pub(crate) fn take(&mut self, alloc: Global) -> Vec<Effect<'static>>
+        ensures taken { result.items ≡ self.old }
+        ensures left { self.new ≡ [] }
+    {
+        replace(&mut self.effects, Vec::new(alloc))
     }
 
     /// The vector of the effects.
@@ -100,6 +117,13 @@ fn is_only(words: &[CowSlice<'_, u8>], name: &[u8]) -> bool
     }
 }
 
+/// Whether these are the words of the text that begins a frame.
+pub fn begins_frame(words: &[CowSlice<'_, u8>]) -> bool
+    ensures { (result ≡ true) ↔ (map cow_slice_items words.now ≡ multi_words) }
+{
+    is_only(words, b"MULTI")
+}
+
 /// Puts the same effect, whose text has so many bytes, behind the others.
 fn take_effect(
     alloc: Global,
@@ -107,7 +131,8 @@ fn take_effect(
     used: usize,
     effects: &mut Gathered,
 ) -> Result<Part, AllocError>
-    ensures { IfOk result (λ part. (part ≡ Part.Effect used (can_join effect.entry)) × (effects.new ≡ effects.old ++ effect.entry ∷ [])) }
+    ensures ok { IfOk result (λ part. (part ≡ Part.Effect used (can_join effect.entry)) × (effects.new ≡ effects.old ++ effect.entry ∷ [])) }
+    ensures err { OnErr result (effects.new ≡ effects.old) }
 {
     let joins = can_join(&effect);
     let put = effects.push(alloc, &effect);
@@ -125,7 +150,8 @@ fn take_words(
     used: usize,
     effects: &mut Gathered,
 ) -> Result<Part, AllocError>
-    ensures { IfOk result (λ part. ReadsEffect (map cow_slice_items words.now) used effects.old part effects.new) }
+    ensures ok { IfOk result (λ part. ReadsEffect (map cow_slice_items words.now) used effects.old part effects.new) }
+    ensures err { OnErr result (effects.new ≡ effects.old) }
 {
     match decode(alloc, words) {
         Err(e) => Err(e),
@@ -141,7 +167,8 @@ fn part_of(
     used: usize,
     effects: &mut Gathered,
 ) -> Result<Part, AllocError>
-    ensures { IfOk result (λ part. ReadsWords (map cow_slice_items words.now) used effects.old part effects.new) }
+    ensures ok { IfOk result (λ part. ReadsWords (map cow_slice_items words.now) used effects.old part effects.new) }
+    ensures err { OnErr result (effects.new ≡ effects.old) }
 {
     if is_only(words, b"MULTI") {
         return Ok(Part::Begin(used));
@@ -161,6 +188,7 @@ pub(crate) fn next_part(
 ) -> Result<Part, AllocError>
     ensures found { IfOk result (λ part. ReadsPart bytes.now effects.old part effects.new) }
     ensures refused { OnErr result (BeginsWithCommand commands bytes.now) }
+    ensures kept { OnErr result (effects.new ≡ effects.old) }
 {
     match next_command(alloc, bytes) {
         Err(e) => Err(e),

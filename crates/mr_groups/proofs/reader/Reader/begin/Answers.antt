@@ -1,17 +1,9 @@
 use Rattle.std.proofs.Common.{subst}
-use Rattle.mr_resp.specs.Command.{BeginsWithCommand}
-use Rattle.mr_resp.specs.Usual.{commands}
 use Rattle.mr_groups.specs.Parts.{ReadsPart}
 use Rattle.mr_groups.specs.declared.part.Part.{Part}
 use Rattle.mr_groups.proofs.Openings.{open_start}
-use Rattle.mr_groups.proofs.Readings.{begins_with_multi, end_start, bad_at_start, on_err}
-use Rattle.mr_groups.proofs.reading.next_group.Goals as goal
-
-pub returns-in-Ok-Begin-clause-refused : goal.returns-in-Ok-Begin-clause-refused
-returns-in-Ok-Begin-clause-refused c =
-    let bytes = c.args.bytes.now in
-    let read = subst (λ (p : Part). ReadsPart bytes c.new-effects.result p c.next_part.new.effects) c.in-Ok-Begin.field-0-is c.in-Ok-Begin.ensures.found in
-    on_err c.next_framed.result (BeginsWithCommand commands bytes) (begins_with_multi bytes c.in-Ok-Begin.used read.0)
+use Rattle.mr_groups.proofs.Readings.{end_start, bad_at_start}
+use Rattle.mr_groups.proofs.reader.Reader.begin.Goals as goal
 
 pub returns-in-Ok-End-clause-found : goal.returns-in-Ok-End-clause-found
 returns-in-Ok-End-clause-found c =
@@ -22,7 +14,8 @@ returns-in-Ok-End-clause-found c =
 pub returns-in-Ok-More-clause-found : goal.returns-in-Ok-More-clause-found
 returns-in-Ok-More-clause-found c =
     let bytes = c.args.bytes.now in
-    open_start bytes (subst (λ (p : Part). ReadsPart bytes c.new-effects.result p c.next_part.new.effects) c.in-Ok-More.field-0-is c.in-Ok-More.ensures.found)
+    let read = subst (λ (p : Part). ReadsPart bytes c.new-effects.result p c.next_part.new.effects) c.in-Ok-More.field-0-is c.in-Ok-More.ensures.found in
+    open_start bytes read.0
 
 pub returns-in-Ok-Bad-clause-found : goal.returns-in-Ok-Bad-clause-found
 returns-in-Ok-Bad-clause-found c =

@@ -1,0 +1,65 @@
+-- What was read of a group stays read as more bytes come.
+use Rattle.std.proofs.Common.{ℕ, ◌<◌, ◌≤◌, List, length, take, refl, sym, ap, subst, ◌∙◌, arith, length-append}
+use Rattle.std.proofs.lemmas.List.{take-append-le, take-take, take_at, length-take-le}
+use Rattle.mr_resp.specs.Command.{BeginsWithCommand}
+use Rattle.mr_resp.specs.Usual.{commands}
+use Rattle.mr_effect.specs.Spelling.{texts}
+use Rattle.mr_effect.specs.declared.effect.Effect.{Effect}
+use Rattle.mr_groups.specs.Groups.{multi}
+use Rattle.mr_groups.specs.Reading.{IsFirstGroup, ReadsGroup}
+use Rattle.mr_groups.specs.Readers.{AreRead, IsFresh, HasRead, LeavesOf, GivesAll, MayRead, ReadsOn, ReadsAny}
+use Rattle.mr_groups.specs.Readers.HasRead.{nothing, begun}
+use Rattle.mr_groups.specs.declared.reader.Reader.{Reader}
+use Rattle.mr_groups.specs.declared.reading.Next.{Next}
+use Rattle.mr_groups.specs.declared.reading.Next.TheVariants.{Whole, More, Bad}
+use Rattle.mr_groups.proofs.Readings.{begins_with_multi}
+
+pub reads_any : ReadsAny
+reads_any r bytes fresh = nothing fresh
+
+pub reads_on : ReadsOn
+reads_on r bytes more (nothing fresh) = nothing fresh
+reads_on r bytes more (begun read) = begun (record {
+  within = omega (arith, read.within, length-append bytes more);
+  is_text = take-append-le r.used bytes more read.within ∙ read.is_text;
+  good = read.good;
+  join = read.join;
+})
+
+-- what may have been read of the bytes was, where it is among them
+pub read_here : (r : Reader) (bytes : List ℕ) → MayRead r bytes → r.used ≤ length bytes → HasRead r bytes
+read_here r bytes (more, nothing fresh) within = nothing fresh
+read_here r bytes (more, begun read) within = begun (record {
+  within = within;
+  is_text = sym (take-append-le r.used bytes more within) ∙ read.is_text;
+  good = read.good;
+  join = read.join;
+})
+
+-- what was read of a frame was
+pub still_read : (r : Reader) (bytes : List ℕ) → MayRead r bytes → 0 < r.used → r.used ≤ length bytes → AreRead bytes r.used r.effects
+still_read r bytes may some within = by_cases (read_here r bytes may within)
+  where
+    by_cases : HasRead r bytes → AreRead bytes r.used r.effects
+    by_cases (nothing fresh) = absurd (omega (arith, some, fresh.0))
+    by_cases (begun read) = read
+
+pub given_group : (bytes : List ℕ) (es : List Effect) (n : ℕ) (r : Next) → IsFirstGroup bytes es n → GivesAll es n r → ReadsGroup bytes r
+given_group bytes es n (Whole effects used) first h = subst (λ k. IsFirstGroup bytes effects.items k) (sym h.1) (subst (λ (xs : List Effect). IsFirstGroup bytes xs n) (sym h.0) first)
+given_group bytes es n More first h = absurd h
+given_group bytes es n Bad first h = absurd h
+
+pub given_fresh : (es : List Effect) (n : ℕ) (r : Next) (s : Reader) → GivesAll es n r → IsFresh s → LeavesOf r s
+given_fresh es n (Whole effects used) s h fresh = fresh
+given_fresh es n More s h fresh = absurd h
+given_fresh es n Bad s h fresh = absurd h
+
+-- a frame's beginning is a command text
+pub frame_begins : (bytes : List ℕ) (used : ℕ) (es : List Effect) → AreRead bytes used es → BeginsWithCommand commands bytes
+frame_begins bytes used es a = begins_with_multi bytes (length multi) (record {
+  within = omega (arith, a.within, length-take-le used bytes a.within, ap length a.is_text, length-append multi (texts es));
+  is_text = sym (take-take (length multi) used bytes few) ∙ (ap (take (length multi)) a.is_text ∙ take_at multi (texts es) (length multi) refl);
+})
+  where
+    few : length multi ≤ used
+    few = omega (arith, length-take-le used bytes a.within, ap length a.is_text, length-append multi (texts es))
