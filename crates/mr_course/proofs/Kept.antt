@@ -5,7 +5,7 @@ use Rattle.mr_links.specs.declared.link_id.LinkId.{LinkId}
 use Rattle.mr_entries.specs.Dataset.{Dataset}
 use Rattle.mr_repl.specs.Lineage.{LineageState, begun, grown, continued}
 use Rattle.mr_follow.specs.State.{FollowState, AgreesBy, Agrees, Moves, heard}
-use Rattle.mr_follow.specs.Rows.{Stays, Spends}
+use Rattle.mr_follow.specs.Rows.{Stays, Spends, Tears}
 use Rattle.mr_follow.specs.Handshake.{IsGreeting, next_of}
 use Rattle.mr_follow.specs.declared.phase.Phase.{Phase}
 use Rattle.mr_follow.specs.declared.phase.Phase.TheVariants as phase
@@ -59,10 +59,14 @@ module _ (c : CourseState) (m : Dataset) (name : LinkId) (f : FollowState) (foll
 
   -- what was taken of a snapshot may be gone
   spent_has : (g : FollowState) (n : Dataset) (u told : List ℕ) → Spends f u m c.lineage.stream.offset g n told → HasUnread g
-  spent_has g n u told s = elim s.cause [ inl h ↦ record { unread = u; agrees = h.unread } | inr h ↦ record { unread = g.kept; agrees = h.unread } ]
+  spent_has g n u told s = elim s.cause [ inl h ↦ record { unread = u; agrees = h.at.unread } | inr h ↦ record { unread = g.kept; agrees = h.unread } ]
 
   spent : (d : CourseState) (g : FollowState) (n : Dataset) (u told : List ℕ) → Spends f u m c.lineage.stream.offset g n told → d ≡ reads_on name g c → IsCourse d
   spent d g n u told s is = with_next d g c.offers c.lineage is (record { replica = refl; fits = same_fits f g f.phase c.offers c.lineage s.waits s.offer here.fits; has = spent_has g n u told s })
+
+  torn : (d : CourseState) (g : FollowState) (n : Dataset) (u told : List ℕ) → Tears f u m c.lineage.stream.offset g n told → d ≡ reads_on name g c → IsCourse d
+  torn d g n u told t is =
+      with_next d g c.offers c.lineage is (record { replica = refl; fits = same_fits f g f.phase c.offers c.lineage t.waits t.offer here.fits; has = record { unread = u; agrees = t.at.unread } })
 
   row_keeps : (u : List ℕ) (g : FollowState) (r : Result UpstreamStep UpstreamFault) (d : CourseState) (n : Dataset) (told : List ℕ) → UpstreamRow c m name f u g r d n told → IsCourse d
   row_keeps u g (Ok up.Idle) d n told r = stayed d g n u told r.stays r.is
@@ -80,7 +84,7 @@ module _ (c : CourseState) (m : Dataset) (name : LinkId) (f : FollowState) (foll
   row_keeps u g (Ok up.Left) d n told r = alone d c.offers r.is
   row_keeps u g (Ok up.Spoiled) d n told r = alone d false r.is
   row_keeps u g (Err fault.Memory) d n told r = stayed d g n u told r.stays r.is
-  row_keeps u g (Err fault.Stopped) d n told r = spent d g n u told r.spends r.is
+  row_keeps u g (Err fault.Stopped) d n told r = elim r.cause [ inl s ↦ spent d g n u told s r.is | inr t ↦ torn d g n u told t r.is ]
 
   pub keeps_by : (g : FollowState) (r : Result UpstreamStep UpstreamFault) (d : CourseState) (n : Dataset) (told : List ℕ) → ((u : List ℕ) → Agrees f u → UpstreamRow c m name f u g r d n told) → IsCourse d
   keeps_by g r d n told row = let has = here.has in row_keeps has.unread g r d n told (row has.unread has.agrees)

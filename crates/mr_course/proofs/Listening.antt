@@ -61,4 +61,5 @@ module _ (c : CourseState) (m : Dataset) (name : LinkId) (f : FollowState) (plac
   fault_row refusal.Refused g n told s d r h = subst (λ (z : Result UpstreamStep UpstreamFault). UpstreamRow c m name f u g z d n told) (sym h.0) (record { cause = inr r.0; keeps = still g n told r.1; is = h.1 })
   fault_row refusal.Undecodable g n told s d r h = subst (λ (z : Result UpstreamStep UpstreamFault). UpstreamRow c m name f u g z d n told) (sym h.0) (record { cause = r.0; keeps = still g n told r.1; is = h.1 })
   fault_row refusal.Memory g n told s d r h = subst (λ (z : Result UpstreamStep UpstreamFault). UpstreamRow c m name f u g z d n told) (sym h.0) (record { cause = r.0; stays = r.1; is = h.1 })
-  fault_row refusal.Spent g n told s d r h = subst (λ (z : Result UpstreamStep UpstreamFault). UpstreamRow c m name f u g z d n told) (sym h.0) (record { spends = r; is = h.1 })
+  fault_row refusal.Spent g n told s d r h = subst (λ (z : Result UpstreamStep UpstreamFault). UpstreamRow c m name f u g z d n told) (sym h.0) (record { cause = inl r; is = h.1 })
+  fault_row refusal.Torn g n told s d r h = subst (λ (z : Result UpstreamStep UpstreamFault). UpstreamRow c m name f u g z d n told) (sym h.0) (record { cause = inr r; is = h.1 })

@@ -33,7 +33,7 @@ place_of phase.Psync = None
 place_of (phase.Snapshot id offset) = Some (id, offset)
 place_of phase.Stream = None
 
--- what was heard can be done: a snapshot has a place, and an effect leads past no limit
+-- what was heard can be done: a snapshot has a place, and a group leads past no limit
 abbrev pub IsReady : Heard → Option (List ℕ × ℕ) → List ℕ → CourseState → Type 0
 IsReady heard.Idle place told c = Unit {0}
 IsReady heard.Say place told c = Unit {0}
@@ -61,3 +61,4 @@ GivesUp refusal.Refused c r d = (r ≡ Ok up.Left) × (d ≡ left c)
 GivesUp refusal.Undecodable c r d = (r ≡ Ok up.Spoiled) × (d ≡ spoiled c)
 GivesUp refusal.Memory c r d = (r ≡ Err fault.Memory) × (d ≡ c)
 GivesUp refusal.Spent c r d = (r ≡ Err fault.Stopped) × (d ≡ c)
+GivesUp refusal.Torn c r d = (r ≡ Err fault.Stopped) × (d ≡ c)

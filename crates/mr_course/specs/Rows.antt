@@ -46,7 +46,7 @@ pub record Loads (c : CourseState) (name : LinkId) (f : FollowState) (u : List �
   pub installs : follow.Installs f u n g told
   pub is : d ≡ reads_on name g (adopts installs.id installs.offset c)
 
--- An effect of the stream is applied, and its text is the stream's here too.
+-- A group of the stream is applied, and its text is the stream's here too.
 pub record Applies (c : CourseState) (m : Dataset) (name : LinkId) (f : FollowState) (u : List ℕ) (g : FollowState) (d : CourseState) (n : Dataset) (told : List ℕ) : Type 0 where
   pub follows : follow.Follows f u m c.lineage.stream.offset g n told
   pub is : d ≡ reads_on name g (grows told c)
@@ -69,9 +69,9 @@ pub record Lacks (c : CourseState) (m : Dataset) (name : LinkId) (f : FollowStat
   pub stays : follow.Stays f u m g n told
   pub is : d ≡ reads_on name g c
 
--- Memory ran out within an effect, and the dataset that it was applied to is spent.
+-- The dataset is spent that was read into: memory ran out within an effect, or a later effect of a group can't be applied.
 pub record Stops (c : CourseState) (m : Dataset) (name : LinkId) (f : FollowState) (u : List ℕ) (g : FollowState) (d : CourseState) (n : Dataset) (told : List ℕ) : Type 0 where
-  pub spends : follow.Spends f u m c.lineage.stream.offset g n told
+  pub cause : follow.Spends f u m c.lineage.stream.offset g n told ⊎ follow.Tears f u m c.lineage.stream.offset g n told
   pub is : d ≡ reads_on name g c
 
 -- the row of an outcome

@@ -266,7 +266,7 @@ impl Parts {
                 Ok(UpstreamStep::Spoiled)
             }
             FollowFault::Memory => Err(UpstreamFault::Memory),
-            FollowFault::Spent => Err(UpstreamFault::Stopped),
+            FollowFault::Spent | FollowFault::Torn => Err(UpstreamFault::Stopped),
         }
     }
 }

@@ -13,11 +13,11 @@ pub enum UpstreamStep {
     Continued,
     /// A whole snapshot took the place of the dataset and of the stream. The commands that rebuild it were put out.
     Loaded,
-    /// An effect of the stream was applied. Its text was put out.
+    /// A group of the stream was applied. Its text was put out.
     Applied,
     /// The master said what it may not, or refused: it is followed no longer.
     Left,
-    /// What the master sent is no snapshot, or no effect that can be applied here: it is followed no longer, and nothing is left to
+    /// What the master sent is no snapshot, or no group that can be begun here: it is followed no longer, and nothing is left to
     /// continue.
     Spoiled,
 }
@@ -28,7 +28,7 @@ pub enum UpstreamFault {
     /// Memory ran out. No byte was used.
     #[error("out of memory")]
     Memory,
-    /// Memory ran out while an effect was applied: the node stops.
-    #[error("out of memory, and the dataset is spent")]
+    /// Memory ran out while an effect was applied, or a group can't be applied as a whole: the node stops.
+    #[error("the dataset is spent: out of memory, or a group that does not apply as a whole")]
     Stopped,
 }

@@ -1,6 +1,7 @@
 -- The group at the front of the stream.
-use Rattle.std.proofs.Common.{◌≡◌, ℕ, ◌<◌, ◌≤◌, ◌^◌, ◌⊎◌, inl, inr, List, [], ◌∷◌, ◌++◌, length, take, drop, Option, Some, None, Result, Ok, Err, refl, sym, ap, ◌∙◌, subst, arith, append-nil, append_assoc, length-append, take_all}
-use Rattle.std.specs.List.{AllByRecursion}
+use Rattle.std.proofs.Common.{◌≡◌, ℕ, ◌<◌, ◌≤◌, ◌^◌, ◌⊎◌, inl, inr, List, [], ◌∷◌, ◌++◌, length, take, drop, Option, Some, None, Result, Ok, Err, refl, sym, ap, ◌∙◌, subst, arith, append-nil, append_assoc, length-append, take_all, All, lit<}
+use Rattle.std.specs.List.{AllByRecursion, flat_map}
+use Rattle.std.specs.Prelude.{codes}
 use Rattle.std.specs.Option.{option_and_then}
 use Rattle.std.specs.FinMap.{empty}
 use Rattle.std.proofs.lemmas.Bool.{cases_lt}
@@ -8,6 +9,9 @@ use Rattle.std.proofs.lemmas.List.{length-take-le, take-append-drop}
 use Rattle.std.proofs.lemmas.List.Elements.{All-nil, All-cons}
 use Rattle.mr_inline.specs.Language.{Continues, IsDoomed, Fails}
 use Rattle.mr_resp.proofs.OneFault.{fails_doomed}
+use Rattle.mr_resp.specs.Spelling.{bulk, number_line}
+use Rattle.mr_resp.proofs.LineEnds.{bytes_cons, bytes_nil}
+use Rattle.mr_resp.proofs.Words.{bytes_append, bytes_line, bytes_bulk}
 use Rattle.mr_resp.specs.Command.{IsCommand, IsCommandText, HasCommandFault, ReadsCommand}
 use Rattle.mr_resp.specs.declared.fault.Fault.{Fault}
 use Rattle.mr_resp.specs.declared.request.Scan.{Scan}
@@ -15,23 +19,23 @@ use Rattle.mr_resp.specs.declared.request.Scan.TheVariants as scan
 use Rattle.mr_resp.specs.Usual.{commands, commands-words}
 use Rattle.mr_effect.specs.Spelling.{words}
 use Rattle.mr_effect.specs.declared.effect.Effect.{Effect}
-use Rattle.mr_effect.specs.declared.effect.Effect.TheVariants as effect
 use Rattle.mr_entries.specs.Changes.{NeedsNoMemory}
 use Rattle.mr_entries.specs.Dataset.{Dataset}
 use Rattle.mr_data.specs.Meaning.{apply, apply_all}
 use Rattle.mr_replay.specs.Effects.{IsGoodEffect}
 use Rattle.mr_replay.specs.Steps.{RefusesWords}
 use Rattle.mr_replay.proofs.Commands.{words_are}
-use Rattle.mr_groups.specs.Groups.{IsGoodGroup, group_text}
+use Rattle.mr_groups.specs.Groups.{IsGoodGroup, multi, group_text}
+use Rattle.mr_groups.specs.Parts.{multi_words}
 use Rattle.mr_groups.specs.Folding.{IsRefused, IsTorn}
 use Rattle.mr_groups.specs.Reading.{IsFirstGroup, BeginsWithGroup, IsOpen, IsBad, ReadsGroup}
 use Rattle.mr_groups.specs.declared.reading.Next.{Next}
 use Rattle.mr_groups.specs.declared.reading.Next.TheVariants as next
-use Rattle.mr_groups.proofs.Apart.{one_group}
+use Rattle.mr_groups.proofs.Apart.{one_group, multi_command}
 use Rattle.mr_groups.proofs.Cuts.{begins, open_is_not_bad, bad_for_good}
 use Rattle.mr_groups.proofs.Going.{refused_undefined}
 use Rattle.mr_groups.proofs.Lone.{IsLone, lone_group, lone_not_open}
-use Rattle.mr_groups.proofs.Openings.{open_start, doomed_start}
+use Rattle.mr_groups.proofs.Openings.{IsWhole, first_command, multi_text, open_start, doomed_start}
 use Rattle.mr_groups.proofs.Runs.{some_text}
 use Rattle.mr_follow.specs.Stream.{HasCommand, IsStuckWithin, IsRefusedFront, AppliesText, AppliesEffects, AppliesFront, WaitsWithin, HasFront}
 use Rattle.mr_follow.specs.declared.heard.FollowFault.{FollowFault}
@@ -45,15 +49,17 @@ use Rattle.mr_follow.proofs.Loadings as loadings
 joined : (u more : List ℕ) (room : ℕ) → take room u ++ (drop room u ++ more) ≡ u ++ more
 joined u more room = sym (append_assoc (take room u) (drop room u) more) ∙ ap (λ (l : List ℕ). l ++ more) (take-append-drop room u)
 
-a_group : List Effect
-a_group = effect.Ping ∷ []
-
-is_a_group : IsGoodGroup a_group
-is_a_group = record { group = refl; good = All-cons IsGoodEffect effect.Ping [] (record { spelled = refl; fits = refl; short = omega (arith, commands-words) }) (All-nil IsGoodEffect) }
+multi_bytes : All (λ b. b < 256) multi
+unfolding multi
+multi_bytes = bytes_cons 42 (number_line 1 ++ flat_map bulk (codes "MULTI" ∷ [])) (lit< tt) (bytes_append (number_line 1) (flat_map bulk (codes "MULTI" ∷ [])) (bytes_line 1 (lit< tt))
+    (bytes_append (bulk (codes "MULTI")) [] (bytes_bulk (codes "MULTI") (lit< tt) letters) bytes_nil))
+  where
+    letters : All (λ b. b < 256) (codes "MULTI")
+    letters = bytes_cons 77 (codes "ULTI") (lit< tt) (bytes_cons 85 (codes "LTI") (lit< tt) (bytes_cons 76 (codes "TI") (lit< tt) (bytes_cons 84 (codes "I") (lit< tt) (bytes_cons 73 [] (lit< tt) bytes_nil))))
 
 -- a group's text can come of nothing
 none_is_not_bad : (u : List ℕ) → length u ≡ 0 → IsBad u → ⊥
-none_is_not_bad [] none bad = bad_for_good [] (group_text a_group) bad (record { group = a_group; good = is_a_group; behind = []; is = sym (append-nil (group_text a_group)) })
+none_is_not_bad [] none bad = open_is_not_bad [] (open_start [] (record { more = multi; are_bytes = multi_bytes; whole = multi_text; some = omega (arith, loadings.some_text multi multi_words multi_command) })) bad
 none_is_not_bad (x ∷ u) none bad = cc
 
 some_bytes : (u : List ℕ) (room : ℕ) → IsBad (take room u) → 0 < length u
@@ -251,3 +257,18 @@ text_in_front u used room ws m n (Err fault.Spent) before after inside small c l
       h.1,
     )
 text_in_front u used room ws m n (Err fault.Torn) before after inside small c lone h = absurd h
+
+-- a group's text begins with a command text
+pub first_begins : (u : List ℕ) (room used : ℕ) (es : List Effect) → IsFirstGroup (take room u) es used → HasCommand u room
+first_begins u room used es first = by_command (first_command (take room u) (begins (take room u) es used first))
+  where
+    by_command : (t : List ℕ) × (z : List ℕ) × IsWhole t × (take room u ≡ t ++ z) → HasCommand u room
+    by_command (t, z, whole, is) = record {
+      words = whole.0;
+      front = t;
+      behind = z ++ drop room u;
+      is = sym (take-append-drop room u) ∙ (ap (λ (l : List ℕ). l ++ drop room u) is ∙ append_assoc t z (drop room u));
+      within = (let cut = few_taken room u in omega (arith, cut.0, ap length is, length-append t z));
+      command = whole.1;
+    }
+

@@ -565,7 +565,7 @@ follow_idle a m n offset room before after streams h = at_unread a m offset (Ok 
 })
 
 -- the group at the front isn't used
-at_group : (a : FollowState) (room offset used : ℕ) (es : List Effect) → a.phase ≡ phase.Stream → offset + room ≡ most_counted → Agrees a a.kept → IsFirstGroup a.kept es used → used ≤ room → BeginsGroup a a.kept offset a
+abbrev at_group : (a : FollowState) (room offset used : ℕ) (es : List Effect) → a.phase ≡ phase.Stream → offset + room ≡ most_counted → Agrees a a.kept → IsFirstGroup a.kept es used → used ≤ room → BeginsGroup a a.kept offset a
 at_group a room offset used es streams all ag first few = record {
   streams = streams;
   unread = ag;

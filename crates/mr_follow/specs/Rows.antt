@@ -18,7 +18,7 @@ use Rattle.mr_effect.specs.declared.effect.Effect.{Effect}
 use Rattle.mr_data.specs.Meaning.{apply_all}
 use Rattle.mr_groups.specs.Groups.{IsGoodGroup, group_text}
 use Rattle.mr_groups.specs.Reading.{IsOpen}
-use Rattle.mr_groups.specs.Folding.{IsRefused, IsTorn}
+use Rattle.mr_groups.specs.Folding as folding
 use Rattle.mr_follow.specs.Handshake.{IsGreeting, next_of, line_after}
 use Rattle.mr_follow.specs.Lines.{Begins, IsNoLine, IsShortOf, HasStatus}
 use Rattle.mr_follow.specs.Loading.{HasCommandWithin, HasEffectWithin}
@@ -178,7 +178,7 @@ pub record BeginsGroup (a : FollowState) (u : List ℕ) (offset : ℕ) (b : Foll
 -- Memory ran out within such a group, whose first effect can be applied and of which one takes some: the dataset is spent.
 pub record SpendsHeld (a : FollowState) (u : List ℕ) (m : Dataset) (offset : ℕ) (b : FollowState) (n : Dataset) : Type 0 where
   pub at : BeginsGroup a u offset b
-  pub begun : IsRefused at.group m → ⊥
+  pub begun : folding.IsRefused at.group m → ⊥
   pub heavy : AllByRecursion NeedsNoMemory at.group → ⊥
   pub emptied : n ≡ empty
 
@@ -206,7 +206,7 @@ pub record Spends (a : FollowState) (u : List ℕ) (m : Dataset) (offset : ℕ) 
 -- A later effect of such a group can't be applied: the dataset is spent. It is that after those before it.
 pub record Tears (a : FollowState) (u : List ℕ) (m : Dataset) (offset : ℕ) (b : FollowState) (n : Dataset) (told : List ℕ) : Type 0 where
   pub at : BeginsGroup a u offset b
-  pub torn : IsTorn at.group m n
+  pub torn : folding.IsTorn at.group m n
   pub waits : b.phase ≡ a.phase
   pub offer : b.offer ≡ a.offer
   pub port : b.port ≡ a.port

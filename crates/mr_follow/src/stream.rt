@@ -2,7 +2,7 @@
 ghost use Rattle.std.specs.Prelude.{◌≡◌, ◌≢◌, map};
 ghost use Rattle.std.specs.Cow.{cow_slice_items};
 ghost use Rattle.mr_groups.specs.Groups.{IsGroup};
-ghost use Rattle.mr_follow.specs.Stream.{AppliesEffects, AppliesFront, AppliesText, WaitsWithin, told_as};
+ghost use Rattle.mr_follow.specs.Stream.{AppliesEffects, AppliesFront, AppliesSingle, AppliesText, WaitsWithin, told_as};
 
 use crate::FollowFault;
 use crate::inbox::Inbox;
@@ -13,6 +13,15 @@ use mr_replay::{Tried, try_words};
 use mr_resp::{Scan, next_command};
 use std::alloc::Global;
 use std::borrow::CowSlice;
+
+/// What was made of the front of the stream as an effect that is a group of its own.
+#[derive(Clone, Copy)]
+pub(crate) enum Single {
+    /// All that there is to do was done.
+    Told(Result<Option<usize>, FollowFault>),
+    /// Nothing: a frame begins there.
+    Framed,
+}
 
 /// Why a group wasn't applied, as a follower tells it.
 fn fault_of(fault: GroupFault) -> FollowFault
@@ -110,8 +119,39 @@ fn waits(unread: &[u8], room: u64) -> Result<Option<usize>, FollowFault>
     Ok(None)
 }
 
+/// Applies the effect that is a group of its own at the front of the stream, as `apply_front` does, from where its words stand.
+fn apply_single(
+    alloc: Global,
+    unread: &[u8],
+    room: u64,
+    held: &mut Dataset,
+    out: &mut Vec<u8>,
+) -> Single
+    ensures { AppliesSingle unread.now room held.old result held.new out.old.items out.new.items }
+{
+    let front = at_most(unread, room);
+    match next_command(alloc, front) {
+        Err(_) => Single::Told(Err(FollowFault::Memory)),
+        Ok(Scan::More) => Single::Told(waits(unread, room)),
+        Ok(Scan::Bad(_)) => Single::Told(Err(FollowFault::Undecodable)),
+        Ok(Scan::Skip { used: _ }) => unreachable!(),
+        Ok(Scan::Whole { words, used }) => {
+            if begins_frame(words.as_slice()) {
+                return Single::Framed;
+            }
+            Single::Told(apply_text(
+                alloc,
+                &front[..used],
+                words.as_slice(),
+                held,
+                out,
+            ))
+        }
+    }
+}
+
 /// Applies the group at the front of the stream, if its text is whole and has at most `room` bytes, and puts its text
-/// out. Answers how many bytes it has. The words of one effect are taken from where they stand.
+/// out. Answers how many bytes it has.
 pub(crate) fn apply_front(
     alloc: Global,
     inbox: &mut Inbox,
@@ -122,18 +162,8 @@ pub(crate) fn apply_front(
     ensures applied { AppliesFront inbox.old room held.old result held.new out.old.items out.new.items }
     ensures kept { inbox.new ≡ inbox.old }
 {
-    let front = at_most(inbox.unread(), room);
-    match next_command(alloc, front) {
-        Err(_) => Err(FollowFault::Memory),
-        Ok(Scan::More) => waits(inbox.unread(), room),
-        Ok(Scan::Bad(_)) => Err(FollowFault::Undecodable),
-        Ok(Scan::Skip { used: _ }) => unreachable!(),
-        Ok(Scan::Whole { words, used }) => {
-            if begins_frame(words.as_slice()) {
-                drop(words);
-                return apply_framed(alloc, inbox, room, held, out);
-            }
-            apply_text(alloc, &front[..used], words.as_slice(), held, out)
-        }
+    match apply_single(alloc, inbox.unread(), room, held, out) {
+        Single::Told(told) => told,
+        Single::Framed => apply_framed(alloc, inbox, room, held, out),
     }
 }

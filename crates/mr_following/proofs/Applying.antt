@@ -4,18 +4,17 @@ use Rattle.std.specs.Option.{option_and_then}
 use Rattle.std.proofs.lemmas.List.Concat.{flat_map-append}
 use Rattle.std.proofs.lemmas.List.Elements.{All-nil, All-append}
 use Rattle.mr_links.specs.declared.link_id.LinkId.{LinkId}
-use Rattle.mr_effect.specs.Spelling.{text, texts}
 use Rattle.mr_effect.specs.declared.effect.Effect.{Effect}
-use Rattle.mr_data.specs.Meaning.{apply_all}
-use Rattle.mr_data.proofs.Folding.{apply_all-append}
 use Rattle.mr_repl.specs.Backlog.{Window, IsWindow, last_of}
 use Rattle.mr_repl.specs.Lineage.{LineageState, grown}
 use Rattle.mr_repl.proofs.Windows.{after_bytes-after_bytes}
-use Rattle.mr_replay.specs.Effects.{IsGoodEffect}
+use Rattle.mr_groups.specs.Groups.{IsGoodGroup, group_text, group_texts}
+use Rattle.mr_groups.specs.Folding.{apply_groups}
 use Rattle.mr_follow.specs.State.{FollowState}
 use Rattle.mr_follow.proofs.Stepping.{stream_plain}
 use Rattle.mr_rows.specs.State.{NodeState}
 use Rattle.mr_node.proofs.Ends.{some_is}
+use Rattle.mr_following.proofs.Texts.{applied_append}
 use Rattle.mr_following.specs.Runs.{Streams}
 use Rattle.mr_following.specs.Streaming.{HasApplied}
 
@@ -49,7 +48,7 @@ module _ (a b : NodeState) (l : LinkId) where
   -- nothing is applied where stream and dataset stay
   pub none_applied : (u : List ℕ) → IsWindow a.core.lineage.stream → b.core.lineage ≡ a.core.lineage → b.core.held ≡ a.core.held → Streams b l u → HasApplied [] a l u b
   none_applied u w lineage held streams = record {
-    good = All-nil IsGoodEffect;
+    good = All-nil IsGoodGroup;
     unread = u;
     streams = streams;
     cut = refl;
@@ -58,26 +57,26 @@ module _ (a b : NodeState) (l : LinkId) where
   }
 
   -- what is applied behind it
-  pub joined : (es fs : List Effect) (x more : List ℕ) (c : NodeState) → (p : HasApplied es a l x b) → HasApplied fs b l (p.unread ++ more) c → HasApplied (es ++ fs) a l (x ++ more) c
+  pub joined : (es fs : List (List Effect)) (x more : List ℕ) (c : NodeState) → (p : HasApplied es a l x b) → HasApplied fs b l (p.unread ++ more) c → HasApplied (es ++ fs) a l (x ++ more) c
   joined es fs x more c p q =
-      let both : texts (es ++ fs) ≡ texts es ++ texts fs = flat_map-append text es fs in
+      let both : group_texts (es ++ fs) ≡ group_texts es ++ group_texts fs = flat_map-append group_text es fs in
       record {
-        good = All-append IsGoodEffect es fs p.good q.good;
+        good = All-append IsGoodGroup es fs p.good q.good;
         unread = q.unread;
         streams = q.streams;
-        cut = ap (λ (z : List ℕ). z ++ more) p.cut ∙ (append_assoc (texts es) p.unread more ∙ (ap (λ (z : List ℕ). texts es ++ z) q.cut
-            ∙ (sym (append_assoc (texts es) (texts fs) q.unread) ∙ ap (λ (z : List ℕ). z ++ q.unread) (sym both))));
-        held = apply_all-append es fs a.core.held ∙ (ap (option_and_then (apply_all fs)) p.held ∙ q.held);
-        grew = q.grew ∙ (ap (λ (z : LineageState). grown z (texts fs)) p.grew ∙ (grown_grown a.core.lineage (texts es) (texts fs) ∙ ap (grown a.core.lineage) (sym both)));
+        cut = ap (λ (z : List ℕ). z ++ more) p.cut ∙ (append_assoc (group_texts es) p.unread more ∙ (ap (λ (z : List ℕ). group_texts es ++ z) q.cut
+            ∙ (sym (append_assoc (group_texts es) (group_texts fs) q.unread) ∙ ap (λ (z : List ℕ). z ++ q.unread) (sym both))));
+        held = applied_append es fs a.core.held ∙ (ap (option_and_then (apply_groups fs)) p.held ∙ q.held);
+        grew = q.grew ∙ (ap (λ (z : LineageState). grown z (group_texts fs)) p.grew ∙ (grown_grown a.core.lineage (group_texts es) (group_texts fs) ∙ ap (grown a.core.lineage) (sym both)));
       }
 
   -- .. which is nothing
-  pub applied_still : (es : List Effect) (x : List ℕ) (c : NodeState) → (p : HasApplied es a l x b) → HasApplied [] b l p.unread c → HasApplied es a l x c
+  pub applied_still : (es : List (List Effect)) (x : List ℕ) (c : NodeState) → (p : HasApplied es a l x b) → HasApplied [] b l p.unread c → HasApplied es a l x c
   applied_still es x c p q = record {
     good = p.good;
     unread = q.unread;
     streams = q.streams;
-    cut = p.cut ∙ ap (λ (z : List ℕ). texts es ++ z) q.cut;
+    cut = p.cut ∙ ap (λ (z : List ℕ). group_texts es ++ z) q.cut;
     held = p.held ∙ q.held;
-    grew = q.grew ∙ (ap (λ (z : LineageState). grown z []) p.grew ∙ (grown_grown a.core.lineage (texts es) [] ∙ ap (grown a.core.lineage) (append-nil (texts es))));
+    grew = q.grew ∙ (ap (λ (z : LineageState). grown z []) p.grew ∙ (grown_grown a.core.lineage (group_texts es) [] ∙ ap (grown a.core.lineage) (append-nil (group_texts es))));
   }

@@ -1,26 +1,20 @@
 -- What is fed at the link to the master, and a step there.
-use Rattle.std.proofs.Common.{◌≡◌, ◌≢◌, ◌⊎◌, inl, inr, ℕ, List, [], ◌∷◌, ◌++◌, true, None, Some, Result, Ok, Err, refl, sym, ap, subst, ◌∙◌, append-nil}
+use Rattle.std.proofs.Common.{◌≡◌, ◌≢◌, ◌⊎◌, inl, inr, ℕ, List, [], ◌∷◌, ◌++◌, true, false, None, Some, Result, Ok, Err, refl, sym, ap, subst, ◌∙◌, append-nil}
 use Rattle.std.specs.Option.{option_and_then}
 use Rattle.std.proofs.lemmas.List.Elements.{All-nil, All-cons}
 use Rattle.mr_links.specs.declared.link_id.LinkId.{LinkId}
 use Rattle.mr_links.specs.Links.{Links}
-use Rattle.mr_inline.specs.Language.{Continues}
-use Rattle.mr_resp.specs.Command.{IsCommandText}
-use Rattle.mr_resp.specs.Usual.{commands}
-use Rattle.mr_effect.specs.Spelling.{text, texts}
-use Rattle.mr_effect.specs.declared.effect.Effect.{Effect}
 use Rattle.mr_entries.specs.Dataset.{Dataset}
-use Rattle.mr_data.specs.Meaning.{apply_all}
 use Rattle.mr_repl.specs.Backlog.{IsWindow}
 use Rattle.mr_repl.specs.Lineage.{grown}
-use Rattle.mr_replay.specs.Effects.{IsGoodEffect}
-use Rattle.mr_replay.specs.Steps.{DoesWords}
+use Rattle.mr_groups.specs.Groups.{IsGoodGroup, group_text, group_texts}
+use Rattle.mr_groups.specs.Reading.{IsOpen}
+use Rattle.mr_groups.specs.Folding.{apply_groups}
 use Rattle.mr_follow.specs.State.{FollowState, Agrees, heard}
 use Rattle.mr_follow.specs.Handshake.{IsGreeting}
 use Rattle.mr_follow.specs.Rows as follow
 use Rattle.mr_follow.specs.declared.phase.Phase.{Phase}
 use Rattle.mr_follow.specs.declared.phase.Phase.TheVariants as phase
-use Rattle.mr_follow.proofs.Loadings.{possible, text_of_words, short_of_words}
 use Rattle.mr_course.specs.State.{CourseState, grows, reads_on}
 use Rattle.mr_course.specs.Rows as course
 use Rattle.mr_course.specs.Rows.{Listens, UpstreamRow}
@@ -49,23 +43,6 @@ asked_no p streams asked = let wrong : phase.Psync ≡ phase.Stream = sym asked 
 announced_no : (p : Phase) (id : List ℕ) (o : ℕ) → p ≡ phase.Stream → p ≡ phase.Snapshot id o → ⊥
 announced_no p id o streams announced = let wrong : phase.Snapshot id o ≡ phase.Stream = sym announced ∙ streams in cc
 
--- the effect whose text a command text is that can be applied
-record HasText (words : List (List ℕ)) (m n : Dataset) (told : List ℕ) : Type 0 where
-  effect : Effect
-  good : IsGoodEffect effect
-  is_text : told ≡ text effect
-  applied : apply_all (effect ∷ []) m ≡ Some n
-
-text_of : (words : List (List ℕ)) (u told rest : List ℕ) (m n : Dataset) → follow.Commands u words told rest → DoesWords words m n → HasText words m n told
-text_of words u told rest m n begins d =
-    let p = possible d.effect m n d.applied in
-    record {
-      effect = d.effect;
-      good = record { spelled = p.0; fits = p.1; short = short_of_words d.effect words told begins.command d.spelled.1 };
-      is_text = sym (text_of_words d.effect words told begins.command d.spelled.1);
-      applied = ap (option_and_then (apply_all [])) d.applied;
-    }
-
 -- ---- bytes that come
 pub feeds : (a b : NodeState) (l : LinkId) (u bytes : List ℕ) → IsWindow a.core.lineage.stream → Streams a l u → Feeds a l bytes b → HasApplied [] a l (u ++ bytes) b
 feeds a b l u bytes w s row =
@@ -86,6 +63,18 @@ rests a b l u w s up_is r = none_applied a b l u w r.lineage r.held (record {
 pub record Leaves (a : NodeState) (f : FollowState) (u : List ℕ) (b : NodeState) : Type 0 where
   pub gone : b.follow ≡ None
   pub bad : follow.IsBadStream f u a.core.held a.core.lineage.stream.offset
+
+-- The node stops, since what came can't be applied as a whole.
+pub record Tears (a : NodeState) (f : FollowState) (u : List ℕ) (b : NodeState) : Type 0 where
+  pub down : b.core.up ≡ false
+  pub next : FollowState
+  pub made : Dataset
+  pub told : List ℕ
+  pub torn : follow.Tears f u a.core.held a.core.lineage.stream.offset next made told
+
+-- it is no stream that can be applied
+abbrev pub Parts : NodeState → FollowState → List ℕ → NodeState → Type 0
+Parts a f u b = Leaves a f u b ⊎ Tears a f u b
 
 module _ (a : NodeState) (l : LinkId) (u : List ℕ) (w : IsWindow a.core.lineage.stream) (s : Streams a l u) where
   abbrev pub reader : FollowState
@@ -119,20 +108,19 @@ module _ (a : NodeState) (l : LinkId) (u : List ℕ) (w : IsWindow a.core.lineag
       → course.Applies (course_of a) a.core.held name reader u g d b.core.held told → StaysWith l u a b (Ok (outcome.Done outs))
   applies b d g name ends told outs named is out r =
       let x = r.follows in
-      let t = text_of x.words u told x.rest a.core.held b.core.held x.begins x.applies in
-      let alone : told ≡ texts (t.effect ∷ []) = t.is_text ∙ sym (append-nil (text t.effect)) in
-      let given : outs ≡ record no_outs { link = Some l; appended = filed (text t.effect) } = out ∙ ap (λ (z : List ℕ). record no_outs { link = Some l; appended = filed z }) t.is_text in
-      let has : HasApplied (t.effect ∷ []) a l u b = record {
-        good = All-cons IsGoodEffect t.effect [] t.good (All-nil IsGoodEffect);
+      let alone : told ≡ group_texts (x.group ∷ []) = x.is_text ∙ sym (append-nil (group_text x.group)) in
+      let given : outs ≡ record no_outs { link = Some l; appended = filed (group_text x.group) } = out ∙ ap (λ (z : List ℕ). record no_outs { link = Some l; appended = filed z }) x.is_text in
+      let has : HasApplied (x.group ∷ []) a l u b = record {
+        good = All-cons IsGoodGroup x.group [] x.good (All-nil IsGoodGroup);
         unread = x.rest;
         streams = reads_there b d (grows told (course_of a)) g name ends x.rest named is r.is x.state.agrees x.state.waits;
-        cut = x.begins.is ∙ ap (λ (z : List ℕ). z ++ x.rest) alone;
-        held = t.applied;
+        cut = x.begins ∙ ap (λ (z : List ℕ). z ++ x.rest) alone;
+        held = ap (option_and_then (apply_groups [])) x.applied;
         grew = ap (λ (z : NodeState). z.core.lineage) is ∙ (ap (λ (z : CourseState). z.lineage) r.is ∙ ap (grown a.core.lineage) alone);
       } in
-      (t.effect, has, given)
+      (x.group, has, given)
 
-  hears : (came : UpstreamStep) (b : NodeState) (outs : OutsState) → came ≢ up.Idle → Hears a l came b outs → StaysWith l u a b (Ok (outcome.Done outs)) ⊎ Leaves a reader u b
+  hears : (came : UpstreamStep) (b : NodeState) (outs : OutsState) → came ≢ up.Idle → Hears a l came b outs → StaysWith l u a b (Ok (outcome.Done outs)) ⊎ Parts a reader u b
   hears up.Idle b outs some h = absurd (some refl)
   hears up.Said b outs some h = let r = row_of (Ok up.Said) h.course b.core.held h.told h.listens in absurd (subst IsGreeting s.streams r.greets.greeting)
   hears up.Announced b outs some h = let r = row_of (Ok up.Announced) h.course b.core.held h.told h.listens in absurd (asked_no reader.phase s.streams r.answers.asked)
@@ -148,13 +136,13 @@ module _ (a : NodeState) (l : LinkId) (u : List ℕ) (w : IsWindow a.core.lineag
       no_line (inr bad) = bad.wants s.streams
   hears up.Spoiled b outs some h =
       let r = row_of (Ok up.Spoiled) h.course b.core.held h.told h.listens in
-      inr (record { gone = ap (λ (z : NodeState). z.follow) h.node ∙ ap (λ (z : CourseState). z.follow) r.is; bad = stream r.cause })
+      inr (inl (record { gone = ap (λ (z : NodeState). z.follow) h.node ∙ ap (λ (z : CourseState). z.follow) r.is; bad = stream r.cause }))
     where
       stream : follow.IsBadSnapshot reader u ⊎ follow.IsBadStream reader u a.core.held a.core.lineage.stream.offset → follow.IsBadStream reader u a.core.held a.core.lineage.stream.offset
       stream (inl bad) = absurd (announced_no reader.phase bad.id bad.offset s.streams bad.announced)
       stream (inr bad) = bad
 
-  pub waits : (b : NodeState) → Waits a l b → HasApplied [] a l u b × Continues (IsCommandText commands) u
+  pub waits : (b : NodeState) → Waits a l b → HasApplied [] a l u b × IsOpen u
   waits b h =
       let r = row_of (Ok up.Idle) h.course b.core.held h.told h.listens in
       (stays b h.course h.listens.next h.listens.name a.ends h.told h.named h.node r.is r.stays, subst (λ (p : Phase). follow.Waits p u h.listens.next.kept) s.streams r.waits)
@@ -162,21 +150,22 @@ module _ (a : NodeState) (l : LinkId) (u : List ℕ) (w : IsWindow a.core.lineag
   lacks : (b : NodeState) → Lacks a l b → HasApplied [] a l u b
   lacks b h = let r = row_of (Err want.Memory) h.course b.core.held h.told h.listens in stays b h.course h.listens.next h.listens.name a.ends h.told h.named h.node r.is r.stays
 
-  spends : (b : NodeState) → Spends a l b → HasWhole u
-  spends b h = let r = row_of (Err want.Stopped) h.course b.core.held h.told h.listens in whole r.spends.cause
+  spends : (b : NodeState) → Spends a l b → StaysWith l u a b (Err fault.Stopped) ⊎ Parts a reader u b
+  spends b h = let r = row_of (Err want.Stopped) h.course b.core.held h.told h.listens in elim r.cause [
+    | inl s ↦ inl (whole s.cause, h.down)
+    | inr t ↦ inr (inr (record { down = h.down; next = h.listens.next; made = b.core.held; told = h.told; torn = t }))
+  ]
     where
       whole : follow.SpendsHeld reader u a.core.held a.core.lineage.stream.offset h.listens.next b.core.held ⊎ follow.SpendsMade reader u a.core.held h.listens.next b.core.held → HasWhole u
-      whole (inl c) =
-          let t = text_of c.words u c.text c.rest a.core.held c.can c.begins c.applies in
-          record { effect = t.effect; good = t.good; rest = c.rest; cut = c.begins.is ∙ ap (λ (z : List ℕ). z ++ c.rest) t.is_text }
+      whole (inl c) = record { group = c.at.group; good = c.at.good; rest = c.at.rest; cut = c.at.begins; heavy = c.heavy }
       whole (inr c) = absurd (announced_no reader.phase c.id c.offset s.streams c.announced)
 
-  -- it stays with the master, or leaves him
-  pub came : (b : NodeState) (result : Result Step NodeFault) → MasterStep a l b result → StaysWith l u a b result ⊎ Leaves a reader u b
+  -- it stays with the master, or parts from him
+  pub came : (b : NodeState) (result : Result Step NodeFault) → MasterStep a l b result → StaysWith l u a b result ⊎ Parts a reader u b
   came b (Ok outcome.Idle) h = inl (waits b h).0
   came b (Ok (outcome.Done outs)) h = hears h.0 b outs h.1 h.2
   came b (Ok outcome.Closed) h = absurd h
   came b (Err fault.Memory) h = inl (lacks b h)
-  came b (Err fault.Stopped) h = inl (spends b h, h.down)
+  came b (Err fault.Stopped) h = spends b h
   came b (Err fault.NoLink) h = absurd h
   came b (Err fault.InputFull) h = absurd h

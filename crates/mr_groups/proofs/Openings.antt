@@ -246,7 +246,7 @@ open_inside bytes es rest inside begun = record {
 
 -- ---- what is answered at the start
 
-first_command : (bytes : List ℕ) → BeginsWithGroup bytes → (t : List ℕ) × (z : List ℕ) × IsWhole t × (bytes ≡ t ++ z)
+pub first_command : (bytes : List ℕ) → BeginsWithGroup bytes → (t : List ℕ) × (z : List ℕ) × IsWhole t × (bytes ≡ t ++ z)
 first_command bytes b = by_group b.group b.behind b.good b.is
   where
     by_group : (fs : List Effect) (y : List ℕ) → IsGoodGroup fs → bytes ≡ group_text fs ++ y → (t : List ℕ) × (z : List ℕ) × IsWhole t × (bytes ≡ t ++ z)
