@@ -3,19 +3,19 @@ use Rattle.std.proofs.Common.{◌≡◌, ◌+◌, ℕ, List, ◌++◌, Option, N
 use Rattle.std.proofs.lemmas.Grind.{flat_map-append}
 use Rattle.std.proofs.lemmas.List.Elements.{All-append}
 use Rattle.std.proofs.Math.Seq.{take-append_seam}
-use Rattle.mr_effect.specs.Spelling.{text}
 use Rattle.mr_effect.specs.declared.effect.Effect.{Effect}
 use Rattle.mr_entries.specs.Dataset.{Dataset}
-use Rattle.mr_replay.specs.Effects.{IsGoodEffect, Makes}
+use Rattle.mr_groups.specs.Groups.{IsGoodGroup, group_text}
+use Rattle.mr_groups.specs.Folding.{MakesByGroups}
 use Rattle.mr_history.specs.History.{Book, History, IsAt, Grows, texts, fold}
 use Rattle.mr_history.proofs.Fronts.{some_is}
 use Rattle.mr_history.proofs.Histories.{all_front, fold_append}
 use Rattle.mr_language.specs.Minired.{minired}
-use Rattle.mr_language.proofs.Texts.{made_is_one}
+use Rattle.mr_language.proofs.Texts.{made_by_groups_is_one}
 use Rattle.mr_seen.specs.State.{Entry, WorldState}
 use Rattle.mr_seen.specs.Books.{IsKept, entry_of, IsKeptAs, IsBook}
 use Rattle.mr_seen.specs.Events.{Holds}
-use Rattle.mr_seen.proofs.Keeping.{fold_is}
+use Rattle.mr_seen.proofs.Singles.{fold_is}
 use Rattle.mr_headline.specs.Showing.{Gives, HistoriesGoOn}
 use Rattle.mr_headline.specs.Headline.{HistoriesGiveOne}
 
@@ -32,28 +32,28 @@ has_entry entries book id h is e = go (entry_of entries id) refl
     go None q = absurd (subst (λ z. IsKeptAs None z) e (subst (λ z. IsKeptAs z (book id)) q (is.each id)))
     go (Some x) q = record { entry = x; found = q; kept = subst (λ z. IsKeptAs (Some x) z) e (subst (λ z. IsKeptAs z (book id)) q (is.each id)) }
 
--- more good effects behind those that made a dataset
-more_made : (bytes : List ℕ) (es : List Effect) (m n : Dataset) → Makes bytes m → All IsGoodEffect es → fold minired es m ≡ Some n → Makes (bytes ++ texts minired es) n
-more_made bytes es m n makes good folds = record {
-  effects = makes.effects ++ es;
-  good = All-append IsGoodEffect makes.effects es makes.good good;
-  are_texts = ap (λ z. z ++ texts minired es) makes.are_texts ∙ sym (flat_map-append text makes.effects es);
-  applied = sym (fold_is (makes.effects ++ es) _) ∙ (fold_append minired makes.effects es _ m (fold_is makes.effects _ ∙ makes.applied) ∙ folds);
+-- more good groups behind those that made a dataset
+more_made : (bytes : List ℕ) (gs : List (List Effect)) (m n : Dataset) → MakesByGroups bytes m → All IsGoodGroup gs → fold minired gs m ≡ Some n → MakesByGroups (bytes ++ texts minired gs) n
+more_made bytes gs m n makes good folds = record {
+  groups = makes.groups ++ gs;
+  good = All-append IsGoodGroup makes.groups gs makes.good good;
+  are_texts = ap (λ z. z ++ texts minired gs) makes.are_texts ∙ sym (flat_map-append group_text makes.groups gs);
+  applied = sym (fold_is (makes.groups ++ gs) _) ∙ (fold_append minired makes.groups gs _ m (fold_is makes.groups _ ∙ makes.applied) ∙ folds);
 }
 
 pub at_gives : (w : WorldState) (book : Book minired) → Holds w book → (id : List ℕ) (o : ℕ) (m : Dataset) → IsAt minired book id o m → Gives w id o m
 at_gives w book holds id o m at =
     let has = has_entry w.book book id _ holds.kept at.front.found in
-    let is : has.entry.texts ≡ texts minired at.earlier ++ texts minired at.later = has.kept.texts_are ∙ flat_map-append text at.earlier at.later in
+    let is : has.entry.texts ≡ texts minired at.earlier ++ texts minired at.later = has.kept.texts_are ∙ flat_map-append group_text at.earlier at.later in
     let cut : take o has.entry.texts ≡ texts minired at.earlier =
     ap (take o) is ∙ (ap (λ n. take n (texts minired at.earlier ++ texts minired at.later)) (sym at.front.place) ∙ take-append_seam (texts minired at.earlier) (texts minired at.later)) in
-    let good : All IsGoodEffect at.earlier = all_front IsGoodEffect at.earlier at.later (holds.invariant.good id _ at.front.found) in
+    let good : All IsGoodGroup at.earlier = all_front IsGoodGroup at.earlier at.later (holds.invariant.good id _ at.front.found) in
     record {
       entry = has.entry;
       found = has.found;
       within = let long : length has.entry.texts ≡ length (texts minired at.earlier) + length (texts minired at.later) = ap length is ∙ length-append (texts minired at.earlier) (texts minired at.later) in
           omega (arith, long, at.front.place);
-      made = subst (λ z. Makes (has.entry.start ++ z) m) (sym cut) (more_made has.entry.start at.earlier at.start m has.kept.start good at.folds);
+      made = subst (λ z. MakesByGroups (has.entry.start ++ z) m) (sym cut) (more_made has.entry.start at.earlier at.start m has.kept.start good at.folds);
     }
 
 is_kept : (o : Option Entry) (p : Option (History minired)) (x : Entry) → IsKeptAs o p → o ≡ Some x → (h : History minired) × (p ≡ Some h) × IsKept x h
@@ -73,11 +73,11 @@ grows_on w v b c is is' g id old e =
         before = k.2.start;
         after = has.kept.start;
         more = texts minired more.0;
-        texts = has.kept.texts_are ∙ (flat_map-append text k.0.effects more.0 ∙ ap (λ z. z ++ texts minired more.0) (sym k.2.texts_are));
+        texts = has.kept.texts_are ∙ (flat_map-append group_text k.0.effects more.0 ∙ ap (λ z. z ++ texts minired more.0) (sym k.2.texts_are));
       },
     )
 
 pub gives_one : HistoriesGiveOne
 gives_one w id o m n a b =
     let same : a.entry ≡ b.entry = some_is a.entry b.entry (sym a.found ∙ b.found) in
-    made_is_one (b.entry.start ++ take o b.entry.texts) m n (subst (λ z. Makes (z.start ++ take o z.texts) m) same a.made) b.made
+    made_by_groups_is_one (b.entry.start ++ take o b.entry.texts) m n (subst (λ z. MakesByGroups (z.start ++ take o z.texts) m) same a.made) b.made

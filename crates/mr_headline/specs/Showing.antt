@@ -1,7 +1,7 @@
 -- What a node of a World shows, and what the history of an id gives.
 use Rattle.std.specs.Prelude.{◌≡◌, ◌≤◌, ℕ, List, ◌++◌, Some, true, length, take, slice_get}
 use Rattle.mr_entries.specs.Dataset.{Dataset}
-use Rattle.mr_replay.specs.Effects.{Makes}
+use Rattle.mr_groups.specs.Folding.{MakesByGroups}
 use Rattle.mr_seen.specs.State.{Slot, Entry, WorldState}
 use Rattle.mr_seen.specs.Books.{entry_of}
 
@@ -14,19 +14,20 @@ pub record Shows (w : WorldState) (n : ℕ) (id : List ℕ) (offset : ℕ) (m : 
   pub offset_is : slot.node.core.lineage.stream.offset ≡ offset
   pub held_is : slot.node.core.held ≡ m
 
--- The history of an id is the commands that make the dataset with which it began, and the texts of its effects since. Up to an
--- offset it gives what those commands and so many bytes of these texts make of nothing. These end where an effect does.
+-- The history of an id is the commands that make the dataset with which it began, and the texts of its groups of effects since. Up
+-- to an offset it gives what those commands and so many bytes of these texts make of nothing, group by group: they end where a group
+-- does.
 pub record Gives (w : WorldState) (id : List ℕ) (offset : ℕ) (m : Dataset) : Type 0 where
   pub entry : Entry
   pub found : entry_of w.book id ≡ Some entry
   pub within : offset ≤ length entry.texts
-  pub made : Makes (entry.start ++ take offset entry.texts) m
+  pub made : MakesByGroups (entry.start ++ take offset entry.texts) m
 
 -- It began with the same dataset, and there may be more texts behind those of before.
 pub record GoesOn (old new : Entry) : Type 0 where
   pub dataset : Dataset
-  pub before : Makes old.start dataset
-  pub after : Makes new.start dataset
+  pub before : MakesByGroups old.start dataset
+  pub after : MakesByGroups new.start dataset
   pub more : List ℕ
   pub texts : new.texts ≡ old.texts ++ more
 

@@ -1,4 +1,4 @@
--- No effect's text begins another's, and no snapshot another.
+-- No group's text begins another's, and no snapshot another.
 use Rattle.std.proofs.Common.{ℕ, List, [], ◌∷◌, ◌++◌, ◌≡◌, ◌≢◌, ◌<◌, ◌^◌, length, refl, ap, sym, ◌∙◌, subst, arith, append_assoc, All}
 use Rattle.std.proofs.lemmas.List.{append_cancel_left}
 use Rattle.std.proofs.lemmas.List.Elements.{All-head, All-tail}
@@ -9,23 +9,38 @@ use Rattle.mr_effect.specs.declared.effect.Effect.{Effect}
 use Rattle.mr_effect.proofs.Texts.{one_text}
 use Rattle.mr_entries.specs.Dataset.{Dataset}
 use Rattle.mr_data.specs.Meaning.{apply_all}
+use Rattle.mr_groups.specs.Groups.{IsGoodGroup, multi, group_text}
+use Rattle.mr_groups.specs.Folding.{apply_groups, MakesByGroups}
+use Rattle.mr_groups.proofs.Apart.{one_group}
+use Rattle.mr_groups.proofs.Runs.{many_groups}
 use Rattle.mr_lines.specs.Lines.{size}
 use Rattle.mr_replay.specs.Effects.{IsGoodEffect, Makes}
 use Rattle.mr_language.specs.Snapshots.{IsSnapshot}
 use Rattle.mr_language.proofs.Lists.{some_is, same_length}
 use Rattle.mr_language.proofs.Said.{same_said, line_some}
 
+-- ---- groups
+pub text_cut : (g h : List Effect) (x y : List ℕ) → IsGoodGroup g → IsGoodGroup h → group_text g ++ x ≡ group_text h ++ y → g ≡ h
+text_cut g h x y p q e = (one_group g h x y p q e).0
+
+-- no list of effects has an empty text, be it a group or not
+pub text_some : (g : List Effect) → group_text g ≢ []
+unfolding multi
+text_some [] q = cc
+text_some (e ∷ []) q = cc
+text_some (e ∷ f ∷ g) q = cc
+
+pub made_by_groups_is_one : (bytes : List ℕ) (m n : Dataset) → MakesByGroups bytes m → MakesByGroups bytes n → m ≡ n
+made_by_groups_is_one bytes m n p q =
+    let s = many_groups p.groups q.groups p.good q.good (sym p.are_texts ∙ q.are_texts) in
+    some_is m n (sym p.applied ∙ (ap (λ z. apply_groups z empty) s ∙ q.applied))
+
+-- ---- the effects of a snapshot
 few : (e : Effect) → IsShort e → length (words e) < 2 ^ 64
 few e s = omega (arith, s, commands-words)
 
 both_are : (e f : Effect) (x y : List ℕ) → IsGoodEffect e → IsGoodEffect f → text e ++ x ≡ text f ++ y → (e ≡ f) × (x ≡ y)
 both_are e f x y g h q = one_text e f x y g.spelled h.spelled g.fits h.fits (few e g.short) (few f h.short) q
-
-pub text_cut : (e f : Effect) (x y : List ℕ) → IsGoodEffect e → IsGoodEffect f → text e ++ x ≡ text f ++ y → e ≡ f
-text_cut e f x y g h q = (both_are e f x y g h q).0
-
-pub text_some : (e : Effect) → text e ≢ []
-text_some e q = cc
 
 no_text : {P : Type 0} (e : Effect) (x : List ℕ) → [] ≡ text e ++ x → P
 no_text e x q = absurd (cc)
@@ -39,7 +54,7 @@ same_effects (e ∷ es) (f ∷ fs) g h q =
     let s = same_effects es fs (All-tail IsGoodEffect e es g) (All-tail IsGoodEffect f fs h) r.1 in
     ap (λ z. z ∷ es) r.0 ∙ ap (λ z. f ∷ z) s
 
-pub made_is_one : (bytes : List ℕ) (m n : Dataset) → Makes bytes m → Makes bytes n → m ≡ n
+made_is_one : (bytes : List ℕ) (m n : Dataset) → Makes bytes m → Makes bytes n → m ≡ n
 made_is_one bytes m n p q =
     let s = same_effects p.effects q.effects p.good q.good (sym p.are_texts ∙ q.are_texts) in
     some_is m n (sym p.applied ∙ (ap (λ z. apply_all z empty) s ∙ q.applied))

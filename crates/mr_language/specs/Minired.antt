@@ -1,17 +1,17 @@
--- The language of minired's replicas. No request begins a transaction.
+-- The language of minired's replicas. What is done at once is a group of effects, all of it or nothing. No request begins a
+-- transaction, and each effect of a master is a group of its own.
 use Rattle.std.specs.Prelude.{◌≡◌, ℕ, List, bytes_eq}
 use Rattle.std.specs.FinMap.{empty}
 use Rattle.mr_inline.specs.Language.{IsDoomed}
 use Rattle.mr_resp.specs.Request.{IsText}
 use Rattle.mr_resp.specs.Usual.{usual}
-use Rattle.mr_effect.specs.Spelling.{text}
 use Rattle.mr_effect.specs.declared.effect.Effect.{Effect}
 use Rattle.mr_entries.specs.Dataset.{Dataset}
-use Rattle.mr_data.specs.Meaning.{apply}
+use Rattle.mr_data.specs.Meaning.{apply_all}
 use Rattle.mr_data.specs.declared.given.Given.{Given}
+use Rattle.mr_groups.specs.Groups.{IsGoodGroup, group_text}
 use Rattle.mr_history.specs.Language.{Language}
 use Rattle.mr_lines.specs.Lines.{most_counted}
-use Rattle.mr_replay.specs.Effects.{IsGoodEffect}
 use Rattle.mr_language.specs.Changes.{HasEffects, IsDue}
 use Rattle.mr_language.specs.Lines.{Says}
 use Rattle.mr_language.specs.Requests.{IsAsked}
@@ -23,10 +23,10 @@ minired = record {
   same = bytes_eq;
   Dataset = Dataset;
   empty = empty;
-  Effect = Effect;
-  apply = apply;
-  text = text;
-  IsGood = IsGoodEffect;
+  Effect = List Effect;
+  apply = apply_all;
+  text = group_text;
+  IsGood = IsGoodGroup;
   limit = most_counted;
   Given = Given;
   effects = λ room transaction. HasEffects;

@@ -4,10 +4,10 @@ use Rattle.std.specs.Prelude.{slice_get, slice_set, bytes_eq}
 use Rattle.std.specs.Option.{option_map}
 use Rattle.std.specs.FinMap.{empty}
 use Rattle.std.proofs.lemmas.Option.{slice_get-map}
-use Rattle.std.proofs.lemmas.List.Elements.{All-nil}
 use Rattle.std.proofs.lemmas.Slice.Eq.{bytes_eq-Decides}
 use Rattle.mr_entries.specs.Dataset.{Dataset}
-use Rattle.mr_replay.specs.Effects.{IsGoodEffect, Makes}
+use Rattle.mr_groups.specs.Folding.{MakesByGroups}
+use Rattle.mr_groups.proofs.Runs.{leads_nowhere}
 use Rattle.mr_history.specs.History.{Book, Draws, History}
 use Rattle.mr_history.specs.World as history
 use Rattle.mr_history.specs.Rows.{fresh_node}
@@ -31,7 +31,7 @@ history_from m = record { start = m; effects = [] }
 abbrev entry_from : List ℕ → List ℕ → Entry
 entry_from id start = record { id = id; start = start; texts = [] }
 
-begun_kept : (es : List Entry) (book : Book minired) (id start : List ℕ) (m : Dataset) → IsBook es book → Makes start m → entry_of es id ≡ None → IsBook (begun es id start) (with_history book id (history_from m))
+begun_kept : (es : List Entry) (book : Book minired) (id start : List ℕ) (m : Dataset) → IsBook es book → MakesByGroups start m → entry_of es id ≡ None → IsBook (begun es id start) (with_history book id (history_from m))
 begun_kept es book id start m is makes none = record {
   each = λ i. subst (λ z. IsKeptAs z (with_history book id (history_from m) i)) (sym (entry_push es (entry_from id start) i))
       (kept_on (bytes_eq id i) (entry_of es i) (book i) (entry_from id start) (history_from m) (is.each i) (record { start = makes; texts_are = refl }) (λ t. ap (entry_of es) (sym ((bytes_eq-Decides id i).0 t)) ∙ none));
@@ -40,14 +40,10 @@ begun_kept es book id start m is makes none = record {
 begun_draws : (es : List Entry) (book : Book minired) (id : List ℕ) (m : Dataset) → IsBook es book → entry_of es id ≡ None → Draws minired book (with_history book id (history_from m)) id m
 begun_draws es book id m is none = record { new_id = is_none (entry_of es id) (book id) (is.each id) none; book = set_history book id (history_from m) }
 
--- no commands make the empty dataset
-nothing_makes : Makes [] empty
-nothing_makes = record { effects = []; good = All-nil IsGoodEffect; are_texts = refl; applied = refl }
-
 pub starts : StartsAreRows
 starts w book as_replica port backlog id file holds none = record {
   new_book = with_history book id (history_from empty);
-  kept = begun_kept w.book book id [] empty holds.kept nothing_makes none;
+  kept = begun_kept w.book book id [] empty holds.kept (leads_nowhere empty) none;
   row = record {
     node = length w.slots;
     new_node = none_at_end seen_node w.slots;

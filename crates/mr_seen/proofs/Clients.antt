@@ -14,6 +14,8 @@ use Rattle.mr_cmd_node.specs.declared.node_ask.NodeAsk.{NodeAsk}
 use Rattle.mr_ask.specs.Asks.{asked}
 use Rattle.mr_ask.specs.declared.ask.Ask.TheVariants as ask
 use Rattle.mr_replay.specs.Effects.{IsGoodEffect}
+use Rattle.mr_groups.specs.Groups.{singles}
+use Rattle.mr_groups.proofs.Runs.{single_texts}
 use Rattle.mr_plan.specs.Requests.{HasPlan, halting_by, rewriting_by, question_by}
 use Rattle.mr_plan.proofs.Replicas.{none_on_replica}
 use Rattle.mr_repl.specs.Backlog.{IsWindow, last_of}
@@ -160,9 +162,9 @@ module _ (w : WorldState) (book : Book minired) (l : ℕ) (k : Link) (s : Slot) 
     client = plain;
     master = master;
     uses = steps.uses_of w book l k s given fresh b outs holds served u.words u.rest u.asks Command u.kind;
-    effects = effects;
-    of_request = record { words = u.words; request = u.asks.request; reply = reply; plan = plan };
-    beyond = past;
+    effects = singles effects;
+    of_request = record { words = u.words; request = u.asks.request; reply = reply; effects = effects; plan = plan; alone = refl };
+    beyond = subst (λ (t : List ℕ). offset_limit < s.node.core.lineage.stream.offset + length t) (sym (single_texts effects)) past;
     transaction = None;
     leads = refl;
     reply = outs.reply;

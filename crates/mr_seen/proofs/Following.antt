@@ -194,7 +194,7 @@ module _ (a : NodeState) (name : LinkId) (f : FollowState) (u : List ℕ) (g : F
   reads_by outcome.Announced r = on (ap (λ (z : CourseState). z.follow) r.is) (record { text = r.answers.answer.text; rest = r.answers.rest; is = r.answers.answer.is; agrees = r.answers.state.agrees })
   reads_by outcome.Continued r = on (ap (λ (z : CourseState). z.follow) r.is) (record { text = r.answers.answer.text; rest = r.answers.rest; is = r.answers.answer.is; agrees = r.answers.state.agrees })
   reads_by outcome.Loaded r = let whole = hearing.loaded f g u told m r.installs in on (ap (λ (z : CourseState). z.follow) r.is) (record { text = whole.text; rest = r.installs.rest; is = whole.begins; agrees = r.installs.state.agrees })
-  reads_by outcome.Applied r = on (ap (λ (z : CourseState). z.follow) r.is) (record { text = told; rest = r.follows.rest; is = r.follows.begins.is; agrees = r.follows.state.agrees })
+  reads_by outcome.Applied r = on (ap (λ (z : CourseState). z.follow) r.is) (record { text = told; rest = r.follows.rest; is = r.follows.begins; agrees = r.follows.state.agrees })
   reads_by outcome.Left r = off (ap (λ (z : CourseState). z.follow) r.is)
   reads_by outcome.Spoiled r = off (ap (λ (z : CourseState). z.follow) r.is)
 

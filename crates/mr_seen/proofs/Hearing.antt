@@ -5,13 +5,11 @@ use Rattle.mr_inline.specs.Language as texts
 use Rattle.mr_inline.specs.Language.{IsDoomed}
 use Rattle.mr_resp.specs.Command.{IsCommandText}
 use Rattle.mr_resp.specs.Usual.{commands}
-use Rattle.mr_resp.proofs.Commands as command_laws
-use Rattle.mr_effect.specs.Spelling.{text}
 use Rattle.mr_effect.specs.declared.effect.Effect.{Effect}
-use Rattle.mr_effect.proofs.Texts.{command_text}
 use Rattle.mr_entries.specs.Dataset.{Dataset}
-use Rattle.mr_data.specs.Meaning.{apply}
-use Rattle.mr_replay.specs.Effects.{IsGoodEffect}
+use Rattle.mr_data.specs.Meaning.{apply_all}
+use Rattle.mr_groups.specs.Groups.{IsGoodGroup, group_text}
+use Rattle.mr_groups.specs.Reading.{IsOpen}
 use Rattle.mr_lines.specs.Lines.{status, size, IsLineText}
 use Rattle.mr_lines.specs.Replies.{IsReplyText}
 use Rattle.mr_lines.specs.declared.psync.PsyncReply.{PsyncReply}
@@ -30,7 +28,6 @@ use Rattle.mr_follow.specs.Lines as lines
 use Rattle.mr_follow.specs.Rows as follow
 use Rattle.mr_follow.specs.declared.phase.Phase.{Phase}
 use Rattle.mr_follow.specs.declared.phase.Phase.TheVariants as phase
-use Rattle.mr_follow.proofs.Loadings.{possible, text_of_words, short_of_words}
 use Rattle.mr_seen.specs.Seeing.{seen_phase}
 use Rattle.mr_lines.proofs.Answers.{answer_or, IsAnswer, Settled}
 
@@ -70,8 +67,8 @@ no_snapshot u t rest m (inr h) s e =
     cancel : (a b c : List ℕ) → a ++ b ≡ a ++ c → b ≡ c
     cancel a b c e = append_cancel_left a b c e
 
-no_effect : (u rest : List ℕ) (e : Effect) → texts.Continues (IsCommandText commands) u → IsGoodEffect e → u ≡ text e ++ rest → ⊥
-no_effect u rest e w good q = command_laws.command_wants_no_more commands (text e) rest (command_text e good.spelled good.fits good.short) (subst (texts.Continues (IsCommandText commands)) q w)
+no_group : (u rest : List ℕ) (g : List Effect) → IsOpen u → IsGoodGroup g → u ≡ group_text g ++ rest → ⊥
+no_group u rest g w good q = w.none (record { group = g; good = good; behind = rest; is = q })
 
 short_of : {u kept : List ℕ} → texts.Continues IsLineText u ⊎ (lines.IsShortOf u × texts.Continues (IsCommandText commands) kept) → texts.Continues IsLineText u ⊎ lines.IsShortOf u
 short_of (inl w) = inl w
@@ -101,7 +98,7 @@ idles (phase.Snapshot id offset) u kept w (an_effect x rest e g q) = absurd (cc)
 idles phase.Stream u kept w (a_reply j t rest l e s q) = absurd (cc)
 idles phase.Stream u kept w (an_answer t rest l e s q) = absurd (cc)
 idles phase.Stream u kept w (a_snapshot i o t rest m e s q) = absurd (cc)
-idles phase.Stream u kept w (an_effect x rest e g q) = no_effect u rest x w g q
+idles phase.Stream u kept w (an_effect x rest e g q) = no_group u rest x w g q
 
 -- ---- lines
 -- the unread bytes begin with a line that says this
@@ -129,7 +126,7 @@ announced f g u id o next r = record { text = r.answer.text; says = record { sai
 pub continued_as : (f g : FollowState) (u id : List ℕ) (next : Phase) → (r : follow.Answers f u (reply.Continue id) next g) → Hears u (Continue id) r.rest
 continued_as f g u id next r = record { text = r.answer.text; says = record { said = status r.text; whole = r.answer.says; means = r.reads }; begins = r.answer.is }
 
--- ---- a snapshot, an effect
+-- ---- a snapshot, a group
 pub record HasSnapshot (u : List ℕ) (m : Dataset) (rest : List ℕ) : Type 0 where
   pub text : List ℕ
   pub loads : IsSnapshot text m
@@ -142,23 +139,12 @@ loaded f g u told m r = record {
   begins = r.begins.is ∙ sym (append_assoc r.begins.text r.bytes r.rest);
 }
 
-pub record HasEffect (u : List ℕ) (m n : Dataset) (told rest : List ℕ) : Type 0 where
-  pub effect : Effect
-  pub good : IsGoodEffect effect
-  pub is_text : told ≡ text effect
-  pub begins : u ≡ text effect ++ rest
-  pub applies : apply effect m ≡ Some n
+pub record HasGroup (u : List ℕ) (m n : Dataset) (told rest : List ℕ) : Type 0 where
+  pub group : List Effect
+  pub good : IsGoodGroup group
+  pub is_text : told ≡ group_text group
+  pub begins : u ≡ group_text group ++ rest
+  pub applies : apply_all group m ≡ Some n
 
-pub applied : (f g : FollowState) (u : List ℕ) (m n : Dataset) (o : ℕ) (told : List ℕ) → (r : follow.Follows f u m o g n told) → HasEffect u m n told r.rest
-applied f g u m n o told r =
-    let d = r.applies in
-    let c = r.begins.command in
-    let t : text d.effect ≡ told = text_of_words d.effect r.words told c d.spelled.1 in
-    let p = possible d.effect m n d.applied in
-    record {
-      effect = d.effect;
-      good = record { spelled = p.0; fits = p.1; short = short_of_words d.effect r.words told c d.spelled.1 };
-      is_text = sym t;
-      begins = r.begins.is ∙ ap (λ z. z ++ r.rest) (sym t);
-      applies = d.applied;
-    }
+pub applied : (f g : FollowState) (u : List ℕ) (m n : Dataset) (o : ℕ) (told : List ℕ) → (r : follow.Follows f u m o g n told) → HasGroup u m n told r.rest
+applied f g u m n o told r = record { group = r.group; good = r.good; is_text = r.is_text; begins = r.begins ∙ ap (λ z. z ++ r.rest) r.is_text; applies = r.applied }

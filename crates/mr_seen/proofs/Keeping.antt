@@ -1,14 +1,13 @@
 -- The book is kept: a history grows by texts, or branches at a place among them.
 use Rattle.std.proofs.Common.{◌≡◌, ◌≢◌, ℕ, List, [], ◌∷◌, ◌++◌, Bool, true, false, cond, Option, None, Some, length, take, refl, sym, ap, subst, ◌∙◌}
 use Rattle.std.specs.Prelude.{bytes_eq, if◌then◌else◌}
-use Rattle.std.specs.Option.{option_map, option_and_then}
+use Rattle.std.specs.Option.{option_map}
 use Rattle.std.proofs.lemmas.Slice.Eq.{bytes_eq-Decides}
 use Rattle.std.proofs.lemmas.Grind.{flat_map-append}
-use Rattle.mr_effect.specs.Spelling.{text}
 use Rattle.mr_effect.specs.declared.effect.Effect.{Effect}
 use Rattle.mr_entries.specs.Dataset.{Dataset}
-use Rattle.mr_data.specs.Meaning.{apply, apply_all}
-use Rattle.mr_history.specs.History.{Book, History, Front, Extends, Branches, texts, fold, then_fold}
+use Rattle.mr_groups.specs.Groups.{group_text}
+use Rattle.mr_history.specs.History.{Book, History, Front, Extends, Branches, texts}
 use Rattle.mr_history.specs.Changes.{SetAt}
 use Rattle.mr_language.specs.Minired.{minired}
 use Rattle.mr_seen.specs.State.{Entry}
@@ -18,15 +17,6 @@ use Rattle.mr_seen.specs.Books.{extended, cut_of, branched}
 -- more texts behind the history of an id
 abbrev longer : List ℕ → List ℕ → Entry → Entry
 longer id bytes e = if bytes_eq e.id id then record e { texts = e.texts ++ bytes } else e
-
--- a fold is what effects come to
-pub fold_is : (es : List Effect) (m : Dataset) → fold minired es m ≡ apply_all es m
-fold_is [] m = refl
-fold_is (e ∷ es) m = go (λ x. fold_is es x) (apply e m)
-  where
-    go : ((x : Dataset) → fold minired es x ≡ apply_all es x) → (o : Option Dataset) → then_fold o (fold minired es) ≡ option_and_then (apply_all es) o
-    go f None = refl
-    go f (Some x) = f x
 
 -- the entry that is found has the id
 found_id : (es : List Entry) (i : List ℕ) (e : Entry) → entry_of es i ≡ Some e → e.id ≡ i
@@ -67,14 +57,14 @@ set_history book id h = (ap (λ b. cond b (Some h) (book id)) ((bytes_eq-Decides
     apart true m e ne = absurd (ne (sym ((bytes_eq-Decides id m).0 e)))
     apart false m e ne = refl
 
-grown_one : (id bytes : List ℕ) (es : List Effect) (h : History minired) (o : Option Entry) (p : Option (History minired)) → bytes ≡ texts minired es → ((e : Entry) → o ≡ Some e → e.id ≡ id) → p ≡ Some h → IsKeptAs o p
-    → IsKeptAs (option_map (longer id bytes) o) (Some (record h { effects = h.effects ++ es }))
-grown_one id bytes es h None p b i q k = absurd (subst (λ z. IsKeptAs None z) q k)
-grown_one id bytes es h (Some e) p b i q k =
+grown_one : (id bytes : List ℕ) (gs : List (List Effect)) (h : History minired) (o : Option Entry) (p : Option (History minired)) → bytes ≡ texts minired gs → ((e : Entry) → o ≡ Some e → e.id ≡ id) → p ≡ Some h → IsKeptAs o p
+    → IsKeptAs (option_map (longer id bytes) o) (Some (record h { effects = h.effects ++ gs }))
+grown_one id bytes gs h None p b i q k = absurd (subst (λ z. IsKeptAs None z) q k)
+grown_one id bytes gs h (Some e) p b i q k =
     let kept : IsKept e h = subst (λ z. IsKeptAs (Some e) z) q k in
-    subst (λ (c : Bool). IsKept (cond c (record e { texts = e.texts ++ bytes }) e) (record h { effects = h.effects ++ es })) (sym ((bytes_eq-Decides e.id id).1 (i e refl))) (record {
+    subst (λ (c : Bool). IsKept (cond c (record e { texts = e.texts ++ bytes }) e) (record h { effects = h.effects ++ gs })) (sym ((bytes_eq-Decides e.id id).1 (i e refl))) (record {
       start = kept.start;
-      texts_are = ap (λ z. z ++ bytes) kept.texts_are ∙ (ap (λ z. texts minired h.effects ++ z) b ∙ sym (flat_map-append text h.effects es));
+      texts_are = ap (λ z. z ++ bytes) kept.texts_are ∙ (ap (λ z. texts minired h.effects ++ z) b ∙ sym (flat_map-append group_text h.effects gs));
     })
 
 other_one : (id bytes : List ℕ) (o : Option Entry) (p : Option (History minired)) → ((e : Entry) → o ≡ Some e → e.id ≢ id) → IsKeptAs o p → IsKeptAs (option_map (longer id bytes) o) p
@@ -85,18 +75,18 @@ other_one id bytes (Some e) p n k = subst (λ z. IsKeptAs (Some z) p) (sym (go (
     go true h = absurd (n e refl ((bytes_eq-Decides e.id id).0 h))
     go false h = refl
 
--- effects at the end of a history, and their texts behind its texts
-pub extended_kept : (es : List Entry) (book : Book minired) (id bytes : List ℕ) (fx : List Effect) (h : History minired) → IsBook es book → book id ≡ Some h → bytes ≡ texts minired fx
-    → IsBook (extended es id bytes) (with_history book id (record h { effects = h.effects ++ fx }))
-extended_kept es book id bytes fx h is at b = record { each = λ i. subst (λ o. IsKeptAs o (with_history book id (record h { effects = h.effects ++ fx }) i)) (sym (entry_longer es id bytes i)) (go i (bytes_eq id i) refl) }
+-- groups at the end of a history, and their texts behind its texts
+pub extended_kept : (es : List Entry) (book : Book minired) (id bytes : List ℕ) (gs : List (List Effect)) (h : History minired) → IsBook es book → book id ≡ Some h → bytes ≡ texts minired gs
+    → IsBook (extended es id bytes) (with_history book id (record h { effects = h.effects ++ gs }))
+extended_kept es book id bytes gs h is at b = record { each = λ i. subst (λ o. IsKeptAs o (with_history book id (record h { effects = h.effects ++ gs }) i)) (sym (entry_longer es id bytes i)) (go i (bytes_eq id i) refl) }
   where
-    go : (i : List ℕ) (c : Bool) → bytes_eq id i ≡ c → IsKeptAs (option_map (longer id bytes) (entry_of es i)) (cond c (Some (record h { effects = h.effects ++ fx })) (book i))
+    go : (i : List ℕ) (c : Bool) → bytes_eq id i ≡ c → IsKeptAs (option_map (longer id bytes) (entry_of es i)) (cond c (Some (record h { effects = h.effects ++ gs })) (book i))
     go i true e = let one : id ≡ i = (bytes_eq-Decides id i).0 e in
-        grown_one id bytes fx h (entry_of es i) (book i) b (λ x q. found_id es i x q ∙ sym one) (ap book (sym one) ∙ at) (is.each i)
+        grown_one id bytes gs h (entry_of es i) (book i) b (λ x q. found_id es i x q ∙ sym one) (ap book (sym one) ∙ at) (is.each i)
     go i false e = other_one id bytes (entry_of es i) (book i) (λ x q r. let w : bytes_eq id i ≡ true = (bytes_eq-Decides id i).1 (sym r ∙ found_id es i x q) in let wrong : false ≡ true = sym e ∙ w in absurd (cc)) (is.each i)
 
-pub extends : (es : List Entry) (book : Book minired) (id : List ℕ) (fx : List Effect) (h : History minired) → book id ≡ Some h → Extends minired book (with_history book id (record h { effects = h.effects ++ fx })) id fx
-extends es book id fx h at = record { history = h; found = at; book = set_history book id (record h { effects = h.effects ++ fx }) }
+pub extends : (es : List Entry) (book : Book minired) (id : List ℕ) (gs : List (List Effect)) (h : History minired) → book id ≡ Some h → Extends minired book (with_history book id (record h { effects = h.effects ++ gs })) id gs
+extends es book id gs h at = record { history = h; found = at; book = set_history book id (record h { effects = h.effects ++ gs }) }
 
 -- ---- a branch
 abbrev pub or_else : Option Entry → Option Entry → Option Entry
@@ -125,8 +115,8 @@ take_here : (xs ys : List ℕ) → take (length xs) (xs ++ ys) ≡ xs
 take_here [] ys = refl
 take_here (x ∷ xs) ys = ap (λ z. x ∷ z) (take_here xs ys)
 
--- a new id whose texts are those of another up to an end of one of its effects
-pub branched_kept : (es : List Entry) (book : Book minired) (id fresh : List ℕ) (o : ℕ) (start : Dataset) (earlier later : List Effect) → IsBook es book → Front minired book id o start earlier later
+-- a new id whose texts are those of another up to an end of one of its groups
+pub branched_kept : (es : List Entry) (book : Book minired) (id fresh : List ℕ) (o : ℕ) (start : Dataset) (earlier later : List (List Effect)) → IsBook es book → Front minired book id o start earlier later
     → entry_of es fresh ≡ None → IsBook (branched es id o fresh) (with_history book fresh (record { start = start; effects = earlier }))
 branched_kept es book id fresh o start earlier later is front none = go (entry_of es id) refl
   where
@@ -138,7 +128,7 @@ branched_kept es book id fresh o start earlier later is front none = go (entry_o
     go (Some e) q =
         let kept : IsKept e (record { start = start; effects = earlier ++ later }) = subst (λ z. IsKeptAs (Some e) z) front.found (subst (λ z. IsKeptAs z (book id)) q (is.each id)) in
         let cut : take o e.texts ≡ texts minired earlier =
-        ap (take o) (kept.texts_are ∙ flat_map-append text earlier later) ∙ (ap (λ n. take n (texts minired earlier ++ texts minired later)) (sym front.place) ∙ take_here (texts minired earlier) (texts minired later)) in
+        ap (take o) (kept.texts_are ∙ flat_map-append group_text earlier later) ∙ (ap (λ n. take n (texts minired earlier ++ texts minired later)) (sym front.place) ∙ take_here (texts minired earlier) (texts minired later)) in
         record {
           each = λ i. subst (λ z. IsKeptAs z (with_history book fresh (record { start = start; effects = earlier }) i)) (sym (entry_push es (record { id = fresh; start = e.start; texts = take o e.texts }) i))
               (kept_on (bytes_eq fresh i) (entry_of es i) (book i) (record { id = fresh; start = e.start; texts = take o e.texts }) (record { start = start; effects = earlier }) (is.each i)
@@ -150,7 +140,7 @@ is_none None None k e = refl
 is_none None (Some h) k e = absurd k
 is_none (Some x) p k e = absurd (cc)
 
-pub branches : (es : List Entry) (book : Book minired) (id fresh : List ℕ) (o : ℕ) (start : Dataset) (earlier later : List Effect) → IsBook es book → Front minired book id o start earlier later
+pub branches : (es : List Entry) (book : Book minired) (id fresh : List ℕ) (o : ℕ) (start : Dataset) (earlier later : List (List Effect)) → IsBook es book → Front minired book id o start earlier later
     → entry_of es fresh ≡ None → Branches minired book (with_history book fresh (record { start = start; effects = earlier })) fresh id o
 branches es book id fresh o start earlier later is front none = record {
   new_id = is_none (entry_of es fresh) (book fresh) (is.each fresh) none;

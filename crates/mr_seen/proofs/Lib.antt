@@ -1,6 +1,7 @@
 pub mod Places
 pub mod Unread
 pub mod Seen
+pub mod Singles
 pub mod Keeping
 pub mod Reading
 pub mod Others

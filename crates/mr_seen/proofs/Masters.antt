@@ -9,7 +9,7 @@ use Rattle.mr_entries.specs.Dataset.{Dataset}
 use Rattle.mr_data.specs.declared.given.Given.{Given}
 use Rattle.mr_repl.specs.Backlog.{last_of}
 use Rattle.mr_repl.specs.Lineage.{renamed}
-use Rattle.mr_effect.specs.Spelling.{text}
+use Rattle.mr_groups.specs.Groups.{group_text}
 use Rattle.mr_lines.specs.Lines.{status}
 use Rattle.mr_lines.proofs.Answers.{answer_or}
 use Rattle.mr_follow.specs.State.{FollowState, Agrees, AgreesBy, IsOffer}
@@ -303,7 +303,7 @@ module _ (w : WorldState) (book : Book minired) (n : ℕ) (s : Slot) (k : Link) 
           (link_is g r.answers.answer.text r.answers.rest (follow_is c (reads_on name g (continues_as r.id (course_of s.node))) ends e r.is) r.answers.state.agrees r.answers.answer.is);
     }))
 
-    -- ---- a snapshot, an effect
+    -- ---- a snapshot, a group
     loads : (c : CourseState) (g : FollowState) (told : List ℕ) (ends : Links EndState) → b ≡ node_behind s.node c b.core.held ends → outs.reply ≡ [] → course.Loads (course_of s.node) name f (unread k.tell) g c b.core.held told → Event V
     loads c g told ends e none r =
         let i = r.installs in
@@ -326,34 +326,34 @@ module _ (w : WorldState) (book : Book minired) (n : ℕ) (s : Slot) (k : Link) 
     applies : (c : CourseState) (g : FollowState) (told : List ℕ) (ends : Links EndState) → b ≡ node_behind s.node c b.core.held ends → outs.reply ≡ [] → course.Applies (course_of s.node) s.node.core.held name f (unread k.tell) g c b.core.held told → Event V
     applies c g told ends e none r =
         let x = r.follows in
-        let effect = hearing.applied f g (unread k.tell) s.node.core.held b.core.held s.node.core.lineage.stream.offset told x in
+        let had = hearing.applied f g (unread k.tell) s.node.core.held b.core.held s.node.core.lineage.stream.offset told x in
         let streams = x.streams in
-        let long : length told ≡ length (text effect.effect) = ap length effect.is_text in
+        let long : length told ≡ length (group_text had.group) = ap length had.is_text in
         event V refl (FollowerRow.applies (record {
           phase = ap seen_phase streams;
-          effect = effect.effect;
-          good = effect.good;
-          left = seen_way (used_on (length (text effect.effect)) k.tell);
-          reads = reads_way k.tell (text effect.effect) x.rest effect.begins;
+          effect = had.group;
+          good = had.good;
+          left = seen_way (used_on (length (group_text had.group)) k.tell);
+          reads = reads_way k.tell (group_text had.group) x.rest had.begins;
           held = b.core.held;
-          applies = effect.applies;
+          applies = had.applies;
           within = (let few = x.within in omega (arith, few, long));
-          backlog = last_of s.node.core.lineage.stream.capacity (s.node.core.lineage.stream.held ++ text effect.effect);
-          last_bytes = ends_as s.node.core.lineage.stream.capacity s.node.core.lineage.stream.held (text effect.effect);
+          backlog = last_of s.node.core.lineage.stream.capacity (s.node.core.lineage.stream.held ++ group_text had.group);
+          last_bytes = ends_as s.node.core.lineage.stream.capacity s.node.core.lineage.stream.held (group_text had.group);
           becomes = becomes (record (seen_node s) {
             held = b.core.held;
-            offset = s.node.core.lineage.stream.offset + length (text effect.effect);
-            backlog = last_of s.node.core.lineage.stream.capacity (s.node.core.lineage.stream.held ++ text effect.effect);
-          }) (seen_way (used_on (length (text effect.effect)) k.tell)) [] none
+            offset = s.node.core.lineage.stream.offset + length (group_text had.group);
+            backlog = last_of s.node.core.lineage.stream.capacity (s.node.core.lineage.stream.held ++ group_text had.group);
+          }) (seen_way (used_on (length (group_text had.group)) k.tell)) [] none
               (node_is c (reads_on name g (grows told (course_of s.node))) b.core.held ends e r.is refl
-              ∙ (ap (λ t. on_course s (reads_on name g (grows t (course_of s.node))) b.core.held) effect.is_text
+              ∙ (ap (λ t. on_course s (reads_on name g (grows t (course_of s.node))) b.core.held) had.is_text
               ∙ ap (λ z. record (seen_node s) {
                 held = b.core.held;
-                offset = s.node.core.lineage.stream.offset + length (text effect.effect);
-                backlog = last_of s.node.core.lineage.stream.capacity (s.node.core.lineage.stream.held ++ text effect.effect);
+                offset = s.node.core.lineage.stream.offset + length (group_text had.group);
+                backlog = last_of s.node.core.lineage.stream.capacity (s.node.core.lineage.stream.held ++ group_text had.group);
                 follow = z;
               }) (same_follow g (x.state.waits ∙ sym streams))))
-              (link_is g (text effect.effect) x.rest (follow_is c (reads_on name g (grows told (course_of s.node))) ends e r.is) x.state.agrees effect.begins);
+              (link_is g (group_text had.group) x.rest (follow_is c (reads_on name g (grows told (course_of s.node))) ends e r.is) x.state.agrees had.begins);
         }))
 
     -- ---- the master is left

@@ -11,6 +11,8 @@ use Rattle.mr_data.specs.declared.given.Given.{Given}
 use Rattle.mr_resp.specs.Replies.{Tree}
 use Rattle.mr_repl.specs.Backlog.{last_of}
 use Rattle.mr_replay.specs.Effects.{IsGoodEffect}
+use Rattle.mr_groups.specs.Groups.{group_texts, singles}
+use Rattle.mr_groups.proofs.Runs.{single_texts}
 use Rattle.mr_plan.specs.Requests.{HasPlan}
 use Rattle.mr_lines.specs.Lines.{most_counted}
 use Rattle.mr_ends.specs.State.EndState.{client, replica, shut}
@@ -46,7 +48,8 @@ use Rattle.mr_seen.specs.Events.{IsEvent, Holds, IsServed}
 use Rattle.mr_seen.proofs.Seen.{put_at}
 use Rattle.mr_seen.proofs.Reading.{reads_on, set_as, still_at, client_seen, joined_seen, shut_seen}
 use Rattle.mr_seen.proofs.Others.{NoneServed, unreached, fed_reached, others_there, here}
-use Rattle.mr_seen.proofs.Keeping.{fold_is, with_history, extended_kept, extends}
+use Rattle.mr_seen.proofs.Singles.{single_folds, single_good}
+use Rattle.mr_seen.proofs.Keeping.{with_history, extended_kept, extends}
 
 -- texts that are none change no entry
 pub extended_none : (es : List Entry) (id : List ℕ) → extended es id [] ≡ es
@@ -138,7 +141,7 @@ module _ (w : WorldState) (book : Book minired) (l : ℕ) (k : Link) (s : Slot) 
   pub answered_nothing : (way : history.Way) → answered (seen_link k) way [] ≡ record (seen_link k) { ask = way }
   answered_nothing way = ap (λ z. record (seen_link k) { ask = way; tell = record (seen_way k.tell) { left = z } }) (append-nil (seen_way k.tell).left)
 
-  -- ---- a master's stream grows
+  -- ---- a master's stream grows, by effects each of which is a group of its own
   pub record Grows (effects : List Effect) (held : Dataset) (backlog : List ℕ) : Type 0 where
     pub good : All IsGoodEffect effects
     pub leads : apply_all effects s.node.core.held ≡ Some held
@@ -156,31 +159,34 @@ module _ (w : WorldState) (book : Book minired) (l : ℕ) (k : Link) (s : Slot) 
   runs words rest a effects reply held backlog c master kind plan is g =
       let node = holds.invariant.nodes k.to (seen_node s) (ap (option_map seen_node) served.at) served.up in
       let there = node.front.found in
-      event V (with_history book s.node.core.lineage.id (record { start = node.start; effects = (node.earlier ++ node.later) ++ effects }))
-      (subst (λ u. IsBook (booked_as u w.book s.node.core.lineage.id s.node.core.lineage.stream.offset outs.grown) (with_history book s.node.core.lineage.id (record { start = node.start; effects = (node.earlier ++ node.later) ++ effects })))
-      (sym g.unused) (extended_kept w.book book s.node.core.lineage.id outs.grown effects (record { start = node.start; effects = node.earlier ++ node.later }) holds.kept there g.grown_is))
+      let groups : List (List Effect) = singles effects in
+      let same : texts effects ≡ group_texts (singles effects) = sym (single_texts effects) in
+      event V (with_history book s.node.core.lineage.id (record { start = node.start; effects = (node.earlier ++ node.later) ++ groups }))
+      (subst (λ u. IsBook (booked_as u w.book s.node.core.lineage.id s.node.core.lineage.stream.offset outs.grown) (with_history book s.node.core.lineage.id (record { start = node.start; effects = (node.earlier ++ node.later) ++ groups })))
+      (sym g.unused) (extended_kept w.book book s.node.core.lineage.id outs.grown groups (record { start = node.start; effects = node.earlier ++ node.later }) holds.kept there (g.grown_is ∙ same)))
       (ServerRow.runs (record {
         client = c;
         master = master;
         uses = uses_of words rest a Command (subst (λ z. language.Asks z Command) (sym kind) refl);
-        effects = effects;
-        of_request = record { words = words; request = a.request; reply = reply; plan = plan };
+        effects = groups;
+        of_request = record { words = words; request = a.request; reply = reply; effects = effects; plan = plan; alone = refl };
         grown = record {
-          good = g.good;
-          within = g.within;
+          good = single_good effects g.good;
+          within = subst (λ (t : List ℕ). s.node.core.lineage.stream.offset + length t ≤ most_counted) same g.within;
           held = held;
-          folds = fold_is effects s.node.core.held ∙ g.leads;
+          folds = single_folds effects s.node.core.held ∙ g.leads;
           backlog = backlog;
-          last_bytes = g.last_bytes;
-          nodes = node_becomes (record (seen_node s) { held = held; offset = s.node.core.lineage.stream.offset + length (texts effects); backlog = backlog }) g.node;
-          book = extends w.book book s.node.core.lineage.id effects (record { start = node.start; effects = node.earlier ++ node.later }) there;
+          last_bytes = subst (λ (t : List ℕ). EndsAs s.node.core.lineage.stream.held t backlog) same g.last_bytes;
+          nodes = node_becomes (record (seen_node s) { held = held; offset = s.node.core.lineage.stream.offset + length (group_texts (singles effects)); backlog = backlog })
+              (g.node ∙ ap (λ (t : List ℕ). record (seen_node s) { held = held; offset = s.node.core.lineage.stream.offset + length t; backlog = backlog }) same);
+          book = extends w.book book s.node.core.lineage.id groups (record { start = node.start; effects = node.earlier ++ node.later }) there;
         };
         transaction = None;
         leads = refl;
         reply = outs.reply;
         link = here (reached k.to outs) w.links l m k served.found ∙ ap (λ z. Some z) (here_client a.text rest c is a.begins);
         no_links = λ j ne e. fed_there j ne ∙ ap (option_map (λ y. told_if (hears k.to y) y outs.grown)) e;
-        links = λ j x ne e. fed_there j ne ∙ (ap (option_map (λ y. told_if (hears k.to y) y outs.grown)) e ∙ ap (λ z. Some (told_if (hears k.to x) x z)) g.grown_is);
+        links = λ j x ne e. fed_there j ne ∙ (ap (option_map (λ y. told_if (hears k.to y) y outs.grown)) e ∙ ap (λ z. Some (told_if (hears k.to x) x z)) (g.grown_is ∙ same));
       }))
     where
       fed_there : (j : ℕ) → j ≢ l → option_map seen_link (slice_get (slice_set (map (reached k.to outs) w.links) l m) j) ≡ option_map (λ y. told_if (hears k.to y) y outs.grown) (option_map seen_link (slice_get w.links j))

@@ -1,5 +1,5 @@
 -- A tick, as histories see it.
-use Rattle.std.proofs.Common.{◌≡◌, ◌-◌, ◌≤◌, ℕ, ℤ, List, [], ◌∷◌, ◌++◌, Bool, true, false, cond, Option, None, Some, length, length-append, take, map, refl, sym, ap, subst, ◌∙◌, arith, All}
+use Rattle.std.proofs.Common.{◌≡◌, ◌+◌, ◌-◌, ◌≤◌, ℕ, ℤ, List, [], ◌∷◌, ◌++◌, Bool, true, false, cond, Option, None, Some, length, length-append, take, map, refl, sym, ap, subst, ◌∙◌, arith, All}
 use Rattle.std.specs.Prelude.{slice_get, slice_set, nat_le}
 use Rattle.std.specs.Option.{option_map}
 use Rattle.std.proofs.lemmas.Bool.{leb-true}
@@ -13,6 +13,8 @@ use Rattle.mr_effect.specs.declared.effect.Effect.{Effect}
 use Rattle.mr_effect.specs.declared.effect.Effect.TheVariants as effect
 use Rattle.mr_data.specs.Due.{due, most_deleted, within}
 use Rattle.mr_data.specs.declared.given.Given.{Given}
+use Rattle.mr_groups.specs.Groups.{group_texts, singles}
+use Rattle.mr_groups.proofs.Runs.{single_texts}
 use Rattle.mr_repl.specs.Backlog.{IsWindow, last_of}
 use Rattle.mr_outs.specs.Outs.{OutsState, no_outs}
 use Rattle.mr_rows.specs.State.{Core, NodeState}
@@ -20,6 +22,7 @@ use Rattle.mr_rows.specs.Growing.{FedTo, grown_by}
 use Rattle.mr_rows.specs.TimeRows.{TickRow, room_in, doomed}
 use Rattle.mr_rows.specs.TimeRows as row
 use Rattle.mr_history.specs.History.{Book}
+use Rattle.mr_history.specs.Node.{EndsAs}
 use Rattle.mr_history.specs.World.{hears, told_if}
 use Rattle.mr_history.specs.Event as events
 use Rattle.mr_history.specs.Changing.Unless.{acts}
@@ -33,7 +36,8 @@ use Rattle.mr_seen.specs.Books.{IsBook}
 use Rattle.mr_seen.specs.Carrying.{behind, filed, reached, booked_as, said_on, said_by, ticked}
 use Rattle.mr_seen.specs.Events.{IsEvent, Holds, IsRunning, TickStopsAreRows, TicksAreRows}
 use Rattle.mr_seen.proofs.Seen.{put_at, sent_seen}
-use Rattle.mr_seen.proofs.Keeping.{fold_is, with_history, extended_kept, extends}
+use Rattle.mr_seen.proofs.Singles.{single_folds, single_good}
+use Rattle.mr_seen.proofs.Keeping.{with_history, extended_kept, extends}
 use Rattle.mr_seen.proofs.Reading.{node_is, set_as, still_at}
 use Rattle.mr_seen.proofs.Others.{no_names, unreached, fed_reached, map_there, others_there, here}
 use Rattle.mr_seen.proofs.Asking.{good_all}
@@ -68,13 +72,13 @@ dels_short : (ds : List (Bytes × ℤ)) → All IsShort (map (λ d. effect.Del d
 dels_short [] = All-nil IsShort
 dels_short (d ∷ ds) = All-cons IsShort (effect.Del d.0) (map (λ d. effect.Del d.0) ds) (del_short d.0) (dels_short ds)
 
--- what a tick writes is due
+-- what a tick writes is due, each effect alone
 record Fits (c : Core) (given : Given) (effects : List Effect) : Type 0 where
-  is_due : IsDue (room_in c) c.held given effects
+  is_due : IsDue (room_in c) c.held given (singles effects)
   few : length (texts effects) ≤ room_in c
   short : All IsShort effects
 
-fits_within : (c : Core) (given : Given) (effects es : List Effect) → IsDue (room_in c) c.held given effects → All IsShort es → effects ≡ within (room_in c) es → Fits c given effects
+fits_within : (c : Core) (given : Given) (effects es : List Effect) → IsDue (room_in c) c.held given (singles effects) → All IsShort es → effects ≡ within (room_in c) es → Fits c given effects
 fits_within c given effects es is_due short is = record {
   is_due = is_due;
   few = subst (λ (xs : List Effect). length (texts xs) ≤ room_in c) (sym is) (within_fits es (room_in c));
@@ -82,12 +86,12 @@ fits_within c given effects es is_due short is = record {
 }
 
 fits_of : (a : NodeState) (given : Given) (effects : List Effect) (mark : Option ℤ) → row.Beats a given.now effects mark → Fits a.core given effects
-fits_of a given effects mark (row.Beats.cut over is m) = fits_within a.core given effects (doomed given.now a.core.held) (IsDue.deletes is) (dels_short (take most_deleted (due given.now a.core.held))) is
-fits_of a given effects mark (row.Beats.marks all none is m) = fits_within a.core given effects (doomed given.now a.core.held) (IsDue.deletes (is ∙ sym all)) (dels_short (take most_deleted (due given.now a.core.held))) (is ∙ sym all)
-fits_of a given effects mark (row.Beats.beats all some passed is m) = fits_within a.core given effects (doomed given.now a.core.held ++ effect.Ping ∷ []) (IsDue.beats is)
+fits_of a given effects mark (row.Beats.cut over is m) = fits_within a.core given effects (doomed given.now a.core.held) (IsDue.deletes (ap singles is)) (dels_short (take most_deleted (due given.now a.core.held))) is
+fits_of a given effects mark (row.Beats.marks all none is m) = fits_within a.core given effects (doomed given.now a.core.held) (IsDue.deletes (ap singles (is ∙ sym all))) (dels_short (take most_deleted (due given.now a.core.held))) (is ∙ sym all)
+fits_of a given effects mark (row.Beats.beats all some passed is m) = fits_within a.core given effects (doomed given.now a.core.held ++ effect.Ping ∷ []) (IsDue.beats (ap singles is))
     (All-append IsShort (doomed given.now a.core.held) (effect.Ping ∷ []) (dels_short (take most_deleted (due given.now a.core.held))) (All-cons IsShort effect.Ping [] ping_short (All-nil IsShort))) is
-fits_of a given effects mark (row.Beats.waits all waiting is m) = fits_within a.core given effects (doomed given.now a.core.held) (IsDue.deletes (is ∙ sym all)) (dels_short (take most_deleted (due given.now a.core.held))) (is ∙ sym all)
-fits_of a given effects mark (row.Beats.alone all none passed is m) = fits_within a.core given effects (doomed given.now a.core.held) (IsDue.deletes (is ∙ sym all)) (dels_short (take most_deleted (due given.now a.core.held))) (is ∙ sym all)
+fits_of a given effects mark (row.Beats.waits all waiting is m) = fits_within a.core given effects (doomed given.now a.core.held) (IsDue.deletes (ap singles (is ∙ sym all))) (dels_short (take most_deleted (due given.now a.core.held))) (is ∙ sym all)
+fits_of a given effects mark (row.Beats.alone all none passed is m) = fits_within a.core given effects (doomed given.now a.core.held) (IsDue.deletes (ap singles (is ∙ sym all))) (dels_short (take most_deleted (due given.now a.core.held))) (is ∙ sym all)
 
 module _ (w : WorldState) (book : Book minired) (n : ℕ) (s : Slot) (given : Given) (b : NodeState) (outs : OutsState) (holds : Holds w book) (runs : IsRunning w n s) where
   abbrev V : WorldState
@@ -108,25 +112,34 @@ module _ (w : WorldState) (book : Book minired) (n : ℕ) (s : Slot) (given : Gi
       let fits = fits_of s.node given r.effects r.mark r.beats in
       let node = holds.invariant.nodes n (seen_node s) (ap (option_map seen_node) runs.at) runs.up in
       let there = node.front.found in
-      let grown_is : outs.grown ≡ texts r.effects = ap (λ (o : OutsState). o.grown) r.outs_are in
+      let groups : List (List Effect) = singles r.effects in
+      let same : texts r.effects ≡ group_texts (singles r.effects) = sym (single_texts r.effects) in
+      let grown_is : outs.grown ≡ group_texts (singles r.effects) = ap (λ (o : OutsState). o.grown) r.outs_are ∙ same in
       let unused : outs.used ≡ None = ap (λ (o : OutsState). o.used) r.outs_are in
-      event (with_history book s.node.core.lineage.id (record { start = node.start; effects = (node.earlier ++ node.later) ++ r.effects }))
-      (subst (λ u. IsBook (booked_as u w.book s.node.core.lineage.id s.node.core.lineage.stream.offset outs.grown) (with_history book s.node.core.lineage.id (record { start = node.start; effects = (node.earlier ++ node.later) ++ r.effects })))
-      (sym unused) (extended_kept w.book book s.node.core.lineage.id outs.grown r.effects (record { start = node.start; effects = node.earlier ++ node.later }) holds.kept there grown_is))
+      event (with_history book s.node.core.lineage.id (record { start = node.start; effects = (node.earlier ++ node.later) ++ groups }))
+      (subst (λ u. IsBook (booked_as u w.book s.node.core.lineage.id s.node.core.lineage.stream.offset outs.grown) (with_history book s.node.core.lineage.id (record { start = node.start; effects = (node.earlier ++ node.later) ++ groups })))
+      (sym unused) (extended_kept w.book book s.node.core.lineage.id outs.grown groups (record { start = node.start; effects = node.earlier ++ node.later }) holds.kept there grown_is))
       (Ticks.beats (record {
         master = r.master;
-        effects = r.effects;
+        effects = groups;
         due = fits.is_due;
         grown = record {
-          good = good_all r.effects s.node.core.held r.held r.applied fits.short;
-          within = (let few = fits.few in let countable = window.countable in omega (arith, few, countable));
+          good = single_good r.effects (good_all r.effects s.node.core.held r.held r.applied fits.short);
+          within = (let few = subst (λ (t : List ℕ). length t ≤ room_in s.node.core) same fits.few in let countable = window.countable in omega (arith, few, countable));
           held = r.held;
-          folds = fold_is r.effects s.node.core.held ∙ r.applied;
+          folds = single_folds r.effects s.node.core.held ∙ r.applied;
           backlog = last_of s.node.core.lineage.stream.capacity (s.node.core.lineage.stream.held ++ texts r.effects);
-          last_bytes = ends_as s.node.core.lineage.stream.capacity s.node.core.lineage.stream.held (texts r.effects);
+          last_bytes = subst (λ (t : List ℕ). EndsAs s.node.core.lineage.stream.held t (last_of s.node.core.lineage.stream.capacity (s.node.core.lineage.stream.held ++ texts r.effects))) same
+              (ends_as s.node.core.lineage.stream.capacity s.node.core.lineage.stream.held (texts r.effects));
           nodes = set_as (λ m. option_map seen_node (slice_get w.slots m)) (λ m. option_map seen_node (slice_get (slice_set w.slots n (behind s b outs)) m)) n (seen_node (behind s b outs)) _
-              (put_at seen_node w.slots n (behind s b outs) s runs.at) (node_is s b (filed outs s.file) (record (grown_by r.effects r.held s.node.core) { mark = r.mark }) s.node.follow r.core r.follow);
-          book = extends w.book book s.node.core.lineage.id r.effects (record { start = node.start; effects = node.earlier ++ node.later }) there;
+              (put_at seen_node w.slots n (behind s b outs) s runs.at)
+              (node_is s b (filed outs s.file) (record (grown_by r.effects r.held s.node.core) { mark = r.mark }) s.node.follow r.core r.follow
+              ∙ ap (λ (t : List ℕ). record (seen_node s) {
+                held = r.held;
+                offset = s.node.core.lineage.stream.offset + length t;
+                backlog = last_of s.node.core.lineage.stream.capacity (s.node.core.lineage.stream.held ++ texts r.effects);
+              }) same);
+          book = extends w.book book s.node.core.lineage.id groups (record { start = node.start; effects = node.earlier ++ node.later }) there;
         };
         no_links = λ j e. fed_there j ∙ ap (option_map (λ y. told_if (hears n y) y outs.grown)) e;
         links = λ j x e. fed_there j ∙ (ap (option_map (λ y. told_if (hears n y) y outs.grown)) e ∙ ap (λ z. Some (told_if (hears n x) x z)) grown_is);

@@ -2,12 +2,12 @@
 use Rattle.std.specs.Prelude.{ℕ, List, [], ◌∷◌, ◌++◌, ◌≡◌, Option, None, Some, bytes_eq, take, if◌then◌else◌}
 use Rattle.mr_history.specs.History.{Book, History, texts}
 use Rattle.mr_language.specs.Minired.{minired}
-use Rattle.mr_replay.specs.Effects.{Makes}
+use Rattle.mr_groups.specs.Folding.{MakesByGroups}
 use Rattle.mr_seen.specs.State.{Entry}
 
--- The commands make the dataset that the history starts with, and the texts are those of its effects.
+-- The commands make the dataset that the history starts with, group by group, and the texts are those of its groups.
 pub record IsKept (e : Entry) (h : History minired) : Type 0 where
-  pub start : Makes e.start h.start
+  pub start : MakesByGroups e.start h.start
   pub texts_are : e.texts ≡ texts minired h.effects
 
 abbrev pub entry_of : List Entry → List ℕ → Option Entry

@@ -7,7 +7,7 @@ use Rattle.mr_links.specs.declared.link_id.LinkId.{LinkId}
 use Rattle.mr_follow.specs.State.{FollowState}
 use Rattle.mr_course.specs.declared.upstream.UpstreamStep.{UpstreamStep}
 use Rattle.mr_outs.specs.Outs.{OutsState, no_outs}
-use Rattle.mr_replay.specs.Effects.{Makes}
+use Rattle.mr_groups.specs.Folding.{MakesByGroups}
 use Rattle.mr_history.specs.History.{Book, Grows}
 use Rattle.mr_history.specs.Event as events
 use Rattle.mr_history.specs.Event.Side.{Server, Dialler}
@@ -192,7 +192,7 @@ StartsAreRows = (w : WorldState) (book : Book minired) (as_replica : Bool) (port
 abbrev pub RestartsAreRows : Type 0
 RestartsAreRows = (w : WorldState) (book : Book minired) (n : ℕ) (s : Slot) (as_replica : Bool) (port backlog : ℕ) (id found kept start : List ℕ) (m : Dataset)
     → Holds w book → slice_get w.slots n ≡ Some s → s.as_master ≡ not as_replica → entry_of w.book id ≡ None
-    → IsReadAs found m → Makes start m
+    → IsReadAs found m → MakesByGroups start m
     → IsEvent w book (events.Event.Restart n found id) (restarted_with w n (begun_slot as_replica port backlog id m kept) id start)
 
 -- ---- one event after another
