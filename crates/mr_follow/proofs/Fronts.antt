@@ -33,7 +33,6 @@ use Rattle.mr_groups.specs.declared.reading.Next.{Next}
 use Rattle.mr_groups.specs.declared.reading.Next.TheVariants as next
 use Rattle.mr_groups.proofs.Apart.{one_group, multi_command}
 use Rattle.mr_groups.proofs.Cuts.{begins, open_is_not_bad, bad_for_good}
-use Rattle.mr_groups.proofs.Going.{refused_undefined}
 use Rattle.mr_groups.proofs.Lone.{IsLone, lone_group, lone_not_open}
 use Rattle.mr_groups.proofs.Openings.{IsWhole, first_command, multi_text, open_start, doomed_start}
 use Rattle.mr_groups.proofs.Runs.{some_text}
@@ -101,6 +100,10 @@ long_refused u room m opened long = record { some = omega (arith, long); past = 
     too_long g more behind good few q =
         let r = split_longer (take room u) (drop room u ++ more) (group_text g) behind (joined u more room ∙ q) (omega (arith, few, full u room long)) in
         opened.none (record { group = g; good = good; behind = r.0; is = r.1.0 })
+
+refused_undefined : (es : List Effect) (m : Dataset) → IsRefused es m → apply_all es m ≡ None
+refused_undefined [] m h = absurd h
+refused_undefined (e ∷ es) m h = ap (option_and_then (apply_all es)) h
 
 -- a group that isn't applied as a whole
 pub group_refused : (u : List ℕ) (room used : ℕ) (m : Dataset) (es : List Effect) → IsFirstGroup (take room u) es used → apply_all es m ≡ None → IsRefusedFront room m u
