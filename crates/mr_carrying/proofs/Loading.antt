@@ -1,12 +1,12 @@
 -- A node that begins with what a file holds.
 use Rattle.std.proofs.Common.{◌≡◌, ◌∙◌, ℕ, List, Bool, not, take, ap}
 use Rattle.mr_entries.specs.Dataset.{Dataset}
-use Rattle.mr_replay.specs.Effects.{Loads}
+use Rattle.mr_groups.specs.Folding.{LoadsGroups}
 use Rattle.mr_rows.specs.State.{NodeState, started}
 use Rattle.mr_carrying.specs.AtNode.{IsLoaded}
 
 pub loaded_here : (kept : List ℕ) (as_replica : Bool) (port backlog : ℕ) (id : List ℕ) (used : ℕ) (held : Dataset) (node : NodeState) (file : List ℕ)
-    → Loads kept used held → node ≡ started as_replica port backlog id held → file ≡ take used kept
+    → LoadsGroups kept used held → node ≡ started as_replica port backlog id held → file ≡ take used kept
     → IsLoaded kept as_replica port backlog id (record { node = node; file = file; as_master = not as_replica; dialled = 0 })
 loaded_here kept as_replica port backlog id used held node file loads n f = record {
   used = used;

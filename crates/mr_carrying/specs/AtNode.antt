@@ -2,7 +2,7 @@
 use Rattle.std.specs.Prelude.{◌≡◌, ◌≢◌, ◌||◌, ℕ, List, Bool, true, None, Result, Ok, Err, bytes_eq, is_some, take}
 use Rattle.mr_links.specs.declared.link_id.LinkId.{LinkId}
 use Rattle.mr_entries.specs.Dataset.{Dataset}
-use Rattle.mr_replay.specs.Effects.{Loads}
+use Rattle.mr_groups.specs.Folding.{LoadsGroups}
 use Rattle.mr_repl.specs.ReplId.{zero_id}
 use Rattle.mr_outs.specs.Outs.{OutsState}
 use Rattle.mr_rows.specs.State.{NodeState}
@@ -18,11 +18,11 @@ use Rattle.mr_seen.specs.Carrying.{begun_slot}
 abbrev pub is_spent : List Entry → List ℕ → Bool
 is_spent es id = bytes_eq id zero_id || is_some (entry_of es id)
 
--- A node in this role begins with what the longest beginning of these bytes makes that makes a dataset, and that is its file.
+-- A node in this role begins with what the longest beginning of these bytes makes that makes a dataset by groups, and that is its file.
 pub record IsLoaded (kept : List ℕ) (as_replica : Bool) (port backlog : ℕ) (id : List ℕ) (s : Slot) : Type 0 where
   pub used : ℕ
   pub held : Dataset
-  pub loads : Loads kept used held
+  pub loads : LoadsGroups kept used held
   pub is : s ≡ begun_slot as_replica port backlog id held (take used kept)
 
 -- The row of a node that dials, where what it says first isn't looked at.

@@ -8,7 +8,7 @@ use mr_repl::ReplId;
 use std::alloc::{AllocError, Global};
 use std::marker::Model;
 
-/// The history of an id: the commands that make the dataset that it began with, and the texts of the effects since.
+/// The history of an id: the commands that make the dataset that it began with, and the texts of the groups since.
 #[derive(Drop)]
 pub struct Entry {
     id: ReplId,

@@ -12,11 +12,11 @@ ghost use Rattle.mr_carrying.specs.AtNode.{DialsBy, IsFollowing, IsLoaded};
 
 use crate::entry::front_of;
 use mr_data::{Dataset, Given};
+use mr_groups::{Loaded, load_groups};
 use mr_links::LinkId;
 use mr_node::{Config, Node, NodeFault, Role, Step};
 use mr_outs::Outs;
 use mr_repl::ReplId;
-use mr_replay::{Loaded, load};
 use std::alloc::{AllocError, Global};
 use std::hash::RandomState;
 use std::marker::Model;
@@ -63,7 +63,7 @@ impl Slot {
         })
     }
 
-    /// A node that begins with what a file holds, as far as that makes a dataset, and with so much of the file.
+    /// A node that begins with what a file holds, as far as that makes a dataset by groups, and with so much of the file.
     pub fn load(
         alloc: Global,
         seed: RandomState,
@@ -74,7 +74,7 @@ impl Slot {
     ) -> Result<Slot, AllocError>
         ensures { IfOk result (λ s. IsLoaded kept.now (not as_master) config.port config.backlog id s) }
     {
-        let Loaded { dataset, used } = load(alloc, seed, kept)?;
+        let Loaded { dataset, used } = load_groups(alloc, seed, kept)?;
         let file = Vec::from_slice(alloc, front_of(kept, used))?;
         let mut anew = config;
         anew.replica = !as_master;

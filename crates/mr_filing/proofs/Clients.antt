@@ -18,7 +18,7 @@ use Rattle.mr_rows.specs.ReplicaRows.{ReplicaRow}
 use Rattle.mr_seen.proofs.Asking.{good_all}
 use Rattle.mr_filing.specs.Filing.{DoesToFile}
 use Rattle.mr_filing.specs.Steps.{ClientStepsFile, ReplicaStepsKeep, IdleStepsKeep}
-use Rattle.mr_filing.proofs.Filing.{core_kept, kept_does}
+use Rattle.mr_filing.proofs.Filing.{core_kept, effects_grow, kept_does}
 use Rattle.mr_filing.proofs.Requests.{no_beats}
 
 -- the commands that rebuild a dataset make it
@@ -38,13 +38,11 @@ module _ (c d : Core) (out : Output) where
   quiet wish (IsQuiet.stays_replica host port is replica followed gives) = (ap (λ (o : Output). o.appended) gives, ap (λ (o : Output). o.replaced) gives)
 
   answered : (around : Around) (words : List (List ℕ)) (given : Given) → Answered c around words given d out → DoesToFile c d out.appended out.replaced
-  answered around words given (Answered.within plain reply effects plan fits is gives) = DoesToFile.grows (record {
-    effects = effects;
-    good = good_all effects c.held (left_of c words given) plan.leads plan.short;
-    applied = plan.leads ∙ ap (λ (z : Core). Some z.held) (sym is);
-    stream = inl (ap (λ (z : Core). z.lineage.stream) is);
-    filed = ap (λ (o : Output). o.appended) gives ∙ ap texts (sym (no_beats _ c.held words given reply effects plan));
-  }) (ap (λ (o : Output). o.replaced) gives)
+  answered around words given (Answered.within plain reply effects plan fits is gives) = DoesToFile.grows (effects_grow c d out.appended effects
+      (good_all effects c.held (left_of c words given) plan.leads plan.short)
+      (plan.leads ∙ ap (λ (z : Core). Some z.held) (sym is))
+      (inl (ap (λ (z : Core). z.lineage.stream) is))
+      (ap (λ (o : Output). o.appended) gives ∙ ap texts (sym (no_beats _ c.held words given reply effects plan)))) (ap (λ (o : Output). o.replaced) gives)
   answered around words given (Answered.beyond plain reply effects plan past is gives) = kept is (ap (λ (o : Output). o.appended) gives) (ap (λ (o : Output). o.replaced) gives)
   answered around words given (Answered.rewritten asks remakes is gives) =
       let same : c.held ≡ d.held = ap (λ (z : Core). z.held) (sym is) in

@@ -5,14 +5,16 @@ use Rattle.std.specs.Option.{option_and_then}
 use Rattle.std.proofs.lemmas.List.Elements.{All-nil, All-cons}
 use Rattle.std.proofs.lemmas.Slice.Eq.{bytes_eq-Decides}
 use Rattle.mr_links.specs.declared.link_id.LinkId.{LinkId}
-use Rattle.mr_effect.specs.Spelling.{text, texts}
 use Rattle.mr_effect.specs.declared.effect.Effect.{Effect}
 use Rattle.mr_effect.specs.declared.effect.Effect.TheVariants as effect
 use Rattle.mr_effect.proofs.Texts.{short_effect}
 use Rattle.mr_entries.specs.Dataset.{Dataset}
-use Rattle.mr_data.specs.Meaning.{apply_all}
 use Rattle.mr_repl.specs.Lineage.{LineageState, continued, renamed}
-use Rattle.mr_replay.specs.Effects.{IsGoodEffect, Makes}
+use Rattle.mr_replay.specs.Effects.{Makes}
+use Rattle.mr_groups.specs.Groups.{IsGoodGroup, group_text, group_texts}
+use Rattle.mr_groups.specs.Folding.{apply_groups}
+use Rattle.mr_groups.proofs.Apart.{one_group}
+use Rattle.mr_groups.proofs.Singles.{one_good}
 use Rattle.mr_follow.specs.State.{FollowState, Agrees}
 use Rattle.mr_course.specs.State.{CourseState, grows}
 use Rattle.mr_course.specs.Rows.{UpstreamRow, Listens}
@@ -20,40 +22,41 @@ use Rattle.mr_course.specs.declared.upstream.UpstreamStep.{UpstreamStep}
 use Rattle.mr_course.specs.declared.upstream.UpstreamStep.TheVariants as outcome
 use Rattle.mr_course.specs.declared.upstream.UpstreamFault.{UpstreamFault}
 use Rattle.mr_course.specs.declared.upstream.UpstreamFault.TheVariants as fault
-use Rattle.mr_language.proofs.Texts.{text_cut}
 use Rattle.mr_outs.specs.Outs.{OutsState}
 use Rattle.mr_rows.specs.State.{NodeState, MasterAgrees, course_of}
 use Rattle.mr_rows.specs.UpstreamRows as row
 use Rattle.mr_rows.specs.UpstreamRows.{beat, outs_behind}
 use Rattle.mr_seen.proofs.Places.{some_is}
-use Rattle.mr_seen.proofs.Hearing.{applied}
-use Rattle.mr_filing.specs.Filing.{is_beat, but_beats, DoesToFile}
+use Rattle.mr_filing.specs.Filing.{is_beat_group, groups_but_beats, DoesToFile}
 use Rattle.mr_filing.specs.Steps.{MasterStepsFile, MasterWaitsKeep, MasterLacksKeep}
-use Rattle.mr_filing.proofs.Beats.{beat_is}
+use Rattle.mr_filing.proofs.Beats.{beat_group_is}
 use Rattle.mr_filing.proofs.Filing.{kept_does}
 
--- ---- what is filed of an effect's text
+-- ---- what is filed of a group's text
 same_bytes : (xs ys : List ℕ) → bytes_eq xs ys ≡ true → xs ≡ ys
 same_bytes xs ys h = search (rules, bytes_eq-Decides)
 
 bytes_itself : (xs : List ℕ) → bytes_eq xs xs ≡ true
 bytes_itself xs = search (rules, bytes_eq-Decides)
 
-good_beat : IsGoodEffect effect.Ping
-good_beat = record { spelled = refl; fits = refl; short = short_effect effect.Ping (omega arith) }
+good_beat : IsGoodGroup (effect.Ping ∷ [])
+good_beat = one_good effect.Ping (record { spelled = refl; fits = refl; short = short_effect effect.Ping (omega arith) })
 
 not_true : (b : Bool) → (b ≡ true → ⊥) → b ≡ false
 not_true true h = absurd (h refl)
 not_true false h = refl
 
-filed_alone : (e : Effect) → IsGoodEffect e → row.filed (text e) ≡ texts (but_beats (e ∷ []))
-filed_alone e good = elim (is_beat e) as (λ b. is_beat e ≡ b → row.filed (text e) ≡ texts (if b then [] else e ∷ [])) [
-  | true ↦ λ is. ap (λ b. if b then [] else text e) (ap (λ x. bytes_eq (text x) beat) (beat_is e is) ∙ bytes_itself beat)
-  | false ↦ λ is. ap (λ b. if b then [] else text e) (not_true (bytes_eq (text e) beat) (λ same. other is (text_cut e effect.Ping [] [] good good_beat (ap (λ (z : List ℕ). z ++ []) (same_bytes (text e) beat same))))) ∙ sym (append-nil (text e))
+filed_alone : (g : List Effect) → IsGoodGroup g → row.filed (group_text g) ≡ group_texts (groups_but_beats (g ∷ []))
+filed_alone g good = elim (is_beat_group g) as (λ b. is_beat_group g ≡ b → row.filed (group_text g) ≡ group_texts (if b then [] else g ∷ [])) [
+  | true ↦ λ is. ap (λ b. if b then [] else group_text g) (ap (λ x. bytes_eq (group_text x) beat) (beat_group_is g is) ∙ bytes_itself beat)
+  | false ↦ λ is. ap (λ b. if b then [] else group_text g) (not_true (bytes_eq (group_text g) beat) (λ same. other is (beat_alone same))) ∙ sym (append-nil (group_text g))
 ] refl
   where
-    other : is_beat e ≡ false → e ≡ effect.Ping → ⊥
-    other is e_is = let wrong : true ≡ false = ap is_beat (sym e_is) ∙ is in cc
+    beat_alone : bytes_eq (group_text g) beat ≡ true → g ≡ effect.Ping ∷ []
+    beat_alone same = (one_group g (effect.Ping ∷ []) [] [] good good_beat (ap (λ (z : List ℕ). z ++ []) (same_bytes (group_text g) beat same))).0
+
+    other : is_beat_group g ≡ false → g ≡ effect.Ping ∷ [] → ⊥
+    other is g_is = let wrong : true ≡ false = ap is_beat_group (sym g_is) ∙ is in cc
 
 -- ---- the outcomes
 continued_stream : (id : List ℕ) (a : LineageState) → (continued id a).stream ≡ a.stream
@@ -77,14 +80,14 @@ module _ (a b : NodeState) (l : LinkId) (f g : FollowState) (u told : List ℕ) 
       let i = r.installs in
       DoesToFile.replaces (ap (λ (o : OutsState). o.appended) is) (ap (λ (o : OutsState). o.replaced) is ∙ ap Some i.rebuilds) (subst (λ (z : List ℕ). Makes z b.core.held) i.rebuilds i.again)
   hears outcome.Applied r is =
-      let h = applied f g u a.core.held b.core.held a.core.lineage.stream.offset told r.follows in
-      let alone : told ≡ texts (h.effect ∷ []) = h.is_text ∙ sym (append-nil (text h.effect)) in
+      let h = r.follows in
+      let alone : told ≡ group_texts (h.group ∷ []) = h.is_text ∙ sym (append-nil (group_text h.group)) in
       DoesToFile.grows (record {
-        effects = h.effect ∷ [];
-        good = All-cons IsGoodEffect h.effect [] h.good (All-nil IsGoodEffect);
-        applied = ap (option_and_then (apply_all [])) h.applies;
+        groups = h.group ∷ [];
+        good = All-cons IsGoodGroup h.group [] h.good (All-nil IsGoodGroup);
+        applied = ap (option_and_then (apply_groups [])) h.applied;
         stream = inl (ap (λ (z : LineageState). z.stream) same ∙ (ap (λ (z : CourseState). z.lineage.stream) r.is ∙ ap (λ (z : List ℕ). (grows z (course_of a)).lineage.stream) alone));
-        filed = ap (λ (o : OutsState). o.appended) is ∙ (ap row.filed h.is_text ∙ filed_alone h.effect h.good);
+        filed = ap (λ (o : OutsState). o.appended) is ∙ (ap row.filed h.is_text ∙ filed_alone h.group h.good);
       }) (ap (λ (o : OutsState). o.replaced) is)
   hears outcome.Left r is = keeps r.keeps.held (ap (λ (z : CourseState). z.lineage.stream) r.is) (ap (λ (o : OutsState). o.appended) is) (ap (λ (o : OutsState). o.replaced) is)
   hears outcome.Spoiled r is = keeps r.keeps.held (ap (λ (z : CourseState). z.lineage.stream) r.is) (ap (λ (o : OutsState). o.appended) is) (ap (λ (o : OutsState). o.replaced) is)

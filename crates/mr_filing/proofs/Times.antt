@@ -14,7 +14,7 @@ use Rattle.mr_rows.specs.TimeRows.{TickRow, Beats, Deletes, Rests, room_in, doom
 use Rattle.mr_seen.proofs.Asking.{good_all}
 use Rattle.mr_filing.specs.Filing.{but_beats, DoesToFile}
 use Rattle.mr_filing.specs.Steps.{TicksFile}
-use Rattle.mr_filing.proofs.Filing.{kept_does}
+use Rattle.mr_filing.proofs.Filing.{effects_grow, kept_does}
 
 -- what is true of all of some effects is true of those for which there is room
 all_within : (P : Effect → Type 0) (es : List Effect) (room : ℕ) → All P es → All P (within room es)
@@ -91,13 +91,11 @@ module _ (a b : NodeState) (now : ℤ) (outs : OutsState) where
   beats : Deletes a now b outs → DoesToFile a.core b.core outs.appended outs.replaced
   beats r =
       let t = told a now r.effects r.mark r.beats in
-      DoesToFile.grows (record {
-        effects = r.effects;
-        good = good_all r.effects a.core.held r.held r.applied t.short;
-        applied = r.applied ∙ ap (λ (z : Core). Some z.held) (sym r.core);
-        stream = inl (ap (λ (z : Core). z.lineage.stream) r.core);
-        filed = ap (λ (o : OutsState). o.appended) r.outs_are ∙ ap texts (sym t.filed);
-      }) (ap (λ (o : OutsState). o.replaced) r.outs_are)
+      DoesToFile.grows (effects_grow a.core b.core outs.appended r.effects
+        (good_all r.effects a.core.held r.held r.applied t.short)
+        (r.applied ∙ ap (λ (z : Core). Some z.held) (sym r.core))
+        (inl (ap (λ (z : Core). z.lineage.stream) r.core))
+        (ap (λ (o : OutsState). o.appended) r.outs_are ∙ ap texts (sym t.filed))) (ap (λ (o : OutsState). o.replaced) r.outs_are)
 
   rests : (mark : Option ℤ) → Rests a now mark outs → (outs.appended ≡ []) × (outs.replaced ≡ None)
   rests mark (Rests.marks none m e) = (ap (λ (o : OutsState). o.appended) e, ap (λ (o : OutsState). o.replaced) e)

@@ -5,7 +5,10 @@ use Rattle.std.specs.Prelude.{slice_get, slice_set}
 use Rattle.mr_links.specs.declared.link_id.LinkId.{LinkId}
 use Rattle.mr_follow.specs.State.{FollowState}
 use Rattle.mr_replay.specs.Effects.{Makes}
-use Rattle.mr_replay.proofs.Longest.{leads_nowhere, leads_further}
+use Rattle.mr_groups.specs.Folding.{MakesByGroups}
+use Rattle.mr_groups.proofs.Runs.{leads_nowhere}
+use Rattle.mr_groups.proofs.Going.{leads_further}
+use Rattle.mr_groups.proofs.Singles.{makes_by_singles}
 use Rattle.mr_outs.specs.Outs.{OutsState, no_outs}
 use Rattle.mr_rows.specs.State.{NodeState, MasterAgrees}
 use Rattle.mr_rows.specs.Growing.{rebuilt}
@@ -63,18 +66,18 @@ module _ (w : WorldState) (n : ℕ) (s : Slot) (b : NodeState) (at : slice_get w
   goes_kept k = goes_set w.slots n (record s { node = b }) (λ _. FileGoesOn.grows s at up (kept_grown s b s.dialled [] None k))
 
 -- ---- files that go on make what they are to make
-begun_makes : (t : Slot) → FileBegins t → Makes t.file t.node.core.held
-begun_makes t (FileBegins.rewritten is makes) = makes
-begun_makes t (FileBegins.starts as_replica port backlog id m is makes) = subst (λ z. Makes t.file z) (ap (λ (z : NodeState). z.core.held) (sym is)) makes
+begun_makes : (t : Slot) → FileBegins t → MakesByGroups t.file t.node.core.held
+begun_makes t (FileBegins.rewritten is makes) = makes_by_singles t.file t.node.core.held makes
+begun_makes t (FileBegins.starts as_replica port backlog id m is makes) = subst (λ z. MakesByGroups t.file z) (ap (λ (z : NodeState). z.core.held) (sym is)) makes
 
-grown_makes : (s t : Slot) → HasGrown s t → Makes s.file s.node.core.held → Makes t.file t.node.core.held
-grown_makes s t g makes = subst (λ (z : List ℕ). Makes z t.node.core.held) (sym g.file)
+grown_makes : (s t : Slot) → HasGrown s t → MakesByGroups s.file s.node.core.held → MakesByGroups t.file t.node.core.held
+grown_makes s t g makes = subst (λ (z : List ℕ). MakesByGroups z t.node.core.held) (sym g.file)
     (leads_further s.file g.bytes empty s.node.core.held t.node.core.held makes (grows_leads s.node.core t.node.core g.bytes g.grows))
 
 pub stay_folded : FilesStayFolded
 stay_folded w v fold goes n t at up = go (goes n t at up)
   where
-    go : FileGoesOn w.slots n t → Makes t.file t.node.core.held
+    go : FileGoesOn w.slots n t → MakesByGroups t.file t.node.core.held
     go (FileGoesOn.grows s there was_up g) = grown_makes s t g (fold n s there was_up)
     go (FileGoesOn.begins b) = begun_makes t b
 

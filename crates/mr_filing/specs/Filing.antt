@@ -1,11 +1,11 @@
 -- What a call on a node does to its append-only file.
 use Rattle.std.specs.Prelude.{◌≡◌, ◌⊎◌, ℕ, List, [], ◌∷◌, Bool, true, false, Option, None, Some, All, if◌then◌else◌}
-use Rattle.mr_effect.specs.Spelling.{texts}
 use Rattle.mr_effect.specs.declared.effect.Effect.{Effect}
 use Rattle.mr_effect.specs.declared.effect.Effect.TheVariants as effect
-use Rattle.mr_data.specs.Meaning.{apply_all}
 use Rattle.mr_repl.specs.Backlog.{Window, after_bytes}
-use Rattle.mr_replay.specs.Effects.{IsGoodEffect, Makes}
+use Rattle.mr_replay.specs.Effects.{Makes}
+use Rattle.mr_groups.specs.Groups.{IsGoodGroup, group_texts}
+use Rattle.mr_groups.specs.Folding.{apply_groups}
 use Rattle.mr_outs.specs.Outs.{OutsState}
 use Rattle.mr_rows.specs.State.{Core, NodeState}
 use Rattle.mr_rows.specs.Growing.{rebuilt}
@@ -20,18 +20,28 @@ abbrev pub but_beats : List Effect → List Effect
 but_beats [] = []
 but_beats (e ∷ es) = if is_beat e then but_beats es else e ∷ but_beats es
 
+-- a heartbeat stands alone
+abbrev pub is_beat_group : List Effect → Bool
+is_beat_group (e ∷ []) = is_beat e
+is_beat_group es = false
+
+-- groups but for heartbeats
+abbrev pub groups_but_beats : List (List Effect) → List (List Effect)
+groups_but_beats [] = []
+groups_but_beats (g ∷ gs) = if is_beat_group g then groups_but_beats gs else g ∷ groups_but_beats gs
+
 -- a stream grew by these bytes
 abbrev pub HasStreamed : Window → List ℕ → Window → Type 0
 HasStreamed old bytes new = (new ≡ after_bytes old bytes) ⊎ ((bytes ≡ []) × (new ≡ old))
 
--- Effects were applied, which led from the one dataset to the other. By their texts the node's stream grew, and by the same texts but for those
--- of heartbeats its file grows.
+-- Groups were applied, each as a whole, which led from the one dataset to the other. By their texts the node's stream grew, and by the same texts
+-- but for those of heartbeats its file grows.
 pub record Grows (c d : Core) (appended : List ℕ) : Type 0 where
-  pub effects : List Effect
-  pub good : All IsGoodEffect effects
-  pub applied : apply_all effects c.held ≡ Some d.held
-  pub stream : HasStreamed c.lineage.stream (texts effects) d.lineage.stream
-  pub filed : appended ≡ texts (but_beats effects)
+  pub groups : List (List Effect)
+  pub good : All IsGoodGroup groups
+  pub applied : apply_groups groups c.held ≡ Some d.held
+  pub stream : HasStreamed c.lineage.stream (group_texts groups) d.lineage.stream
+  pub filed : appended ≡ group_texts (groups_but_beats groups)
 
 -- what a call does to the file: from the one core it led to the other, and these bytes go behind the file, or it is replaced by those
 pub data DoesToFile (c d : Core) (appended : List ℕ) (replaced : Option (List ℕ)) : Type 0 where

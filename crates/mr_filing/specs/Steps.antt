@@ -7,7 +7,7 @@ use Rattle.mr_effect.specs.declared.effect.Effect.{Effect}
 use Rattle.mr_resp.specs.Replies.{Tree}
 use Rattle.mr_plan.specs.Requests.{HasPlan}
 use Rattle.mr_course.specs.declared.upstream.UpstreamStep.{UpstreamStep}
-use Rattle.mr_replay.specs.Effects.{Makes, Loads}
+use Rattle.mr_groups.specs.Folding.{MakesByGroups, LoadsGroups}
 use Rattle.mr_outs.specs.Outs.{OutsState, no_outs}
 use Rattle.mr_rows.specs.State.{Core, NodeState, MasterAgrees}
 use Rattle.mr_rows.specs.ClientRows.{ClientRow, Idles}
@@ -21,13 +21,13 @@ use Rattle.mr_filing.specs.Filing.{but_beats, Grows, Files, Keeps}
 -- ---- what a file says of its node
 -- Where it makes the node's dataset, it makes that of the node behind the call.
 abbrev pub FilesFollow : Type 0
-FilesFollow = (a b : NodeState) (outs : OutsState) (file : List ℕ) → Files a b outs → Makes file a.core.held → Makes (filed outs file) b.core.held
+FilesFollow = (a b : NodeState) (outs : OutsState) (file : List ℕ) → Files a b outs → MakesByGroups file a.core.held → MakesByGroups (filed outs file) b.core.held
 
 -- Such a file is read whole, and as that dataset.
 abbrev pub FilesAreReadWhole : Type 0
-FilesAreReadWhole = (file : List ℕ) (m : Dataset) → Makes file m → Loads file (length file) m
+FilesAreReadWhole = (file : List ℕ) (m : Dataset) → MakesByGroups file m → LoadsGroups file (length file) m
 
--- Calls one after another grow it by the texts of the effects that they apply, one after another.
+-- Calls one after another grow it by the texts of the groups that they apply, one after another.
 abbrev pub FilesGrowOn : Type 0
 FilesGrowOn = (c d e : Core) (earlier later : List ℕ) → Grows c d earlier → Grows d e later → Grows c e (earlier ++ later)
 

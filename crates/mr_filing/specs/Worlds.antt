@@ -5,7 +5,8 @@ use Rattle.mr_links.specs.declared.link_id.LinkId.{LinkId}
 use Rattle.mr_entries.specs.Dataset.{Dataset}
 use Rattle.mr_data.specs.declared.given.Given.{Given}
 use Rattle.mr_course.specs.declared.upstream.UpstreamStep.{UpstreamStep}
-use Rattle.mr_replay.specs.Effects.{Makes, Loads}
+use Rattle.mr_replay.specs.Effects.{Makes}
+use Rattle.mr_groups.specs.Folding.{MakesByGroups, LoadsGroups}
 use Rattle.mr_outs.specs.Outs.{OutsState, no_outs}
 use Rattle.mr_rows.specs.State.{NodeState, started}
 use Rattle.mr_rows.specs.Growing.{rebuilt}
@@ -22,18 +23,18 @@ use Rattle.mr_filing.specs.Filing.{Grows}
 
 -- The file of each node that isn't stopped makes the node's dataset.
 abbrev pub FilesFold : WorldState → Type 0
-FilesFold w = (n : ℕ) (s : Slot) → slice_get w.slots n ≡ Some s → s.node.core.up ≡ true → Makes s.file s.node.core.held
+FilesFold w = (n : ℕ) (s : Slot) → slice_get w.slots n ≡ Some s → s.node.core.up ≡ true → MakesByGroups s.file s.node.core.held
 
 -- So it is read whole, and as that dataset.
 abbrev pub FilesLoad : Type 0
-FilesLoad = (w : WorldState) (n : ℕ) (s : Slot) → FilesFold w → slice_get w.slots n ≡ Some s → s.node.core.up ≡ true → Loads s.file (length s.file) s.node.core.held
+FilesLoad = (w : WorldState) (n : ℕ) (s : Slot) → FilesFold w → slice_get w.slots n ≡ Some s → s.node.core.up ≡ true → LoadsGroups s.file (length s.file) s.node.core.held
 
 -- There are no nodes yet.
 abbrev pub NothingHasFiles : Type 0
 NothingHasFiles = FilesFold no_world
 
 -- ---- from one World to the next
--- The file of a node grew by the texts of the effects that were applied, but for heartbeats.
+-- The file of a node grew by the texts of the groups that were applied, but for heartbeats.
 pub record HasGrown (s t : Slot) : Type 0 where
   pub bytes : List ℕ
   pub file : t.file ≡ s.file ++ bytes
@@ -42,7 +43,7 @@ pub record HasGrown (s t : Slot) : Type 0 where
 -- It begins anew: it was written again out of the dataset, or the node starts with what it makes.
 pub data FileBegins (t : Slot) : Type 0 where
   rewritten : t.file ≡ rebuilt t.node.core.held → Makes t.file t.node.core.held → FileBegins t
-  starts : (as_replica : Bool) (port backlog : ℕ) (id : List ℕ) (m : Dataset) → t.node ≡ started as_replica port backlog id m → Makes t.file m → FileBegins t
+  starts : (as_replica : Bool) (port backlog : ℕ) (id : List ℕ) (m : Dataset) → t.node ≡ started as_replica port backlog id m → MakesByGroups t.file m → FileBegins t
 
 -- The node n has this slot now: its file grew, or begins anew.
 pub data FileGoesOn (slots : List Slot) (n : ℕ) (t : Slot) : Type 0 where
@@ -74,10 +75,10 @@ pub record GrownSince (moments : List WorldState) (n number : ℕ) (t : Slot) : 
   pub grown : HasGrown slot t
 
 -- At each moment the file of a node that isn't stopped makes the node's dataset. It is what it was when it was last written anew or the node
--- started, and behind that the texts of the effects that were applied since, but for heartbeats.
+-- started, and behind that the texts of the groups that were applied since, but for heartbeats.
 abbrev pub FilesAreTrue : Type 0
 FilesAreTrue = (moments : List WorldState) (number : ℕ) (v : WorldState) → GoOn no_world moments → slice_get (no_world ∷ moments) number ≡ Some v
-    → (n : ℕ) (t : Slot) → slice_get v.slots n ≡ Some t → t.node.core.up ≡ true → Makes t.file t.node.core.held × GrownSince moments n number t
+    → (n : ℕ) (t : Slot) → slice_get v.slots n ≡ Some t → t.node.core.up ≡ true → MakesByGroups t.file t.node.core.held × GrownSince moments n number t
 
 -- ---- files go on behind a step at an end that the node n serves: at a client's end, at a replica's, and where nothing whole is there
 abbrev pub ClientStepsGoOn : Type 0
@@ -160,18 +161,18 @@ OthersGoOn = (w v : WorldState) → v.slots ≡ w.slots → FilesGoOn w v
 -- ---- as nodes begin, with a file that makes the dataset which they begin with
 abbrev pub StartsGoOn : Type 0
 StartsGoOn = (w : WorldState) (as_replica : Bool) (port backlog : ℕ) (id file : List ℕ) (m : Dataset)
-    → Makes file m
+    → MakesByGroups file m
     → FilesGoOn w (started_with w (begun_slot as_replica port backlog id m file) id)
 
 abbrev pub RestartsGoOn : Type 0
 RestartsGoOn = (w : WorldState) (n : ℕ) (as_replica : Bool) (port backlog : ℕ) (id kept start : List ℕ) (m : Dataset)
-    → Makes kept m
+    → MakesByGroups kept m
     → FilesGoOn w (restarted_with w n (begun_slot as_replica port backlog id m kept) id start)
 
 -- An empty file makes the empty dataset.
 abbrev pub EmptyFilesMakeNothing : Type 0
-EmptyFilesMakeNothing = Makes [] empty
+EmptyFilesMakeNothing = MakesByGroups [] empty
 
 -- What any file is read from makes what it is read as.
 abbrev pub WhatLoadsMakes : Type 0
-WhatLoadsMakes = (found : List ℕ) (used : ℕ) (m : Dataset) → Loads found used m → Makes (take used found) m
+WhatLoadsMakes = (found : List ℕ) (used : ℕ) (m : Dataset) → LoadsGroups found used m → MakesByGroups (take used found) m

@@ -51,7 +51,7 @@ pub fn files_are_read_whole()
     ensures { FilesAreReadWhole }
 {}
 
-/// Calls one after another grow it by the texts of the effects that they apply, one after another.
+/// Calls one after another grow it by the texts of the groups that they apply, one after another.
 pub fn files_grow_on()
     ensures { FilesGrowOn }
 {}
@@ -77,7 +77,7 @@ pub fn other_steps_keep()
     ensures idle { IdleStepsKeep }
 {}
 
-/// A step at the link to the master files the text of the effect that it applies, unless that is a heartbeat. A snapshot has the file written
+/// A step at the link to the master files the text of the group that it applies, unless that is a heartbeat. A snapshot has the file written
 /// anew.
 pub fn master_steps_file()
     ensures { MasterStepsFile }
@@ -104,7 +104,7 @@ pub fn links_keep()
 
 /// **Each file is its node's dataset.** In Worlds one after another, each of whose files goes on from the one to the next, from that in which
 /// nothing has begun: at each moment the file of each node that isn't stopped makes the node's dataset, and it is what it was when it was last
-/// written anew or the node started, with the texts of the effects behind it that were applied since, but for heartbeats.
+/// written anew or the node started, with the texts of the groups behind it that were applied since, but for heartbeats.
 pub fn files_are_true()
     ensures { FilesAreTrue }
 {}

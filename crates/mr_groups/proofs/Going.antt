@@ -106,11 +106,11 @@ group_tried bytes es n old new used end.Memory first h = subst (λ k. TakesTurn 
 
 -- ---- one behind another
 
-groups_join : (gs hs : List (List Effect)) → group_texts (gs ++ hs) ≡ group_texts gs ++ group_texts hs
+pub groups_join : (gs hs : List (List Effect)) → group_texts (gs ++ hs) ≡ group_texts gs ++ group_texts hs
 groups_join [] hs = refl
 groups_join (g ∷ gs) hs = ap (λ (t : List ℕ). group_text g ++ t) (groups_join gs hs) ∙ sym (append_assoc (group_text g) (group_texts gs) (group_texts hs))
 
-both_applied : (gs hs : List (List Effect)) (old mid new : Dataset) → apply_groups gs old ≡ Some mid → apply_groups hs mid ≡ Some new → apply_groups (gs ++ hs) old ≡ Some new
+pub both_applied : (gs hs : List (List Effect)) (old mid new : Dataset) → apply_groups gs old ≡ Some mid → apply_groups hs mid ≡ Some new → apply_groups (gs ++ hs) old ≡ Some new
 both_applied [] hs old mid new p q = subst (λ m. apply_groups hs m ≡ Some new) (sym (some_is old mid p)) q
 both_applied (g ∷ gs) hs old mid new p q =
     let one = first_done (apply_groups gs) (apply_all g old) mid p in

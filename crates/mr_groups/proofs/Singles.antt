@@ -2,12 +2,16 @@
 use Rattle.std.proofs.Common.{ℕ, List, [], ◌∷◌, sym, ◌∙◌, refl, All}
 use Rattle.std.proofs.lemmas.List.Elements.{All-nil, All-cons, All-head, All-tail}
 use Rattle.std.specs.FinMap.{empty}
+use Rattle.mr_effect.specs.Effects.{has_spelling, words_fit}
+use Rattle.mr_effect.specs.Spelling.{texts, IsShort}
 use Rattle.mr_effect.specs.declared.effect.Effect.{Effect}
 use Rattle.mr_entries.specs.Dataset.{Dataset}
+use Rattle.mr_entries.specs.Changes.{change}
+use Rattle.mr_data.specs.Meaning.{apply, apply_all}
 use Rattle.mr_replay.specs.Effects.{IsGoodEffect, Leads, Makes}
 use Rattle.mr_groups.specs.Groups.{IsGoodGroup, singles}
 use Rattle.mr_groups.specs.Folding.{LeadsByGroups, MakesByGroups}
-use Rattle.mr_groups.proofs.Runs.{single_texts, single_applied}
+use Rattle.mr_groups.proofs.Runs.{first_done, single_texts, single_applied}
 
 pub one_good : (e : Effect) → IsGoodEffect e → IsGoodGroup (e ∷ [])
 one_good e good = record { group = refl; good = All-cons IsGoodEffect e [] good (All-nil IsGoodEffect) }
@@ -27,3 +31,25 @@ leads_by_singles bytes old new led = record {
 
 pub makes_by_singles : (bytes : List ℕ) (m : Dataset) → Makes bytes m → MakesByGroups bytes m
 makes_by_singles bytes m made = leads_by_singles bytes empty m made
+
+-- ---- effects that can be applied
+
+if_some : {A : Type 0} (b c : Bool) (o : Option A) (n : A) → cond (b && c) o None ≡ Some n → IsTrue b × IsTrue c
+if_some true true o n h = (refl, refl)
+if_some true false o n h = absurd (cc)
+if_some false c o n h = absurd (cc)
+
+applied_fits : (e : Effect) (m n : Dataset) → apply e m ≡ Some n → IsTrue (has_spelling e) × IsTrue (words_fit e)
+unfolding apply
+applied_fits e m n h = if_some (has_spelling e) (words_fit e) (change e m) n h
+
+good_applied : (es : List Effect) (m n : Dataset) → apply_all es m ≡ Some n → All IsShort es → All IsGoodEffect es
+good_applied [] m n h short = All-nil IsGoodEffect
+good_applied (e ∷ es) m n h short =
+    let one = first_done (apply_all es) (apply e m) n h in
+    let fit = applied_fits e m one.0 one.1 in
+    All-cons IsGoodEffect e es (record { spelled = fit.0; fits = fit.1; short = All-head IsShort e es short }) (good_applied es one.0 n one.2 (All-tail IsShort e es short))
+
+-- their texts lead on by groups, where none has too many words
+pub leads_applied : (es : List Effect) (m n : Dataset) → apply_all es m ≡ Some n → All IsShort es → LeadsByGroups (texts es) m n
+leads_applied es m n applied short = leads_by_singles (texts es) m n (record { effects = es; good = good_applied es m n applied short; are_texts = refl; applied = applied })

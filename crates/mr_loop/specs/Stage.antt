@@ -12,7 +12,7 @@ use Rattle.mr_connections.specs.State.{ConnectionState, connection_code}
 -- what the loop itself holds
 pub record LoopState : Type 0 where
   pub connections : map.FinMap id_cmp ConnectionState  -- each under the name of its socket
-  pub batch : List ℕ  -- the texts of effects that no append has taken
+  pub batch : List ℕ  -- the texts of groups that no append has taken
   pub halted : Bool  -- a client asked that the program end
   pub hurries : Bool  -- the next turn goes on without waiting
   pub lacked : ℕ  -- how often memory ran out, as a count that stays at its last value

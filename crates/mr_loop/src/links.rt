@@ -17,7 +17,7 @@ const LONGEST_WAIT: u64 = 100;
 /// So many milliseconds pass before a master that was dialled is dialled again, while the clock moves.
 const REDIAL_AFTER: i64 = 100;
 
-/// The connections of a loop, and the texts of effects that aren't in its file yet.
+/// The connections of a loop, and the texts of groups that aren't in its file yet.
 #[derive(Drop)]
 pub struct Links {
     alloc: Global,

@@ -1,20 +1,17 @@
 -- The file of a pipe folds to the dataset of its node.
-use Rattle.std.proofs.Common.{◌≡◌, ◌⊎◌, inl, inr, ℕ, List, [], ◌∷◌, ◌++◌, Option, Some, IfSome, refl, sym, ap, subst, ◌∙◌, append_assoc, take, drop, take-append-drop}
-use Rattle.std.specs.Option.{option_and_then}
+use Rattle.std.proofs.Common.{◌≡◌, ◌⊎◌, inl, inr, ℕ, List, [], ◌∷◌, ◌++◌, Option, Some, IfSome, refl, sym, ap, subst, ◌∙◌, take, drop, take-append-drop}
 use Rattle.std.specs.FinMap.{empty}
-use Rattle.std.proofs.lemmas.List.Elements.{All-nil, All-append}
 use Rattle.mr_file.specs.LogFile.{AppendsSome, IsOldOrNew, IsSynced}
 use Rattle.mr_file.specs.declared.sync_mode.SyncMode.{SyncMode}
 use Rattle.mr_file.specs.declared.sync_mode.SyncMode.TheVariants.{Always}
-use Rattle.mr_resp.specs.Command.{IsCommandText}
-use Rattle.mr_resp.specs.Usual.{commands}
-use Rattle.mr_effect.specs.Spelling.{text, texts}
-use Rattle.mr_effect.specs.declared.effect.Effect.{Effect}
+use Rattle.mr_effect.specs.Spelling.{texts}
 use Rattle.mr_entries.specs.Dataset.{Dataset}
-use Rattle.mr_data.specs.Meaning.{apply_all}
 use Rattle.mr_data.specs.Rebuilding.{rebuilding}
-use Rattle.mr_data.proofs.Folding.{apply_all-append}
 use Rattle.mr_data.specs.declared.given.Given.{Given}
+use Rattle.mr_groups.specs.Folding.{LeadsByGroups, MakesByGroups}
+use Rattle.mr_groups.proofs.Runs.{leads_nowhere}
+use Rattle.mr_groups.proofs.Going.{leads_further}
+use Rattle.mr_groups.proofs.Singles.{leads_applied}
 use Rattle.mr_outs.specs.Outs.{Output}
 use Rattle.mr_cmd_node.specs.declared.node_ask.NodeAsk.{NodeAsk}
 use Rattle.mr_rows.specs.State.{Core}
@@ -25,22 +22,10 @@ use Rattle.mr_pipe.specs.State.{PipeState}
 use Rattle.mr_pipe.specs.Sessions.{Moment, AreServed, Gives, IsServed, TakesRole, alone, changes_of, all_changes}
 use Rattle.mr_pipe.specs.Serving.{IsLeft, IsCutOff}
 use Rattle.mr_pipe.specs.Piped.{Answers}
-use Rattle.mr_pipe.specs.Folding.{Folds, FoldsTorn, FilesFold, FilesFoldTorn, FilesStaySynced}
+use Rattle.mr_pipe.specs.Folding.{FoldsTorn, FilesFold, FilesFoldTorn, FilesStaySynced}
 use Rattle.mr_pipe.specs.declared.fault.PipeFault.{PipeFault}
 use Rattle.mr_pipe.specs.declared.fault.PipeFault.TheVariants as fault
 use Rattle.mr_pipe.proofs.Serves.{append_nil}
-
-texts_join : (es fs : List Effect) → texts (es ++ fs) ≡ texts es ++ texts fs
-texts_join [] fs = refl
-texts_join (e ∷ es) fs = ap (λ (t : List ℕ). text e ++ t) (texts_join es fs) ∙ sym (append_assoc (text e) (texts es) (texts fs))
-
-folds_join : (p q : List ℕ) (a b d : Dataset) → Folds p a b → Folds q b d → Folds (p ++ q) a d
-folds_join p q a b d f s = record {
-  effects = f.effects ++ s.effects;
-  are_texts = ap (λ z. z ++ q) f.are_texts ∙ ap (λ z. texts f.effects ++ z) s.are_texts ∙ sym (texts_join f.effects s.effects);
-  readable = All-append (λ e. IsCommandText commands (text e)) f.effects s.effects f.readable s.readable;
-  applied = apply_all-append f.effects s.effects a ∙ ap (option_and_then (apply_all s.effects)) f.applied ∙ s.applied;
-}
 
 -- ---- what changes make of a file's bytes
 followed_join : (cs ds : List Change) (xs : List ℕ) → followed (cs ++ ds) xs ≡ followed ds (followed cs xs)
@@ -57,8 +42,8 @@ filed_told (c ∷ cs) a b xs f h = filed_told cs f.0 b (changed c xs) f.1.1 (sub
 
 -- ---- what stands in the file behind what was served
 -- nothing changes
-folds_on : (cs : List Change) (c d : Core) (xs : List ℕ) → cs ≡ [] → d ≡ c → Folds xs empty c.held → Folds (followed cs xs) empty d.held
-folds_on cs c d xs none same f = subst (λ (z : List Change). Folds (followed z xs) empty d.held) (sym none) (subst (λ (k : Core). Folds xs empty k.held) (sym same) f)
+folds_on : (cs : List Change) (c d : Core) (xs : List ℕ) → cs ≡ [] → d ≡ c → MakesByGroups xs c.held → MakesByGroups (followed cs xs) d.held
+folds_on cs c d xs none same f = subst (λ (z : List Change). MakesByGroups (followed z xs) d.held) (sym none) (subst (λ (k : Core). MakesByGroups xs k.held) (sym same) f)
 
 quiet_leaves : (c : Core) (wish : NodeAsk) (out : Output) → IsQuiet c wish out → changes_of out ≡ []
 quiet_leaves c wish out (IsQuiet.introduces told is gives) = ap changes_of gives
@@ -67,16 +52,16 @@ quiet_leaves c wish out (IsQuiet.refuses id wanted is replica gives) = ap change
 quiet_leaves c wish out (IsQuiet.stays_master is master gives) = ap changes_of gives
 quiet_leaves c wish out (IsQuiet.stays_replica host port is replica followed gives) = ap changes_of gives
 
-served_folds : (c : Core) (around : Around) (u : List ℕ) (g : Given) (d : Core) (rest : List ℕ) (out : Output) → Served c around u g d rest out → (xs : List ℕ) → Folds xs empty c.held → Folds (followed (changes_of out) xs) empty d.held
+served_folds : (c : Core) (around : Around) (u : List ℕ) (g : Given) (d : Core) (rest : List ℕ) (out : Output) → Served c around u g d rest out → (xs : List ℕ) → MakesByGroups xs c.held → MakesByGroups (followed (changes_of out) xs) d.held
 served_folds c around u g d rest out (Served.request words asks (Answered.within plain reply effects plan le d_is out_is)) xs f =
     let p = texts effects in
-    subst (λ (o : Output). Folds (followed (changes_of o) xs) empty d.held) (sym out_is)
-    (subst (λ z. Folds z empty d.held) (sym (followed_texts p xs))
-    (folds_join xs p empty c.held d.held f (record { effects = effects; are_texts = refl; readable = plan.texts; applied = plan.leads ∙ ap (λ (k : Core). Some k.held) (sym d_is) })))
+    subst (λ (o : Output). MakesByGroups (followed (changes_of o) xs) d.held) (sym out_is)
+    (subst (λ z. MakesByGroups z d.held) (sym (followed_texts p xs))
+    (leads_further xs p empty c.held d.held f (leads_applied effects c.held d.held (plan.leads ∙ ap (λ (k : Core). Some k.held) (sym d_is)) plan.short)))
 served_folds c around u g d rest out (Served.request words asks (Answered.beyond plain reply effects plan lt d_is out_is)) xs f = folds_on (changes_of out) c d xs (ap changes_of out_is) d_is f
 served_folds c around u g d rest out (Served.request words asks (Answered.rewritten is remakes d_is out_is)) xs f =
-    subst (λ (o : Output). Folds (followed (changes_of o) xs) empty d.held) (sym out_is)
-    (record { effects = rebuilding c.held; are_texts = refl; readable = remakes.texts; applied = remakes.again ∙ ap (λ (k : Core). Some k.held) (sym d_is) })
+    subst (λ (o : Output). MakesByGroups (followed (changes_of o) xs) d.held) (sym out_is)
+    (leads_applied (rebuilding c.held) empty d.held (remakes.again ∙ ap (λ (k : Core). Some k.held) (sym d_is)) remakes.short)
 served_folds c around u g d rest out (Served.request words asks (Answered.tells question asked d_is out_is)) xs f = folds_on (changes_of out) c d xs (ap changes_of out_is) d_is f
 served_folds c around u g d rest out (Served.request words asks (Answered.keeps_role wish asked quiet d_is)) xs f = folds_on (changes_of out) c d xs (quiet_leaves c wish out quiet) d_is f
 served_folds c around u g d rest out (Served.nothing asks d_is out_is) xs f = folds_on (changes_of out) c d xs (ap changes_of out_is) d_is f
@@ -88,23 +73,23 @@ role_leaves s words t out (TakesRole.promotes replica wish is gives) = (ap chang
 role_leaves s words t out (TakesRole.turns address replica wish another is gives) = (ap changes_of gives, ap (λ (z : PipeState). z.core.held) is)
 role_leaves s words t out (TakesRole.demotes address master wish is gives) = (ap changes_of gives, ap (λ (z : PipeState). z.core.held) is)
 
-same_folds : (cs : List Change) (m n : Dataset) (xs : List ℕ) → cs ≡ [] → n ≡ m → Folds xs empty m → Folds (followed cs xs) empty n
-same_folds cs m n xs none same f = subst (λ (z : List Change). Folds (followed z xs) empty n) (sym none) (subst (Folds xs empty) (sym same) f)
+same_folds : (cs : List Change) (m n : Dataset) (xs : List ℕ) → cs ≡ [] → n ≡ m → MakesByGroups xs m → MakesByGroups (followed cs xs) n
+same_folds cs m n xs none same f = subst (λ (z : List Change). MakesByGroups (followed z xs) n) (sym none) (subst (MakesByGroups xs) (sym same) f)
 
-one_folds : (g : Given) (s : PipeState) (u : List ℕ) (t : PipeState) (rest : List ℕ) (out : Output) → IsServed g s u t rest out → (xs : List ℕ) → Folds xs empty s.core.held → Folds (followed (changes_of out) xs) empty t.core.held
-one_folds g s u t rest out (IsServed.serves k d h is) xs f = subst (λ (z : PipeState). Folds (followed (changes_of out) xs) empty z.core.held) (sym is) (served_folds s.core alone u g d rest out h xs f)
+one_folds : (g : Given) (s : PipeState) (u : List ℕ) (t : PipeState) (rest : List ℕ) (out : Output) → IsServed g s u t rest out → (xs : List ℕ) → MakesByGroups xs s.core.held → MakesByGroups (followed (changes_of out) xs) t.core.held
+one_folds g s u t rest out (IsServed.serves k d h is) xs f = subst (λ (z : PipeState). MakesByGroups (followed (changes_of out) xs) z.core.held) (sym is) (served_folds s.core alone u g d rest out h xs f)
 one_folds g s u t rest out (IsServed.takes_role k words asks h) xs f =
     let same = role_leaves s words t out h in
     same_folds (changes_of out) s.core.held t.core.held xs same.0 same.1 f
 one_folds g s u t rest out (IsServed.notes k e is gives) xs f = same_folds (changes_of out) s.core.held t.core.held xs (ap changes_of gives) (ap (λ (z : PipeState). z.core.held) is) f
 
-all_fold : (g : Given) (s : PipeState) (u : List ℕ) (ms : List Moment) (t : PipeState) (rest said : List ℕ) → AreServed g s u ms t rest said → (xs : List ℕ) → Folds xs empty s.core.held → Folds (followed (all_changes ms) xs) empty t.core.held
+all_fold : (g : Given) (s : PipeState) (u : List ℕ) (ms : List Moment) (t : PipeState) (rest said : List ℕ) → AreServed g s u ms t rest said → (xs : List ℕ) → MakesByGroups xs s.core.held → MakesByGroups (followed (all_changes ms) xs) t.core.held
 all_fold g s u [] t rest said h xs f = same_folds [] s.core.held t.core.held xs refl (ap (λ (z : PipeState). z.core.held) h.0) f
 all_fold g s u (m ∷ ms) t rest said h xs f =
-    subst (λ z. Folds z empty t.core.held) (sym (followed_join (changes_of m.out) (all_changes ms) xs))
+    subst (λ z. MakesByGroups z t.core.held) (sym (followed_join (changes_of m.out) (all_changes ms) xs))
     (all_fold g m.pipe m.left ms t rest h.1.0 h.1.1 (followed (changes_of m.out) xs) (one_folds g s u m.pipe m.left m.out h.0 xs f))
 
-gives_folds : (g : Given) (s : PipeState) (u : List ℕ) (out : Output) → Gives g s u out → (xs : List ℕ) → Folds xs empty s.core.held → (d : Dataset) × Folds (followed (changes_of out) xs) empty d
+gives_folds : (g : Given) (s : PipeState) (u : List ℕ) (out : Output) → Gives g s u out → (xs : List ℕ) → MakesByGroups xs s.core.held → (d : Dataset) × MakesByGroups (followed (changes_of out) xs) d
 gives_folds g s u out (Gives.serves t rest h) xs f = (t.core.held, one_folds g s u t rest out h xs f)
 gives_folds g s u out (Gives.ends last e out_is) xs f = (s.core.held, same_folds (changes_of out) s.core.held s.core.held xs (ap changes_of out_is) refl f)
 
@@ -114,8 +99,8 @@ abbrev HasTorn : Kept → Type 0
 HasTorn k = (ys : List ℕ) × ((k.told ≡ Some ys) × FoldsTorn ys empty)
 
 -- all texts are whole
-not_torn : (ys : List ℕ) (m : Dataset) → Folds ys empty m → FoldsTorn ys empty
-not_torn ys m f = record { front = ys; torn = []; is = sym (append_nil ys); mid = m; folds = f; more = []; new = m; whole = record { effects = []; are_texts = refl; readable = All-nil (λ e. IsCommandText commands (text e)); applied = refl } }
+not_torn : (ys : List ℕ) (m : Dataset) → MakesByGroups ys m → FoldsTorn ys empty
+not_torn ys m f = record { front = ys; torn = []; is = sym (append_nil ys); mid = m; folds = f; more = []; new = m; whole = leads_nowhere m }
 
 abbrev first_of : Change → List Change → Change
 first_of other [] = other
@@ -146,7 +131,7 @@ torn_told a b bytes xs w h = let there = subst (λ o. AppendsSome o b bytes) h w
 torn_nothing : (cs : List Change) (a b : Kept) → cs ≡ [] → IsTorn a b cs → HasTorn b
 torn_nothing cs a b none t = absurd (none_is t.made t.change t.others (sym none ∙ t.are))
 
-torn_texts : (p : List ℕ) (a b : Kept) (m n : Dataset) (xs : List ℕ) → a.told ≡ Some xs → Folds xs empty m → Folds p m n → IsTorn a b (appends p ++ []) → HasTorn b
+torn_texts : (p : List ℕ) (a b : Kept) (m n : Dataset) (xs : List ℕ) → a.told ≡ Some xs → MakesByGroups xs m → LeadsByGroups p m n → IsTorn a b (appends p ++ []) → HasTorn b
 torn_texts [] a b m n xs h f g t = torn_nothing [] a b refl t
 torn_texts (q ∷ p) a b m n xs h f g t =
     let there = torn_told a.told b.told (q ∷ p) xs (half_of (Change.append (q ∷ p)) a b t) h in (
@@ -161,38 +146,38 @@ torn_texts (q ∷ p) a b m n xs h f g t =
           folds = f;
           more = drop there.0 (q ∷ p);
           new = n;
-          whole = subst (λ z. Folds z m n) (sym (take-append-drop there.0 (q ∷ p))) g;
+          whole = subst (λ z. LeadsByGroups z m n) (sym (take-append-drop there.0 (q ∷ p))) g;
         },
       ),
     )
 
 -- the old file stands there, or the new one
-one_stands : (k : Kept) (m n : Dataset) (xs w : List ℕ) → Folds xs empty m → Folds w empty n → (k.told ≡ Some xs) ⊎ (k.told ≡ Some w) → HasTorn k
+one_stands : (k : Kept) (m n : Dataset) (xs w : List ℕ) → MakesByGroups xs m → MakesByGroups w n → (k.told ≡ Some xs) ⊎ (k.told ≡ Some w) → HasTorn k
 one_stands k m n xs w f g (inl old) = (xs, (old, not_torn xs m f))
 one_stands k m n xs w f g (inr new) = (w, (new, not_torn w n g))
 
-torn_whole : (w : List ℕ) (a b : Kept) (m n : Dataset) (xs : List ℕ) → a.told ≡ Some xs → Folds xs empty m → Folds w empty n → IsTorn a b (replaces (Some w)) → HasTorn b
+torn_whole : (w : List ℕ) (a b : Kept) (m n : Dataset) (xs : List ℕ) → a.told ≡ Some xs → MakesByGroups xs m → MakesByGroups w n → IsTorn a b (replaces (Some w)) → HasTorn b
 torn_whole w a b m n xs h f g t = one_stands b m n xs w f g (subst (λ o. IsOldOrNew o b.told w) h (half_of (Change.replace w) a b t))
 
-served_torn : (c : Core) (around : Around) (u : List ℕ) (g : Given) (d : Core) (rest : List ℕ) (out : Output) (a b : Kept) (xs : List ℕ) → Served c around u g d rest out → a.told ≡ Some xs → Folds xs empty c.held → IsTorn a b (changes_of out) → HasTorn b
+served_torn : (c : Core) (around : Around) (u : List ℕ) (g : Given) (d : Core) (rest : List ℕ) (out : Output) (a b : Kept) (xs : List ℕ) → Served c around u g d rest out → a.told ≡ Some xs → MakesByGroups xs c.held → IsTorn a b (changes_of out) → HasTorn b
 served_torn c around u g d rest out a b xs (Served.request words asks (Answered.within plain reply effects plan le d_is out_is)) h f t =
-    torn_texts (texts effects) a b c.held d.held xs h f (record { effects = effects; are_texts = refl; readable = plan.texts; applied = plan.leads ∙ ap (λ (k : Core). Some k.held) (sym d_is) })
+    torn_texts (texts effects) a b c.held d.held xs h f (leads_applied effects c.held d.held (plan.leads ∙ ap (λ (k : Core). Some k.held) (sym d_is)) plan.short)
     (subst (λ (o : Output). IsTorn a b (changes_of o)) out_is t)
 served_torn c around u g d rest out a b xs (Served.request words asks (Answered.beyond plain reply effects plan lt d_is out_is)) h f t = torn_nothing (changes_of out) a b (ap changes_of out_is) t
 served_torn c around u g d rest out a b xs (Served.request words asks (Answered.rewritten is remakes d_is out_is)) h f t =
-    torn_whole (texts (rebuilding c.held)) a b c.held c.held xs h f (record { effects = rebuilding c.held; are_texts = refl; readable = remakes.texts; applied = remakes.again })
+    torn_whole (texts (rebuilding c.held)) a b c.held c.held xs h f (leads_applied (rebuilding c.held) empty c.held remakes.again remakes.short)
     (subst (λ (o : Output). IsTorn a b (changes_of o)) out_is t)
 served_torn c around u g d rest out a b xs (Served.request words asks (Answered.tells question asked d_is out_is)) h f t = torn_nothing (changes_of out) a b (ap changes_of out_is) t
 served_torn c around u g d rest out a b xs (Served.request words asks (Answered.keeps_role wish asked quiet d_is)) h f t = torn_nothing (changes_of out) a b (quiet_leaves c wish out quiet) t
 served_torn c around u g d rest out a b xs (Served.nothing asks d_is out_is) h f t = torn_nothing (changes_of out) a b (ap changes_of out_is) t
 
-gives_torn : (g : Given) (s : PipeState) (u : List ℕ) (out : Output) (a b : Kept) (xs : List ℕ) → Gives g s u out → a.told ≡ Some xs → Folds xs empty s.core.held → IsTorn a b (changes_of out) → HasTorn b
+gives_torn : (g : Given) (s : PipeState) (u : List ℕ) (out : Output) (a b : Kept) (xs : List ℕ) → Gives g s u out → a.told ≡ Some xs → MakesByGroups xs s.core.held → IsTorn a b (changes_of out) → HasTorn b
 gives_torn g s u out a b xs (Gives.serves v rest (IsServed.serves k d r is)) h f t = served_torn s.core alone u g d rest out a b xs r h f t
 gives_torn g s u out a b xs (Gives.serves v rest (IsServed.takes_role k words asks r)) h f t = torn_nothing (changes_of out) a b (role_leaves s words v out r).0 t
 gives_torn g s u out a b xs (Gives.serves v rest (IsServed.notes k e is gives)) h f t = torn_nothing (changes_of out) a b (ap changes_of gives) t
 gives_torn g s u out a b xs (Gives.ends last e out_is) h f t = torn_nothing (changes_of out) a b (ap changes_of out_is) t
 
-left_folds : (why : PipeFault) (g : Given) (s : PipeState) (u : List ℕ) (x y : Outside) (xs : List ℕ) → x.kept.told ≡ Some xs → Folds xs empty s.core.held → IsLeft why g s u x y → HasTorn y.kept
+left_folds : (why : PipeFault) (g : Given) (s : PipeState) (u : List ℕ) (x y : Outside) (xs : List ℕ) → x.kept.told ≡ Some xs → MakesByGroups xs s.core.held → IsLeft why g s u x y → HasTorn y.kept
 left_folds fault.Read g s u x y xs h f l = (xs, (ap (λ (o : Outside). o.kept.told) l ∙ h, not_torn xs s.core.held f))
 left_folds fault.Stopped g s u x y xs h f l = (xs, (ap (λ (o : Outside). o.kept.told) l ∙ h, not_torn xs s.core.held f))
 left_folds fault.Memory g s u x y xs h f l = (xs, (ap (λ (o : Outside). o.kept.told) l ∙ h, not_torn xs s.core.held f))
@@ -207,7 +192,7 @@ files_fold g p before after x y s xs h f =
     let cs = all_changes s.moments in
     (followed cs xs, (filed_told cs x.kept y.kept xs s.settled.filed h, answered s.said s.answers))
   where
-    answered : (said : List ℕ) → Answers g p s.read s.moments s.pipe said after → Folds (followed (all_changes s.moments) xs) empty s.pipe.core.held
+    answered : (said : List ℕ) → Answers g p s.read s.moments s.pipe said after → MakesByGroups (followed (all_changes s.moments) xs) s.pipe.core.held
     answered said (Answers.at_end rest served waits at) = all_fold g p s.read s.moments s.pipe rest said served xs f
     answered said (Answers.at_close rest replies last served ends is) = all_fold g p s.read s.moments s.pipe rest replies served xs f
 

@@ -2,8 +2,8 @@
 ghost use Rattle.mr_pipe.specs.Folding.{FilesFold, FilesFoldTorn, FilesStaySynced};
 ghost use Rattle.mr_pipe.specs.Roles.{ReplicaLinksAreSilent, ReplicaLinksEndSilently, ReplicasOnlyRewrite};
 
-/// Where a file's bytes are the texts of effects that make the dataset with which a pipe begins, its bytes at the end are texts of
-/// effects that make the dataset of the pipe's node then, also where it was written anew. After a fault at most the texts of the last
+/// Where a file's bytes are the texts of groups that make the dataset with which a pipe begins, its bytes at the end are texts of
+/// groups that make the dataset of the pipe's node then, also where it was written anew. After a fault at most the texts of the last
 /// step are torn.
 pub fn files_fold()
     ensures whole { FilesFold }

@@ -5,8 +5,10 @@ use Rattle.std.specs.FinMap.{empty}
 use Rattle.mr_links.specs.declared.link_id.LinkId.{LinkId}
 use Rattle.mr_entries.specs.Dataset.{Dataset}
 use Rattle.mr_data.specs.declared.given.Given.{Given}
-use Rattle.mr_replay.specs.Effects.{Leads, Makes}
-use Rattle.mr_replay.proofs.Longest.{leads_further, leads_nowhere}
+use Rattle.mr_groups.specs.Folding.{LeadsByGroups, MakesByGroups}
+use Rattle.mr_groups.proofs.Runs.{leads_nowhere}
+use Rattle.mr_groups.proofs.Going.{leads_further}
+use Rattle.mr_groups.proofs.Singles.{makes_by_singles}
 use Rattle.mr_file.specs.declared.sync_mode.SyncMode.{SyncMode}
 use Rattle.mr_course.specs.State.{name_of}
 use Rattle.mr_outs.specs.Outs.{OutState, OutsState, outs_of, replace, replaced_outs}
@@ -50,15 +52,15 @@ whole_kept s none w =
       file = w.file;
       told = w.told;
       filed = held;
-      made = subst (λ z. Makes z held) (take_all (length w.file) w.file (omega arith)) w.loads.made;
-      waiting = subst (λ (z : List ℕ). Leads z held held) (sym none) (leads_nowhere held);
+      made = subst (λ z. MakesByGroups z held) (take_all (length w.file) w.file (omega arith)) w.loads.made;
+      waiting = subst (λ (z : List ℕ). LeadsByGroups z held held) (sym none) (leads_nowhere held);
     }
 
 pub kept_whole : KeptFilesAreWhole
 kept_whole s none k =
     let held : Dataset = s.node.core.held in
-    let rest : Leads [] k.filed held = subst (λ (z : List ℕ). Leads z k.filed held) none k.waiting in
-    let made : Makes k.file held = subst (λ (z : List ℕ). Makes z held) (append-nil k.file) (leads_further k.file [] empty k.filed held k.made rest) in
+    let rest : LeadsByGroups [] k.filed held = subst (λ (z : List ℕ). LeadsByGroups z k.filed held) none k.waiting in
+    let made : MakesByGroups k.file held = subst (λ (z : List ℕ). MakesByGroups z held) (append-nil k.file) (leads_further k.file [] empty k.filed held k.made rest) in
     record { file = k.file; told = k.told; loads = read_whole k.file held made }
 
 -- ---- what the node does
@@ -115,9 +117,10 @@ called_has (at_tick given) s m outs h k = record { told = ap (λ (z : Stage). z.
 called_has (at_dial socket link) s m outs h k = record { told = h.file.0 ∙ k.told; batch = h.batch }
 
 -- what the file is replaced by makes the dataset
-replaced_makes : (a b : NodeState) (outs : OutsState) (file : List ℕ) → Files a b outs → outs.replaced ≡ Some file → Makes file b.core.held
+replaced_makes : (a b : NodeState) (outs : OutsState) (file : List ℕ) → Files a b outs → outs.replaced ≡ Some file → MakesByGroups file b.core.held
 replaced_makes a b outs file (DoesToFile.grows g none) e = absurd (none_some file (sym none ∙ e))
-replaced_makes a b outs file (DoesToFile.replaces none whole again) e = subst (λ (z : List ℕ). Makes z b.core.held) (some_is (rebuilt b.core.held) file (sym whole ∙ e)) again
+replaced_makes a b outs file (DoesToFile.replaces none whole again) e =
+    subst (λ (z : List ℕ). MakesByGroups z b.core.held) (some_is (rebuilt b.core.held) file (sym whole ∙ e)) (makes_by_singles (rebuilt b.core.held) b.core.held again)
 
 -- ---- what happens to the file
 stay : (s t : Stage) → t.told ≡ s.told → t.own.batch ≡ s.own.batch → t.node.core.held ≡ s.node.core.held → IsKept s → IsKept t
@@ -126,7 +129,7 @@ stay s t told batch held k = record {
   told = told ∙ k.told;
   filed = k.filed;
   made = k.made;
-  waiting = subst (λ (m : Dataset). Leads t.own.batch k.filed m) (sym held) (subst (λ (z : List ℕ). Leads z k.filed s.node.core.held) (sym batch) k.waiting);
+  waiting = subst (λ (m : Dataset). LeadsByGroups t.own.batch k.filed m) (sym held) (subst (λ (z : List ℕ). LeadsByGroups z k.filed s.node.core.held) (sym batch) k.waiting);
 }
 
 dropped : (socket : LinkId) (link : Option LinkId) (s t : Stage) → Dropped socket link s t → IsKept s → IsKept t
@@ -162,26 +165,26 @@ module _ (act : Act) (outs : OutsState) (s m : Stage) (calls : Calls act s m out
             told = h.told ∙ ap (λ (w : Written). Some w.file) is;
             filed = k.filed;
             made = k.made;
-            waiting = subst (λ (d : Dataset). Leads t.own.batch k.filed d) (sym held) (subst (λ (z : List ℕ). Leads z k.filed m.node.core.held) (sym (h.batch ∙ ap (λ (w : Written). w.batch) is)) on);
+            waiting = subst (λ (d : Dataset). LeadsByGroups t.own.batch k.filed d) (sym held) (subst (λ (z : List ℕ). LeadsByGroups z k.filed m.node.core.held) (sym (h.batch ∙ ap (λ (w : Written). w.batch) is)) on);
           }
       by (DoesToFile.replaces none whole again) =
           let is = now (Some (rebuilt m.node.core.held)) whole in record {
             file = rebuilt m.node.core.held;
             told = h.told ∙ ap (λ (w : Written). Some w.file) is;
             filed = m.node.core.held;
-            made = again;
-            waiting = subst (λ (d : Dataset). Leads t.own.batch m.node.core.held d) (sym held)
-                (subst (λ (z : List ℕ). Leads z m.node.core.held m.node.core.held) (sym (h.batch ∙ ap (λ (w : Written). w.batch) is)) (leads_nowhere m.node.core.held));
+            made = makes_by_singles (rebuilt m.node.core.held) m.node.core.held again;
+            waiting = subst (λ (d : Dataset). LeadsByGroups t.own.batch m.node.core.held d) (sym held)
+                (subst (λ (z : List ℕ). LeadsByGroups z m.node.core.held m.node.core.held) (sym (h.batch ∙ ap (λ (w : Written). w.batch) is)) (leads_nowhere m.node.core.held));
           }
 
   -- behind some of the outs the file makes a dataset
-  partly : (done rest : List OutState) (t : Stage) → outs_of outs ≡ done ++ rest → Carried done m t → (file : List ℕ) × (d : Dataset) × (t.told ≡ Some file) × Makes file d
+  partly : (done rest : List OutState) (t : Stage) → outs_of outs ≡ done ++ rest → Carried done m t → (file : List ℕ) × (d : Dataset) × (t.told ≡ Some file) × MakesByGroups file d
   partly done rest t are carried = by (old_or_these outs.replaced done before (cut outs.replaced done rest (subst (ReplaceBy outs.replaced) are (of_all outs))).0)
     where
       h : Has t (by_outs done before)
       h = carried_has done m t before carried (called_has act s m outs calls k)
 
-      by : ((by_outs done before).file ≡ k.file) ⊎ (outs.replaced ≡ Some (by_outs done before).file) → (file : List ℕ) × (d : Dataset) × (t.told ≡ Some file) × Makes file d
+      by : ((by_outs done before).file ≡ k.file) ⊎ (outs.replaced ≡ Some (by_outs done before).file) → (file : List ℕ) × (d : Dataset) × (t.told ≡ Some file) × MakesByGroups file d
       by (inl same) = (k.file, k.filed, h.told ∙ ap Some same, k.made)
       by (inr these) = ((by_outs done before).file, m.node.core.held, h.told, replaced_makes s.node m.node outs (by_outs done before).file (called_files act s m outs calls) these)
 
@@ -190,12 +193,12 @@ appended mode texts s t a k =
     let all : take (length texts) texts ≡ texts = take_all (length texts) texts (omega arith) in
     let now = some_at (λ z. t.told ≡ Some (z ++ take (length texts) texts)) s.told k.file k.told a.written in
     let held : t.node.core.held ≡ s.node.core.held = node_of a.node in
-    let rest : Leads texts k.filed s.node.core.held = subst (λ (z : List ℕ). Leads z k.filed s.node.core.held) (sym a.texts_are) k.waiting in record {
+    let rest : LeadsByGroups texts k.filed s.node.core.held = subst (λ (z : List ℕ). LeadsByGroups z k.filed s.node.core.held) (sym a.texts_are) k.waiting in record {
       file = k.file ++ texts;
       told = now ∙ ap (λ (z : List ℕ). Some (k.file ++ z)) all;
       filed = s.node.core.held;
       made = leads_further k.file texts empty k.filed s.node.core.held k.made rest;
-      waiting = subst (λ (d : Dataset). Leads t.own.batch s.node.core.held d) (sym held) (subst (λ (z : List ℕ). Leads z s.node.core.held s.node.core.held) (sym (batch_of a.own)) (leads_nowhere s.node.core.held));
+      waiting = subst (λ (d : Dataset). LeadsByGroups t.own.batch s.node.core.held d) (sym held) (subst (λ (z : List ℕ). LeadsByGroups z s.node.core.held s.node.core.held) (sym (batch_of a.own)) (leads_nowhere s.node.core.held));
     }
 
 module _ (tells : Bool) (mode : SyncMode) where
@@ -255,7 +258,7 @@ turns_leave_whole tells mode s t none after w = (
 )
 
 -- ---- behind a fault
-whole_torn : (t : Stage) (file : List ℕ) (d : Dataset) → t.told ≡ Some file → Makes file d → IsTorn t
+whole_torn : (t : Stage) (file : List ℕ) (d : Dataset) → t.told ≡ Some file → MakesByGroups file d → IsTorn t
 whole_torn t file d told made = record { front = file; torn = []; told = told ∙ ap Some (sym (append-nil file)); filed = d; made = made; more = []; next = d; leads = leads_nowhere d }
 
 module _ (act : Act) (outs : OutsState) (s m t : Stage) (calls : Calls act s m outs) (k : IsKept s) where
@@ -300,7 +303,7 @@ module _ (tells : Bool) (mode : SyncMode) (why : LoopFault) where
         made = k.made;
         more = drop p.0 s.own.batch;
         next = s.node.core.held;
-        leads = subst (λ (z : List ℕ). Leads z k.filed s.node.core.held) (sym (take-append-drop p.0 s.own.batch)) k.waiting;
+        leads = subst (λ (z : List ℕ). LeadsByGroups z k.filed s.node.core.held) (sym (take-append-drop p.0 s.own.batch)) k.waiting;
       }
   torn_by (misses_tick given) s t is h k = absurd (none_some why is)
   torn_by misses_dial s t is h k = absurd (none_some why is)

@@ -1,7 +1,7 @@
 -- What the file says of its node in the event loop: within turns, between them, and behind a fault.
 use Rattle.std.specs.Prelude.{◌≡◌, ◌++◌, ℕ, ℤ, List, [], Bool, Some, Ok, Err, length}
 use Rattle.mr_entries.specs.Dataset.{Dataset}
-use Rattle.mr_replay.specs.Effects.{Leads, Loads, Makes}
+use Rattle.mr_groups.specs.Folding.{LeadsByGroups, LoadsGroups, MakesByGroups}
 use Rattle.mr_file.specs.declared.sync_mode.SyncMode.{SyncMode}
 use Rattle.mr_loop.specs.declared.fault.LoopFault.{LoopFault}
 use Rattle.mr_loop.specs.declared.told.Turn.{Turn}
@@ -14,25 +14,25 @@ pub record IsKept (s : Stage) : Type 0 where
   pub file : List ℕ
   pub told : s.told ≡ Some file
   pub filed : Dataset
-  pub made : Makes file filed
-  pub waiting : Leads s.own.batch filed s.node.core.held
+  pub made : MakesByGroups file filed
+  pub waiting : LeadsByGroups s.own.batch filed s.node.core.held
 
 -- The file is read whole, and as the node's dataset.
 pub record IsWhole (s : Stage) : Type 0 where
   pub file : List ℕ
   pub told : s.told ≡ Some file
-  pub loads : Loads file (length file) s.node.core.held
+  pub loads : LoadsGroups file (length file) s.node.core.held
 
--- The file makes a dataset, and behind that stands at most a beginning of texts of effects that lead on from there.
+-- The file makes a dataset, and behind that stands at most a beginning of texts of groups that lead on from there.
 pub record IsTorn (s : Stage) : Type 0 where
   pub front : List ℕ
   pub torn : List ℕ
   pub told : s.told ≡ Some (front ++ torn)
   pub filed : Dataset
-  pub made : Makes front filed
+  pub made : MakesByGroups front filed
   pub more : List ℕ
   pub next : Dataset
-  pub leads : Leads (torn ++ more) filed next
+  pub leads : LeadsByGroups (torn ++ more) filed next
 
 -- ---- where nothing waits for the file
 abbrev pub WholeFilesAreKept : Type 0

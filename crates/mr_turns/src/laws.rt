@@ -25,7 +25,7 @@ pub fn turns_leave_files_whole()
     ensures { TurnsLeaveWhole }
 {}
 
-/// Behind a fault the file makes a dataset, and behind that stands at most a beginning of texts of effects that lead on from there.
+/// Behind a fault the file makes a dataset, and behind that stands at most a beginning of texts of groups that lead on from there.
 pub fn faults_tear_files()
     ensures { FaultsTear }
 {}

@@ -1,7 +1,7 @@
 -- What is promised of all that happens to one World, over any runs of it.
 use Rattle.std.specs.Prelude.{◌≡◌, ℕ, List, [], ◌∷◌, Result, Some, true, length, take, drop, slice_get}
 use Rattle.mr_entries.specs.Dataset.{Dataset}
-use Rattle.mr_replay.specs.Effects.{Makes}
+use Rattle.mr_groups.specs.Folding.{MakesByGroups}
 use Rattle.mr_seen.specs.State.{Slot, WorldState}
 use Rattle.mr_filing.specs.Worlds.{GoOn, GrownSince}
 use Rattle.mr_seen.specs.Worlds.{no_world}
@@ -43,9 +43,9 @@ ReplicasAreLevel = (runs : List (List Event)) (v : WorldState) → Ran no_world 
     → (l : ℕ) (replica master : Slot) → CaughtUp v l replica master → IsLevel replica master
 
 -- The file of a node makes its dataset; and of some Worlds, one after another, it is what it was when it was last written anew or the node started,
--- and behind that the texts of the effects that were applied since, but for heartbeats.
+-- and behind that the texts of the groups that were applied since, but for heartbeats.
 pub record IsFiled (v : WorldState) (n : ℕ) (t : Slot) : Type 0 where
-  pub made : Makes t.file t.node.core.held
+  pub made : MakesByGroups t.file t.node.core.held
   pub moments : List WorldState
   pub go : GoOn no_world moments
   pub ends : last_of no_world moments ≡ v

@@ -29,7 +29,7 @@ pub fn replicas_are_level()
 {}
 
 /// The file of each node that isn't stopped makes the node's dataset; and since it was last written anew, or the node started, it has grown by
-/// the texts of the effects that were applied, but for heartbeats.
+/// the texts of the groups that were applied, but for heartbeats.
 pub fn files_are_datasets()
     ensures { FilesAreDatasets }
 {}

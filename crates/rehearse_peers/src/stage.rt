@@ -4,9 +4,9 @@ use crate::host::Host;
 use crate::line::{Line, bytes_of, id_of, place_of, port_of};
 use crate::telling::tell;
 use mr_data::Dataset;
+use mr_groups::{Loaded, load_groups};
 use mr_node::Config;
 use mr_repl::ReplId;
-use mr_replay::{Loaded, load};
 use std::alloc::Global;
 use std::hash::RandomState;
 
@@ -53,7 +53,7 @@ impl Stage {
         let file = bytes_of(self.alloc, line.fifth)?;
         match Config::new(is_replica, port, place_of(line.fourth)?) {
             Some(config) => {
-                let Loaded { dataset, used: _ } = load(self.alloc, self.seed, file.as_slice())?;
+                let Loaded { dataset, used: _ } = load_groups(self.alloc, self.seed, file.as_slice())?;
                 self.put(number, id, dataset, config)?;
                 tell(out, "started")
             }

@@ -5,7 +5,7 @@ use crate::fault::RehearsalFault;
 use crate::heard_wire::HeardWire;
 use crate::listed_source::ListedSource;
 use crate::telling::{tell, tell_bytes, tell_fault, tell_link, tell_shown, tell_turn};
-use mr_aof::{Loaded, Log, load};
+use mr_aof::{Loaded, Log, load_groups};
 use mr_file::MemFile;
 use mr_loop::{Links, serve, turn};
 use mr_node::{Node, Role};
@@ -160,7 +160,7 @@ impl Host {
 
     /// How many of the file's bytes are read, and the commands that make what they hold.
     pub fn load(&self, out: &mut Vec<u8>) -> Result<(), RehearsalFault> {
-        let Loaded { dataset, used } = load(self.alloc, self.seed, self.log.file().bytes())?;
+        let Loaded { dataset, used } = load_groups(self.alloc, self.seed, self.log.file().bytes())?;
         tell(out, "loads")?;
         tell_shown(self.alloc, used, out)?;
         tell_bytes(self.alloc, dataset.rebuild(self.alloc)?.as_slice(), out)
