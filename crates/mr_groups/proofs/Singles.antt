@@ -1,5 +1,5 @@
 -- Effects are groups of one each.
-use Rattle.std.proofs.Common.{ℕ, List, [], ◌∷◌, sym, ◌∙◌, refl, All}
+use Rattle.std.proofs.Common.{◌≡◌, ℕ, Bool, true, false, cond, ◌&&◌, IsTrue, Option, Some, None, List, [], ◌∷◌, sym, ◌∙◌, refl, All}
 use Rattle.std.proofs.lemmas.List.Elements.{All-nil, All-cons, All-head, All-tail}
 use Rattle.std.specs.FinMap.{empty}
 use Rattle.mr_effect.specs.Effects.{has_spelling, words_fit}
