@@ -46,7 +46,7 @@ pub record HasWaited (w : WorldState) (l : ℕ) (v : WorldState) : Type 0 where
   pub carried : v ≡ followed w number who.slot who.link node no_outs
   pub is : v ≡ put_node w number who.slot node
 
--- .. memory ran out within an effect, and it stops. Its end of the link stays open.
+-- .. memory ran out within a group, or its effects don't all apply, and it stops. Its end of the link stays open.
 pub record HasSpent (w : WorldState) (l : ℕ) (v : WorldState) : Type 0 where
   pub number : ℕ
   pub name : LinkId
