@@ -22,7 +22,9 @@ use Rattle.mr_follow.specs.Lines.{Begins}
 use Rattle.mr_follow.specs.declared.phase.Phase.{Phase}
 use Rattle.mr_follow.specs.declared.phase.Phase.TheVariants.{Ping, Port, Capabilities, Psync, Snapshot, Stream}
 use Rattle.mr_follow.specs.declared.taking.Taking.{Taking}
-use Rattle.mr_follow.proofs.Loadings.{some_text as command_some}
+use Rattle.mr_groups.specs.Groups.{IsGoodGroup, group_text}
+use Rattle.mr_groups.proofs.Runs.{some_text as some_in_group}
+use Rattle.mr_effect.specs.declared.effect.Effect.{Effect}
 use Rattle.mr_outs.specs.Outs.{OutState, OutsState, Output}
 use Rattle.mr_rows.specs.State.{IsNode, NodeState, Core, Agrees, MasterAgrees, ReplicaAgrees, end_of}
 use Rattle.mr_rows.specs.Telling.{Around}
@@ -156,6 +158,9 @@ gone_less a b l here gone nobody =
 removed_there : (l : LinkId) (ends : Links EndState) → get (remove ends.open_links l) l ≡ None
 removed_there l ends = get-remove ids_total ends.open_links l l ∙ ap (λ b. cond b None (get ends.open_links l)) (itself l)
 
+group_some : (told : List ℕ) (group : List Effect) → IsGoodGroup group → told ≡ group_text group → 0 < length told
+group_some told group good is = omega (arith, ap length is, some_in_group group good)
+
 module _ (a b : NodeState) (l : LinkId) (u : List ℕ) where
   -- the end stays, and what reads there has less
   reads_less : (came : UpstreamStep) (h : Heard a l u came b) → FollowAgrees h.reader u → end_of a l ≡ Some upstream → b.ends ≡ a.ends → h.course.follow ≡ Some (l, h.next) → (rest : List ℕ) → FollowAgrees h.next rest → length rest < length u → left_at b l < left_at a l
@@ -170,7 +175,7 @@ module _ (a b : NodeState) (l : LinkId) (u : List ℕ) where
   master_less outcome.Announced h some agrees here = reads_less outcome.Announced h agrees here h.ends (ap (λ (z : CourseState). z.follow) h.row.is) h.row.answers.rest h.row.answers.state.agrees (begins_less u _ h.row.answers.rest h.row.answers.answer)
   master_less outcome.Continued h some agrees here = reads_less outcome.Continued h agrees here h.ends (ap (λ (z : CourseState). z.follow) h.row.is) h.row.answers.rest h.row.answers.state.agrees (begins_less u _ h.row.answers.rest h.row.answers.answer)
   master_less outcome.Loaded h some agrees here = reads_less outcome.Loaded h agrees here h.ends (ap (λ (z : CourseState). z.follow) h.row.is) h.row.installs.rest h.row.installs.state.agrees (behind_less u _ h.row.installs.bytes h.row.installs.rest h.row.installs.begins)
-  master_less outcome.Applied h some agrees here = reads_less outcome.Applied h agrees here h.ends (ap (λ (z : CourseState). z.follow) h.row.is) h.row.follows.rest h.row.follows.state.agrees (shorter u h.told h.row.follows.rest h.row.follows.begins.is (command_some h.told h.row.follows.words h.row.follows.begins.command))
+  master_less outcome.Applied h some agrees here = reads_less outcome.Applied h agrees here h.ends (ap (λ (z : CourseState). z.follow) h.row.is) h.row.follows.rest h.row.follows.state.agrees (shorter u h.told h.row.follows.rest h.row.follows.begins (group_some h.told h.row.follows.group h.row.follows.good h.row.follows.is_text))
   master_less outcome.Left h some agrees here = leaves_less outcome.Left h here h.ends (ap (λ (z : CourseState). z.follow) h.row.is)
   master_less outcome.Spoiled h some agrees here = leaves_less outcome.Spoiled h here h.ends (ap (λ (z : CourseState). z.follow) h.row.is)
 

@@ -9,6 +9,7 @@ use Rattle.mr_resp.specs.Spelling.{array, bulk, number_line}
 use Rattle.mr_resp.specs.Usual.{commands, commands-words}
 use Rattle.mr_resp.proofs.LineEnds.{bytes_cons, bytes_nil}
 use Rattle.mr_resp.proofs.Words.{bytes_append, bytes_bulk, bytes_line}
+use Rattle.mr_groups.proofs.Openings.{open_start}
 use Rattle.mr_follow.specs.State.{FollowState, Agrees as FollowAgrees}
 use Rattle.mr_follow.specs.Rows as follow
 use Rattle.mr_follow.specs.declared.phase.Phase.{Phase}
@@ -45,7 +46,7 @@ waits_by Port kept = line_nothing
 waits_by Capabilities kept = line_nothing
 waits_by Psync kept = line_nothing
 waits_by (Snapshot id offset) kept = inl line_nothing
-waits_by Stream kept = command_nothing
+waits_by Stream kept = open_start [] command_nothing
 
 awaits_nothing : (f : FollowState) → FollowAgrees f [] → Awaits f
 awaits_nothing f agrees = record { unread = []; agrees = agrees; waits = waits_by f.phase f.kept }
