@@ -25,6 +25,11 @@ REWRITE = request("BGREWRITEAOF")
 REWRITING_KILLS, REWRITTEN_KEYS = 60, 10_000
 
 
+def grouped(*texts):
+    """The text of a group, of its effects' texts."""
+    return request("MULTI") + b"".join(texts) + request("EXEC")
+
+
 def may_grow_to(size):
     """Has a program that is started behind this write no file past so many bytes. The system sends it a signal where it tries."""
     return lambda: resource.setrlimit(resource.RLIMIT_FSIZE, (size, size))
@@ -122,6 +127,49 @@ class Starting(OfFile):
         value = random.Random(5).randbytes(1 << 24)
         self.answers(request("SET", "k", value), OK)
         self.answers(GET, bulk(value))
+
+
+class Grouping(OfFile):
+    """A file with groups of effects: each is loaded as a whole, or not at all."""
+
+    def test_a_group_is_loaded_and_stays(self):
+        group = grouped(SET, SET_W)
+        self.write(group + request("SET", "a", "1"))
+        self.answers(GET + request("GET", "a"), bulk(b"w") + bulk(b"1"))
+        self.assertEqual(self.bytes(), group + request("SET", "a", "1"))
+
+    def test_a_group_that_is_not_whole_is_cut_off(self):
+        group = grouped(SET_W, SET_X)
+        for count in (1, 15, 42, 69, len(group) - 1):
+            with self.subTest(count=count):
+                self.write(SET + group[:count])
+                self.answers(GET, bulk(b"v"), cut=group[:count])
+                self.assertEqual(self.bytes(), SET)
+
+    def test_of_a_group_that_can_be_done_in_part_alone_nothing_is_loaded(self):
+        for behind in (b"", SET_X, grouped(SET_X, SET)):
+            with self.subTest(behind=behind):
+                cut = grouped(SET_W, request("LPOP", "k", "1"), SET_X) + behind
+                self.write(SET + cut)
+                self.answers(GET, bulk(b"v"), cut=cut)
+                self.assertEqual(self.bytes(), SET)
+
+    def test_what_is_no_group_ends_what_is_loaded(self):
+        for bad in (grouped(), grouped(SET_W), grouped(SET_W, PING), grouped(SET_W, GET), request("EXEC"), request("MULTI") * 2, request("LPOP", "k", "1")):
+            with self.subTest(bad=bad):
+                self.write(SET + bad + SET_X)
+                self.answers(GET, bulk(b"v"), cut=bad + SET_X)
+                self.assertEqual(self.bytes(), SET)
+
+    def test_a_large_group_is_loaded_as_a_whole(self):
+        effects = [request("SET", "key-%d" % it, "v") for it in range(10_000)]
+        whole, torn = grouped(*effects), grouped(*effects, request("LPOP", "k", "1"))
+        self.write(SET + whole + SET_W)
+        self.answers(request("DBSIZE") + GET, b":10001\r\n" + bulk(b"w"))
+        for cut in (whole[:-1], torn + SET_W):
+            self.write(SET + cut)
+            self.answers(request("DBSIZE") + GET, b":1\r\n" + bulk(b"v"), cut=cut)
+            self.assertEqual(self.bytes(), SET)
 
 
 class Rewriting(OfFile):
