@@ -1,4 +1,4 @@
-"""Servers that follow what is no master, what a master knows of its replicas, and masters that redis-cli names."""
+"""Servers that follow what is no master or a master that sends groups, what a master knows of its replicas, and masters that redis-cli names."""
 
 import random
 import shutil
