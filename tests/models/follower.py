@@ -123,8 +123,8 @@ def number(word, least=-(2**63), most=2**63 - 1):
     return int(text)
 
 
-# the words behind each name: `w` is any word, `n` a number, `p` a place or an offset, `d` a deadline, `s` a score; what stands behind a bar
-# comes once or more often, and what is in capitals is that word
+# the words behind each name: `w` is any word, `n` a number, `p` a place or an offset, `d` a deadline, `s` a score; what
+# stands behind a bar comes once or more often, and what is in capitals is that word
 SPELLINGS = {
     "SET": ["w w", "w w KEEPTTL", "w w PXAT d"],
     "MSET": ["| w w"],
@@ -207,7 +207,7 @@ def group_at(data):
     return effects, end
 
 
-# ---- a dataset. An entry is a value and a deadline or None; a set of pairs is a dictionary of scores in a class of its own
+# ---- a dataset. An entry is a value and a deadline or None; a sorted set is a dictionary of scores in a class of its own
 
 
 class Scores(dict):
@@ -414,7 +414,8 @@ def commands_of(value):
 
 
 def grouped(name, items):
-    return [(name, [word for item in items[at : at + MOST_ITEMS] for word in item]) for at in range(0, len(items), MOST_ITEMS)]
+    some = [items[at : at + MOST_ITEMS] for at in range(0, len(items), MOST_ITEMS)]
+    return [(name, [word for item in it for word in item]) for it in some]
 
 
 EFFECTS = {

@@ -1,7 +1,7 @@
 """A node as it is described: clients and replicas that it serves, the master that it follows, its stream, ids and marks.
 
-A part of the slow, plain model in `world.py`. Memory is never short here, so a node stops only where its file failed, past its links, or at a group of its
-master's that can be applied in part."""
+A part of the slow, plain model in `world.py`. Memory is never short here, so a node stops only where its file failed, past its links, or at a
+group of its master's that can be applied in part."""
 
 from typing import NamedTuple
 

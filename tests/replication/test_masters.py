@@ -215,8 +215,8 @@ class Groups(Replicating):
         """At each offset that is shown the keys hold what the groups up to there made of them."""
         chance, sent, held = random.Random(16), b"", {27: array(None, None, "v")}
         for at in range(400):
-            word = str(at)
-            sent += framed(request("SET", "a", word), request("DEL", "k"), request("SET", "b", word), request("SET", "k", chance.randbytes(30)), request("SET", "k", word))
+            word, long = str(at), chance.randbytes(30)
+            sent += framed(*(request(*it) for it in (("SET", "a", word), ("DEL", "k"), ("SET", "b", word), ("SET", "k", long), ("SET", "k", word))))
             held[27 + len(sent)] = array(word, word, word)
             if at % 4 == 0:
                 sent += PING

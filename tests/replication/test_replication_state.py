@@ -86,9 +86,9 @@ class Following(Playing):
         for cut in range(len(PAIR)):
             broken = [fed(PAIR[:cut]), heard("idle"), stands("replica", "offers", A, 27, 28, reads="at 0 0 stream", unread=cut), holds(FIRST), ("leave", "left")]
             again = [stands("replica", "offers", A, 27, 28), *dialled(1, asking(A, 27)), fed(b"+CONTINUE %s\r\n" % A.encode() + PAIR + SECOND)]
-            applied = [heard("continues"), heard("applies", PAIR), stands("replica", "offers", A, 110, 28, reads="at 0 1 stream", unread=27), holds(SET_A + SET_B + FIRST)]
+            applied = [heard("continues"), heard("applies", PAIR), stands("replica", "offers", A, 110, 28, reads="at 0 1 stream", unread=27)]
             after = [heard("applies", SECOND), stands("replica", "offers", A, 137, 28, reads="at 0 1 stream"), holds(SET_A + SET_B + SECOND)]
-            courses.append([*synchronized(), *broken, *again, *applied, *after])
+            courses.append([*synchronized(), *broken, *again, *applied, holds(SET_A + SET_B + FIRST), *after])
         self.plays("course", *courses)
 
     def test_a_link_that_breaks_within_a_snapshot_leaves_nothing_of_it(self):

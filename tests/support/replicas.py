@@ -270,8 +270,8 @@ class Fake:
 
 
 class Played:
-    """A master that a test plays, for `Fake`: on each link it answers the handshake, at 27 under `a` or by going on from what is asked for, and then the test speaks.
-    It keeps the links, and the last line of each handshake."""
+    """What a `Fake` does as a master that the test plays: it answers each handshake, at 27 under `a` or by going on from what is asked for, and
+    then says what the test has it say. It keeps the links, and the last line of each handshake."""
 
     def __init__(self):
         self.links, self.asked = [], []
