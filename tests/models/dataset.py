@@ -5,7 +5,8 @@ None; a value is bytes, a tuple of items (a list) or a frozenset of members (a s
 
 from typing import NamedTuple
 
-from tests.models.request import Whole, next_command
+from tests.models.follower import Fault, effect_of
+from tests.models.request import Bad, Whole, next_command
 from tests.support.program import request
 from tests.support.replies import INTEGER, NIL, NO_LIST, OK, OVERFLOW, POSITIVE, SYNTAX, UNKNOWN, WRONG_KIND, arity, array, bulk, number
 
@@ -135,18 +136,59 @@ def apply(held, effect):
     return means(held, *words)
 
 
-def load(data):
-    """The dataset of the longest beginning that is a list of texts of effects, each of which can be applied; and the length of that beginning."""
-    held, used = {}, 0
+def apply_all(held, effects):
+    """The dataset that they leave one after another."""
+    for effect in effects:
+        held = apply(held, effect)
+    return held
+
+
+class Group(NamedTuple):
+    """Effects that are done all or not at all begin the bytes, with a text of so many."""
+
+    effects: list
+    used: int
+
+
+def is_effect(words):
+    try:
+        return bool(effect_of(words))
+    except Fault:
+        return False
+
+
+def next_group(data):
+    """The group at the front: an effect, or two or more that aren't PING between MULTI and EXEC. Or `More`, or `Bad`."""
+    read = next_command(data)
+    if not isinstance(read, Whole):
+        return read
+    if read.words != [b"MULTI"]:
+        return Group([tuple(read.words)], read.used) if is_effect(read.words) else Bad("no effect")
+    effects, used = [], read.used
     while True:
         read = next_command(data[used:])
         if not isinstance(read, Whole):
+            return read
+        used += read.used
+        if read.words == [b"EXEC"]:
+            return Group(effects, used) if len(effects) > 1 else Bad("too few effects")
+        if tuple(read.words) == PING or not is_effect(read.words):
+            return Bad("no effect")
+        effects.append(tuple(read.words))
+
+
+def load(data):
+    """The dataset of the longest beginning that is a list of texts of groups, each of which can be applied; and the length of that beginning."""
+    held, used = {}, 0
+    while True:
+        group = next_group(data[used:])
+        if not isinstance(group, Group):
             return held, used
         try:
-            held = apply(held, read.words)
+            held = apply_all(held, group.effects)
         except Undefined:
             return held, used
-        used += read.used
+        used += group.used
 
 
 def rebuild(held):

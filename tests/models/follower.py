@@ -11,7 +11,9 @@ MOST_OF_A_LINE = 1024
 MOST_WORDS, MOST_OF_A_WORD = 1_048_576, 16_777_216
 MOST_SCORE = 2**53
 # so many items stand in one command of a snapshot
-GROUP = 64
+MOST_ITEMS = 64
+UNDECODABLE = "undecodable stream"
+TORN = "a group that does not apply as a whole, and the dataset is spent"
 
 
 class Wanted(Exception):
@@ -24,6 +26,10 @@ class Refused(Exception):
 
 class Fault(Exception):
     """An effect can't be applied, or there is none."""
+
+
+class Torn(Exception):
+    """A later effect of a group can't be applied."""
 
 
 def byte_at(data, at):
@@ -68,22 +74,22 @@ def is_id(text):
 def count_at(data, at, mark, least, most):
     """The number on the line that begins here, and where the line ends."""
     if byte_at(data, at) != ord(mark):
-        raise Refused("undecodable stream")
+        raise Refused(UNDECODABLE)
     first = at = at + 1
     while byte_at(data, at) in b"0123456789":
         at += 1
         digits = data[first:at]
         if int(digits) > most or str(int(digits)).encode() != digits or (least and digits == b"0"):
-            raise Refused("undecodable stream")
+            raise Refused(UNDECODABLE)
     if at == first:
-        raise Refused("undecodable stream")
+        raise Refused(UNDECODABLE)
     return int(data[first:at]), line_end_at(data, at)
 
 
 def line_end_at(data, at):
     for end in b"\r\n":
         if byte_at(data, at) != end:
-            raise Refused("undecodable stream")
+            raise Refused(UNDECODABLE)
         at += 1
     return at
 
@@ -101,11 +107,7 @@ def command_at(data):
     return words, at
 
 
-# ---- effects. An entry is a value and a deadline or None; a set of pairs is a dictionary of scores in a class of its own
-
-
-class Scores(dict):
-    """A sorted set."""
+# ---- effects, spelled. An effect is the words of its one spelling
 
 
 def number(word, least=-(2**63), most=2**63 - 1):
@@ -121,6 +123,97 @@ def number(word, least=-(2**63), most=2**63 - 1):
     return int(text)
 
 
+# the words behind each name: `w` is any word, `n` a number, `p` a place or an offset, `d` a deadline, `s` a score; what
+# stands behind a bar comes once or more often, and what is in capitals is that word
+SPELLINGS = {
+    "SET": ["w w", "w w KEEPTTL", "w w PXAT d"],
+    "MSET": ["| w w"],
+    "APPEND": ["w w"],
+    "SETRANGE": ["w p w"],
+    "INCRBY": ["w n"],
+    "DEL": ["w"],
+    "FLUSHALL": [""],
+    "PING": [""],
+    "PEXPIREAT": ["w d"],
+    "PERSIST": ["w"],
+    "RENAME": ["w w"],
+    "HSET": ["w | w w"],
+    "HDEL": ["w | w"],
+    "LPUSH": ["w | w"],
+    "RPUSH": ["w | w"],
+    "LPOP": ["w n"],
+    "RPOP": ["w n"],
+    "LSET": ["w p w"],
+    "LINSERT": ["w BEFORE w w", "w AFTER w w"],
+    "LREM": ["w n w"],
+    "LTRIM": ["w n n"],
+    "LMOVE": ["w w %s %s" % (taken, put) for taken in ("LEFT", "RIGHT") for put in ("LEFT", "RIGHT")],
+    "SADD": ["w | w"],
+    "SREM": ["w | w"],
+    "SMOVE": ["w w w"],
+    "ZADD": ["w | s w"],
+    "ZREM": ["w | w"],
+}
+LIMITS = {"n": (), "p": (0,), "d": (1, MOST), "s": (-MOST_SCORE, MOST_SCORE)}
+
+
+def effect_of(words):
+    """The words, where they spell an effect."""
+    spellings = SPELLINGS.get(words[0].decode("latin-1"), [])
+    if not any(spells(spelling, words[1:]) for spelling in spellings):
+        raise Fault
+    return words
+
+
+def spells(spelling, words):
+    """Whether the words are of this spelling."""
+    once, _, more = spelling.partition("|")
+    marks, more = once.split(), more.split()
+    if more:
+        marks += more * max(1, (len(words) - len(marks)) // len(more))
+    return len(marks) == len(words) and all(map(is_meant, marks, words))
+
+
+def is_meant(mark, word):
+    """Whether a mark of a spelling stands for this word."""
+    if mark not in LIMITS:
+        return mark in ("w", word.decode("latin-1"))
+    try:
+        number(word, *LIMITS[mark])
+    except Fault:
+        return False
+    return True
+
+
+# ---- groups: an effect, or two or more that aren't PING between MULTI and EXEC
+
+
+def group_at(data):
+    """The effects of the group whose text is at the front, and the length of that."""
+    words, end = command_at(data)
+    if words != [b"MULTI"]:
+        return [effect_of(words)], end
+    effects = []
+    while True:
+        words, length = command_at(data[end:])
+        end += length
+        if words == [b"EXEC"]:
+            break
+        if words == [b"PING"]:
+            raise Fault
+        effects.append(effect_of(words))
+    if len(effects) < 2:
+        raise Fault
+    return effects, end
+
+
+# ---- a dataset. An entry is a value and a deadline or None; a sorted set is a dictionary of scores in a class of its own
+
+
+class Scores(dict):
+    """A sorted set."""
+
+
 def within(word):
     if len(word) > MOST_OF_A_WORD:
         raise Fault
@@ -134,14 +227,16 @@ class Entries:
         self.entries = {}
 
     def apply(self, words):
-        does = EFFECTS.get(words[0])
-        if not does:
-            raise Fault
+        EFFECTS[effect_of(words)[0]](self, *words[1:])
+
+    def apply_group(self, effects):
+        """Nothing has changed where the first can't be applied; where a later one can't, those before it were."""
+        self.apply(effects[0])
         try:
-            does(self, *words[1:])
-        except TypeError:
-            # too few words for this effect, or too many
-            raise Fault from None
+            for words in effects[1:]:
+                self.apply(words)
+        except Fault:
+            raise Torn from None
 
     def value(self, key, kind):
         """The value under a key, or an empty one; a fault where one of another kind stands there."""
@@ -163,13 +258,9 @@ class Entries:
             self.entries.pop(key, None)
 
     def set(self, key, text, *options):
-        deadline = None
+        deadline = int(options[1]) if options[1:] else None
         if options == (b"KEEPTTL",):
             deadline = self.entries.get(key, (None, None))[1]
-        elif options:
-            if len(options) != 2 or options[0] != b"PXAT":
-                raise Fault
-            deadline = number(options[1], 1, MOST)
         self.entries[key] = (text, deadline)
 
     def mset(self, *words):
@@ -180,15 +271,15 @@ class Entries:
         self.put(key, within(self.value(key, bytes) + text))
 
     def set_range(self, key, offset, text):
-        offset, held = number(offset, 0), self.value(key, bytes)
+        offset, held = int(offset), self.value(key, bytes)
         if text:
             if offset + len(text) > MOST_OF_A_WORD:
                 raise Fault
             self.put(key, held[:offset].ljust(offset, b"\0") + text + held[offset + len(text) :])
 
     def increase(self, key, by):
-        by, held = number(by), self.value(key, bytes)
-        total = by + (number(held) if key in self.entries else 0)
+        held = self.value(key, bytes)
+        total = int(by) + (number(held) if key in self.entries else 0)
         self.put(key, b"%d" % number(b"%d" % total))
 
     def delete(self, key):
@@ -201,10 +292,9 @@ class Entries:
         pass
 
     def expire(self, key, deadline):
-        deadline = number(deadline, 1, MOST)
         if key not in self.entries:
             raise Fault
-        self.entries[key] = (self.entries[key][0], deadline)
+        self.entries[key] = (self.entries[key][0], int(deadline))
 
     def persist(self, key):
         if key not in self.entries:
@@ -221,13 +311,13 @@ class Entries:
 
     def remove_fields(self, key, *fields):
         held = self.value(key, dict)
-        self.put(key, {field: held[field] for field in held if field not in some(fields)})
+        self.put(key, {field: held[field] for field in held if field not in fields})
 
     def push_left(self, key, *items):
-        self.put(key, list(reversed(some(items))) + self.value(key, list))
+        self.put(key, list(reversed(items)) + self.value(key, list))
 
     def push_right(self, key, *items):
-        self.put(key, self.value(key, list) + list(some(items)))
+        self.put(key, self.value(key, list) + list(items))
 
     def pop_left(self, key, count):
         held = self.value(key, list)
@@ -244,13 +334,13 @@ class Entries:
 
     def insert(self, key, side, pivot, item):
         held = self.value(key, list)
-        if side not in (b"BEFORE", b"AFTER") or pivot not in held:
+        if pivot not in held:
             raise Fault
         place = held.index(pivot) + (side == b"AFTER")
         self.put(key, held[:place] + [item] + held[place:])
 
     def remove_items(self, key, count, item):
-        count, held = number(count), list(self.value(key, list))
+        count, held = int(count), list(self.value(key, list))
         held = held[::-1] if count < 0 else held
         left, most = [], abs(count) or len(held)
         for it in held:
@@ -266,8 +356,6 @@ class Entries:
         self.put(key, held[number(first, 0, last) : last + 1])
 
     def move_item(self, key, to, taken, put):
-        if taken not in (b"LEFT", b"RIGHT") or put not in (b"LEFT", b"RIGHT"):
-            raise Fault
         held = list(self.there(key, list))
         item = held.pop(0 if taken == b"LEFT" else -1)
         goal = held if to == key else list(self.value(to, list))
@@ -276,10 +364,10 @@ class Entries:
         self.put(to, goal)
 
     def add_members(self, key, *members):
-        self.put(key, self.value(key, set) | set(some(members)))
+        self.put(key, self.value(key, set) | set(members))
 
     def remove_members(self, key, *members):
-        self.put(key, self.value(key, set) - set(some(members)))
+        self.put(key, self.value(key, set) - set(members))
 
     def move_member(self, key, to, member):
         if member not in self.value(key, set):
@@ -289,12 +377,12 @@ class Entries:
         self.put(to, self.value(to, set) | {member})
 
     def set_scores(self, key, *words):
-        scores = {member: number(score, -MOST_SCORE, MOST_SCORE) for score, member in pairs(words)}
+        scores = {member: int(score) for score, member in pairs(words)}
         self.put(key, Scores({**self.value(key, Scores), **scores}))
 
     def remove_scores(self, key, *members):
         held = self.value(key, Scores)
-        self.put(key, Scores({member: held[member] for member in held if member not in some(members)}))
+        self.put(key, Scores({member: held[member] for member in held if member not in members}))
 
     def texts(self):
         """The commands that make the dataset."""
@@ -308,15 +396,7 @@ class Entries:
         return made
 
 
-def some(words):
-    if not words:
-        raise Fault
-    return words
-
-
 def pairs(words):
-    if len(some(words)) % 2:
-        raise Fault
     return list(zip(words[::2], words[1::2]))
 
 
@@ -334,7 +414,8 @@ def commands_of(value):
 
 
 def grouped(name, items):
-    return [(name, [word for item in items[at : at + GROUP] for word in item]) for at in range(0, len(items), GROUP)]
+    some = [items[at : at + MOST_ITEMS] for at in range(0, len(items), MOST_ITEMS)]
+    return [(name, [word for item in it for word in item]) for it in some]
 
 
 EFFECTS = {
@@ -456,9 +537,9 @@ class PlainFollower:
         except Wanted:
             if len(self.kept) < left:
                 raise
-            raise Refused("undecodable stream") from None
+            raise Refused(UNDECODABLE) from None
         except Fault:
-            raise Refused("undecodable stream") from None
+            raise Refused(UNDECODABLE) from None
         self.held, self.offset, self.taken = made, self.announced, None
         self.use(0, "stream")
         return "installs"
@@ -466,14 +547,16 @@ class PlainFollower:
     def in_stream(self):
         room = MOST - self.offset
         try:
-            words, length = command_at(self.kept[:room])
-            self.held.apply(words)
+            effects, length = group_at(self.kept[:room])
+            self.held.apply_group(effects)
         except Wanted:
             if len(self.kept) <= room:
                 raise
-            raise Refused("undecodable stream") from None
+            raise Refused(UNDECODABLE) from None
         except Fault:
-            raise Refused("undecodable stream") from None
+            raise Refused(UNDECODABLE) from None
+        except Torn:
+            raise Refused(TORN) from None
         told = self.kept[:length]
         self.offset += length
         self.use(length, "stream")

@@ -1,10 +1,11 @@
 """A node as it is described: clients and replicas that it serves, the master that it follows, its stream, ids and marks.
 
-A part of the slow, plain model in `world.py`. Memory is never short here, so a node stops only where its file failed, or past its links."""
+A part of the slow, plain model in `world.py`. Memory is never short here, so a node stops only where its file failed, past its links, or at a
+group of its master's that can be applied in part."""
 
 from typing import NamedTuple
 
-from tests.models.dataset import PING, AskFault, Undefined, apply, checked, due, plan, rebuild, strict, texts
+from tests.models.dataset import PING, AskFault, Group, Undefined, apply, apply_all, checked, due, next_group, plan, rebuild, strict, texts
 from tests.models.request import MOST_OF_A_TEXT, Bad, More, Skip, Wanted, Whole, byte_at, next_command, next_request
 from tests.support.program import request
 from tests.support.replies import INTEGER, OK, READONLY, SYNTAX, array_of, bulk, number
@@ -309,12 +310,14 @@ class Node:
 
     def take(self, effects):
         """Applies the effects and adds their texts to the stream; what of it goes to the file is returned."""
-        for effect in effects:
-            self.held = apply(self.held, effect)
-        told = texts(effects)
+        self.held = apply_all(self.held, effects)
+        self.extend(texts(effects))
+        return texts(it for it in effects if it != PING)
+
+    def extend(self, told):
+        """Puts these bytes behind the stream."""
         self.offset += len(told)
         self.ring = (self.ring + told)[-self.capacity :]
-        return texts(it for it in effects if it != PING)
 
     def extended(self, effects):
         """Takes a master's effects, and tells the book, the file and each replica of them."""
@@ -508,13 +511,24 @@ class Node:
         return [Replace(rebuild(held))]
 
     def in_stream(self, link, end):
-        used, _ = next_effect(self.held, end.unread)
-        if self.offset + used > self.limit:
+        group = next_group(end.unread)
+        if isinstance(group, More):
+            raise Wanted
+        if not isinstance(group, Group) or self.offset + group.used > self.limit:
             raise Refused(UNDECODABLE)
-        effect = next_command(end.unread).words
-        end.unread = end.unread[used:]
-        filed = self.take([tuple(effect)])
-        return [Append(filed)] if filed else []
+        first, *others = group.effects
+        try:
+            held = apply(self.held, first)
+        except Undefined:
+            raise Refused(UNDECODABLE) from None
+        try:
+            self.held = apply_all(held, others)
+        except Undefined:
+            self.is_stopped = True
+            raise NodeFault("stopped") from None
+        told, end.unread = end.unread[: group.used], end.unread[group.used :]
+        self.extend(told)
+        return [Append(told)] if first != PING else []
 
 
 SERVER = {

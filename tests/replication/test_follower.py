@@ -2,12 +2,12 @@
 
 import unittest
 
-from tests.models.follower import PlainFollower
+from tests.models.follower import TORN, PlainFollower
 from tests.support.handshake import ANSWERS, CAPABILITIES, GREETED, NOTHING_TO_CONTINUE, PORT
 from tests.support.program import request
 from tests.support.rehearsal import effect
 from tests.support.replies import CHAINED
-from tests.support.requests import PING, SET
+from tests.support.requests import EXEC, MULTI, PAIR, PING, SET, SET_A, SET_B, framed
 from tests.support.values import Playing, fed, spelled
 
 A, B = "a" * 40, "b" * 40
@@ -153,6 +153,116 @@ class Streaming(Playing):
         self.plays("follower", *followers)
 
 
+class Grouping(Playing):
+    """Two effects or more that stand between MULTI and EXEC are done all or not at all, and no offset within them is shown."""
+
+    def test_a_group_is_done_with_its_last_byte_and_not_before(self):
+        self.assertEqual((len(MULTI), len(EXEC), len(PAIR)), (15, 14, 83))
+        followers = []
+        for cut in range(len(PAIR)):
+            before = [fed(PAIR[:cut]), ("step", "idle"), shown("stream", 27, PAIR[:cut], SET)]
+            rest = [fed(PAIR[cut:]), ("step", "applies " + PAIR.hex()), ("step", "idle"), shown("stream", 110, b"", SET_A + SET_B + SET)]
+            followers.append([*synchronized(), *before, *rest])
+        self.plays("follower", *followers)
+
+    def test_bytes_of_a_group_come_one_by_one(self):
+        steps = synchronized()
+        for at in range(len(PAIR) - 1):
+            steps += [fed(PAIR[at : at + 1]), ("step", "idle"), shown("stream", 27, PAIR[: at + 1], SET)]
+        self.plays("follower", [*steps, fed(PAIR[-1:]), ("step", "applies " + PAIR.hex()), shown("stream", 110, b"", SET_A + SET_B + SET)])
+
+    def test_a_half_group_is_asked_for_again(self):
+        """A replica that was cut off asks for the byte behind the last whole group, and what it had of the next is let go."""
+        followers = []
+        for cut in range(len(PAIR)):
+            cut_off = [fed(PAIR[:cut]), ("step", "idle"), *asking(A, 27)]
+            goes_on = [fed(b"+CONTINUE %s\r\n" % A.encode() + PAIR), ("step", "continues %s 27" % A), ("step", "applies " + PAIR.hex())]
+            after = [shown("stream", 110, b"", SET_A + SET_B + SET), *asking(A, 110)]
+            followers.append([*synchronized(), *cut_off, *goes_on, *after])
+        self.plays("follower", *followers)
+
+    def test_a_group_is_one_step_among_others(self):
+        """Its effects are done in their order, and what each does is there for the next."""
+        group = framed(effect("RPUSH l x y z"), effect("LPOP l 2"), effect("RENAME l m"), effect("DEL k"))
+        texts = [effect("SET k w"), group, effect("PING"), effect("LPOP m 1"), PAIR]
+        lefts = [effect("SET k w"), effect("RPUSH m z"), effect("RPUSH m z"), b"", SET_A + SET_B]
+        steps, offset = [*synchronized(), fed(b"".join(texts))], 27
+        for at, (text, left) in enumerate(zip(texts, lefts, strict=True)):
+            offset += len(text)
+            steps += [("step", "applies " + text.hex()), shown("stream", offset, b"".join(texts[at + 1 :]), left)]
+        self.plays("follower", [*steps, ("step", "idle")])
+
+    def test_groups_come_in_pieces_of_any_size(self):
+        """Also such as end within one group and begin within the one before."""
+        texts = [PAIR, framed(*(effect("APPEND k " + word) for word in "vwxyz")), SET_A, effect("PING"), framed(effect("DEL b"), effect("SADD s m")), PAIR]
+        sent, ends = b"".join(texts), [sum(map(len, texts[:count])) for count in range(1, len(texts) + 1)]
+        made, followers = SET_A + SET_B + effect("SET k vvwxyz") + effect("SADD s m"), []
+        for size in range(1, len(sent) + 1):
+            steps, taken = synchronized(), 0
+            for at in range(0, len(sent), size):
+                steps.append(fed(sent[at : at + size]))
+                whole = sum(end <= at + size for end in ends)
+                steps += [("step", "applies " + text.hex()) for text in texts[taken:whole]]
+                steps += [("step", "idle"), *([shown("stream", 27, sent[: at + size], SET)] if not whole else [])]
+                taken = whole
+            followers.append([*steps, shown("stream", 27 + len(sent), b"", made)])
+        self.plays("follower", *followers)
+
+    def test_a_large_group_comes_in_many_pieces(self):
+        """Twenty thousand effects, in pieces of a thousand bytes: none is done before the last piece."""
+        words = ["%05d" % number for number in range(20_000)]
+        sent = framed(*(effect("RPUSH l " + word) for word in words))
+        self.assertEqual(len(sent), 15 + 20_000 * 33 + 14)
+        steps, last = synchronized(), (len(sent) - 1) // 1000 * 1000
+        for at in range(0, last, 1000):
+            steps += [fed(sent[at : at + 1000]), ("step", "idle")]
+        made = b"".join(effect("RPUSH l " + " ".join(words[at : at + 64])) for at in range(0, len(words), 64))
+        before = shown("stream", 27, sent[:last], SET)
+        self.plays("follower", [*steps, before, fed(sent[last:]), ("step", "applies " + sent.hex()), shown("stream", 27 + len(sent), b"", SET + made)])
+
+    def test_a_group_of_long_words_comes_in_many_pieces(self):
+        value = bytes(range(256)) * 1000
+        sent = framed(request("SET", "k", value), request("APPEND", "k", value), SET_A)
+        steps = synchronized()
+        for at in range(0, len(sent), 10_000):
+            steps += [fed(sent[at : at + 10_000]), ("step", "idle" if at + 10_000 < len(sent) else "applies " + sent.hex())]
+        self.plays("follower", [*steps, shown("stream", 27 + len(sent), b"", SET_A + request("SET", "k", value + value))])
+
+    def test_no_group_leads_past_the_offset_limit(self):
+        """It is refused as soon as more bytes are there than there is room for, and no byte before."""
+        followers = []
+        for room in range(len(PAIR) + 1):
+            steps = [("at %d" % (MOST - room), "stands"), *asking(A, MOST - room), fed(b"+CONTINUE %s\r\n" % A.encode())]
+            steps += [("step", "continues %s %d" % (A, MOST - room)), fed(PAIR[:room])]
+            if room < len(PAIR):
+                steps += [("step", "idle"), fed(PAIR[room : room + 1]), *refuses("undecodable stream"), shown("stream", MOST - room, PAIR[: room + 1])]
+            else:
+                steps += [("step", "applies " + PAIR.hex()), ("step", "idle"), shown("stream", MOST, b"", SET_A + SET_B)]
+            followers.append(steps)
+        self.plays("follower", *followers)
+
+    def test_a_group_of_which_a_later_effect_cannot_be_applied_is_torn(self):
+        """With its last byte and not before. Its effects before that one are done, so the dataset is spent, and the offset is that before it."""
+        followers = []
+        for lines, left in TORN_GROUPS:
+            sent = framed(*map(effect, lines))
+            before = [fed(sent[:-1]), ("step", "idle"), shown("stream", 27, sent[:-1], SET)]
+            torn = [fed(sent[-1:]), ("step", "refuses: " + TORN), shown("stream", 27, sent, b"".join(map(effect, left)))]
+            followers.append([*synchronized(), *before, *torn])
+        self.plays("follower", *followers)
+
+
+# effects of which the first can be applied where `k` is a text, and a later one can't, and what those before that one leave
+TORN_GROUPS = [
+    (["SET a 1", "INCRBY k 1"], ["SET a 1", "SET k v"]),
+    (["SET a 1", "LPUSH k x", "SET b 2"], ["SET a 1", "SET k v"]),
+    (["DEL k", "PEXPIREAT k 5"], []),
+    (["DEL none", "LPOP l 1"], ["SET k v"]),
+    (["RPUSH l x y", "LPOP l 2", "LPOP l 1"], ["SET k v"]),
+    (["SET k 9223372036854775806", "INCRBY k 1", "INCRBY k 1"], ["SET k 9223372036854775807"]),
+    (["FLUSHALL", "RENAME k l", "SET k w"], []),
+    (["SADD s m", "SMOVE s k m"], ["SET k v", "SADD s m"]),
+]
 # what no line may be, wherever one is waited for
 NO_LINES = [
     b":1\r\n",
@@ -203,6 +313,10 @@ NO_SNAPSHOTS = [
     b"SET k v\r\n",
     b"*0\r\n",
     request("SET", "k", "v")[:-2] + b"\n\n",
+    PAIR,
+    SET + PAIR,
+    MULTI,
+    EXEC,
 ]
 # what no effect of a stream is, where `k` is a text
 NO_EFFECTS = [
@@ -227,6 +341,44 @@ NO_EFFECTS = [
     b"*1\r\n$4\r\nPINGxx",
     b"*1048577",
     b"*1\r\n$16777217",
+]
+
+
+# what no group of a stream is, where `k` is a text: each is found to be none with its last byte
+NO_GROUPS = [
+    EXEC,
+    request("DISCARD"),
+    request("multi"),
+    request("MULTI", "x"),
+    framed(),
+    framed(SET),
+    framed(effect("INCRBY k 1")),
+    MULTI + PING,
+    MULTI + SET_A + PING,
+    MULTI + SET_A + SET_B + PING,
+    MULTI + MULTI,
+    MULTI + SET_A + SET_B + MULTI,
+    MULTI + request("FOO"),
+    MULTI + SET_A + request("GET", "k"),
+    MULTI + SET_A + SET_B + request("DISCARD"),
+    MULTI + SET_A + SET_B + request("exec"),
+    MULTI + SET_A + SET_B + request("EXEC", "x"),
+    MULTI + effect("set k w"),
+    MULTI + effect("SET k w PXAT 0"),
+    MULTI + SET_A + effect("LSET l -1 x"),
+    MULTI + SET_A + effect("SADD s"),
+    MULTI + b"S",
+    MULTI + b"\r",
+    MULTI + SET_A + b"+",
+    MULTI + SET_A + b"*0",
+    MULTI + SET_A + b"*1\r\n+",
+    MULTI + SET_A + SET_B + b"*1\r\n$4\r\nEXECx",
+    # the first effect can't be applied, whatever is behind it
+    framed(effect("INCRBY k 1"), SET_A),
+    framed(effect("LPUSH k x"), effect("DEL k"), SET_A),
+    framed(effect("LPOP l 1"), effect("RPUSH l x")),
+    framed(effect("RENAME x y"), effect("RENAME x y")),
+    framed(effect("PERSIST none"), SET_A, SET_B),
 ]
 
 
@@ -332,6 +484,21 @@ class Refusing(Playing):
 
     def test_what_is_no_effect_here_is_refused(self):
         self.refuses_each("stream", NO_EFFECTS, "undecodable stream")
+
+    def test_what_is_no_group_here_is_refused(self):
+        self.refuses_each("stream", NO_GROUPS, "undecodable stream")
+
+    def test_what_is_no_group_here_is_refused_as_soon_as_it_is_found(self):
+        begun_so = [*self.up_to("stream"), shown("stream", 27, b"", SET)]
+        found = [[fed(it[:-1]), ("step", "idle"), fed(it[-1:]), *refuses("undecodable stream"), shown("stream", 27, it, SET)] for it in NO_GROUPS]
+        self.plays("follower", *[[*begun_so, *steps] for steps in found])
+
+    def test_groups_before_a_bad_one_stand(self):
+        for bad in NO_GROUPS:
+            if bad.endswith(EXEC):
+                continue
+            steps = [*synchronized(), fed(PAIR + bad), ("step", "applies " + PAIR.hex()), *refuses("undecodable stream")]
+            self.plays("follower", [*steps, shown("stream", 110, bad, SET_A + SET_B + SET)])
 
     def test_effects_before_a_bad_one_stand(self):
         good = effect("SET k w")

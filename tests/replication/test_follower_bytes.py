@@ -9,9 +9,10 @@ import random
 import sys
 import unittest
 
-from tests.models.follower import MOST, Entries, Fault, PlainFollower
+from tests.models.follower import MOST, TORN, Entries, Fault, PlainFollower
 from tests.support.program import request
 from tests.support.rehearsal import texts_of
+from tests.support.requests import EXEC, MULTI, framed
 from tests.support.values import Playing, spelled
 
 COUNT, SEED = 1_000_000, 20
@@ -87,16 +88,43 @@ class Masters:
 
     def effects(self, held, count):
         """Texts of effects, of which nearly all can be applied one after another."""
-        texts = b""
+        return b"".join(self.texts(held, count))
+
+    def texts(self, held, count, bad=0.01):
+        """The same one by one: of those that can't be applied so many are there."""
+        texts = []
         for _ in range(count):
             words = self.words()
             try:
                 held.apply(words)
             except Fault:
-                if self.random.random() > 0.01:
+                if self.random.random() >= bad:
                     continue
-            texts += request(*words)
+            texts.append(request(*words))
         return texts
+
+    def stream(self, held, count):
+        """Texts of groups, of which most can be applied one after another: effects by themselves, and several in a frame."""
+        return b"".join(self.group(held) if self.random.random() < 0.4 else self.effects(held, 1) for _ in range(count))
+
+    def group(self, held):
+        """The text of a group of more than one effect, or nearly: a later one may be such as can't be applied, or something else is wrong with it."""
+        before = dict(held.entries)
+        texts = [text for text in self.texts(held, self.random.randint(2, 8), bad=0.1) if text != request("PING")]
+        chosen = self.random.random()
+        if chosen < 0.05:
+            return self.wrong(texts)
+        if len(texts) < 2 and chosen < 0.95:
+            held.entries = before
+            return b""
+        return framed(*texts)
+
+    def wrong(self, texts):
+        """Something that is no group's text, with these effects' texts in it."""
+        bad = self.random.choice([MULTI, EXEC, request("PING"), request("FOO"), request("multi"), request("SET", "k"), b"\r\n", b"SET k v\r\n", b""])
+        place = self.random.randint(0, len(texts))
+        text = framed(*texts[:place], bad, *texts[place:])
+        return self.random.choice([text, text, text[len(MULTI) :], text[: -len(EXEC)]])
 
     def sent(self, offers):
         """All that a master sends on a link."""
@@ -107,15 +135,15 @@ class Masters:
         digits = self.random.choice(IDS).encode()
         held = Entries()
         if offers and self.random.random() < 0.5:
-            return answers + b"+CONTINUE %s\r\n" % digits + self.effects(held, self.random.randint(0, 12))
+            return answers + b"+CONTINUE %s\r\n" % digits + self.stream(held, self.random.randint(0, 12))
         snapshot = self.effects(held, self.random.randint(0, 10))
         snapshot = held.texts() if self.random.random() < 0.5 else snapshot
         length = len(snapshot)
         if self.random.random() < 0.5:
             snapshot, length = self.lying(snapshot)
-        offset = self.random.choice([0, 27, 10**6, MOST - 100, MOST])
+        offset = self.random.choice([0, 27, 10**6, MOST - 300, MOST - 100, MOST])
         full = b"+FULLRESYNC %s %d\r\n$%d\r\n" % (digits, offset, length)
-        return answers + full + snapshot + self.effects(held, self.random.randint(0, 12))
+        return answers + full + snapshot + self.stream(held, self.random.randint(0, 12))
 
     def lying(self, snapshot):
         """The bytes of a snapshot and their length, of which one isn't what it was."""
@@ -127,8 +155,9 @@ class Masters:
         if how == 1:
             return snapshot[:at], at
         if how == 2:
-            # what is no effect, or one that can't be applied there
-            bad = self.random.choice([request("FOO"), request("GET", "k"), request("PERSIST", "none"), request("LPOP", "k", "1"), b"SET k v\r\n", b"\r\n"])
+            # what is no effect, or one that can't be applied there; groups don't stand in a snapshot
+            bad = [request("FOO"), request("GET", "k"), request("PERSIST", "none"), request("LPOP", "k", "1"), b"SET k v\r\n", b"\r\n"]
+            bad = self.random.choice([*bad, MULTI, framed(request("SET", "k", "v"), request("DEL", "k"))])
             texts = list(texts_of(snapshot))
             place = self.random.randint(0, len(texts))
             snapshot = b"".join(texts[:place]) + bad + b"".join(texts[place:])
@@ -207,10 +236,19 @@ def compare(test, count, seed):
         for number, steps in enumerate(links):
             for step, wanted in steps:
                 test.assertEqual(answers[place], wanted, (seed, number, step, [it for it, _ in steps]))
-                what = wanted if wanted.startswith("refuses") else " ".join(wanted.split(" ")[:2]) if wanted.startswith("shows") else wanted.split(" ")[0]
+                what = kind_of(wanted)
                 heard[what] = heard.get(what, 0) + 1
                 place += 1
     return heard
+
+
+def kind_of(answer):
+    """What an answer counts as."""
+    if answer.startswith("refuses"):
+        return answer
+    if answer.startswith("applies " + MULTI.hex()):
+        return "a group"
+    return " ".join(answer.split(" ")[: 2 if answer.startswith("shows") else 1])
 
 
 # what has to have come often enough for the comparison to say something
@@ -223,6 +261,8 @@ OFTEN = [
     "refuses: bad line",
     "refuses: refused by the master",
     "refuses: undecodable stream",
+    "refuses: " + TORN,
+    "a group",
 ]
 
 

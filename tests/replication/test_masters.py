@@ -1,4 +1,4 @@
-"""Servers that follow what is no master, what a master knows of its replicas, and masters that redis-cli names."""
+"""Servers that follow what is no master or a master that sends groups, what a master knows of its replicas, and masters that redis-cli names."""
 
 import random
 import shutil
@@ -7,11 +7,12 @@ import subprocess
 import time
 import unittest
 
-from tests.support.handshake import GREETED, PART, WHOLE
+from tests.support.handshake import GREETED, NOTHING_TO_CONTINUE, PART, WHOLE, asks_from
 from tests.support.program import LATE, needs, request
-from tests.support.replicas import closes, garbage
+from tests.support.replicas import Played, closes, garbage, said_in
 from tests.support.replicating import Replicating, leads
-from tests.support.replies import OK, READONLY, array, bulk, number, role_of_replica
+from tests.support.replies import OK, PONG, READONLY, array, bulk, number, role_of_replica
+from tests.support.requests import EXEC, MULTI, PAIR, PING, SET, SET_A, framed
 from tests.support.server import HOST, until
 
 # how long after the last write a master knows how far its replicas are, in seconds
@@ -119,7 +120,8 @@ class WrongMasters(Replicating):
         id = "a" * 40
         snapshot, effect = request("SET", "k", "v"), request("SET", "l", "w")
         text = GREETED + WHOLE + id.encode() + b" 100\r\n$27\r\n" + snapshot + effect
-        for bad in (b"garbage\r\n", request("NOTHING"), request("GET", "k"), request("LPUSH", "k", "x"), b"*0\r\n"):
+        groups = [EXEC, framed(effect), MULTI + PING, MULTI + effect + MULTI, MULTI + request("GET", "k"), framed(request("LPUSH", "k", "x"), effect)]
+        for bad in (b"garbage\r\n", request("NOTHING"), request("GET", "k"), request("LPUSH", "k", "x"), b"*0\r\n", *groups):
             with self.subTest(bad=bad):
                 fake = self.fake(garbage(text + bad))
                 self.assertTrue(self.replica.follow(fake.port))
@@ -175,6 +177,110 @@ class WrongMasters(Replicating):
         self.serves_reads(HOST, between.port)
         self.promoted(between)
         self.follows_again(between)
+
+
+class Groups(Replicating):
+    """A master that the test plays sends several effects as one group: a replica does all of it or nothing, and shows no offset within it."""
+
+    def setUp(self):
+        super().setUp()
+        self.master = Played()
+        self.replica = self.node(follows=self.fake(self.master).port, aof=self.path)
+        self.came(1, NOTHING_TO_CONTINUE)
+        self.comes(lambda: self.look() == (("a" * 40, 27), array(None, None, "v")))
+
+    def came(self, count, asked):
+        """The replica has come so often, and asked this last."""
+        self.comes(lambda: len(self.master.links) == count)
+        self.assertEqual(self.master.asked[-1], asked)
+
+    def look(self):
+        """The id and the offset that are shown, and what three keys hold then."""
+        # what the master said before is taken by the time that this is answered
+        self.assertEqual(self.replica.asks("PING"), PONG)
+        self.replica.asked.send(request("INFO", "replication") + request("MGET", "a", "b", "k"))
+        return said_in(self.replica.asked.reply()).shows, self.replica.asked.reply()
+
+    def test_a_group_is_shown_with_its_last_byte(self):
+        for at in range(82):
+            self.master.says(PAIR[at : at + 1])
+            self.assertEqual(self.look(), (("a" * 40, 27), array(None, None, "v")))
+        self.assertEqual(self.bytes(), SET)
+        self.master.says(PAIR[82:])
+        self.comes(lambda: self.look()[0] != ("a" * 40, 27))
+        self.assertEqual(self.look(), (("a" * 40, 110), array("1", "2", "v")))
+        self.assertEqual(self.bytes(), SET + PAIR)
+
+    def test_many_groups_in_random_pieces(self):
+        """At each offset that is shown the keys hold what the groups up to there made of them."""
+        chance, sent, held = random.Random(16), b"", {27: array(None, None, "v")}
+        for at in range(400):
+            word, long = str(at), chance.randbytes(30)
+            sent += framed(*(request(*it) for it in (("SET", "a", word), ("DEL", "k"), ("SET", "b", word), ("SET", "k", long), ("SET", "k", word))))
+            held[27 + len(sent)] = array(word, word, word)
+            if at % 4 == 0:
+                sent += PING
+                held[27 + len(sent)] = array(word, word, word)
+        at, shown = 0, set()
+        while at < len(sent):
+            size = chance.choice((1, 10, 100, 300, 1000))
+            self.master.says(sent[at : at + size])
+            at += size
+            (_, offset), keys = self.look()
+            self.assertEqual(keys, held.get(offset), offset)
+            shown.add(offset)
+        self.comes(lambda: self.look() == (("a" * 40, 27 + len(sent)), array("399", "399", "399")))
+        self.assertGreater(len(shown), 50)
+        self.assertEqual(self.bytes(), SET + sent.replace(PING, b""))
+
+    def test_a_link_that_breaks_within_a_group(self):
+        """The replica asks for the byte behind the last whole group, and takes all of the next from there."""
+        for count, cut in enumerate((1, 14, 15, 42, 69, 82)):
+            offset = 27 + 83 * count
+            group = framed(request("SET", "a", str(count)), request("SET", "b", str(count)))
+            self.assertEqual(len(group), 83)
+            before = self.look()
+            self.assertEqual(before[0], ("a" * 40, offset))
+            self.master.says(group[:cut])
+            self.assertEqual(self.look(), before)
+            self.master.breaks()
+            self.came(count + 2, asks_from("a", offset + 1))
+            self.assertEqual(self.look(), before)
+            self.master.says(group)
+            self.comes(lambda: self.look() != before)
+            self.assertEqual(self.look(), (("a" * 40, offset + 83), array(str(count), str(count), "v")))
+
+    def test_a_torn_group_ends_the_program(self):
+        """Nothing of it is in the file: whoever starts with that has what was there before it."""
+        self.master.says(PAIR)
+        self.comes(lambda: self.look()[0] == ("a" * 40, 110))
+        self.master.says(framed(request("DEL", "a"), request("SET", "b", "w"), request("LPUSH", "k", "x"), request("SET", "c", "w")))
+        ended = self.replica.ended()
+        self.assertEqual((ended.returncode, ended.stdout, ended.stderr), (3, b"", b"minired: out of memory\n"))
+        self.assertEqual(self.bytes(), SET + PAIR)
+        self.replica = self.node(aof=self.path)
+        self.assertEqual((self.look()[1], self.replica.asks("DBSIZE")), (array("1", "2", "v"), number(3)))
+
+    def test_a_large_group(self):
+        """Of more than a megabyte, in pieces, as of small effects: it is there at once."""
+        group = framed(*(request("RPUSH", "l", "%06d" % at) for at in range(40_000)), request("SET", "a", "1"))
+        self.assertGreater(len(group), 1 << 20)
+        for at in range(0, len(group) - 1, 100_000):
+            self.master.says(group[at : min(at + 100_000, len(group) - 1)])
+            self.assertEqual(self.look(), (("a" * 40, 27), array(None, None, "v")))
+        self.assertEqual(self.replica.asks("LLEN", "l"), number(0))
+        self.master.says(group[-1:])
+        self.comes(lambda: self.look()[0] == ("a" * 40, 27 + len(group)))
+        self.assertEqual((self.replica.asks("LLEN", "l"), self.replica.asks("GET", "a")), (number(40_000), bulk("1")))
+        self.assertTrue(self.bytes() == SET + group)
+
+    def test_what_follows_the_promoted_replica_is_sent_its_groups(self):
+        self.master.says(PAIR + SET_A)
+        self.comes(lambda: self.look()[0] == ("a" * 40, 137))
+        new = self.promoted(self.replica)
+        client, wanted = self.client(self.replica), b"%s%s\r\n" % (PART, new.id.encode()) + PAIR + SET_A
+        client.send(asks_from("a", 28))
+        self.assertEqual(client.receive(len(wanted)), wanted)
 
 
 # a handshake's answers before that to PSYNC

@@ -5,8 +5,8 @@ import unittest
 from tests.support.handshake import GREETED, NOTHING_TO_CONTINUE, announces, asks_from, continues
 from tests.support.peers import IDLE, PeerFault, Playing, sent, shape, tells_info
 from tests.support.program import request
-from tests.support.replies import BULK_LENGTH, CHAINED, INTEGER, NIL, OK, PONG, READONLY, STARTED, SYNTAX, TOO_LONG, UNKNOWN, arity, bulk, no_dollar, number, role_of_master
-from tests.support.requests import DEL, PING, SET, SET_W
+from tests.support.replies import BULK_LENGTH, CHAINED, INTEGER, NIL, OK, PONG, READONLY, STARTED, SYNTAX, TOO_LONG, UNKNOWN, arity, array, bulk, no_dollar, number, role_of_master
+from tests.support.requests import DEL, EXEC, MULTI, PAIR, PING, SET, SET_A, SET_B, SET_W, framed
 
 LIMIT = b"-ERR offset limit\r\n"
 MOST_OFFSET = 2**62
@@ -238,6 +238,7 @@ REFUSED = [
 SPOILED = [
     (CONTINUED, [
         request("FOO"), request("LPOP", "k", "1"), request("set", "k", "w"), request("GET", "k"), request("PING", "k"), b"*0", b"*-", b"\r\n", b"+OK\r\n", b"SET k w\r\n",
+        EXEC, framed(), framed(SET_W), MULTI + MULTI, MULTI + SET_W + PING, MULTI + SET_W + request("GET", "k"), MULTI + b"*0", framed(request("LPOP", "k", "1"), SET_W),
     ]),
     (ANNOUNCED, [
         b"$3\r\nabc", b"$100\r\n" + request("FOO"), b"$13\r\n" + request("FOO"), b"$28\r\n" + request("LPOP", "k", "1"),
@@ -328,6 +329,40 @@ class Listening(Playing):
         self.shown(replica, "a", 54)
         self.assertEqual(self.asked(replica), NOTHING_TO_CONTINUE)
 
+    def test_a_group_is_used_in_one_step(self):
+        """Its effects are there at once, and its text is one piece of the file."""
+        replica = self.at_27()
+        client, link = replica.open(), self.heard(replica, CONTINUED)
+        for at in range(len(PAIR) - 1):
+            replica.feed(link, PAIR[at : at + 1])
+            self.assertEqual(replica.step(link), IDLE)
+            self.shown(replica, "a", 27)
+            self.assertEqual(replica.answers(client, "MGET a b k\r\n"), array(None, None, "v"))
+        self.assertEqual(replica.asks(link, PAIR[-1:] + SET_W + PAIR), [("append", PAIR)])
+        self.shown(replica, "a", 110)
+        self.assertEqual(replica.answers(client, "MGET a b k\r\n"), array("1", "2", "v"))
+        self.assertEqual((replica.does(link), replica.does(link), replica.step(link)), ([("append", SET_W)], [("append", PAIR)], IDLE))
+        self.shown(replica, "a", 110 + 27 + 83)
+        self.assertEqual(replica.file, SET + PAIR + SET_W + PAIR)
+
+    def test_a_replica_that_was_promoted_has_the_groups_to_send(self):
+        replica = self.at_27()
+        client, link = replica.open(), self.heard(replica, CONTINUED + PAIR)
+        replica.asks(client, "REPLICAOF NO ONE\r\n", fresh="c" * 40)
+        self.assertEqual((replica.answers(replica.open(), asks_from("a", 28)), replica.room(link)), (continues("c") + PAIR, None))
+        self.assertEqual(replica.answers(replica.open(), NOTHING_TO_CONTINUE), announces("c", 110, SET_A + SET_B + SET))
+
+    def test_a_half_group_is_let_go_with_its_link(self):
+        for cut in range(1, len(PAIR)):
+            replica = self.at_27()
+            link = self.heard(replica, CONTINUED + PAIR[:cut])
+            self.assertEqual(replica.unread(link), cut)
+            replica.close(link)
+            self.assertEqual(self.asked(replica), asks_from("a", 28))
+            link = self.heard(replica, CONTINUED + PAIR[:1])
+            self.assertEqual(replica.asks(link, PAIR[1:]), [("append", PAIR)])
+            self.shown(replica, "a", 110)
+
     def test_what_is_there_to_continue_comes_back(self):
         replica = self.at_27()
         client = replica.open()
@@ -356,6 +391,7 @@ class Listening(Playing):
     def test_one_byte_at_a_time(self):
         for data, shown in [
             (CONTINUED + SET_W, ("a" * 40, 54)),
+            (CONTINUED + PAIR, ("a" * 40, 110)),
             (GREETED + announces("b", 5, SET_W), ("b" * 40, 5)),
             (GREETED + announces("b", 5, b""), ("b" * 40, 5)),
             (GREETED + announces("b", 5, PING), ("b" * 40, 5)),
@@ -453,6 +489,18 @@ class Limits(Playing):
         self.assertEqual(replica.asks(link, SET), [("close", link)])
         self.left(replica, "a", 14)
 
+    def test_a_group_may_end_at_the_limit(self):
+        """One that would pass it is refused once a byte is there for which there is no room."""
+        replica, link = self.replica_at(83, b"")
+        self.assertEqual(replica.asks(link, PAIR), [("append", PAIR)])
+        self.left(replica, "a", 0)
+        for left in (0, 14, 15, 42, 69, 82):
+            replica, link = self.replica_at(left, b"")
+            replica.feed(link, PAIR[:left])
+            self.assertEqual(replica.step(link), IDLE)
+            self.assertEqual(replica.asks(link, PAIR[left : left + 1]), [("close", link)])
+            self.left(replica, "a", left)
+
 
 class Lasting(Playing):
     """Links and outs that come and go, and a node that stops."""
@@ -481,6 +529,19 @@ class Lasting(Playing):
             node.close(link)
             self.refuses("stopped", lambda: node.feed(link, b""))
             self.assertIsNone(node.shows())
+
+    def test_a_torn_group_stops_the_node(self):
+        """Of a group that can be applied in part nothing is shown, and nothing goes to the file."""
+        for torn in (framed(SET_A, request("LPOP", "k", "1")), framed(request("DEL", "none"), SET_A, request("RENAME", "none", "k"), SET_B)):
+            master, _ = self.started()
+            replica = self.replica()
+            client, link = replica.open(), self.follow(replica, master).below
+            replica.feed(link, torn[:-1])
+            self.assertEqual(replica.step(link), IDLE)
+            self.shown(replica, "a", 27)
+            replica.feed(link, torn[-1:])
+            self.refuses("stopped", lambda: replica.step(link), lambda: replica.step(link), lambda: replica.feed(client, PING), replica.open, replica.info)
+            self.assertEqual((replica.shows(), replica.file), (None, SET))
 
     def test_a_link_that_is_gone_is_no_link(self):
         master, client = self.started()

@@ -22,7 +22,7 @@ from tests.models.world_scripts import Scripter
 from tests.support.handshake import GREETED
 from tests.support.peers import FRESH, Peer, PeerFault, Playing, Program
 from tests.support.program import request
-from tests.support.requests import PING
+from tests.support.requests import EXEC, MULTI, PING, framed
 from tests.support.world_rows import Rows
 
 SECONDS = int(os.environ.get("PEER_SECONDS", "20"))
@@ -32,6 +32,9 @@ ENDLESS = 2**64 - 1
 EFFECTS = [PING, request("SET", "k", "v"), request("SET", "l", "w", "PXAT", "900"), request("DEL", "k"), request("SADD", "s", "a", "b"), request("RPUSH", "q", "x", "y")]
 EFFECTS += [request("LPUSH", "q", "z"), request("LPOP", "q", "1"), request("SREM", "s", "a"), request("INCRBY", "n", "5"), request("PEXPIREAT", "k", "800"), request("FLUSHALL")]
 SPOILED = [request("FOO"), request("GET", "k"), b"\r\n", b"+OK\r\n", b"*0\r\n", request("set", "k", "v"), request("LPOP", "none", "1"), request("PING", "x"), b"*1\r\n$4\r\nPINGxx"]
+# what nearly always makes a group with others of these, and what is none
+SURE = [request("SET", "k", "v"), request("SET", "l", "w", "PXAT", "900"), request("DEL", "k"), request("DEL", "q"), request("FLUSHALL"), request("SADD", "s", "a", "b")]
+NO_GROUPS = [EXEC, framed(), framed(SURE[0]), MULTI + PING, MULTI + SURE[0] + PING, MULTI + MULTI, MULTI + request("GET", "k"), MULTI + b"*0", framed(SPOILED[6], SURE[0])]
 BAD_ANSWERS = [b"+OK\r\n", b"-ERR no\r\n", b"$5\r\n", b"+CONTINUE \r\n", b"+FULLRESYNC %s -1\r\n" % (b"b" * 40), b"+FULLRESYNC %s 5 \r\n" % (b"b" * 40), b"x", b"+a\rb"]
 BAD_ANSWERS += [b"+FULLRESYNC %s %d\r\n$0\r\n" % (b"b" * 40, MOST_OFFSET + 1), b"+FULLRESYNC %s 5\r\n+OK\r\n" % (b"b" * 40)]
 # what stands at a replica's end, and what closes it
@@ -295,7 +298,18 @@ class Pairs(World):
         return True
 
     def stream_says(self):
-        return b"".join(self.chance.choice(SPOILED if self.chance.random() < 0.04 else EFFECTS) for _ in range(self.chance.randint(0, 8)))
+        return b"".join(self.group_says() if self.chance.random() < 0.25 else self.effect_says() for _ in range(self.chance.randint(0, 8)))
+
+    def effect_says(self):
+        return self.chance.choice(SPOILED if self.chance.random() < 0.04 else EFFECTS)
+
+    def group_says(self):
+        """Several effects in a frame, or nearly that. Where the last can be any it mostly can't be applied behind the others, now and then."""
+        chance = self.chance
+        if chance.random() < 0.04:
+            return chance.choice(NO_GROUPS)
+        last = EFFECTS[1:] if chance.random() < 0.1 else SURE
+        return framed(*(chance.choice(SURE) for _ in range(chance.randint(1, 4))), chance.choice(last))
 
     def master_says(self, node, id):
         chance = self.chance

@@ -6,9 +6,11 @@ import subprocess
 import tempfile
 import unittest
 
+from tests.support.handshake import GREETED, announces
 from tests.support.peers import Ended, PeerFault, Playing, Program, closes, sent
 from tests.support.program import LATE, request, shim
 from tests.support.replies import bulk
+from tests.support.requests import PAIR, SET
 
 LACKS, STOPPED = "out of memory", "stopped"
 # calls before which the node's state is noted, with the link that each is about
@@ -45,7 +47,7 @@ class Lacking(Playing):
         self.lacked, self.stopped = set(), set()
 
     def course(self):
-        """A course of two nodes: writes, a snapshot, the stream, time, a promotion, and a return."""
+        """A course of two nodes: writes, a snapshot, the stream, time, a promotion, and a return. And a third takes a group."""
         # one whose first outs are those of its dial
         self.dialled(self.replica("d"))
         first, second = self.master("a"), self.replica("b")
@@ -73,6 +75,13 @@ class Lacking(Playing):
         self.assertEqual(first.answers(near, "GET k\r\n"), bulk("v"))
         first.asks(near, "REPLICAOF h 3\r\n")
         first.asks(near, "QUIT\r\n")
+        # a master that is played sends a group, in two pieces
+        third = self.replica("e")
+        link = self.dialled(third)
+        for data, steps, offset in ((GREETED + announces("a", 27, SET) + PAIR[:50], 5, 27), (PAIR[50:], 1, 110)):
+            third.feed(link, data)
+            self.assertEqual(third.settles(link), steps)
+            self.shown(third, "a", offset)
 
     def recorded(self):
         usual, self.program = self.program, Recorder()

@@ -6,6 +6,7 @@ from tests.support.handshake import ANSWERS, CAPABILITIES, GREETED, NOTHING_TO_C
 from tests.support.program import request
 from tests.support.rehearsal import effect
 from tests.support.replies import CHAINED
+from tests.support.requests import EXEC, MULTI, PAIR, SET_A, SET_B, framed
 from tests.support.values import Playing, fed, spelled
 
 A, B, C = (letter * 40 for letter in "abc")
@@ -79,6 +80,17 @@ class Following(Playing):
             courses.append([*synchronized(), *broken, *again, *after])
         self.plays("course", *courses)
 
+    def test_a_broken_link_leaves_the_groups_that_were_applied(self):
+        """A half group is asked for again as a whole: no offset within one is shown."""
+        courses = []
+        for cut in range(len(PAIR)):
+            broken = [fed(PAIR[:cut]), heard("idle"), stands("replica", "offers", A, 27, 28, reads="at 0 0 stream", unread=cut), holds(FIRST), ("leave", "left")]
+            again = [stands("replica", "offers", A, 27, 28), *dialled(1, asking(A, 27)), fed(b"+CONTINUE %s\r\n" % A.encode() + PAIR + SECOND)]
+            applied = [heard("continues"), heard("applies", PAIR), stands("replica", "offers", A, 110, 28, reads="at 0 1 stream", unread=27)]
+            after = [heard("applies", SECOND), stands("replica", "offers", A, 137, 28, reads="at 0 1 stream"), holds(SET_A + SET_B + SECOND)]
+            courses.append([*synchronized(), *broken, *again, *applied, holds(SET_A + SET_B + FIRST), *after])
+        self.plays("course", *courses)
+
     def test_a_link_that_breaks_within_a_snapshot_leaves_nothing_of_it(self):
         courses, sent = [], b"".join(ANSWERS[3:])
         begin = [("replica %s %d 0" % (B, CAPACITY), "begun"), *dialled(0, NOTHING_TO_CONTINUE)]
@@ -106,6 +118,17 @@ class Refusing(Playing):
     def test_what_is_no_effect_here_spoils_what_there_is_to_continue(self):
         self.refuses(request("FOO"), "spoiled", NOTHING_TO_CONTINUE)
         self.refuses(effect("LPOP k 1"), "spoiled", NOTHING_TO_CONTINUE)
+
+    def test_what_is_no_group_here_spoils_it_too(self):
+        for bad in (EXEC, framed(SECOND), MULTI + effect("PING"), MULTI + MULTI, MULTI + request("FOO"), framed(effect("LPOP k 1"), SECOND)):
+            self.refuses(bad, "spoiled", NOTHING_TO_CONTINUE)
+
+    def test_a_torn_group_stops_it(self):
+        """The offset is that before it, and the dataset is spent."""
+        torn = framed(SET_A, effect("LPOP k 1"), SET_B)
+        stops = ("listen", "refuses: the dataset is spent: out of memory, or a group that does not apply as a whole")
+        stopped = stands("replica", "offers", A, 27, 28, reads="at 0 0 stream", unread=len(torn))
+        self.plays("course", [*synchronized(), fed(torn[:-1]), heard("idle"), holds(FIRST), fed(torn[-1:]), stops, stopped, holds(SET_A + FIRST)])
 
     def synchronizing(self, answer, what, wanted, *before):
         """The same of what a master sends in place of the stream that was asked for."""

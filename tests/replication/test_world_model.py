@@ -15,7 +15,7 @@ from tests.models.world_watch import EVENTS_OF_A_WORLD, watched
 from tests.support.handshake import ANSWERS
 from tests.support.program import LATE, ROOT, USUAL_BACKLOG, request
 from tests.support.replies import OK, bulk
-from tests.support.requests import SET
+from tests.support.requests import EXEC, MULTI, PAIR, PING, SET, SET_A, SET_B, framed
 from tests.support.world_rows import Rows, info, started
 
 A, B = b"a" * 40, b"b" * 40
@@ -104,6 +104,31 @@ class Following(unittest.TestCase):
 
     def test_an_effect_that_cant_be_applied(self):
         self.refuses(("?", "-1"), request("LPOP", "k", "1"))
+
+    def test_a_group_is_used_at_once(self):
+        for at in range(82):
+            self.assertEqual((self.takes(PAIR[at : at + 1]), self.node.shows(), rebuild(self.node.held)), (IDLE, (A, 27), SET))
+        self.assertEqual(self.takes(PAIR[82:] + PING), [Append(PAIR)])
+        self.assertEqual((self.node.shows(), rebuild(self.node.held), self.node.ring), ((A, 110), SET_A + SET_B + SET, PAIR))
+        self.assertEqual((self.node.step(self.link, NOW, FRESH), self.node.shows()), ([], (A, 124)))
+
+    def test_no_group_in_the_stream(self):
+        for data in (EXEC, framed(), framed(SET), MULTI + PING, MULTI + SET + PING, MULTI + MULTI, MULTI + request("GET", "k"), MULTI + b"x", framed(request("LPOP", "k", "1"), SET)):
+            self.setUp()
+            self.refuses(("?", "-1"), data)
+
+    def test_a_group_that_cant_be_applied_as_a_whole(self):
+        self.assertEqual(self.takes(framed(SET_A, request("LPOP", "k", "1"))[:-1]), IDLE)
+        with self.assertRaisesRegex(NodeFault, "stopped"):
+            self.takes(EXEC[-1:])
+        self.assertIsNone(self.node.shows())
+
+    def test_a_group_at_the_limit(self):
+        self.node.limit = 110
+        self.assertEqual((self.takes(PAIR), self.node.shows()), ([Append(PAIR)], (A, 110)))
+        self.setUp()
+        self.node.limit = 109
+        self.refuses(("?", "-1"), PAIR)
 
     def test_a_short_id(self):
         self.again()
@@ -291,9 +316,11 @@ class Files(unittest.TestCase):
     def test_any_bytes_are_loaded(self):
         world = World()
         world.start(A, False)
-        for place, (kept, used) in enumerate([(SET + b"*3\r\n$3\r\nSE", 27), (b"x", 0), (SET + request("LPOP", "k", "1") + SET, 27), (SET + request("FOO"), 27), (request("PING"), 14)]):
+        rows = [(SET + b"*3\r\n$3\r\nSE", 27), (b"x", 0), (SET + request("LPOP", "k", "1") + SET, 27), (SET + request("FOO"), 27), (request("PING"), 14)]
+        rows += [(SET + PAIR[:82], 27), (SET + framed(SET_A, request("LPOP", "k", "1")) + SET, 27), (SET + framed(SET_A) + SET, 27), (framed(SET, request("DEL", "a")) + PAIR[:15], 76)]
+        for place, (kept, used) in enumerate(rows):
             world.restart(0, kept, b"%040x" % (place + 1))
-            self.assertEqual((world.file(0), rebuild(world.node(0).held)), (kept[:used], SET if used == 27 else b""))
+            self.assertEqual((world.file(0), rebuild(world.node(0).held)), (kept[:used], SET if used >= 27 else b""))
 
     def test_a_file_is_written_anew(self):
         world = World()

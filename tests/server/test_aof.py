@@ -15,9 +15,11 @@ from tests.support.files import InFolder
 from tests.support.program import LATE, LAUNCHER, PROGRAM, needs, notices, request, run, shim
 from tests.support.random_keys import RandomKeys
 from tests.support.replies import NIL, OK, PONG, STARTED, array, bulk
-from tests.support.requests import FAR, GET, PING, SET, SET_W, SET_X
+from tests.support.requests import EXEC, FAR, GET, MULTI, PAIR, PING, SET, SET_A, SET_B, SET_W, SET_X, framed
 
 TORN = b"*3\r\n$3\r\nSE"
+# what is read of a file at once
+PIECE = 65_536
 # how often the program is killed in the middle of a stream of writes
 KILLS = 200
 REWRITE = request("BGREWRITEAOF")
@@ -129,47 +131,101 @@ class Starting(OfFile):
         self.answers(GET, bulk(value))
 
 
-class Grouping(OfFile):
-    """A file with groups of effects: each is loaded as a whole, or not at all."""
+class Grouped(OfFile):
+    """A file has groups: effects, and several between MULTI and EXEC. What is loaded is the longest beginning of groups that can be done as a whole."""
 
-    def test_a_group_is_loaded_and_stays(self):
-        group = grouped(SET, SET_W)
-        self.write(group + request("SET", "a", "1"))
-        self.answers(GET + request("GET", "a"), bulk(b"w") + bulk(b"1"))
-        self.assertEqual(self.bytes(), group + request("SET", "a", "1"))
+    ASKED = request("MGET", "a", "b", "k")
+    NEITHER, BOTH = array(None, None, "v"), array("1", "2", "v")
 
-    def test_a_group_that_is_not_whole_is_cut_off(self):
-        group = grouped(SET_W, SET_X)
-        for count in (1, 15, 42, 69, len(group) - 1):
-            with self.subTest(count=count):
-                self.write(SET + group[:count])
-                self.answers(GET, bulk(b"v"), cut=group[:count])
-                self.assertEqual(self.bytes(), SET)
+    def loads(self, good, wanted, asked=ASKED, cut=b""):
+        """Of the file that is these bytes and what is cut off the first are loaded, and left; the next start has nothing to say."""
+        self.write(good + cut)
+        self.answers(asked, wanted, cut=cut or None)
+        self.assertTrue(self.bytes() == good)
+        self.answers(asked, wanted)
+        self.assertTrue(self.bytes() == good)
 
-    def test_of_a_group_that_can_be_done_in_part_alone_nothing_is_loaded(self):
-        for behind in (b"", SET_X, grouped(SET_X, SET)):
-            with self.subTest(behind=behind):
-                cut = grouped(SET_W, request("LPOP", "k", "1"), SET_X) + behind
-                self.write(SET + cut)
-                self.answers(GET, bulk(b"v"), cut=cut)
-                self.assertEqual(self.bytes(), SET)
+    def test_a_group_is_loaded_with_its_last_byte(self):
+        self.assertEqual((len(SET), len(PAIR)), (27, 83))
+        for cut in range(1, 83):
+            with self.subTest(cut=cut):
+                self.loads(SET, self.NEITHER, cut=PAIR[:cut])
+        self.loads(SET + PAIR, self.BOTH)
+
+    def test_a_file_of_groups_is_appended_to(self):
+        self.loads(PAIR + SET + PAIR, self.BOTH)
+        self.answers(SET_W + self.ASKED, OK + array("1", "2", "w"))
+        self.assertEqual(self.bytes(), PAIR + SET + PAIR + SET_W)
+        self.answers(REWRITE + self.ASKED, STARTED + array("1", "2", "w"))
+        self.assertEqual(self.bytes(), SET_A + SET_B + SET_W)
+
+    def test_nothing_is_loaded_of_a_group_that_can_be_done_in_part(self):
+        """Nor of what is behind it."""
+        for bad in (["SET a 1", "INCRBY k 1"], ["SET a 1", "LPUSH k x", "SET b 2"], ["DEL k", "SET k w", "LPOP l 1"], ["FLUSHALL", "RENAME k l"]):
+            with self.subTest(bad=bad):
+                torn = framed(*(request(*it.split(" ")) for it in bad))
+                self.loads(SET, self.NEITHER, cut=torn)
+                self.loads(SET + PAIR, self.BOTH, cut=torn + SET_W + PAIR)
 
     def test_what_is_no_group_ends_what_is_loaded(self):
-        for bad in (grouped(), grouped(SET_W), grouped(SET_W, PING), grouped(SET_W, GET), request("EXEC"), request("MULTI") * 2, request("LPOP", "k", "1")):
+        bads = [EXEC, framed(), framed(SET_W), MULTI + SET_W + PING + EXEC, MULTI + MULTI + SET_A + SET_B + EXEC, MULTI + SET_A + SET_B + GET + EXEC]
+        bads += [request("multi") + SET_A + SET_B + EXEC, MULTI + b"SET a 1\r\n", framed(request("INCRBY", "k", "1"), SET_A), request("DISCARD")]
+        for bad in bads:
             with self.subTest(bad=bad):
-                self.write(SET + bad + SET_X)
-                self.answers(GET, bulk(b"v"), cut=bad + SET_X)
-                self.assertEqual(self.bytes(), SET)
+                self.loads(SET, self.NEITHER, cut=bad + PAIR)
+                self.loads(SET + PAIR, self.BOTH, cut=bad)
 
-    def test_a_large_group_is_loaded_as_a_whole(self):
-        effects = [request("SET", "key-%d" % it, "v") for it in range(10_000)]
-        whole, torn = grouped(*effects), grouped(*effects, request("LPOP", "k", "1"))
-        self.write(SET + whole + SET_W)
-        self.answers(request("DBSIZE") + GET, b":10001\r\n" + bulk(b"w"))
-        for cut in (whole[:-1], torn + SET_W):
-            self.write(SET + cut)
-            self.answers(request("DBSIZE") + GET, b":1\r\n" + bulk(b"v"), cut=cut)
-            self.assertEqual(self.bytes(), SET)
+    def test_any_beginning_of_a_file_loads_its_whole_groups(self):
+        texts = [SET, PAIR, request("HSET", "h", "f", "v"), framed(request("RPUSH", "l", "a"), request("SADD", "s", "m"), request("ZADD", "z", "1", "m")), PAIR, SET_W]
+        whole, counts = b"".join(texts), [0, 1, 3, 4, 7, 7, 7]
+        sizes = [sum(map(len, texts[:count])) for count in range(len(texts) + 1)]
+        for cut in range(len(whole) + 1):
+            with self.subTest(cut=cut):
+                count = max(count for count, size in enumerate(sizes) if size <= cut)
+                self.write(whole[:cut])
+                self.answers(request("DBSIZE"), b":%d\r\n" % counts[count], cut=whole[sizes[count] : cut] or None)
+                self.assertEqual(self.bytes(), whole[: sizes[count]])
+
+    def test_a_group_of_several_pieces_of_the_file(self):
+        """Of small effects and of large ones; and what is missing at its end is its last byte, or most of it."""
+        small = framed(*(request("RPUSH", "l", "%05d" % at) for at in range(10_000)))
+        large = framed(request("SET", "a", bytes(200_000)), request("APPEND", "a", 100_000 * b"x"), SET_B)
+        for group, asked, wanted in ((small, "LLEN l", b":10000\r\n"), (large, "STRLEN a", b":300000\r\n")):
+            self.assertGreater(len(group), 4 * PIECE)
+            asked = request(*asked.split(" "))
+            self.loads(group, wanted, asked)
+            self.loads(SET + group + SET_W, wanted, asked)
+            for missing in (1, 14, 15, PIECE, len(group) - 15, len(group) - 1):
+                self.loads(SET, b":0\r\n", asked, cut=group[:-missing])
+                self.loads(group + SET, wanted, asked, cut=group[:-missing])
+
+    def test_groups_that_end_about_where_a_piece_does(self):
+        """So that each part of one stands across the end of a piece."""
+        for past in range(len(PAIR) + 1):
+            with self.subTest(past=past):
+                filling = request("SET", "k", (PIECE - past - 30) * b"v")
+                self.assertEqual(len(filling), PIECE - past)
+                self.loads(filling + PAIR + SET, self.BOTH)
+                self.loads(filling + SET, self.NEITHER, cut=PAIR[:-1])
+
+    def test_many_groups(self):
+        groups = [framed(*(request("INCRBY", "n%d" % key, "1") for key in range(at % 3 + 2))) for at in range(30_000)]
+        whole, asked = b"".join(groups), request("MGET", "n0", "n1", "n2", "n3")
+        self.loads(whole, array("30000", "30000", "20000", "10000"), asked)
+        self.loads(whole[: -len(groups[-1])], array("29999", "29999", "19999", "9999"), asked, cut=groups[-1][:-1])
+
+    def test_a_kill_leaves_a_file_of_groups_as_it_was(self):
+        whole = b"".join(framed(request("SET", "a", str(at)), request("SET", "b", str(at))) for at in range(20_000)) + PAIR + SET
+        self.write(whole)
+        chance, words = random.Random(9), [PROGRAM, "pipe", "--aof", self.path]
+        for _ in range(20):
+            started = subprocess.Popen(words, stdin=subprocess.PIPE, stdout=subprocess.PIPE, stderr=subprocess.PIPE)
+            time.sleep(chance.uniform(0, 0.1))
+            started.kill()
+            self.assertEqual(started.communicate(timeout=LATE)[1], b"")
+            self.assertTrue(self.bytes() == whole)
+        self.answers(self.ASKED, self.BOTH)
+        self.assertTrue(self.bytes() == whole)
 
 
 class Rewriting(OfFile):
@@ -679,6 +735,16 @@ class Leaving(OfFile):
         self.asked(b"".join(request(*words) for words in asked), "--now", "0")
         socket = self.served()
         for words, wanted in WANTED.items():
+            with self.subTest(words=words):
+                self.assertEqual(self.told(socket, *words), wanted)
+
+    def test_redis_server_loads_a_file_of_groups(self):
+        needs(self, shutil.which("redis-server"), "redis-server")
+        self.write(SET + PAIR + framed(request("DEL", "k"), request("RPUSH", "l", "x", "y"), request("LPOP", "l", "1")) + SET_W)
+        asked = {("MGET", "a", "b", "k"): '1) "1"\n2) "2"\n3) "w"\n', ("LRANGE", "l", "0", "-1"): '1) "y"\n', ("DBSIZE",): "(integer) 4\n"}
+        self.answers(request("MGET", "a", "b", "k") + request("LRANGE", "l", "0", "-1") + request("DBSIZE"), array("1", "2", "w") + array("y") + b":4\r\n")
+        socket = self.served()
+        for words, wanted in asked.items():
             with self.subTest(words=words):
                 self.assertEqual(self.told(socket, *words), wanted)
 

@@ -5,8 +5,8 @@ import unittest
 
 from tests.support.handshake import GREETED, GREETS, NOTHING_TO_CONTINUE, announces, asks_from, continues
 from tests.support.program import request
-from tests.support.replies import BULK_LENGTH, CHAINED, COUNT, OK, PONG, QUOTES, READONLY, STARTED, bulk, no_dollar, number
-from tests.support.requests import GET, LEAD, PING, SET, SET_W, SET_X
+from tests.support.replies import BULK_LENGTH, CHAINED, COUNT, OK, PONG, QUOTES, READONLY, STARTED, array, bulk, no_dollar, number
+from tests.support.requests import GET, LEAD, PAIR, PING, SET, SET_A, SET_B, SET_W, SET_X, framed
 from tests.support.server import UNREAD
 from tests.support.turns import ADDRESS, ALL, ENDS, FAILED, FAILS, NOT_READY, OBEY, Peer, Playing, counts, peer
 
@@ -160,6 +160,12 @@ class Files(Playing):
         self.assertEqual(turns[0].links.accepted[0].written, bulk("v"))
         self.shown(turns[0], "a", 0)
         self.assertEqual(loop.file().held, SET)
+
+    def test_a_group_in_the_file_is_there_as_a_whole_as_the_node_starts(self):
+        for held, cut in ((SET + PAIR, b""), (SET + PAIR, PAIR[:82]), (SET, PAIR[:82]), (SET, framed(SET_A, request("LPUSH", "k", "x")) + SET_W)):
+            turns, loop = self.plays(1, accepts=[peer(request("DBSIZE") + GET)], held=held + cut)
+            self.assertEqual(turns[0].links.accepted[0].written, number(3 if PAIR in held else 1) + bulk("v"))
+            self.assertEqual(loop.file().held, held)
 
 
 class Wires(Playing):
@@ -367,6 +373,41 @@ class Following(Playing):
         self.shown(turns[4], "a", 54)
         self.assertEqual(turns[-1].links.dialled[1].written, GREETS + asks_from("a", 28))
         self.assertEqual(loop.file().held, SET + SET_W)
+
+    def test_a_group_is_taken_with_its_last_byte(self):
+        """Until then no offset within it is shown, and nothing of it is in the file."""
+        turns, loop = self.follows(5, peer(GREETED + announces("a", 27, SET), PAIR[:40], PAIR[40:82], PAIR[82:] + SET_W))
+        for turn in turns[1:4]:
+            self.shown(turn, "a", 27)
+        self.shown(turns[4], "a", 137)
+        self.assertEqual((loop.file().held, loop.file().commands), (SET + PAIR + SET_W, SET_A + SET_B + SET_W))
+
+    def test_a_broken_group_is_asked_for_again(self):
+        for cut in (1, 15, 42, 69, 82):
+            turns, loop = self.follows(5, peer(GREETED + announces("a", 27, SET), PAIR[:cut], ENDS), peer(GREETED + continues("a") + PAIR))
+            self.shown(turns[2], "a", 27)
+            self.shown(turns[4], "a", 110)
+            self.assertEqual(turns[-1].links.dialled[1].written, GREETS + asks_from("a", 28))
+            self.assertEqual(loop.file().held, SET + PAIR)
+
+    def test_a_torn_group_ends_it(self):
+        """As where memory ran out: the node shows nothing any more, and nothing of the group is in the file or told to a client."""
+        torn, asked = framed(SET_A, request("LPUSH", "k", "x"), SET_B), request("MGET", "a", "k")
+        turns, loop = self.follows(4, peer(GREETED + announces("a", 27, SET), torn, SET_W), client=(None, asked, asked))
+        self.assertEqual([it.told for it in turns[2:]], ["fault: out of memory", "over"])
+        self.assertEqual((turns[2].shows, turns[3].shows, loop.file().held), (None, None, SET))
+        self.assertIn(turns[3].links.accepted[0].written, (OK, OK + array(None, "v")))
+
+    def test_a_write_of_a_group_fails_in_its_middle(self):
+        """A byte a write. What is there of the group's text is nothing to whoever starts with the file."""
+        found = set()
+        for call in range(2, 150):
+            _, loop = self.follows(4, peer(GREETED + announces("a", 27, SET), PAIR), fails=call, short=1)
+            file = loop.file()
+            self.assertEqual(file.commands, {0: b"", 27: SET, 110: SET_A + SET_B + SET}[file.used])
+            self.assertIn(file.held, ([b""] if not file.used else [SET + PAIR[:count] for count in range(83)] if file.used == 27 else [SET + PAIR]))
+            found.add((file.held, file.used))
+        self.assertLessEqual({*((SET + PAIR[:count], 27) for count in range(83)), (SET + PAIR, 110)}, found)
 
     def test_a_connect_fails(self):
         """While the clock stands still each turn dials; while it moves a tenth of a second passes between two."""

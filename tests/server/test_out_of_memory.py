@@ -11,7 +11,7 @@ from tests.support.program import LATE, PROGRAM, built, request, run
 from tests.support.refusing import Refusing
 from tests.support.rehearsal import asked as asking, effect, holding
 from tests.support.replies import NIL, NONE, OK, STARTED, array, asked, bulk, number
-from tests.support.requests import SET, SET_W, SET_X
+from tests.support.requests import SET, SET_W, SET_X, framed
 
 ASKED = b"".join(
     [
@@ -174,10 +174,12 @@ class Memory(Refusing):
         """Its step is made once more. Of a dataset within whose change it lacked memory nothing is said."""
         texts = [effect(line) for line in HELD[:9]]
         sent = b"+PONG\r\n+OK\r\n+OK\r\n+FULLRESYNC %s 0\r\n$%d\r\n" % (b"a" * 40, sum(map(len, texts))) + b"".join(texts)
-        steps = ["begin 0", "feed " + (sent + b"".join(texts)).hex(), *["step"] * (5 + len(texts) + 1), "shows"]
+        # each effect by itself, and all of them as one group, in two pieces
+        stream, group = b"".join(texts), framed(*texts)
+        steps = ["begin 0", "feed " + (sent + stream + group[:200]).hex(), *["step"] * (5 + len(texts) + 1), "feed " + group[200:].hex(), "step", "step", "shows"]
         script = ("follower " + ";".join(steps) + "\n").encode()
         ample = subprocess.run([built("rehearse_values")], input=script, capture_output=True, timeout=LATE).stdout.splitlines()
-        self.assertEqual(ample[-2], b"idle")
+        self.assertEqual((ample.count(b"idle"), ample[-5:-1]), (2, [b"idle", b"fed", b"applies " + group.hex().encode(), b"idle"]))
         refusals = set()
 
         def check(ran, was_refused):
@@ -193,7 +195,10 @@ class Memory(Refusing):
                 self.assertTrue(was_refused)
                 self.assertEqual(answers[:at], ample[:at])
                 if lacked[0] == b"refuses: out of memory":
-                    self.assertEqual(answers[at + 1 :], [*ample[at:-2], ample[-1]])
+                    # one step more, so one that has nothing to do the less
+                    rest = ample[at:]
+                    rest.remove(b"idle")
+                    self.assertEqual(answers[at + 1 :], rest)
 
         self.assertGreater(self.each_refusal(script, check, built("rehearse_values")), 10)
         self.assertEqual(refusals, {b"refuses: out of memory", b"refuses: out of memory, and the dataset is spent"})

@@ -2,6 +2,7 @@
 
 import contextlib
 import random
+import re
 import select
 import socket
 import struct
@@ -10,9 +11,10 @@ import time
 from dataclasses import dataclass
 
 from tests.support import server
+from tests.support.handshake import GREETED, NOTHING_TO_CONTINUE, announces, continues
 from tests.support.program import request
 from tests.support.replies import OK, read
-from tests.support.requests import FAR, LEAD
+from tests.support.requests import FAR, LEAD, SET
 from tests.support.server import HOST
 
 # the deadlines of random writes that come soon have come after so many milliseconds
@@ -29,6 +31,7 @@ READS = {
 SETTLED = {b"+hash": lambda items: sorted(zip(items[::2], items[1::2])), b"+set": sorted}
 # so many bytes are carried at once at most
 PIECE = 65_536
+PSYNC = re.compile(rb"\*3\r\n\$5\r\nPSYNC\r\n\$\d+\r\n[^\r]+\r\n\$\d+\r\n-?\d+\r\n")
 
 
 @dataclass(frozen=True)
@@ -264,6 +267,34 @@ class Fake:
         with contextlib.suppress(OSError):
             self.listener.shutdown(socket.SHUT_RDWR)
         self.listener.close()
+
+
+class Played:
+    """What a `Fake` does as a master that the test plays: it answers each handshake, at 27 under `a` or by going on from what is asked for, and
+    then says what the test has it say. It keeps the links, and the last line of each handshake."""
+
+    def __init__(self):
+        self.links, self.asked = [], []
+
+    def __call__(self, link):
+        link.sendall(GREETED)
+        heard, piece = b"", b"-"
+        while piece and not (last := PSYNC.search(heard)):
+            piece = link.recv(PIECE)
+            heard += piece
+        if not piece:
+            return
+        self.asked.append(last[0])
+        link.sendall(announces("a", 27, SET) if last[0] == NOTHING_TO_CONTINUE else continues("a"))
+        self.links.append(link)
+        while link.recv(PIECE):
+            pass
+
+    def says(self, data):
+        self.links[-1].sendall(data)
+
+    def breaks(self):
+        self.links[-1].shutdown(socket.SHUT_RDWR)
 
 
 class Writes:

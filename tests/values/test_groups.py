@@ -2,19 +2,20 @@
 
 import unittest
 
+from tests.support import requests
 from tests.support.program import request
+from tests.support.requests import EXEC, MULTI, PAIR
 from tests.support.values import Playing, spelled
 
-SINGLE = request("SET", "k", "v")
-MULTI = request("MULTI")
-EXEC = request("EXEC")
-PAIR = MULTI + request("SET", "a", "1") + request("SET", "b", "2") + EXEC
-# the second effect is undefined where k is a text that is no number
-TORN = MULTI + request("SET", "a", "1") + request("INCRBY", "k", "1") + EXEC
+SINGLE = requests.SET
 
 
 def framed(*effects):
-    return MULTI + b"".join(request(*it) for it in effects) + EXEC
+    return requests.framed(*(request(*it) for it in effects))
+
+
+# the second effect is undefined where k is a text that is no number
+TORN = framed(("SET", "a", "1"), ("INCRBY", "k", "1"))
 
 
 class Texts(Playing):
