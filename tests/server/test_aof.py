@@ -27,11 +27,6 @@ REWRITE = request("BGREWRITEAOF")
 REWRITING_KILLS, REWRITTEN_KEYS = 60, 10_000
 
 
-def grouped(*texts):
-    """The text of a group, of its effects' texts."""
-    return request("MULTI") + b"".join(texts) + request("EXEC")
-
-
 def may_grow_to(size):
     """Has a program that is started behind this write no file past so many bytes. The system sends it a signal where it tries."""
     return lambda: resource.setrlimit(resource.RLIMIT_FSIZE, (size, size))
