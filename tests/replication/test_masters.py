@@ -7,7 +7,7 @@ import subprocess
 import time
 import unittest
 
-from tests.support.handshake import GREETED, NOTHING_TO_CONTINUE, PART, WHOLE, asks_from
+from tests.support.handshake import GREETED, PART, WHOLE, asks_from
 from tests.support.program import LATE, needs, request
 from tests.support.replicas import Played, closes, garbage, said_in
 from tests.support.replicating import Replicating, leads
@@ -186,7 +186,6 @@ class Groups(Replicating):
         super().setUp()
         self.master = Played()
         self.replica = self.node(follows=self.fake(self.master).port, aof=self.path)
-        self.came(1, NOTHING_TO_CONTINUE)
         self.comes(lambda: self.look() == (("a" * 40, 27), array(None, None, "v")))
 
     def came(self, count, asked):

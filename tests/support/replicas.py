@@ -11,7 +11,7 @@ import time
 from dataclasses import dataclass
 
 from tests.support import server
-from tests.support.handshake import GREETED, NOTHING_TO_CONTINUE, announces, continues
+from tests.support.handshake import GREETED, announces, continues
 from tests.support.program import request
 from tests.support.replies import OK, read
 from tests.support.requests import FAR, LEAD, SET
@@ -270,13 +270,15 @@ class Fake:
 
 
 class Played:
-    """What a `Fake` does as a master that the test plays: it answers each handshake, at 27 under `a` or by going on from what is asked for, and
-    then says what the test has it say. It keeps the links, and the last line of each handshake."""
+    """What a `Fake` does as a master that the test plays: it answers each handshake, by going on from what is asked for under `a` or else with
+    all at 27, and then says what the test has it say. It keeps the links, and the last line of each handshake."""
 
     def __init__(self):
         self.links, self.asked = [], []
 
     def __call__(self, link):
+        # else small pieces would come together
+        link.setsockopt(socket.IPPROTO_TCP, socket.TCP_NODELAY, 1)
         link.sendall(GREETED)
         heard, piece = b"", b"-"
         while piece and not (last := PSYNC.search(heard)):
@@ -285,7 +287,7 @@ class Played:
         if not piece:
             return
         self.asked.append(last[0])
-        link.sendall(announces("a", 27, SET) if last[0] == NOTHING_TO_CONTINUE else continues("a"))
+        link.sendall(continues("a") if b"a" * 40 in last[0] else announces("a", 27, SET))
         self.links.append(link)
         while link.recv(PIECE):
             pass
