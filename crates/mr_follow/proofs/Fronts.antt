@@ -33,7 +33,7 @@ use Rattle.mr_groups.specs.declared.reading.Next.{Next}
 use Rattle.mr_groups.specs.declared.reading.Next.TheVariants as next
 use Rattle.mr_groups.proofs.Apart.{one_group, multi_command}
 use Rattle.mr_groups.proofs.Cuts.{begins, open_is_not_bad, bad_for_good}
-use Rattle.mr_groups.proofs.Lone.{IsLone, lone_group, lone_not_open}
+use Rattle.mr_groups.proofs.Lone.{IsLone, IsOne, lone_group, lone_not_open}
 use Rattle.mr_groups.proofs.Openings.{IsWhole, first_command, multi_text, open_start, doomed_start}
 use Rattle.mr_groups.proofs.Runs.{some_text}
 use Rattle.mr_follow.specs.Stream.{HasCommand, IsStuckWithin, IsRefusedFront, AppliesText, AppliesEffects, AppliesFront, WaitsWithin, HasFront}
@@ -81,12 +81,24 @@ past_of u room not_open opened = elim (whole_or u room) [
   | inr more ↦ more
 ]
 
+-- a group of so many bytes that begins all begins the first so many
+begins_front : (u : List ℕ) (room : ℕ) (g : List Effect) (behind : List ℕ) → IsGoodGroup g → length (group_text g) ≤ room → u ≡ group_text g ++ behind → BeginsWithGroup (take room u)
+begins_front u room g behind good few is =
+    let size = length-append (group_text g) behind in
+    let long : length (group_text g) ≤ length (take room u) = elim (taken_or room u) [
+      | inl full ↦ omega (arith, full, few)
+      | inr whole ↦ omega (arith, whole, ap length is, size)
+    ] in
+    let r = split_longer (take room u) (drop room u) (group_text g) behind (take-append-drop room u ∙ is) long in
+    record { group = g; good = good; behind = r.0; is = r.1.0 }
+
 -- bytes that begin no group's text
 pub bad_refused : (u : List ℕ) (room : ℕ) (m : Dataset) → IsBad (take room u) → IsRefusedFront room m u
 bad_refused u room m bad = record {
   some = some_bytes u room bad;
   past = past_of u room (λ opened. open_is_not_bad (take room u) opened bad);
   stuck = λ g n more behind good applied few q. bad_for_good (take room u) (drop room u ++ more) bad (record { group = g; good = good; behind = behind; is = joined u more room ∙ q });
+  first = λ g behind good few q. absurd (bad.none (begins_front u room g behind good few q));
 }
 
 full : (u : List ℕ) (room : ℕ) → room < length u → length (take room u) ≡ room
@@ -94,7 +106,12 @@ full u room more = length-take-le room u (omega (arith, more))
 
 -- a beginning of a group's text that has more bytes than may be
 pub long_refused : (u : List ℕ) (room : ℕ) (m : Dataset) → IsOpen (take room u) → room < length u → IsRefusedFront room m u
-long_refused u room m opened long = record { some = omega (arith, long); past = λ _. long; stuck = λ g n more behind good applied few q. too_long g more behind good few q }
+long_refused u room m opened long = record {
+  some = omega (arith, long);
+  past = λ _. long;
+  stuck = λ g n more behind good applied few q. too_long g more behind good few q;
+  first = λ g behind good few q. absurd (opened.none (begins_front u room g behind good few q));
+}
   where
     too_long : (g : List Effect) (more behind : List ℕ) → IsGoodGroup g → length (group_text g) ≤ room → u ++ more ≡ group_text g ++ behind → ⊥
     too_long g more behind good few q =
@@ -106,23 +123,28 @@ refused_undefined [] m h = absurd h
 refused_undefined (e ∷ es) m h = ap (option_and_then (apply_all es)) h
 
 -- a group that isn't applied as a whole
-pub group_refused : (u : List ℕ) (room used : ℕ) (m : Dataset) (es : List Effect) → IsFirstGroup (take room u) es used → apply_all es m ≡ None → IsRefusedFront room m u
-group_refused u room used m es first none =
+pub group_refused : (u : List ℕ) (room used : ℕ) (m : Dataset) (es : List Effect) → IsFirstGroup (take room u) es used → IsRefused es m → IsRefusedFront room m u
+group_refused u room used m es first refused =
     let here = begins (take room u) es used first in
     let cut = few_taken room u in
     record {
       some = omega (arith, cut.1, ap length here.is, length-append (group_text es) here.behind, some_text es first.good);
       past = past_of u room (λ opened. opened.none here);
       stuck = λ g n more behind good applied few q. other g n more behind good applied q;
+      first = λ g behind good few q. subst (λ (xs : List Effect). IsRefused xs m) (same g [] behind good (append-nil u ∙ q)) refused;
     }
   where
-    other : (g : List Effect) (n : Dataset) (more behind : List ℕ) → IsGoodGroup g → apply_all g m ≡ Some n → u ++ more ≡ group_text g ++ behind → ⊥
-    other g n more behind good applied q =
+    same : (g : List Effect) (more behind : List ℕ) → IsGoodGroup g → u ++ more ≡ group_text g ++ behind → es ≡ g
+    same g more behind good q =
         let here = begins (take room u) es used first in
         let both : group_text es ++ (here.behind ++ (drop room u ++ more)) ≡ group_text g ++ behind =
         sym (append_assoc (group_text es) here.behind (drop room u ++ more)) ∙ (ap (λ (l : List ℕ). l ++ (drop room u ++ more)) (sym here.is) ∙ (joined u more room ∙ q)) in
-        let same : es ≡ g = (one_group es g (here.behind ++ (drop room u ++ more)) behind first.good good both).0 in
-        let wrong : None ≡ Some n = sym none ∙ (ap (λ (xs : List Effect). apply_all xs m) same ∙ applied) in
+        (one_group es g (here.behind ++ (drop room u ++ more)) behind first.good good both).0
+
+    other : (g : List Effect) (n : Dataset) (more behind : List ℕ) → IsGoodGroup g → apply_all g m ≡ Some n → u ++ more ≡ group_text g ++ behind → ⊥
+    other g n more behind good applied q =
+        let none : apply_all es m ≡ None = refused_undefined es m refused in
+        let wrong : None ≡ Some n = sym none ∙ (ap (λ (xs : List Effect). apply_all xs m) (same g more behind good q) ∙ applied) in
         cc
 
 -- a command text that begins no frame, whose words are refused
@@ -135,20 +157,35 @@ words_refused u used room ws m inside small c lone refused =
       some = omega (arith, ap length parts.0, length-append front behind, loadings.some_text front ws c);
       past = λ opened. absurd (lone_not_open u front behind ws c lone parts.0 opened);
       stuck = λ g n more after good applied few q. other g n more after good applied q;
+      first = λ g after good few q. of_one g (one_of g [] after good (append-nil u ∙ q));
     }
   where
+    one_of : (g : List Effect) (more after : List ℕ) → IsGoodGroup g → u ++ more ≡ group_text g ++ after → IsOne (take used (take room u)) g
+    one_of g more after good q =
+        let behind = drop used (take room u) ++ drop room u in
+        let whole : take used (take room u) ++ (behind ++ more) ≡ group_text g ++ after =
+        sym (append_assoc (take used (take room u)) behind more) ∙ (ap (λ (l : List ℕ). l ++ more) (sym (within_parts u room used inside).0) ∙ q) in
+        lone_group (take used (take room u)) (behind ++ more) after ws g c lone good whole
+
+    not_done : (g : List Effect) (one : IsOne (take used (take room u)) g) (n : Dataset) → apply one.effect m ≡ Some n → ⊥
+    not_done g one n applied =
+        let short : length (take used (take room u)) < 2 ^ 64 = omega (arith, small, length-take-le used (take room u) inside) in
+        let spelled = words_are one.effect (take used (take room u)) ws [] [] one.good short c (ap (λ (l : List ℕ). l ++ []) one.is_text) in
+        refused one.effect n (one.good.spelled, spelled) applied
+
+    none_of : (o : Option Dataset) → ((n : Dataset) → o ≡ Some n → ⊥) → o ≡ None
+    none_of None h = refl
+    none_of (Some n) h = absurd (h n refl)
+
+    of_one : (g : List Effect) → IsOne (take used (take room u)) g → IsRefused g m
+    of_one g one = subst (λ (xs : List Effect). IsRefused xs m) (sym one.alone) (none_of (apply one.effect m) (not_done g one))
+
     other : (g : List Effect) (n : Dataset) (more after : List ℕ) → IsGoodGroup g → apply_all g m ≡ Some n → u ++ more ≡ group_text g ++ after → ⊥
     other g n more after good applied q =
-        let front = take used (take room u) in
-        let behind = drop used (take room u) ++ drop room u in
-        let whole : front ++ (behind ++ more) ≡ group_text g ++ after =
-        sym (append_assoc front behind more) ∙ (ap (λ (l : List ℕ). l ++ more) (sym (within_parts u room used inside).0) ∙ q) in
-        let one = lone_group front (behind ++ more) after ws g c lone good whole in
-        let short : length front < 2 ^ 64 = omega (arith, small, length-take-le used (take room u) inside) in
-        let spelled = words_are one.effect front ws [] [] one.good short c (ap (λ (l : List ℕ). l ++ []) one.is_text) in
+        let one = one_of g more after good q in
         let done : apply_all (one.effect ∷ []) m ≡ Some n = subst (λ (xs : List Effect). apply_all xs m ≡ Some n) one.alone applied in
         let step = loadings.then_some (apply one.effect m) (apply_all []) n done in
-        refused one.effect step.0 (one.good.spelled, spelled) step.1.0
+        not_done g one step.0 step.1.0
 
 -- ---- what is found
 
@@ -196,7 +233,7 @@ effects_in_front u room used es m n (Ok (Some k)) before after some first h =
     )
 effects_in_front u room used es m n (Err fault.BadLine) before after some first h = absurd h
 effects_in_front u room used es m n (Err fault.Refused) before after some first h = absurd h
-effects_in_front u room used es m n (Err fault.Undecodable) before after some first h = (group_refused u room used m es first (refused_undefined es m h.0), h.1)
+effects_in_front u room used es m n (Err fault.Undecodable) before after some first h = (group_refused u room used m es first h.0, h.1)
 effects_in_front u room used es m n (Err fault.Memory) before after some first h = (some, h)
 effects_in_front u room used es m n (Err fault.Spent) before after some first h =
     (record { used = used; group = es; first = first_of u room used es first; within = first_within u room used es first; begun = h.0.0; heavy = h.0.1.0; emptied = h.0.1.1 }, h.1)

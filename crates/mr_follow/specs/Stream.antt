@@ -57,11 +57,13 @@ pub record HasCommand (u : List ℕ) (room : ℕ) : Type 0 where
 abbrev pub IsStuckWithin : ℕ → Dataset → List ℕ → Type 0
 IsStuckWithin room m u = (g : List Effect) (n : Dataset) (more behind : List ℕ) → IsGoodGroup g → apply_all g m ≡ Some n → length (group_text g) ≤ room → u ++ more ≡ group_text g ++ behind → ⊥
 
--- .. and they aren't the beginning of a group's text, unless they are more than so many already
+-- .. and they aren't the beginning of a group's text, unless they are more than so many already. Where a group of at most so many bytes
+-- stands there whole, its first effect can't be applied.
 pub record IsRefusedFront (room : ℕ) (m : Dataset) (u : List ℕ) : Type 0 where
   pub some : 0 < length u
   pub past : IsOpen u → room < length u
   pub stuck : IsStuckWithin room m u
+  pub first : (g : List Effect) (behind : List ℕ) → IsGoodGroup g → length (group_text g) ≤ room → u ≡ group_text g ++ behind → IsRefused g m
 
 -- nothing has changed
 abbrev pub IsSame : Dataset → Dataset → List ℕ → List ℕ → Type 0
