@@ -92,10 +92,10 @@ module _ (a b : NodeState) (now : ℤ) (outs : OutsState) where
   beats r =
       let t = told a now r.effects r.mark r.beats in
       DoesToFile.grows (effects_grow a.core b.core outs.appended r.effects
-        (good_all r.effects a.core.held r.held r.applied t.short)
-        (r.applied ∙ ap (λ (z : Core). Some z.held) (sym r.core))
-        (inl (ap (λ (z : Core). z.lineage.stream) r.core))
-        (ap (λ (o : OutsState). o.appended) r.outs_are ∙ ap texts (sym t.filed))) (ap (λ (o : OutsState). o.replaced) r.outs_are)
+      (good_all r.effects a.core.held r.held r.applied t.short)
+      (r.applied ∙ ap (λ (z : Core). Some z.held) (sym r.core))
+      (inl (ap (λ (z : Core). z.lineage.stream) r.core))
+      (ap (λ (o : OutsState). o.appended) r.outs_are ∙ ap texts (sym t.filed))) (ap (λ (o : OutsState). o.replaced) r.outs_are)
 
   rests : (mark : Option ℤ) → Rests a now mark outs → (outs.appended ≡ []) × (outs.replaced ≡ None)
   rests mark (Rests.marks none m e) = (ap (λ (o : OutsState). o.appended) e, ap (λ (o : OutsState). o.replaced) e)

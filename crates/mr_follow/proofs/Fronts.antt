@@ -311,4 +311,3 @@ first_begins u room used es first = by_command (first_command (take room u) (beg
       within = (let cut = few_taken room u in omega (arith, cut.0, ap length is, length-append t z));
       command = whole.1;
     }
-

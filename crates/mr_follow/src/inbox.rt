@@ -90,6 +90,7 @@ impl Inbox {
         ensures refused { OnErr result (BeginsWithCommand commands (take most self.old)) }
         ensures kept { self.new ≡ self.old }
     {
-        self.reader.next(alloc, at_most(&self.input[self.used..], most))
+        self.reader
+            .next(alloc, at_most(&self.input[self.used..], most))
     }
 }

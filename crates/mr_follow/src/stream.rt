@@ -139,13 +139,7 @@ fn apply_single(
             if begins_frame(words.as_slice()) {
                 return Single::Framed;
             }
-            Single::Told(apply_text(
-                alloc,
-                &front[..used],
-                words.as_slice(),
-                held,
-                out,
-            ))
+            Single::Told(apply_text(alloc, &front[..used], words.as_slice(), held, out))
         }
     }
 }

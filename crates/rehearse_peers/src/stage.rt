@@ -53,7 +53,11 @@ impl Stage {
         let file = bytes_of(self.alloc, line.fifth)?;
         match Config::new(is_replica, port, place_of(line.fourth)?) {
             Some(config) => {
-                let Loaded { dataset, used: _ } = load_groups(self.alloc, self.seed, file.as_slice())?;
+                let Loaded { dataset, used: _ } = load_groups(
+                    self.alloc,
+                    self.seed,
+                    file.as_slice(),
+                )?;
                 self.put(number, id, dataset, config)?;
                 tell(out, "started")
             }
