@@ -20,7 +20,7 @@ use Rattle.mr_rows.specs.State.{NodeState, course_of, on_course}
 abbrev pub beat : List ℕ
 beat = text effect.Ping
 
--- what goes to the file of the text of an effect that was applied: a heartbeat doesn't
+-- what goes to the file of the text of a group that was applied: a heartbeat doesn't
 abbrev pub filed : List ℕ → List ℕ
 filed told = if bytes_eq told beat then [] else told
 
@@ -35,7 +35,7 @@ ends_behind outcome.Applied name ends = ends
 ends_behind outcome.Left name ends = without ends name
 ends_behind outcome.Spoiled name ends = without ends name
 
--- A line is sent; the file is replaced by what rebuilds a snapshot's dataset; the text of an effect goes behind the file; or the link is closed.
+-- A line is sent; the file is replaced by what rebuilds a snapshot's dataset; the text of a group goes behind the file; or the link is closed.
 abbrev pub outs_behind : UpstreamStep → LinkId → List ℕ → OutsState
 outs_behind outcome.Idle name told = record no_outs { link = Some name }
 outs_behind outcome.Said name told = record no_outs { link = Some name; reply = told }
@@ -81,7 +81,7 @@ pub record Lacks (a : NodeState) (l : LinkId) (b : NodeState) : Type 0 where
   pub named : listens.name ≡ l
   pub node : b ≡ node_behind a course b.core.held a.ends
 
--- Memory ran out within an effect: the node stops.
+-- Memory ran out within a group, or it can't be applied as a whole: the node stops.
 pub record Spends (a : NodeState) (l : LinkId) (b : NodeState) : Type 0 where
   pub course : CourseState
   pub told : List ℕ
