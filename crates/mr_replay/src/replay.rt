@@ -61,11 +61,14 @@ impl Replay {
     }
 }
 
-/// Drops the first bytes.
+/// Drops the first bytes. Where there are none, nothing is moved: so the pieces of a long effect cost no more than their bytes.
 fn drop_front(bytes: &mut Vec<u8>, used: usize)
     requires { used ≤ length bytes.old.items }
     ensures { bytes.new.items ≡ drop used bytes.old.items }
 {
+    if used == 0 {
+        return;
+    }
     let left = bytes.len() - used;
     bytes.copy_within(used.., 0);
     bytes.truncate(left);
