@@ -42,16 +42,6 @@ group_text es = multi ++ (texts es ++ exec)
 abbrev pub group_texts : List (List Effect) → List ℕ
 group_texts gs = flat_map group_text gs
 
--- what a stream grows by where these effects are done as one: nothing where there are none
-abbrev pub grown_text : List Effect → List ℕ
-grown_text [] = []
-grown_text (e ∷ es) = group_text (e ∷ es)
-
--- .. and the groups that they are: one, or none
-abbrev pub as_group : List Effect → List (List Effect)
-as_group [] = []
-as_group (e ∷ es) = (e ∷ es) ∷ []
-
 -- each effect as a group of its own
 abbrev pub singles : List Effect → List (List Effect)
 singles es = map (λ e. e ∷ []) es

@@ -7,13 +7,13 @@ use Rattle.std.proofs.lemmas.Map.Views.{tells_apart}
 use Rattle.mr_links.specs.LinkId.{id_cmp}
 use Rattle.mr_links.specs.declared.link_id.LinkId.{LinkId}
 use Rattle.mr_links.proofs.LinkRows.{ids_total, exact_ids}
-use Rattle.mr_ends.specs.State.{EndState, Transaction, put_end, transaction_in}
-use Rattle.mr_ends.specs.State.EndState.{client, waiting, replica, upstream, shut}
+use Rattle.mr_ends.specs.State.{EndState, put_end}
+use Rattle.mr_ends.specs.State.EndState.{client, replica, upstream, shut}
 use Rattle.mr_ends.specs.Ending.{kind_of, used_of}
 use Rattle.mr_ends.specs.declared.kind.Kind.TheVariants as kind
-use Rattle.mr_ends.specs.Parts.{HasAhead, HasOpen, IsClient, UsesAt}
+use Rattle.mr_ends.specs.Parts.{HasAhead, IsClient, UsesAt}
 use Rattle.mr_ends.specs.Replicas.{Lists}
-use Rattle.mr_rows.specs.State.{IsNode, NodeState, end_of, Agrees, AgreesWithin, ReplicaAgrees}
+use Rattle.mr_rows.specs.State.{IsNode, NodeState, end_of, Agrees, ReplicaAgrees}
 use Rattle.mr_rows.specs.Ends.{Leaves}
 use Rattle.mr_state.specs.Parts.{OnlyEnds, with_ends}
 use Rattle.mr_node.specs.Parts.{Uses}
@@ -67,20 +67,6 @@ one_replica a l u v found at = replica_is u v (some_is (replica u) (replica v) (
 pub ahead_of : (a : NodeState) (l : LinkId) (u : List ℕ) (n : ℕ) → Agrees a l u → n ≤ length u → HasAhead a.ends l n
 ahead_of a l u n at enough = record { end = client u; found = at.is; enough = enough }
 
--- .. where a transaction is open
-pub open_of : (a : NodeState) (l : LinkId) (t : Transaction) (u : List ℕ) (n : ℕ) → AgreesWithin a l t u → n ≤ length u → HasOpen a.ends l n
-open_of a l t u n at enough = record { transaction = t; unread = u; found = at.is; enough = enough }
-
-pub open_ahead : (a : NodeState) (l : LinkId) (n : ℕ) → HasOpen a.ends l n → HasAhead a.ends l n
-open_ahead a l n is = record { end = waiting is.transaction is.unread; found = is.found; enough = is.enough }
-
--- one transaction and one text
-pub one_open : (a : NodeState) (l : LinkId) (t s : Transaction) (u v : List ℕ) → end_of a l ≡ Some (waiting t u) → AgreesWithin a l s v → (t ≡ s) × (u ≡ v)
-one_open a l t s u v found at = waiting_is (some_is (waiting t u) (waiting s v) (sym found ∙ at.is))
-  where
-    waiting_is : waiting t u ≡ waiting s v → (t ≡ s) × (u ≡ v)
-    waiting_is e = cc
-
 pub client_of : (a : NodeState) (l : LinkId) (u : List ℕ) (n : ℕ) → Agrees a l u → n ≤ length u → IsClient a.ends l n
 client_of a l u n at enough = record { unread = u; found = at.is; enough = enough }
 
@@ -88,37 +74,26 @@ pub client_ahead : (a : NodeState) (l : LinkId) (n : ℕ) → IsClient a.ends l 
 client_ahead a l n is = record { end = client is.unread; found = is.found; enough = is.enough }
 
 -- ---- whose an end is
-pub kind_client : (e : EndState) → kind.Client ≡ kind_of e → transaction_in e ≡ None → (u : List ℕ) × (e ≡ client u)
-kind_client (client u) is none = (u, refl)
-kind_client (waiting t u) is none = absurd (cc)
-kind_client (replica u) is none = absurd (cc)
-kind_client upstream is none = absurd (cc)
-kind_client shut is none = absurd (cc)
-
-pub kind_waiting : (e : EndState) (t : Transaction) → transaction_in e ≡ Some t → (u : List ℕ) × (e ≡ waiting t u)
-kind_waiting (client u) t open = absurd (cc)
-kind_waiting (waiting s u) t open = (u, ap (λ (z : Transaction). waiting z u) (some_is s t open))
-kind_waiting (replica u) t open = absurd (cc)
-kind_waiting upstream t open = absurd (cc)
-kind_waiting shut t open = absurd (cc)
+pub kind_client : (e : EndState) → kind.Client ≡ kind_of e → (u : List ℕ) × (e ≡ client u)
+kind_client (client u) is = (u, refl)
+kind_client (replica u) is = absurd (cc)
+kind_client upstream is = absurd (cc)
+kind_client shut is = absurd (cc)
 
 pub kind_replica : (e : EndState) → kind.Replica ≡ kind_of e → (u : List ℕ) × (e ≡ replica u)
 kind_replica (client u) is = absurd (cc)
-kind_replica (waiting t u) is = absurd (cc)
 kind_replica (replica u) is = (u, refl)
 kind_replica upstream is = absurd (cc)
 kind_replica shut is = absurd (cc)
 
 pub kind_upstream : (e : EndState) → kind.Upstream ≡ kind_of e → e ≡ upstream
 kind_upstream (client u) is = absurd (cc)
-kind_upstream (waiting t u) is = absurd (cc)
 kind_upstream (replica u) is = absurd (cc)
 kind_upstream upstream is = refl
 kind_upstream shut is = absurd (cc)
 
 pub kind_shut : (e : EndState) → kind.Shut ≡ kind_of e → e ≡ shut
 kind_shut (client u) is = absurd (cc)
-kind_shut (waiting t u) is = absurd (cc)
 kind_shut (replica u) is = absurd (cc)
 kind_shut upstream is = absurd (cc)
 kind_shut shut is = refl

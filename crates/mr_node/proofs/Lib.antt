@@ -1,8 +1,6 @@
 pub mod Results
 pub mod Ends
 pub mod Rows
-pub mod Within
-pub mod Executing
 pub mod Asking
 pub mod Reading
 pub mod Roles

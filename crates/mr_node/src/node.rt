@@ -8,7 +8,6 @@ ghost use Rattle.mr_node.specs.Parts.{Uses};
 
 mod answering;
 mod asking;
-mod executing;
 mod following;
 mod linking;
 mod noting;
@@ -17,7 +16,6 @@ mod serving;
 mod synchronizing;
 mod telling;
 mod ticking;
-mod waiting;
 
 use crate::config::Config;
 use mr_course::Course;

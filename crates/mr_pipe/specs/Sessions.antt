@@ -10,8 +10,7 @@ use Rattle.mr_outs.specs.Outs.{OutsState, Output, no_output}
 use Rattle.mr_rows.specs.State.{Core}
 use Rattle.mr_rows.specs.Requests.{Asks}
 use Rattle.mr_rows.specs.Telling.{Around}
-use Rattle.mr_plan.specs.Requests.{AsksNode}
-use Rattle.mr_rows.specs.Served.{Served, says}
+use Rattle.mr_rows.specs.Served.{AsksNode, Served, says}
 use Rattle.mr_rows.specs.ClientRows.{AsksToHalt, Ends, IsAnswerToPsync}
 use Rattle.mr_rows.specs.ReplicaRows.{IsExpected, IsUnwanted}
 use Rattle.mr_pipe.specs.Outside.{Change, appends, replaces}

@@ -1,4 +1,3 @@
 pub mod PlannedCommands
 pub mod Requests
 pub mod Writes
-pub mod Transactions

@@ -4,11 +4,9 @@
 mod laws;
 mod planning;
 mod requests;
-mod transactions;
 mod writing;
 
 pub use laws::others_have_no_effects;
 pub use planning::plan;
 pub use requests::{Answer, answer_to, plan_words};
-pub use transactions::{Within, not_allowed, within};
 pub use writing::writes;

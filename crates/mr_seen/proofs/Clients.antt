@@ -16,7 +16,7 @@ use Rattle.mr_ask.specs.declared.ask.Ask.TheVariants as ask
 use Rattle.mr_replay.specs.Effects.{IsGoodEffect}
 use Rattle.mr_groups.specs.Groups.{singles}
 use Rattle.mr_groups.proofs.Runs.{single_texts}
-use Rattle.mr_plan.specs.Requests.{AsksNode, HasPlan, IsPlain, halting_by, rewriting_by, question_by}
+use Rattle.mr_plan.specs.Requests.{HasPlan, halting_by, rewriting_by, question_by}
 use Rattle.mr_plan.proofs.Replicas.{none_on_replica}
 use Rattle.mr_repl.specs.Backlog.{IsWindow, last_of}
 use Rattle.mr_repl.specs.Lineage.{grown}
@@ -29,7 +29,7 @@ use Rattle.mr_outs.specs.Outs.{OutsState, Output, no_output}
 use Rattle.mr_rows.specs.State.{Core, NodeState, end_of}
 use Rattle.mr_rows.specs.Requests as requests
 use Rattle.mr_rows.specs.Growing.{FedTo, grown_by, offset_behind, offset_limit}
-use Rattle.mr_rows.specs.Served.{Answered, Served, IsQuiet, left_of}
+use Rattle.mr_rows.specs.Served.{Answered, Served, IsQuiet, AsksNode, IsPlain, left_of}
 use Rattle.mr_rows.specs.ClientRows as row
 use Rattle.mr_history.specs.Language.{Request}
 use Rattle.mr_history.specs.Language.Request.{Handshake, Psync, Ack, Command, ReplicaOfNoOne, ReplicaOf, Quit}

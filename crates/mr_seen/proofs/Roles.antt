@@ -29,7 +29,7 @@ use Rattle.mr_rows.specs.State.{NodeState, FollowedAt, end_of}
 use Rattle.mr_rows.specs.Sound.{IsSound, ports}
 use Rattle.mr_rows.specs.Growing.{Remakes, rebuilt}
 use Rattle.mr_rows.specs.Ends.{names_of}
-use Rattle.mr_plan.specs.Requests.{AsksNode}
+use Rattle.mr_rows.specs.Served.{AsksNode}
 use Rattle.mr_rows.specs.ClientRows as row
 use Rattle.mr_rows.specs.ClientRows.{ClientRow, IsAnswerToPsync}
 use Rattle.mr_history.specs.Language.{Request}

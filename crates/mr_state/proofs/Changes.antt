@@ -11,7 +11,7 @@ use Rattle.mr_repl.specs.Backlog.{IsWindow, Window, after_bytes, last_of}
 use Rattle.mr_follow.specs.State.{FollowState, started}
 use Rattle.mr_course.specs.State.{CourseState, dialled, grows, left, name_of, offer_of, promoted}
 use Rattle.mr_ends.specs.State.{EndState, end_at, opened_as, put_end, serves, streams, without}
-use Rattle.mr_ends.specs.State.EndState.{client, waiting, replica, upstream, shut}
+use Rattle.mr_ends.specs.State.EndState.{client, replica, upstream, shut}
 use Rattle.mr_ends.specs.Ending.{HasUnread, Takes, heard_of, used_of}
 use Rattle.mr_ends.specs.Parts.{HasAhead, HasRoom, HearsAt, IsClient, TurnsAt, UsesAt}
 use Rattle.mr_ends.proofs.Naming.{heard_streams, used_streams}
@@ -26,28 +26,24 @@ use Rattle.mr_state.proofs.Nodes.{alone_node, closed_node, dialled_node, get_put
 -- ---- an end that the node serves goes on as one
 takes_not : (n : ℕ) (e : EndState) → Takes n e → e ≡ upstream → ⊥
 takes_not n (client u) t is = cc
-takes_not n (waiting w u) t is = cc
 takes_not n (replica u) t is = cc
 takes_not n upstream t is = t
 takes_not n shut t is = t
 
 has_not : (n : ℕ) (e : EndState) → HasUnread n e → e ≡ upstream → ⊥
 has_not n (client u) t is = cc
-has_not n (waiting w u) t is = cc
 has_not n (replica u) t is = cc
 has_not n upstream t is = t
 has_not n shut t is = t
 
 heard_not : (bytes : List ℕ) (e : EndState) → (e ≡ upstream → ⊥) → heard_of bytes e ≡ upstream → ⊥
 heard_not bytes (client u) other is = cc
-heard_not bytes (waiting t u) other is = cc
 heard_not bytes (replica u) other is = cc
 heard_not bytes upstream other is = other refl
 heard_not bytes shut other is = cc
 
 used_not : (n : ℕ) (e : EndState) → (e ≡ upstream → ⊥) → used_of n e ≡ upstream → ⊥
 used_not n (client u) other is = cc
-used_not n (waiting t u) other is = cc
 used_not n (replica u) other is = cc
 used_not n upstream other is = other refl
 used_not n shut other is = cc

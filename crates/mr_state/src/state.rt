@@ -11,7 +11,6 @@ ghost use Rattle.mr_state.specs.Parts.{node_of};
 mod linking;
 mod roles;
 mod streaming;
-mod waiting;
 
 use mr_course::Course;
 use mr_data::Dataset;
