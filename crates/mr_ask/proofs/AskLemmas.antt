@@ -32,8 +32,8 @@ use Rattle.mr_cmd_server.proofs.ArgumentLemmas.{ping_carries, echo_carries, sele
 use Rattle.mr_cmd_string.proofs.FitLemmas.{texts_fit}
 use Rattle.mr_cmd_key.proofs.FitLemmas.{keys_fit}
 use Rattle.mr_cmd_server.proofs.FitLemmas.{carried_server}
-use Rattle.mr_cmd_node.specs.Arguments.{psync, replconf, replicaof}
-use Rattle.mr_cmd_node.proofs.ArgumentLemmas.{psync_spells, replconf_spells, replicaof_spells}
+use Rattle.mr_cmd_node.specs.Arguments.{psync, replconf, replicaof, multi, exec, discard}
+use Rattle.mr_cmd_node.proofs.ArgumentLemmas.{psync_spells, replconf_spells, replicaof_spells, multi_spells, exec_spells, discard_spells}
 use Rattle.mr_cmd_node.proofs.FitLemmas.{node_fits}
 use Rattle.mr_words.specs.declared.name.Name.{Name}
 use Rattle.mr_words.specs.declared.name.Name.TheVariants as name
@@ -158,6 +158,9 @@ reading_carries name.Psync ws = of_kind_carries (psync ws) ask.Node (SpellsNamed
 reading_carries name.ReplConf ws = of_kind_carries (replconf ws) ask.Node (SpellsNamed name.ReplConf ws) (replconf_spells ws)
 reading_carries name.ReplicaOf ws = of_kind_carries (replicaof name.ReplicaOf ws) ask.Node (SpellsNamed name.ReplicaOf ws) (replicaof_spells name.ReplicaOf (inl refl) ws)
 reading_carries name.SlaveOf ws = of_kind_carries (replicaof name.SlaveOf ws) ask.Node (SpellsNamed name.SlaveOf ws) (replicaof_spells name.SlaveOf (inr refl) ws)
+reading_carries name.Multi ws = of_kind_carries (multi ws) ask.Node (SpellsNamed name.Multi ws) (multi_spells ws)
+reading_carries name.Exec ws = of_kind_carries (exec ws) ask.Node (SpellsNamed name.Exec ws) (exec_spells ws)
+reading_carries name.Discard ws = of_kind_carries (discard ws) ask.Node (SpellsNamed name.Discard ws) (discard_spells ws)
 
 carried_by : (w : List ℕ) (o : Option Name) (ws : List (List ℕ)) → named (lowered w) ≡ o → IfOk (asked_by o ws) (Spells (w ∷ ws))
 carried_by w None ws h = tt

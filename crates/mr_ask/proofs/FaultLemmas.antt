@@ -327,6 +327,12 @@ argument_first name.Psync _ = refl
 argument_first name.ReplConf ws = of_its_kind ask.Node (replconf ws) ∙ replconf_first ws
 argument_first name.ReplicaOf ws = of_its_kind ask.Node (replicaof name.ReplicaOf ws) ∙ replicaof_first name.ReplicaOf ws
 argument_first name.SlaveOf ws = of_its_kind ask.Node (replicaof name.SlaveOf ws) ∙ replicaof_first name.SlaveOf ws
+argument_first name.Multi [] = refl
+argument_first name.Multi _ = refl
+argument_first name.Exec [] = refl
+argument_first name.Exec _ = refl
+argument_first name.Discard [] = refl
+argument_first name.Discard _ = refl
 
 behind_first : (o : Option Name) (ws : List (List ℕ)) → answered_fault (asked_by o ws) ≡ first_of (faults_behind o ws)
 behind_first None ws = refl

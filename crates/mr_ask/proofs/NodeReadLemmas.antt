@@ -1,6 +1,7 @@
 -- Words that spell a command to the node are read as it.
-use Rattle.std.proofs.Common.{ℕ, ◌≡◌, List, inl, inr, ◌∙◌, ap}
+use Rattle.std.proofs.Common.{ℕ, ◌≡◌, List, [], inl, inr, ◌∙◌, ap}
 use Rattle.std.specs.Prelude.{Ok}
+use Rattle.mr_words.proofs.ReadLemmas.{words_are}
 use Rattle.mr_words.specs.declared.name.Name.{Name}
 use Rattle.mr_words.specs.declared.name.Name.TheVariants as name
 use Rattle.mr_cmd_node.specs.Askable.{NodeIsAskable}
@@ -25,3 +26,6 @@ node_read n ws node.NoOne h s = turns s.0
     turns : IsFollowing n → reading n ws ≡ Ok (ask.Node node.NoOne)
     turns (inl e) = ap (λ x. reading x ws) e ∙ ap (of_kind ask.Node) (no_one_read name.ReplicaOf ws s.1)
     turns (inr e) = ap (λ x. reading x ws) e ∙ ap (of_kind ask.Node) (no_one_read name.SlaveOf ws s.1)
+node_read n ws node.Multi h s = ap (λ x. reading x ws) s.0 ∙ ap (reading name.Multi) (words_are ws [] s.1)
+node_read n ws node.Exec h s = ap (λ x. reading x ws) s.0 ∙ ap (reading name.Exec) (words_are ws [] s.1)
+node_read n ws node.Discard h s = ap (λ x. reading x ws) s.0 ∙ ap (reading name.Discard) (words_are ws [] s.1)

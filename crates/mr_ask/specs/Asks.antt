@@ -10,7 +10,7 @@ use Rattle.mr_cmd_list.specs.Arguments.{push, pop, llen, lrange, lindex, lset, l
 use Rattle.mr_cmd_set.specs.Arguments.{sadd, srem, sismember, smismember, smembers, scard, spop, srandmember, smove, combine}
 use Rattle.mr_cmd_zset.specs.Arguments.{zadd, zincrby, zrem, zcard, zcount, zscore, zmscore, zrank, zrange, zrevrange, range_by_score, zpop, zremrangebyrank, zremrangebyscore}
 use Rattle.mr_cmd_server.specs.Arguments.{ping, echo, select, quit, bgrewriteaof, info, role, shutdown, command, client}
-use Rattle.mr_cmd_node.specs.Arguments.{psync, replconf, replicaof}
+use Rattle.mr_cmd_node.specs.Arguments.{psync, replconf, replicaof, multi, exec, discard}
 use Rattle.mr_words.specs.declared.name.Name.{Name}
 use Rattle.mr_words.specs.declared.name.Name.TheVariants as name
 use Rattle.mr_words.specs.declared.fault.AskFault.{AskFault}
@@ -143,6 +143,9 @@ reading name.Psync arguments = of_kind ask.Node (psync arguments)
 reading name.ReplConf arguments = of_kind ask.Node (replconf arguments)
 reading name.ReplicaOf arguments = of_kind ask.Node (replicaof name.ReplicaOf arguments)
 reading name.SlaveOf arguments = of_kind ask.Node (replicaof name.SlaveOf arguments)
+reading name.Multi arguments = of_kind ask.Node (multi arguments)
+reading name.Exec arguments = of_kind ask.Node (exec arguments)
+reading name.Discard arguments = of_kind ask.Node (discard arguments)
 
 abbrev pub asked_by : Option Name → List (List ℕ) → Result Ask AskFault
 asked_by None arguments = Err Unknown

@@ -126,3 +126,6 @@ kind_of name.Psync = node
 kind_of name.ReplConf = node
 kind_of name.ReplicaOf = node
 kind_of name.SlaveOf = node
+kind_of name.Multi = node
+kind_of name.Exec = node
+kind_of name.Discard = node

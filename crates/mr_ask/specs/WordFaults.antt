@@ -201,6 +201,9 @@ argument_faults name.Psync words = counted name.Psync (each (any_word ∷ intege
 argument_faults name.ReplConf words = replconf_faults words
 argument_faults name.ReplicaOf words = counted name.ReplicaOf (following_faults words)
 argument_faults name.SlaveOf words = counted name.SlaveOf (following_faults words)
+argument_faults name.Multi words = counted name.Multi (each [] words)
+argument_faults name.Exec words = counted name.Exec (each [] words)
+argument_faults name.Discard words = counted name.Discard (each [] words)
 
 abbrev pub faults_behind : Option Name → List (List ℕ) → List AskFault
 faults_behind None words = Unknown ∷ []

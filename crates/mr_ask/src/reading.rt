@@ -162,9 +162,13 @@ fn read_arguments<'a, 't>(name: Name, arguments: Arguments<'a, 't>) -> Reading<'
         | Name::Shutdown
         | Name::Command
         | Name::Client => read_server(name, arguments),
-        Name::Psync | Name::ReplConf | Name::ReplicaOf | Name::SlaveOf => {
-            read_node(name, arguments)
-        }
+        Name::Psync
+        | Name::ReplConf
+        | Name::ReplicaOf
+        | Name::SlaveOf
+        | Name::Multi
+        | Name::Exec
+        | Name::Discard => read_node(name, arguments),
     }
 }
 
@@ -369,6 +373,9 @@ fn read_node<'a, 't>(name: Name, arguments: Arguments<'a, 't>) -> Reading<'a, 't
         Name::ReplConf => of_node(node::replconf(arguments)),
         Name::ReplicaOf => of_node(node::replicaof(name, arguments)),
         Name::SlaveOf => of_node(node::replicaof(name, arguments)),
+        Name::Multi => of_node(node::multi(arguments)),
+        Name::Exec => of_node(node::exec(arguments)),
+        Name::Discard => of_node(node::discard(arguments)),
         _ => unreachable!(),
     }
 }

@@ -13,7 +13,7 @@ use Rattle.mr_words.specs.declared.name.Name.TheVariants as name
 use Rattle.mr_words.specs.declared.fault.AskFault.{AskFault}
 use Rattle.mr_words.specs.declared.fault.AskFault.TheVariants.{Integer, Syntax}
 use Rattle.mr_words.proofs.PartLemmas.{with_integer}
-use Rattle.mr_cmd_node.specs.Arguments.{psync, replconf, replicaof, acknowledgement, telling, ack, no, one, is_no_one, port, port_of}
+use Rattle.mr_cmd_node.specs.Arguments.{psync, replconf, replicaof, multi, exec, discard, acknowledgement, telling, ack, no, one, is_no_one, port, port_of}
 use Rattle.mr_cmd_node.specs.Options.{all_tell, told, told_by}
 use Rattle.mr_cmd_node.specs.Spelled.{IsFollowing, NodeSpells}
 use Rattle.mr_cmd_node.specs.declared.node_ask.ReplicaOption.{ReplicaOption}
@@ -78,3 +78,15 @@ replicaof_spells called c (h ∷ w ∷ []) = by_tests (bytes_eq (lowered h) no) 
     by_tests true false s t = follow_spells called h w c
     by_tests false b s t = follow_spells called h w c
 replicaof_spells called c _ = tt
+
+pub multi_spells : (ws : List (List ℕ)) → IfOk (multi ws) (NodeSpells name.Multi ws)
+multi_spells [] = (refl, tt)
+multi_spells (w ∷ ws) = tt
+
+pub exec_spells : (ws : List (List ℕ)) → IfOk (exec ws) (NodeSpells name.Exec ws)
+exec_spells [] = (refl, tt)
+exec_spells (w ∷ ws) = tt
+
+pub discard_spells : (ws : List (List ℕ)) → IfOk (discard ws) (NodeSpells name.Discard ws)
+discard_spells [] = (refl, tt)
+discard_spells (w ∷ ws) = tt

@@ -23,6 +23,9 @@ carried_node (node.ReplConf told) = carried_told told
 carried_node (node.Ack offset) = refl
 carried_node (node.ReplicaOf host port) = refl
 carried_node node.NoOne = refl
+carried_node node.Multi = refl
+carried_node node.Exec = refl
+carried_node node.Discard = refl
 
 pub node_fits : (n : Name) (ws : List (List ℕ)) (a : NodeAsk) → NodeSpells n ws a → IsTrue (list_all fits ws) → IsTrue (list_all fits (node_words a))
 node_fits n ws a s h = of_parts_fit ws (node_parts a) (node_words a) (carried_node a) s.1 h

@@ -58,3 +58,18 @@ is_no_one first second = bytes_eq (lowered first) no && bytes_eq (lowered second
 abbrev pub replicaof : Name → List (List ℕ) → Result NodeAsk AskFault
 replicaof called (host ∷ word ∷ []) = if is_no_one host word then Ok ask.NoOne else with (port word) (λ n. Ok (ask.ReplicaOf host n))
 replicaof called _ = Err (Arity called)
+
+-- MULTI
+abbrev pub multi : List (List ℕ) → Result NodeAsk AskFault
+multi [] = Ok ask.Multi
+multi _ = Err (Arity name.Multi)
+
+-- EXEC
+abbrev pub exec : List (List ℕ) → Result NodeAsk AskFault
+exec [] = Ok ask.Exec
+exec _ = Err (Arity name.Exec)
+
+-- DISCARD
+abbrev pub discard : List (List ℕ) → Result NodeAsk AskFault
+discard [] = Ok ask.Discard
+discard _ = Err (Arity name.Discard)

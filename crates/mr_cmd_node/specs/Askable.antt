@@ -10,3 +10,6 @@ NodeIsAskable (node.ReplConf told) = told ≢ []
 NodeIsAskable (node.Ack offset) = IsI64 offset
 NodeIsAskable (node.ReplicaOf host port) = (1 ≤ port) × (port ≤ 65535)
 NodeIsAskable node.NoOne = Unit {0}
+NodeIsAskable node.Multi = Unit {0}
+NodeIsAskable node.Exec = Unit {0}
+NodeIsAskable node.Discard = Unit {0}

@@ -15,3 +15,6 @@ node_words (node.ReplConf told) = values told
 node_words (node.Ack offset) = []
 node_words (node.ReplicaOf host port) = host ∷ []
 node_words node.NoOne = []
+node_words node.Multi = []
+node_words node.Exec = []
+node_words node.Discard = []

@@ -21,6 +21,9 @@ node_parts (node.ReplConf told) = told_parts told
 node_parts (node.Ack offset) = Keyword ack ∷ Number offset ∷ []
 node_parts (node.ReplicaOf host port) = Word host ∷ Number (pos port) ∷ []
 node_parts node.NoOne = Keyword no ∷ Keyword one ∷ []
+node_parts node.Multi = []
+node_parts node.Exec = []
+node_parts node.Discard = []
 
 -- the names of what says whom the node follows
 abbrev pub IsFollowing : Name → Type 0
@@ -33,6 +36,9 @@ IsCalled (node.ReplConf told) called = called ≡ name.ReplConf
 IsCalled (node.Ack offset) called = called ≡ name.ReplConf
 IsCalled (node.ReplicaOf host port) called = IsFollowing called
 IsCalled node.NoOne called = IsFollowing called
+IsCalled node.Multi called = called ≡ name.Multi
+IsCalled node.Exec called = called ≡ name.Exec
+IsCalled node.Discard called = called ≡ name.Discard
 
 -- These words, behind this name, spell the command.
 abbrev pub NodeSpells : Name → List (List ℕ) → NodeAsk → Type 0

@@ -3,7 +3,7 @@ ghost use Rattle.std.specs.Prelude.{◌≡◌, map};
 ghost use Rattle.std.specs.Cow.{cow_slice_items};
 ghost use Rattle.std.specs.Str.{bytes_eq};
 ghost use Rattle.mr_words.specs.Names.{lowered};
-ghost use Rattle.mr_cmd_node.specs.Arguments.{psync, replconf, replicaof, acknowledgement, telling, ack, no, one, port, port_of};
+ghost use Rattle.mr_cmd_node.specs.Arguments.{psync, replconf, replicaof, multi, exec, discard, acknowledgement, telling, ack, no, one, port, port_of};
 
 use crate::node_ask::NodeAsk;
 use crate::told::Told;
@@ -53,6 +53,36 @@ pub fn replicaof<'a, 't>(name: Name, arguments: Arguments<'a, 't>) -> Reading<'a
             host: Argument::of(host),
         }),
         _ => Err(AskFault::Arity(name)),
+    }
+}
+
+/// `MULTI`
+pub fn multi<'a, 't>(arguments: Arguments<'a, 't>) -> Reading<'a, 't>
+    ensures { result ≡ multi (map cow_slice_items arguments.now) }
+{
+    match arguments {
+        [] => Ok(NodeAsk::Multi),
+        _ => Err(AskFault::Arity(Name::Multi)),
+    }
+}
+
+/// `EXEC`
+pub fn exec<'a, 't>(arguments: Arguments<'a, 't>) -> Reading<'a, 't>
+    ensures { result ≡ exec (map cow_slice_items arguments.now) }
+{
+    match arguments {
+        [] => Ok(NodeAsk::Exec),
+        _ => Err(AskFault::Arity(Name::Exec)),
+    }
+}
+
+/// `DISCARD`
+pub fn discard<'a, 't>(arguments: Arguments<'a, 't>) -> Reading<'a, 't>
+    ensures { result ≡ discard (map cow_slice_items arguments.now) }
+{
+    match arguments {
+        [] => Ok(NodeAsk::Discard),
+        _ => Err(AskFault::Arity(Name::Discard)),
     }
 }
 

@@ -1,5 +1,5 @@
-//! Commands to the node: what a replica sends its master, and whom the node follows. Their words are read here; what is done about
-//! them the node alone knows.
+//! Commands to the node: what a replica sends its master, whom the node follows, and what a client does as one. Their words are read
+//! here; what is done about them the node alone knows.
 #![tactic(auto)]
 
 pub mod arguments;

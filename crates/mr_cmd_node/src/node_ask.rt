@@ -20,6 +20,12 @@ pub enum NodeAsk<'a, 't> {
     ReplicaOf { host: Argument<'a>, port: u16 },
     /// `REPLICAOF NO ONE`, `SLAVEOF NO ONE`: the node is to be a master.
     NoOne,
+    /// `MULTI`: the client's requests are to wait from now on, until they are done as one.
+    Multi,
+    /// `EXEC`: the requests that wait are to be done, as one.
+    Exec,
+    /// `DISCARD`: the requests that wait are to be dropped.
+    Discard,
 }
 
 /// What a replica may say of itself.

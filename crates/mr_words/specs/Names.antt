@@ -2,7 +2,7 @@
 use Rattle.std.specs.Prelude.{ℕ, ◌+◌, List, [], ◌∷◌, Bool, nat_lt, if◌then◌else◌, Option, map, find, codes}
 use Rattle.std.specs.Str.{bytes_eq}
 use Rattle.mr_words.specs.declared.name.Name.{Name}
-use Rattle.mr_words.specs.declared.name.Name.TheVariants.{Get, Set, Del, Unlink, Exists, KeyType, StrLen, GetRange, MGet, SetNx, GetSet, GetDel, Keys, Scan, DbSize, MSet, MSetNx, Append, SetRange, Incr, Decr, IncrBy, DecrBy, Rename, RenameNx, FlushAll, FlushDb, SetEx, PSetEx, Expire, PExpire, ExpireAt, PExpireAt, Ttl, PTtl, ExpireTime, PExpireTime, Persist, HSet, HMSet, HSetNx, HGet, HMGet, HGetAll, HKeys, HVals, HDel, HExists, HLen, HStrLen, HIncrBy, LPush, RPush, LPushX, RPushX, LPop, RPop, LLen, LRange, LIndex, LSet, LInsert, LRem, LTrim, LMove, RPopLPush, SAdd, SRem, SIsMember, SMIsMember, SMembers, SCard, SPop, SRandMember, SMove, SInter, SUnion, SDiff, Ping, Echo, Select, Quit, BgRewriteAof, Info, Role, Shutdown, Command, Client, Psync, ReplConf, ReplicaOf, SlaveOf, ZAdd, ZIncrBy, ZRem, ZCard, ZCount, ZScore, ZMScore, ZRank, ZRevRank, ZRange, ZRevRange, ZRangeByScore, ZRevRangeByScore, ZPopMin, ZPopMax, ZRemRangeByRank, ZRemRangeByScore}
+use Rattle.mr_words.specs.declared.name.Name.TheVariants.{Get, Set, Del, Unlink, Exists, KeyType, StrLen, GetRange, MGet, SetNx, GetSet, GetDel, Keys, Scan, DbSize, MSet, MSetNx, Append, SetRange, Incr, Decr, IncrBy, DecrBy, Rename, RenameNx, FlushAll, FlushDb, SetEx, PSetEx, Expire, PExpire, ExpireAt, PExpireAt, Ttl, PTtl, ExpireTime, PExpireTime, Persist, HSet, HMSet, HSetNx, HGet, HMGet, HGetAll, HKeys, HVals, HDel, HExists, HLen, HStrLen, HIncrBy, LPush, RPush, LPushX, RPushX, LPop, RPop, LLen, LRange, LIndex, LSet, LInsert, LRem, LTrim, LMove, RPopLPush, SAdd, SRem, SIsMember, SMIsMember, SMembers, SCard, SPop, SRandMember, SMove, SInter, SUnion, SDiff, Ping, Echo, Select, Quit, BgRewriteAof, Info, Role, Shutdown, Command, Client, Psync, ReplConf, ReplicaOf, SlaveOf, Multi, Exec, Discard, ZAdd, ZIncrBy, ZRem, ZCard, ZCount, ZScore, ZMScore, ZRank, ZRevRank, ZRange, ZRevRange, ZRangeByScore, ZRevRangeByScore, ZPopMin, ZPopMax, ZRemRangeByRank, ZRemRangeByScore}
 
 -- a letter from A to Z in lower case, and any other byte as it is
 abbrev pub lowered_byte : ℕ → ℕ
@@ -122,6 +122,9 @@ text_of Psync = codes "psync"
 text_of ReplConf = codes "replconf"
 text_of ReplicaOf = codes "replicaof"
 text_of SlaveOf = codes "slaveof"
+text_of Multi = codes "multi"
+text_of Exec = codes "exec"
+text_of Discard = codes "discard"
 
 -- all of them
 abbrev pub names : List Name
@@ -131,7 +134,7 @@ names = Get ∷ Set ∷ Del ∷ Unlink ∷ Exists ∷ KeyType ∷ StrLen ∷ Get
     SIsMember ∷ SMIsMember ∷ SMembers ∷ SCard ∷ SPop ∷ SRandMember ∷ SMove ∷ SInter ∷ SUnion ∷ SDiff ∷
     ZAdd ∷ ZIncrBy ∷ ZRem ∷ ZCard ∷ ZCount ∷ ZScore ∷ ZMScore ∷ ZRank ∷ ZRevRank ∷
     ZRange ∷ ZRevRange ∷ ZRangeByScore ∷ ZRevRangeByScore ∷ ZPopMin ∷ ZPopMax ∷ ZRemRangeByRank ∷ ZRemRangeByScore ∷ Ping ∷
-    Echo ∷ Select ∷ Quit ∷ BgRewriteAof ∷ Info ∷ Role ∷ Shutdown ∷ Command ∷ Client ∷ Psync ∷ ReplConf ∷ ReplicaOf ∷ SlaveOf ∷ []
+    Echo ∷ Select ∷ Quit ∷ BgRewriteAof ∷ Info ∷ Role ∷ Shutdown ∷ Command ∷ Client ∷ Psync ∷ ReplConf ∷ ReplicaOf ∷ SlaveOf ∷ Multi ∷ Exec ∷ Discard ∷ []
 
 abbrev pub is_named : List ℕ → Name → Bool
 is_named text name = bytes_eq (text_of name) text

@@ -245,6 +245,9 @@ fn wrong_count(name: Name) -> &'static [u8]
         Name::ReplConf => b"ERR wrong number of arguments for 'replconf' command",
         Name::ReplicaOf => b"ERR wrong number of arguments for 'replicaof' command",
         Name::SlaveOf => b"ERR wrong number of arguments for 'slaveof' command",
+        Name::Multi => b"ERR wrong number of arguments for 'multi' command",
+        Name::Exec => b"ERR wrong number of arguments for 'exec' command",
+        Name::Discard => b"ERR wrong number of arguments for 'discard' command",
     }
 }
 

@@ -121,6 +121,10 @@ pub enum Name {
     ReplConf,
     ReplicaOf,
     SlaveOf,
+    // of what a client does as one
+    Multi,
+    Exec,
+    Discard,
 }
 
 impl Name {
@@ -172,6 +176,7 @@ impl Name {
                 Name::Quit,
                 Name::Info,
                 Name::Role,
+                Name::Exec,
             ],
             5 => &[
                 Name::SetNx,
@@ -190,6 +195,7 @@ impl Name {
                 Name::ZCard,
                 Name::ZRank,
                 Name::Psync,
+                Name::Multi,
             ],
             6 => &[
                 Name::Unlink,
@@ -233,6 +239,7 @@ impl Name {
                 Name::ZPopMax,
                 Name::Command,
                 Name::SlaveOf,
+                Name::Discard,
             ],
             8 => &[
                 Name::GetRange,
@@ -387,6 +394,9 @@ impl Name {
             Name::ReplConf => "replconf",
             Name::ReplicaOf => "replicaof",
             Name::SlaveOf => "slaveof",
+            Name::Multi => "multi",
+            Name::Exec => "exec",
+            Name::Discard => "discard",
         }
     }
 }
