@@ -12,7 +12,7 @@ use Rattle.mr_links.proofs.LinkRows.{ids_total, exact_ids}
 use Rattle.mr_ends.specs.State.{EndState, streams}
 use Rattle.mr_ends.specs.Ending.{used_of, heard_of}
 use Rattle.mr_ends.specs.Replicas.{is_named, Lists, shut_where, ShutsNamed, ShutsReplicas}
-use Rattle.mr_ends.specs.State.EndState.{client, replica, upstream, shut}
+use Rattle.mr_ends.specs.State.EndState.{client, waiting, replica, upstream, shut}
 
 swapped : (a b r : Bool) → cond a true (cond b true r) ≡ cond b true (cond a true r)
 swapped true true r = refl
@@ -26,12 +26,14 @@ named_push (m ∷ ns) n x = ap (λ z. cond (eq_by_cmp id_cmp x m) true z) (named
 
 pub used_streams : (n : ℕ) (e : EndState) → streams (Some (used_of n e)) ≡ streams (Some e)
 used_streams n (client u) = refl
+used_streams n (waiting t u) = refl
 used_streams n (replica u) = refl
 used_streams n upstream = refl
 used_streams n shut = refl
 
 pub heard_streams : (bytes : List ℕ) (e : EndState) → streams (Some (heard_of bytes e)) ≡ streams (Some e)
 heard_streams bytes (client u) = refl
+heard_streams bytes (waiting t u) = refl
 heard_streams bytes (replica u) = refl
 heard_streams bytes upstream = refl
 heard_streams bytes shut = refl
@@ -165,6 +167,7 @@ shut_end names rest a b is h = record { each = λ x. untouched (get b x) ∙ (ap
 pub silent : (o : Option EndState) → streams (shut_where (streams o) o) ≡ false
 silent None = refl
 silent (Some (client u)) = refl
+silent (Some (waiting t u)) = refl
 silent (Some (replica u)) = refl
 silent (Some upstream) = refl
 silent (Some shut) = refl

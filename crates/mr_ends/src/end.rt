@@ -1,11 +1,12 @@
 // A node's end of a link.
-ghost use Rattle.std.specs.Prelude.{◌≡◌, ◌≤◌, ◌↔◌, ℕ, List, [], true, IsTrue, length, Some, OnOk, OnErr};
-ghost use Rattle.mr_ends.specs.State.{EndState, serves, streams, unread_in, full};
-ghost use Rattle.mr_ends.specs.State.EndState.{client, replica, upstream, shut};
+ghost use Rattle.std.specs.Prelude.{◌≡◌, ◌≤◌, ◌↔◌, ℕ, List, [], true, IsTrue, length, take, drop, Some, OnOk, OnErr, option_copied};
+ghost use Rattle.mr_ends.specs.State.{CanWait, EndState, Transaction as Open, as_marked, begun, full, transaction_in, serves, streams, unread_in, with_text};
+ghost use Rattle.mr_ends.specs.State.EndState.{client, waiting, replica, upstream, shut};
 ghost use Rattle.mr_ends.specs.Ending.{kind_of, HasUnread, Takes, AgreesAt, IsRoom, used_of, heard_of};
 
 use crate::introduction::Introduction;
 use crate::kind::Kind;
+use crate::transaction::Transaction;
 use mr_buffer::Buffer;
 use mr_resp::Progress;
 use std::alloc::{AllocError, Global};
@@ -14,10 +15,11 @@ use std::marker::Model;
 /// The most unread bytes of an end that the node serves.
 const FULL: usize = 33_554_432;
 
-/// Whose it is, what was fed there and not used, how far the reader has gone over it, and what a replica told of itself.
+/// Whose it is, what a client has begun there and not ended, what was fed and not used, how far the reader has gone over it, and what a replica told of itself.
 #[derive(Drop)]
 pub struct End {
     kind: Kind,
+    transaction: Option<Transaction>,
     unread: Buffer,
     progress: Progress,
     introduction: Introduction,
@@ -33,7 +35,7 @@ impl Model for End {
 
     ghost coded = { end_code };
 
-    ghost view = { λ e. end_as e.kind e.unread };
+    ghost view = { λ e. end_as e.kind e.transaction e.unread };
 
     ghost invariant = { λ e. Fits e.unread e.progress };
 }
@@ -83,6 +85,17 @@ impl End {
         self.progress
     }
 
+    /// What a client has begun there and not ended.
+    pub fn transaction(&self) -> Option<&Transaction>
+        requires { serves self.now ≡ true }
+        ensures { option_copied result ≡ transaction_in self.now }
+    {
+        match self.kind {
+            Kind::Client => self.transaction.as_ref(),
+            Kind::Replica | Kind::Upstream | Kind::Shut => None,
+        }
+    }
+
     /// How many bytes may come.
     pub fn room(&self) -> usize
         requires { serves self.now ≡ true }
@@ -112,6 +125,7 @@ impl End {
     {
         End {
             kind,
+            transaction: None,
             unread: Buffer::new(alloc),
             progress: Progress::new(),
             introduction: Introduction::none(),
@@ -161,6 +175,51 @@ impl End {
         Ok(())
     }
 
+    /// A client begins a transaction.
+    pub(crate) fn begin(&mut self, alloc: Global)
+        ensures { (unread : List ℕ) → self.old ≡ client unread → self.new ≡ waiting begun unread }
+    {
+        self.transaction = Some(Transaction::new(alloc));
+    }
+
+    /// A request of so many unread bytes waits.
+    pub(crate) fn wait(&mut self, alloc: Global, count: usize) -> Result<(), AllocError>
+        requires enough { HasUnread count self.old }
+        requires request { CanWait (take count (unread_in self.old)) }
+        ensures ok { OnOk result ((t : Open) (unread : List ℕ) → self.old ≡ waiting t unread → self.new ≡ waiting (with_text (take count unread) t) (drop count unread)) }
+        ensures err { OnErr result (self.new ≡ self.old) }
+    {
+        if let Some(transaction) = &mut self.transaction {
+            transaction.push(alloc, &self.unread.left()[..count])?;
+        }
+        self.take(count);
+        Ok(())
+    }
+
+    /// The transaction does nothing at its end.
+    pub(crate) fn mark(&mut self)
+        ensures { (t : Open) (unread : List ℕ) → self.old ≡ waiting t unread → self.new ≡ waiting (as_marked t) unread }
+    {
+        if let Some(transaction) = &mut self.transaction {
+            transaction.mark();
+        }
+    }
+
+    /// Takes the transaction out, if one is open.
+    pub(crate) fn take_out(&mut self) -> Option<Transaction>
+        ensures taken { (t : Open) (unread : List ℕ) → self.old ≡ waiting t unread → result ≡ Some t }
+        ensures left { (t : Open) (unread : List ℕ) → self.old ≡ waiting t unread → self.new ≡ client unread }
+    {
+        self.transaction.take()
+    }
+
+    /// Puts one back.
+    pub(crate) fn put_back(&mut self, transaction: Transaction)
+        ensures { (unread : List ℕ) → self.old ≡ client unread → self.new ≡ waiting transaction unread }
+    {
+        self.transaction = Some(transaction);
+    }
+
     /// A client's becomes a replica's.
     pub(crate) fn turn(&mut self)
         ensures { (unread : List ℕ) → self.old ≡ client unread → self.new ≡ replica unread }
@@ -174,6 +233,7 @@ impl End {
         ensures { self.new ≡ shut }
     {
         self.kind = Kind::Shut;
+        self.transaction = None;
         self.unread.release();
         self.progress = Progress::new();
         self.introduction = Introduction::none();

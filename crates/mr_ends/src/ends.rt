@@ -1,15 +1,16 @@
-ghost use Rattle.std.specs.Prelude.{◌≡◌, ◌+◌, ◌<◌, ◌^◌, None, Some, [], length, false, IfOk, not, filter, OnOk, OnErr, IsSome, option_copied};
+ghost use Rattle.std.specs.Prelude.{◌≡◌, ◌+◌, ◌<◌, ◌^◌, ℕ, List, None, Some, [], length, take, false, IfOk, not, filter, OnOk, OnErr, IsSome, option_copied};
 ghost use Rattle.std.specs.FinMap as map;
 ghost use Rattle.std.specs.Ordering.{eq_by_cmp};
 ghost use Rattle.mr_links.specs.LinkId.{id_cmp};
-ghost use Rattle.mr_ends.specs.State.{end_at, put_end, without, opened_as, streams};
-ghost use Rattle.mr_ends.specs.State.EndState.{client, upstream, shut};
+ghost use Rattle.mr_ends.specs.State.{CanWait, Transaction as Open, end_at, opened_as, put_end, streams, without};
+ghost use Rattle.mr_ends.specs.State.EndState.{client, shut, upstream, waiting};
 ghost use Rattle.mr_ends.specs.Replicas.{Lists, ShutsReplicas};
-ghost use Rattle.mr_ends.specs.Parts.{HasAhead, HasRoom, KeepsOn, IsClient, UsesAt, HearsAt, TurnsAt};
+ghost use Rattle.mr_ends.specs.Parts.{BeginsAt, HasAhead, HasOpen, HasRoom, HearsAt, IsClient, KeepsOn, MarksAt, PutsBack, TakesOut, TurnsAt, UsesAt, WaitsAt};
 
 use crate::end::End;
 use crate::introduction::Introduction;
 use crate::shutting::shut_all;
+use crate::transaction::Transaction;
 use mr_links::{LinkId, Links};
 use mr_resp::Progress;
 use std::alloc::{AllocError, Global};
@@ -174,6 +175,70 @@ impl Ends {
         end.take(count);
         end.turn();
         Ok(())
+    }
+
+    /// A client begins a transaction, behind so many bytes that are used.
+    pub fn begin(&mut self, link: LinkId, count: usize)
+        requires { IsClient self.old link count }
+        ensures { BeginsAt self.old link count self.new }
+    {
+        let Some(end) = self.links.get_mut(link) else {
+            unreachable!()
+        };
+        end.take(count);
+        end.begin(self.alloc);
+    }
+
+    /// So many unread bytes, which are a request, wait for the end of the transaction that is open. Where memory is lacking nothing has
+    /// changed.
+    pub fn wait(&mut self, link: LinkId, count: usize) -> Result<(), AllocError>
+        requires open { HasOpen self.old link count }
+        requires request { (t : Open) (unread : List ℕ) → end_at self.old link ≡ Some (waiting t unread) → CanWait (take count unread) }
+        ensures ok { OnOk result (WaitsAt self.old link count self.new) }
+        ensures err { OnErr result (self.new ≡ self.old) }
+    {
+        let Some(end) = self.links.get_mut(link) else {
+            unreachable!()
+        };
+        end.wait(self.alloc, count)?;
+        Ok(())
+    }
+
+    /// The transaction that is open does nothing at its end, behind so many bytes that are used.
+    pub fn mark(&mut self, link: LinkId, count: usize)
+        requires { HasOpen self.old link count }
+        ensures { MarksAt self.old link count self.new }
+    {
+        let Some(end) = self.links.get_mut(link) else {
+            unreachable!()
+        };
+        end.take(count);
+        end.mark();
+    }
+
+    /// Takes out the transaction that is open.
+    pub fn take_out(&mut self, link: LinkId) -> Transaction
+        requires { HasOpen self.old link 0 }
+        ensures { TakesOut self.old link result self.new }
+    {
+        let Some(end) = self.links.get_mut(link) else {
+            unreachable!()
+        };
+        let Some(transaction) = end.take_out() else {
+            unreachable!()
+        };
+        transaction
+    }
+
+    /// Puts it back.
+    pub fn put_back(&mut self, link: LinkId, transaction: Transaction)
+        requires { IsClient self.old link 0 }
+        ensures { PutsBack self.old link transaction self.new }
+    {
+        let Some(end) = self.links.get_mut(link) else {
+            unreachable!()
+        };
+        end.put_back(transaction);
     }
 
     /// A client said this of itself by REPLCONF, which no claim speaks of. Where the link isn't there nothing changes.

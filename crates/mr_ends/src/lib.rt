@@ -6,8 +6,10 @@ mod ends;
 mod introduction;
 mod kind;
 mod shutting;
+mod transaction;
 
 pub use end::End;
 pub use ends::Ends;
 pub use introduction::Introduction;
 pub use kind::Kind;
+pub use transaction::Transaction;
