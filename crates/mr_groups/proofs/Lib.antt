@@ -10,3 +10,4 @@ pub mod Singles
 pub mod Going
 pub mod Lone
 pub mod Resuming
+pub mod Lengths

@@ -1,5 +1,5 @@
 -- Groups of effects, and their texts.
-use Rattle.std.specs.Prelude.{ℕ, List, [], ◌∷◌, ◌++◌, map, codes, Bool, true, false, IsTrue, All}
+use Rattle.std.specs.Prelude.{ℕ, zero, suc, List, [], ◌∷◌, ◌++◌, map, codes, Bool, true, false, IsTrue, All}
 use Rattle.std.specs.List.{flat_map, list_all}
 use Rattle.mr_resp.specs.Spelling.{array}
 use Rattle.mr_effect.specs.Spelling.{text, texts}
@@ -41,6 +41,22 @@ group_text es = multi ++ (texts es ++ exec)
 -- the texts of groups, one after another
 abbrev pub group_texts : List (List Effect) → List ℕ
 group_texts gs = flat_map group_text gs
+
+-- how many bytes of a frame stand round the texts of so many effects
+abbrev pub frame_for : ℕ → ℕ
+frame_for zero = 0
+frame_for (suc zero) = 0
+frame_for (suc (suc n)) = 29
+
+-- what a stream grows by where these effects are done as one: nothing where there are none
+abbrev pub grown_text : List Effect → List ℕ
+grown_text [] = []
+grown_text (e ∷ es) = group_text (e ∷ es)
+
+-- .. and the groups that they are: one, or none
+abbrev pub as_group : List Effect → List (List Effect)
+as_group [] = []
+as_group (e ∷ es) = (e ∷ es) ∷ []
 
 -- each effect as a group of its own
 abbrev pub singles : List Effect → List (List Effect)

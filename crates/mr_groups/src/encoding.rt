@@ -9,6 +9,25 @@ use mr_data::{Effect, encode, encode_all};
 use mr_resp::push_request;
 use std::alloc::AllocError;
 
+/// How many bytes stand round the effects' texts in the text of a group of several.
+pub const FRAME: u64 = 29;
+
+/// The text that begins a frame.
+#[tactic(auto, unfolding(crate::specs::Groups::multi))]
+pub fn multi_text() -> &'static [u8]
+    ensures { result.now ≡ multi }
+{
+    b"*1\r\n$5\r\nMULTI\r\n"
+}
+
+/// The text that ends one.
+#[tactic(auto, unfolding(crate::specs::Groups::exec))]
+pub fn exec_text() -> &'static [u8]
+    ensures { result.now ≡ exec }
+{
+    b"*1\r\n$4\r\nEXEC\r\n"
+}
+
 /// Appends a request of one word.
 fn push_one(word: &[u8], out: &mut Vec<u8>) -> Result<(), AllocError>
     ensures ok { OnOk result (out.new.items ≡ out.old.items ++ array (word.now ∷ [])) }

@@ -13,7 +13,7 @@ mod reading;
 mod replay;
 
 pub use applying::{GroupFault, apply_group, apply_group_owned};
-pub use encoding::encode_group;
+pub use encoding::{FRAME, encode_group, exec_text, multi_text};
 pub use front::Rest;
 pub use laws::{
     answer_is_one, groups_are_told_apart, reading_goes_on, single_effects_are_groups,

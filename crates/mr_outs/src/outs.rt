@@ -1,7 +1,8 @@
 // What a step gives out.
-ghost use Rattle.std.specs.Prelude.{◌≡◌, ◌++◌, [], ◌+◌, true, false, length, nat_le, if◌then◌else◌, IfOk, OnOk, Some};
+ghost use Rattle.std.specs.Prelude.{◌≡◌, ◌++◌, ◌∷◌, [], ◌+◌, true, false, length, nat_le, if◌then◌else◌, IfOk, OnOk, Some};
 ghost use Rattle.std.specs.Option.{option_map, option_copied};
 ghost use Rattle.mr_resp.specs.Replies.{reply_text};
+ghost use Rattle.mr_resp.specs.Spelling.{number_line};
 ghost use Rattle.mr_resp.specs.ReplyView.{view};
 ghost use Rattle.mr_effect.specs.Spelling.{size, text, texts};
 ghost use Rattle.mr_effect.specs.declared.effect.Effect.TheVariants as effect;
@@ -13,7 +14,7 @@ use crate::out::OutsIter;
 use mr_effect::{Effect, encode, encode_all};
 use mr_links::LinkId;
 use mr_repl::ReplId;
-use mr_resp::{Reply, write_reply};
+use mr_resp::{Reply, push_word_count, write_reply};
 use std::alloc::{AllocError, Global};
 use std::marker::Model;
 use std::mem;
@@ -273,6 +274,43 @@ impl Outs {
         Ok(true)
     }
 
+    /// A master's stream grows by these effects too, and so does the file, if all their texts together have no more bytes than this. It answers
+    /// whether.
+    pub fn grow_on(&mut self, effects: &[Effect<'_>], room: u64) -> Result<bool, AllocError>
+        requires { self.old.appended ≡ self.old.grown }
+        ensures fits { IfOk result (λ fits. fits ≡ nat_le (length self.old.grown + length (texts effects.now)) room) }
+        ensures outs { IfOk result (λ fits. self.new ≡ if fits then record self.old { grown = self.old.grown ++ texts effects.now; appended = self.old.appended ++ texts effects.now } else self.old) }
+    {
+        if !self.grows {
+            self.filed = 0;
+            self.texts.clear();
+            self.grows = true;
+        }
+        let before = self.texts.len();
+        encode_all(effects, &mut self.texts)?;
+        if self.texts.len() as u64 > room {
+            self.texts.truncate(before);
+            return Ok(false);
+        }
+        self.filed = self.texts.len();
+        Ok(true)
+    }
+
+    /// What a master's stream grows by, and the file, stands between these bytes.
+    pub fn frame(&mut self, front: &[u8], behind: &[u8]) -> Result<(), AllocError>
+        requires { self.old.appended ≡ self.old.grown }
+        ensures { OnOk result (self.new ≡ record self.old { grown = front.now ++ (self.old.grown ++ behind.now); appended = front.now ++ (self.old.grown ++ behind.now) }) }
+    {
+        let mut framed = Vec::new(self.alloc);
+        framed.extend_from_slice(front)?;
+        framed.extend_from_slice(self.grown())?;
+        framed.extend_from_slice(behind)?;
+        self.filed = framed.len();
+        self.texts = framed;
+        self.grows = true;
+        Ok(())
+    }
+
     /// A master's stream grows by a heartbeat, and the file doesn't, if all of it together has no more bytes than this. It answers whether.
     pub fn beat(&mut self, room: u64) -> Result<bool, AllocError>
         requires { self.old.appended ≡ self.old.grown }
@@ -311,11 +349,25 @@ impl Outs {
         Ok(())
     }
 
+    /// What the stream grows by is sent to nobody.
+    pub fn feed_nobody(&mut self)
+        ensures { self.new ≡ record self.old { fed = [] } }
+    {
+        self.fed.clear();
+    }
+
     /// Puts a reply behind what is sent on the link.
     pub fn say(&mut self, reply: &Reply) -> Result<(), AllocError>
         ensures { OnOk result (self.new ≡ record self.old { reply = self.old.reply ++ reply_text (view reply.now) }) }
     {
         write_reply(reply, &mut self.reply)
+    }
+
+    /// So many replies are to come as one.
+    pub fn say_count(&mut self, count: usize) -> Result<(), AllocError>
+        ensures { OnOk result (self.new ≡ record self.old { reply = self.old.reply ++ 42 ∷ number_line count }) }
+    {
+        push_word_count(&mut self.reply, count)
     }
 
     /// Puts bytes behind what is sent on the link.
