@@ -1,3 +1,4 @@
 pub mod PlannedCommands
 pub mod Requests
 pub mod Writes
+pub mod Transactions

@@ -15,6 +15,7 @@ use Rattle.mr_ask.specs.declared.ask.Ask.{Ask}
 use Rattle.mr_ask.specs.declared.ask.Ask.TheVariants as ask
 use Rattle.mr_cmd_server.specs.declared.server_ask.ServerAsk.TheVariants as server
 use Rattle.mr_cmd_server.specs.declared.question.Question.{Question}
+use Rattle.mr_cmd_node.specs.declared.node_ask.NodeAsk.{NodeAsk}
 use Rattle.mr_cmd_server.specs.Questions.{question_of}
 use Rattle.mr_words.specs.declared.fault.AskFault.{AskFault}
 use Rattle.mr_planning.specs.Commands.{IsPlan, answer, after}
@@ -101,6 +102,17 @@ question_by (Err fault) = None
 -- what the client asks about the node, if it does
 abbrev pub question_in : List (List ℕ) → Option Question
 question_in words = question_by (asked words)
+
+-- the words ask this of the node
+abbrev pub AsksNode : List (List ℕ) → NodeAsk → Type 0
+AsksNode words wish = asked words ≡ Ok (ask.Node wish)
+
+-- A request that is answered by its plan: it doesn't rewrite the file, end the program, ask about the node, or ask anything of it.
+pub record IsPlain (words : List (List ℕ)) : Type 0 where
+  pub keeps_file : rewrites words ≡ false
+  pub runs_on : halts words ≡ false
+  pub asks_data : question_in words ≡ None
+  pub asks_no_node : (wish : NodeAsk) → AsksNode words wish → ⊥
 
 -- what is done about a command
 abbrev pub IsAnswerTo : Bool → Ask → Given → Dataset → Answer → Type 0

@@ -1,5 +1,5 @@
 -- Which commands are writes: those that may have an effect of their own. The others only tell.
-use Rattle.std.specs.Prelude.{◌≡◌, List, [], Bool, true, false}
+use Rattle.std.specs.Prelude.{◌≡◌, [], Bool, true, false}
 use Rattle.mr_entries.specs.Dataset.{Dataset}
 use Rattle.mr_data.specs.declared.given.Given.{Given}
 use Rattle.mr_ask.specs.declared.ask.Ask.{Ask}

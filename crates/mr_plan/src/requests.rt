@@ -108,7 +108,7 @@ fn tell(alloc: Global, held: &Dataset, ask: &Ask<'_, '_>, given: Given) -> Resul
 }
 
 /// The error by which a replica refuses writes.
-fn readonly() -> Reply
+pub(crate) fn readonly() -> Reply
     ensures { view result ≡ readonly }
 {
     Reply::Error(CowSlice::Borrowed(b"READONLY You can't write against a read only replica."))

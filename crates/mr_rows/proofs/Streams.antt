@@ -1,5 +1,5 @@
 -- What becomes of a node's stream, row by row.
-use Rattle.std.proofs.Common.{◌≡◌, ◌⊎◌, ◌≤◌, ◌+◌, ◌∙◌, ℕ, List, [], Bool, true, false, not, Some, length, refl, sym, ap, subst, inl, inr, arith}
+use Rattle.std.proofs.Common.{◌≡◌, ◌≤◌, ◌+◌, ◌∙◌, ℕ, List, [], Bool, true, false, not, Some, length, refl, sym, ap, subst, inl, inr, arith}
 use Rattle.mr_links.specs.declared.link_id.LinkId.{LinkId}
 use Rattle.mr_entries.specs.Dataset.{Dataset}
 use Rattle.mr_data.specs.Meaning.{apply_all}
@@ -7,12 +7,16 @@ use Rattle.mr_data.specs.declared.given.Given.{Given}
 use Rattle.mr_effect.specs.Spelling.{texts}
 use Rattle.mr_effect.specs.declared.effect.Effect.{Effect}
 use Rattle.mr_cmd_node.specs.declared.node_ask.NodeAsk.{NodeAsk}
+use Rattle.mr_groups.specs.Groups.{grown_text}
 use Rattle.mr_plan.proofs.Replicas.{none_on_replica}
+use Rattle.mr_plan.proofs.Doing.{do_nothing, have_none}
+use Rattle.mr_ends.specs.State.{Transaction}
 use Rattle.mr_outs.specs.Outs.{OutsState, Output}
 use Rattle.mr_rows.specs.State.{Core, NodeState}
 use Rattle.mr_rows.specs.Telling.{Around}
 use Rattle.mr_rows.specs.Served.{Answered, Served, IsQuiet}
 use Rattle.mr_rows.specs.ClientRows.{ClientRow}
+use Rattle.mr_rows.specs.Transactions.{WithinRow, frame_of}
 use Rattle.mr_rows.specs.Laws.{GoesOn, OnlyAnswers}
 
 abbrev pub Onward : Core → Core → Type 0
@@ -46,6 +50,15 @@ goes_on a b l u given fresh outs (ClientRow.promotes s) = record {
 }
 goes_on a b l u given fresh outs (ClientRow.turns s) = stays a b fresh outs (subst (Onward a.core) (sym s.core) (omega arith, refl))
 goes_on a b l u given fresh outs (ClientRow.demotes s) = stays a b fresh outs (subst (Onward a.core) (sym s.core) (omega arith, refl))
+goes_on a b l u given fresh outs (ClientRow.begins s) = stays a b fresh outs (subst (Onward a.core) (sym s.core) (same a.core))
+
+-- .. where a transaction is open
+pub goes_on_within : (a b : NodeState) (l : LinkId) (t : Transaction) (u : List ℕ) (given : Given) (fresh : List ℕ) (outs : OutsState) → WithinRow a l t u given b outs → GoesOn a b fresh outs
+goes_on_within a b l t u given fresh outs (WithinRow.stands s) = stays a b fresh outs (subst (Onward a.core) (sym s.core) (same a.core))
+goes_on_within a b l t u given fresh outs (WithinRow.passes s) = stays a b fresh outs (subst (Onward a.core) (sym s.core) (same a.core))
+goes_on_within a b l t u given fresh outs (WithinRow.drops s) = stays a b fresh outs (subst (Onward a.core) (sym s.core) (same a.core))
+goes_on_within a b l t u given fresh outs (WithinRow.executes s) = stays a b fresh outs (subst (Onward a.core) (sym s.core) (omega arith, refl))
+goes_on_within a b l t u given fresh outs (WithinRow.closes s) = stays a b fresh outs (subst (Onward a.core) (sym s.core) (same a.core))
 
 -- ---- a replica
 abbrev pub Rests : Core → Core → Output → Type 0
@@ -61,6 +74,8 @@ quiet_grown : (c : Core) (wish : NodeAsk) (out : Output) → IsQuiet c wish out 
 quiet_grown c wish out (IsQuiet.introduces told is gives) = ap (λ (o : Output). o.grown) gives
 quiet_grown c wish out (IsQuiet.acknowledges offset is gives) = ap (λ (o : Output). o.grown) gives
 quiet_grown c wish out (IsQuiet.refuses id wanted is replica gives) = ap (λ (o : Output). o.grown) gives
+quiet_grown c wish out (IsQuiet.execs_nothing is gives) = ap (λ (o : Output). o.grown) gives
+quiet_grown c wish out (IsQuiet.discards_nothing is gives) = ap (λ (o : Output). o.grown) gives
 quiet_grown c wish out (IsQuiet.stays_master is master gives) = ap (λ (o : Output). o.grown) gives
 quiet_grown c wish out (IsQuiet.stays_replica host port is replica followed gives) = ap (λ (o : Output). o.grown) gives
 
@@ -102,3 +117,21 @@ only_answers a b l u given fresh outs (ClientRow.turns s) alone still = record {
   grown = ap (λ (o : OutsState). o.grown) s.outs_are;
 }
 only_answers a b l u given fresh outs (ClientRow.demotes s) alone still = absurd (both a.core.master s.master alone)
+only_answers a b l u given fresh outs (ClientRow.begins s) alone still = kept a b outs s.core (ap (λ (o : OutsState). o.grown) s.outs_are)
+
+-- .. where a transaction is open
+pub only_answers_within : (a b : NodeState) (l : LinkId) (t : Transaction) (u : List ℕ) (given : Given) (outs : OutsState) → WithinRow a l t u given b outs → a.core.master ≡ false → OnlyAnswers a b outs
+only_answers_within a b l t u given outs (WithinRow.stands s) alone = kept a b outs s.core (ap (λ (o : OutsState). o.grown) s.outs_are)
+only_answers_within a b l t u given outs (WithinRow.passes s) alone = kept a b outs s.core (ap (λ (o : OutsState). o.grown) s.outs_are)
+only_answers_within a b l t u given outs (WithinRow.drops s) alone = kept a b outs s.core (ap (λ (o : OutsState). o.grown) s.outs_are)
+only_answers_within a b l t u given outs (WithinRow.closes s) alone = kept a b outs s.core (ap (λ (o : OutsState). o.grown) s.outs_are)
+only_answers_within a b l t u given outs (WithinRow.executes s) alone =
+    let none : s.effects ≡ [] = have_none (frame_of a) (not a.core.master) given t.queued [] a.core.held s.held s.replies s.effects (ap not alone) s.does in
+    let stays : s.held ≡ a.core.held = do_nothing (frame_of a) (not a.core.master) given t.queued [] a.core.held s.held s.replies s.effects none s.does in
+    let bytes : grown_text s.effects ≡ [] = ap grown_text none in
+    let count : length (grown_text s.effects) ≡ 0 = ap length bytes in
+    record {
+      held = ap (λ (z : Core). z.held) s.core ∙ stays;
+      offset = ap (λ (z : Core). z.lineage.stream.offset) s.core ∙ (let e : a.core.lineage.stream.offset + length (grown_text s.effects) ≡ a.core.lineage.stream.offset = omega (arith, count) in e);
+      grown = ap (λ (o : OutsState). o.grown) s.outs_are ∙ bytes;
+    }

@@ -1,5 +1,5 @@
 -- What a step at a client's end of a link may do, one row for each.
-use Rattle.std.specs.Prelude.{◌≡◌, ◌≢◌, ◌≤◌, ◌<◌, ◌++◌, ℕ, ℤ, pos, List, [], true, false, not, Option, Some, None, length}
+use Rattle.std.specs.Prelude.{◌≡◌, ◌≢◌, ◌≤◌, ◌<◌, ◌++◌, ℕ, ℤ, pos, List, [], true, false, not, Some, None, length}
 use Rattle.mr_links.specs.declared.link_id.LinkId.{LinkId}
 use Rattle.mr_resp.specs.Replies.{Tree, error, reply_text}
 use Rattle.mr_resp.specs.Faults.{fault_text}
@@ -9,7 +9,7 @@ use Rattle.mr_effect.specs.declared.effect.Effect.{Effect}
 use Rattle.mr_data.specs.Rebuilding.{rebuilding}
 use Rattle.mr_data.specs.declared.given.Given.{Given}
 use Rattle.mr_planning.specs.Answered.{done}
-use Rattle.mr_plan.specs.Requests.{HasPlan, halts as is_halting, quits}
+use Rattle.mr_plan.specs.Requests.{AsksNode, HasPlan, halts as is_halting, quits}
 use Rattle.mr_cmd_node.specs.declared.node_ask.NodeAsk.TheVariants as node
 use Rattle.mr_repl.specs.Lineage.{LineageState, standing_of, renamed}
 use Rattle.mr_repl.specs.Backlog.{bytes_from}
@@ -18,18 +18,18 @@ use Rattle.mr_lines.specs.Lines.{most_counted}
 use Rattle.mr_lines.specs.Written.{reply_line, length_line}
 use Rattle.mr_lines.specs.declared.psync.PsyncReply.TheVariants.{FullResync, Continue}
 use Rattle.mr_course.specs.State.{name_of}
-use Rattle.mr_ends.specs.State.{full}
-use Rattle.mr_ends.specs.State.EndState.{client, replica}
+use Rattle.mr_ends.specs.State.{begun, full}
+use Rattle.mr_ends.specs.State.EndState.{client, waiting, replica}
 use Rattle.mr_ends.specs.Replicas.{Lists}
 use Rattle.mr_outs.specs.Address.{AddressState}
 use Rattle.mr_outs.specs.Outs.{OutsState, Output, no_outs, outs_with}
-use Rattle.mr_rows.specs.State.{NodeState, IsShut, OthersStay, Agrees, spent_as}
+use Rattle.mr_rows.specs.State.{NodeState, IsShut, OthersStay}
 use Rattle.mr_rows.specs.Sound.{ports}
 use Rattle.mr_rows.specs.Requests.{Asks, Waits, IsDoomedBy}
 use Rattle.mr_rows.specs.Growing.{FedTo, Remakes, offset_behind, offset_limit, rebuilt}
 use Rattle.mr_rows.specs.Telling.{Around, IsAround}
 use Rattle.mr_rows.specs.Ends.{Leaves, Settles, names_of}
-use Rattle.mr_rows.specs.Served.{AsksNode, Served}
+use Rattle.mr_rows.specs.Served.{Served}
 
 -- What stands at the front is used: the node becomes what that makes of it, and what that gives out is given out. What the stream grew by
 -- goes to all replicas.
@@ -145,6 +145,17 @@ pub record Demotes (a : NodeState) (l : LinkId) (u : List ℕ) (b : NodeState) (
   pub ends : Settles a l b (client rest) outs.closed None
   pub outs_are : outs ≡ record no_outs { link = Some l; reply = reply_text done; closed = outs.closed; follows = Some address }
 
+-- A client begins a transaction.
+pub record Begins (a : NodeState) (l : LinkId) (u : List ℕ) (b : NodeState) (outs : OutsState) : Type 0 where
+  pub up : a.core.up ≡ true
+  pub words : List (List ℕ)
+  pub rest : List ℕ
+  pub asks : Asks u words rest
+  pub wish : AsksNode words node.Multi
+  pub core : b.core ≡ a.core
+  pub leaves : Leaves a l b (waiting begun rest)
+  pub outs_are : outs ≡ record no_outs { link = Some l; reply = reply_text done }
+
 -- a step that used something
 pub data ClientRow (a : NodeState) (l : LinkId) (u : List ℕ) (given : Given) (fresh : List ℕ) (b : NodeState) (outs : OutsState) : Type 0 where
   serves : Serves a l u given b outs → ClientRow a l u given fresh b outs
@@ -154,6 +165,7 @@ pub data ClientRow (a : NodeState) (l : LinkId) (u : List ℕ) (given : Given) (
   promotes : Promotes a l u fresh b outs → ClientRow a l u given fresh b outs
   turns : Turns a l u b outs → ClientRow a l u given fresh b outs
   demotes : Demotes a l u b outs → ClientRow a l u given fresh b outs
+  begins : Begins a l u b outs → ClientRow a l u given fresh b outs
 
 -- Nothing whole is there, and nothing changes. A full input is never left so.
 pub record Idles (a : NodeState) (u : List ℕ) (b : NodeState) : Type 0 where

@@ -6,6 +6,7 @@ pub mod Growing
 pub mod Served
 pub mod Ends
 pub mod ClientRows
+pub mod Transactions
 pub mod ReplicaRows
 pub mod UpstreamRows
 pub mod Acknowledging

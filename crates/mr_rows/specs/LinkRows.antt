@@ -1,16 +1,15 @@
 -- What becomes of a node as links come, are fed and go.
-use Rattle.std.specs.Prelude.{◌≡◌, ◌≢◌, ◌+◌, ◌++◌, ℕ, List, [], true, false, Bool, Option, Some, None, if◌then◌else◌}
+use Rattle.std.specs.Prelude.{◌≡◌, ◌≢◌, ◌++◌, ℕ, List, [], false, Option, Some, None, if◌then◌else◌}
 use Rattle.std.specs.Ordering.{eq_by_cmp}
-use Rattle.std.specs.FinMap as map
 use Rattle.mr_links.specs.LinkId.{id_cmp}
 use Rattle.mr_links.specs.declared.link_id.LinkId.{LinkId}
 use Rattle.mr_follow.specs.State.{FollowState, heard, started}
 use Rattle.mr_follow.specs.Handshake.{ping_line}
 use Rattle.mr_course.specs.State.{name_of, offer_of}
-use Rattle.mr_ends.specs.State.{EndState, opened_as, without}
+use Rattle.mr_ends.specs.State.{Transaction, opened_as, without}
 use Rattle.mr_ends.specs.State.EndState.{client, upstream}
 use Rattle.mr_outs.specs.Outs.{OutsState, no_outs}
-use Rattle.mr_rows.specs.State.{NodeState, Agrees, ReplicaAgrees, MasterAgrees, IsShut, OthersStay, end_of}
+use Rattle.mr_rows.specs.State.{AgreesWithin, NodeState, Agrees, ReplicaAgrees, MasterAgrees, IsShut, OthersStay, end_of}
 
 -- A client's end is there, with nothing unread, under a name that was never given before; and nothing else changes.
 pub record Opens (a : NodeState) (l : LinkId) (b : NodeState) : Type 0 where
@@ -42,6 +41,7 @@ closed_at l a = record a { ends = without a.ends l; follow = follow_without l a.
 -- the master has these bytes more to read, and is the same otherwise.
 pub record Feeds (a : NodeState) (l : LinkId) (bytes : List ℕ) (b : NodeState) : Type 0 where
   pub at_client : (u : List ℕ) → Agrees a l u → Agrees b l (u ++ bytes)
+  pub at_waiting : (t : Transaction) (u : List ℕ) → AgreesWithin a l t u → AgreesWithin b l t (u ++ bytes)
   pub at_replica : (u : List ℕ) → ReplicaAgrees a l u → ReplicaAgrees b l (u ++ bytes)
   pub at_master : (u : List ℕ) → MasterAgrees a l u → MasterAgrees b l (u ++ bytes)
   pub at_shut : IsShut a l → b ≡ a

@@ -1,20 +1,19 @@
 -- What a client's request that keeps the node's role makes of it, and what it is sent.
-use Rattle.std.specs.Prelude.{◌≡◌, ◌≤◌, ◌<◌, ℕ, ℤ, List, true, false, not, Ok, Some, None, codes}
+use Rattle.std.specs.Prelude.{◌≡◌, ◌≤◌, ◌<◌, ℕ, ℤ, List, true, false, not, Some, codes}
 use Rattle.mr_resp.specs.Replies.{Tree, error, reply_text}
 use Rattle.mr_entries.specs.Dataset.{Dataset}
 use Rattle.mr_data.specs.Rebuilding.{rebuilding}
 use Rattle.mr_data.specs.declared.given.Given.{Given}
 use Rattle.mr_effect.specs.Spelling.{texts}
 use Rattle.mr_effect.specs.declared.effect.Effect.{Effect}
-use Rattle.mr_ask.specs.Asks.{asked}
-use Rattle.mr_ask.specs.declared.ask.Ask.TheVariants as ask
 use Rattle.mr_cmd_node.specs.declared.node_ask.ReplicaOption.{ReplicaOption}
 use Rattle.mr_cmd_node.specs.declared.node_ask.NodeAsk.{NodeAsk}
 use Rattle.mr_cmd_node.specs.declared.node_ask.NodeAsk.TheVariants as node
 use Rattle.mr_cmd_server.specs.Commands.{rewriting}
 use Rattle.mr_cmd_server.specs.declared.question.Question.{Question}
 use Rattle.mr_planning.specs.Answered.{done}
-use Rattle.mr_plan.specs.Requests.{HasPlan, halts, left, question_in, rewrites}
+use Rattle.mr_plan.specs.Transactions.{discard_alone, exec_alone}
+use Rattle.mr_plan.specs.Requests.{AsksNode, HasPlan, IsPlain, left, question_in, rewrites}
 use Rattle.mr_outs.specs.Outs.{Output, no_output, growth}
 use Rattle.mr_rows.specs.State.{Core}
 use Rattle.mr_rows.specs.Requests.{Asks, AsksNothing}
@@ -24,10 +23,6 @@ use Rattle.mr_rows.specs.Telling.{Around, reply_about}
 -- what a request leaves of a node's dataset
 abbrev pub left_of : Core → List (List ℕ) → Given → Dataset
 left_of c words given = left (not c.master) words given c.held
-
--- the words ask this of the node
-abbrev pub AsksNode : List (List ℕ) → NodeAsk → Type 0
-AsksNode words wish = asked words ≡ Ok (ask.Node wish)
 
 -- a file written anew, and the client is told so
 abbrev pub rewritten_as : Dataset → Output
@@ -41,13 +36,6 @@ says reply = record no_output { said = reply_text reply }
 abbrev pub not_chained : Tree
 not_chained = error (codes "ERR replicas are not chained")
 
--- A request that is answered by its plan: it doesn't rewrite the file, end the program, ask about the node, or ask anything of it.
-pub record IsPlain (words : List (List ℕ)) : Type 0 where
-  pub keeps_file : rewrites words ≡ false
-  pub runs_on : halts words ≡ false
-  pub asks_data : question_in words ≡ None
-  pub asks_no_node : (wish : NodeAsk) → AsksNode words wish → ⊥
-
 -- A request to the node that changes nothing, and what is said.
 pub data IsQuiet (c : Core) (wish : NodeAsk) (out : Output) : Type 0 where
   -- what a replica says of itself, before it asks for the stream
@@ -56,6 +44,9 @@ pub data IsQuiet (c : Core) (wish : NodeAsk) (out : Output) : Type 0 where
   acknowledges : (offset : ℤ) → wish ≡ node.Ack offset → out ≡ no_output → IsQuiet c wish out
   -- a replica is asked for the stream
   refuses : (id : List ℕ) (wanted : ℤ) → wish ≡ node.Psync id wanted → c.master ≡ false → out ≡ says not_chained → IsQuiet c wish out
+  -- what waits is to be done or dropped, and nothing waits
+  execs_nothing : wish ≡ node.Exec → out ≡ says exec_alone → IsQuiet c wish out
+  discards_nothing : wish ≡ node.Discard → out ≡ says discard_alone → IsQuiet c wish out
   -- a master is to be one
   stays_master : wish ≡ node.NoOne → c.master ≡ true → out ≡ says done → IsQuiet c wish out
   -- a replica is to follow whom it follows

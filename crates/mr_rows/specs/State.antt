@@ -1,5 +1,5 @@
 -- What a contract sees of a node.
-use Rattle.std.specs.Prelude.{◌≡◌, ◌≢◌, ℕ, ℤ, List, [], Bool, true, false, not, Option, None, Some, refl, ◌<◌, ◌+◌, ◌-◌, ◌^◌, length, if◌then◌else◌}
+use Rattle.std.specs.Prelude.{◌≡◌, ◌≢◌, ℕ, ℤ, List, Bool, true, false, not, Option, None, Some, refl, ◌<◌, ◌+◌, ◌-◌, ◌^◌, length, if◌then◌else◌}
 use Rattle.std.specs.Coded.{Coded, code_by, coded×, coded_ℕ, coded_ℤ, coded_bool, coded_list, coded_option}
 use Rattle.std.specs.FinMap as map
 use Rattle.mr_links.specs.Links.{Links, links_code}
@@ -12,8 +12,8 @@ use Rattle.mr_follow.specs.State.{FollowState}
 use Rattle.mr_follow.specs.State as follower
 use Rattle.mr_course.specs.Codes.{lineage_code, follow_code}
 use Rattle.mr_course.specs.State.{CourseState, name_of}
-use Rattle.mr_ends.specs.State.{EndState, end_code, end_at, put_end, serves, streams, unread_in, full}
-use Rattle.mr_ends.specs.State.EndState.{client, replica, upstream, shut}
+use Rattle.mr_ends.specs.State.{EndState, Transaction, end_code, end_at, put_end, serves, streams, unread_in, full}
+use Rattle.mr_ends.specs.State.EndState.{client, waiting, replica, upstream, shut}
 use Rattle.mr_outs.specs.Address.{AddressState, address_code}
 
 -- a node, its links apart
@@ -87,6 +87,10 @@ pub record IsNode (a : NodeState) : Type 0 where
 pub record Agrees (a : NodeState) (l : LinkId) (unread : List ℕ) : Type 0 where
   pub is : end_of a l ≡ Some (client unread)
 
+-- .. a client's too, and this transaction is open there
+pub record AgreesWithin (a : NodeState) (l : LinkId) (t : Transaction) (unread : List ℕ) : Type 0 where
+  pub is : end_of a l ≡ Some (waiting t unread)
+
 -- .. a replica's, which was answered CONTINUE or FULLRESYNC
 pub record ReplicaAgrees (a : NodeState) (l : LinkId) (unread : List ℕ) : Type 0 where
   pub is : end_of a l ≡ Some (replica unread)
@@ -123,6 +127,7 @@ shown c = if c.up then Some (c.lineage.id, c.lineage.stream.offset) else None
 abbrev pub room_at : Option EndState → Option ℕ
 room_at None = None
 room_at (Some (client unread)) = Some (full - length unread)
+room_at (Some (waiting t unread)) = Some (full - length unread)
 room_at (Some (replica unread)) = Some (full - length unread)
 room_at (Some upstream) = Some (2 ^ 64 - 1)
 room_at (Some shut) = Some (2 ^ 64 - 1)

@@ -1,20 +1,18 @@
 -- What a step at the link to the master may do.
-use Rattle.std.specs.Prelude.{◌≡◌, ℕ, List, [], Bool, true, false, Some, Result, Ok, Err, not, bytes_eq, if◌then◌else◌}
+use Rattle.std.specs.Prelude.{◌≡◌, ℕ, List, [], true, false, Some, Ok, Err, bytes_eq, if◌then◌else◌}
 use Rattle.mr_links.specs.Links.{Links}
 use Rattle.mr_links.specs.declared.link_id.LinkId.{LinkId}
 use Rattle.mr_entries.specs.Dataset.{Dataset}
 use Rattle.mr_effect.specs.Spelling.{text}
 use Rattle.mr_effect.specs.declared.effect.Effect.TheVariants as effect
-use Rattle.mr_follow.specs.State.{FollowState}
 use Rattle.mr_course.specs.State.{CourseState}
 use Rattle.mr_course.specs.Rows.{Listens}
 use Rattle.mr_course.specs.declared.upstream.UpstreamStep.{UpstreamStep}
 use Rattle.mr_course.specs.declared.upstream.UpstreamStep.TheVariants as outcome
-use Rattle.mr_course.specs.declared.upstream.UpstreamFault.{UpstreamFault}
 use Rattle.mr_course.specs.declared.upstream.UpstreamFault.TheVariants as fault
 use Rattle.mr_ends.specs.State.{EndState, without}
 use Rattle.mr_outs.specs.Outs.{OutsState, no_outs}
-use Rattle.mr_rows.specs.State.{NodeState, course_of, on_course}
+use Rattle.mr_rows.specs.State.{NodeState, course_of}
 
 -- the text of a heartbeat
 abbrev pub beat : List ℕ
