@@ -7,6 +7,7 @@ use Rattle.mr_cmd_node.specs.declared.node_ask.ReplicaOption.{ReplicaOption}
 use Rattle.mr_outs.specs.Address.{AddressState}
 use Rattle.mr_outs.specs.Outs.{no_output}
 use Rattle.mr_planning.specs.Answered.{done}
+use Rattle.mr_plan.specs.Transactions.{discard_alone, exec_alone}
 use Rattle.mr_rows.specs.State.{Core}
 use Rattle.mr_rows.specs.Served.{IsQuiet, not_chained, says}
 use Rattle.mr_node.specs.Parts.{Keeps}
@@ -34,6 +35,18 @@ pub of_lead : (wish : NodeAsk) → IsWish wish request.Lead → wish ≡ node.No
 of_lead node.NoOne h = refl
 of_lead _ h = absurd h
 
+pub of_begin : (wish : NodeAsk) → IsWish wish request.Begin → wish ≡ node.Multi
+of_begin node.Multi h = refl
+of_begin _ h = absurd h
+
+pub of_exec : (wish : NodeAsk) → IsWish wish request.Exec → wish ≡ node.Exec
+of_exec node.Exec h = refl
+of_exec _ h = absurd h
+
+pub of_discard : (wish : NodeAsk) → IsWish wish request.Discard → wish ≡ node.Discard
+of_discard node.Discard h = refl
+of_discard _ h = absurd h
+
 -- ---- what changes nothing
 module _ (c : Core) (u : List ℕ) (used : ℕ) (wish : NodeAsk) (w : Wishes u used wish) where
   pub keeps_introduction : (told : List (ReplicaOption × List ℕ)) → wish ≡ node.ReplConf told → Keeps c u used (says done)
@@ -50,3 +63,10 @@ module _ (c : Core) (u : List ℕ) (used : ℕ) (wish : NodeAsk) (w : Wishes u u
 
   pub keeps_replica : (address : AddressState) → wish ≡ node.ReplicaOf address.host address.port → c.master ≡ false → c.upstream ≡ Some address → Keeps c u used (says done)
   keeps_replica address is follows same = record { wish = wish; wishes = w; quiet = IsQuiet.stays_replica address.host address.port is follows same refl }
+
+  -- nothing waits
+  pub keeps_exec : wish ≡ node.Exec → Keeps c u used (says exec_alone)
+  keeps_exec is = record { wish = wish; wishes = w; quiet = IsQuiet.execs_nothing is refl }
+
+  pub keeps_discard : wish ≡ node.Discard → Keeps c u used (says discard_alone)
+  keeps_discard is = record { wish = wish; wishes = w; quiet = IsQuiet.discards_nothing is refl }

@@ -1,6 +1,8 @@
 pub mod Results
 pub mod Ends
 pub mod Rows
+pub mod Transactions
+pub mod Executing
 pub mod Asking
 pub mod Reading
 pub mod Roles

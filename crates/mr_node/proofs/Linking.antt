@@ -10,8 +10,8 @@ use Rattle.mr_effect.specs.Spelling.{words}
 use Rattle.mr_follow.specs.Handshake.{ping_line}
 use Rattle.mr_follow.specs.State.{FedIsUnread, FollowState, heard}
 use Rattle.mr_course.specs.State.{hears_more}
-use Rattle.mr_ends.specs.State.{EndState, full, put_end, serves, unread_in}
-use Rattle.mr_ends.specs.State.EndState.{client, replica, shut, upstream}
+use Rattle.mr_ends.specs.State.{EndState, Transaction, full, put_end, serves, unread_in}
+use Rattle.mr_ends.specs.State.EndState.{client, waiting, replica, shut, upstream}
 use Rattle.mr_ends.specs.Ending.{IsRoom, heard_of, kind_of}
 use Rattle.mr_ends.specs.declared.kind.Kind.TheVariants as kind
 use Rattle.mr_outs.specs.Outs.{OutsState, no_outs}
@@ -20,7 +20,7 @@ use Rattle.mr_rows.specs.LinkRows.{Dials, Feeds}
 use Rattle.mr_rows.specs.UpstreamRows.{beat}
 use Rattle.mr_state.specs.Parts.{dialled_as, fed_as, with_ends}
 use Rattle.mr_node.specs.Calls.{FitsMore, IsClients}
-use Rattle.mr_node.proofs.Ends.{one_end, one_replica, put_leaves, some_is}
+use Rattle.mr_node.proofs.Ends.{one_end, one_open, one_replica, put_leaves, some_is}
 
 -- ---- what is true where a call succeeds, once it has
 pub went : {T E P : Type 0} (r : Result T E) (x : T) → r ≡ Ok x → OnOk r P → P
@@ -66,6 +66,7 @@ feeds_client a b l unread bytes node found is =
     let leaves = put_leaves a b l (client (unread ++ bytes)) is in
     record {
       at_client = λ u at. record { is = leaves.is ∙ ap (λ (z : List ℕ). Some (client (z ++ bytes))) (one_end a l unread u found at) };
+      at_waiting = λ t u at. absurd (other_waiting t u (sym found ∙ at.is));
       at_replica = λ u at. absurd (other_replica u (sym found ∙ at.is));
       at_master = λ u at. absurd (other_upstream (sym found ∙ followed_end a l u node at));
       at_shut = λ at. absurd (other_shut (sym found ∙ at.is));
@@ -75,6 +76,9 @@ feeds_client a b l unread bytes node found is =
       heard = λ f at. absurd (other_upstream (sym found ∙ followed_at a l f node at));
     }
   where
+    other_waiting : (t : Transaction) (u : List ℕ) → ◌≡◌ {A = Option EndState} (Some (client unread)) (Some (waiting t u)) → ⊥
+    other_waiting t u e = cc
+
     other_replica : (u : List ℕ) → ◌≡◌ {A = Option EndState} (Some (client unread)) (Some (replica u)) → ⊥
     other_replica u e = cc
 
@@ -84,12 +88,43 @@ feeds_client a b l unread bytes node found is =
     other_shut : ◌≡◌ {A = Option EndState} (Some (client unread)) (Some shut) → ⊥
     other_shut e = cc
 
+-- .. where a transaction is open
+pub feeds_waiting : (a b : NodeState) (l : LinkId) (t : Transaction) (unread bytes : List ℕ) → IsNode a → end_of a l ≡ Some (waiting t unread) → b ≡ with_ends a (put_end a.ends l (waiting t (unread ++ bytes))) → Feeds a l bytes b
+feeds_waiting a b l t unread bytes node found is =
+    let leaves = put_leaves a b l (waiting t (unread ++ bytes)) is in
+    record {
+      at_client = λ u at. absurd (other_client u (sym found ∙ at.is));
+      at_waiting = λ s u at.
+          let one = one_open a l t s unread u found at in
+          record { is = leaves.is ∙ (ap (λ (z : List ℕ). Some (waiting t (z ++ bytes))) one.1 ∙ ap (λ (z : Transaction). Some (waiting z (u ++ bytes))) one.0) };
+      at_replica = λ u at. absurd (other_replica u (sym found ∙ at.is));
+      at_master = λ u at. absurd (other_upstream (sym found ∙ followed_end a l u node at));
+      at_shut = λ at. absurd (other_shut (sym found ∙ at.is));
+      others = leaves.others;
+      core = ap (λ (z : NodeState). z.core) is;
+      follow = λ other. ap (λ (z : NodeState). z.follow) is;
+      heard = λ f at. absurd (other_upstream (sym found ∙ followed_at a l f node at));
+    }
+  where
+    other_client : (u : List ℕ) → ◌≡◌ {A = Option EndState} (Some (waiting t unread)) (Some (client u)) → ⊥
+    other_client u e = cc
+
+    other_replica : (u : List ℕ) → ◌≡◌ {A = Option EndState} (Some (waiting t unread)) (Some (replica u)) → ⊥
+    other_replica u e = cc
+
+    other_upstream : ◌≡◌ {A = Option EndState} (Some (waiting t unread)) (Some upstream) → ⊥
+    other_upstream e = cc
+
+    other_shut : ◌≡◌ {A = Option EndState} (Some (waiting t unread)) (Some shut) → ⊥
+    other_shut e = cc
+
 -- .. of a replica's
 pub feeds_replica : (a b : NodeState) (l : LinkId) (unread bytes : List ℕ) → IsNode a → end_of a l ≡ Some (replica unread) → b ≡ with_ends a (put_end a.ends l (replica (unread ++ bytes))) → Feeds a l bytes b
 feeds_replica a b l unread bytes node found is =
     let leaves = put_leaves a b l (replica (unread ++ bytes)) is in
     record {
       at_client = λ u at. absurd (other_client u (sym found ∙ at.is));
+      at_waiting = λ t u at. absurd (other_waiting t u (sym found ∙ at.is));
       at_replica = λ u at. record { is = leaves.is ∙ ap (λ (z : List ℕ). Some (replica (z ++ bytes))) (one_replica a l unread u found at) };
       at_master = λ u at. absurd (other_upstream (sym found ∙ followed_end a l u node at));
       at_shut = λ at. absurd (other_shut (sym found ∙ at.is));
@@ -99,6 +134,9 @@ feeds_replica a b l unread bytes node found is =
       heard = λ f at. absurd (other_upstream (sym found ∙ followed_at a l f node at));
     }
   where
+    other_waiting : (t : Transaction) (u : List ℕ) → ◌≡◌ {A = Option EndState} (Some (replica unread)) (Some (waiting t u)) → ⊥
+    other_waiting t u e = cc
+
     other_client : (u : List ℕ) → ◌≡◌ {A = Option EndState} (Some (replica unread)) (Some (client u)) → ⊥
     other_client u e = cc
 
@@ -108,9 +146,10 @@ feeds_replica a b l unread bytes node found is =
     other_shut : ◌≡◌ {A = Option EndState} (Some (replica unread)) (Some shut) → ⊥
     other_shut e = cc
 
--- .. of either
+-- .. of any of these
 pub feeds_served : (a b : NodeState) (l : LinkId) (end : EndState) (bytes : List ℕ) → IsNode a → end_of a l ≡ Some end → serves end ≡ true → b ≡ with_ends a (put_end a.ends l (heard_of bytes end)) → Feeds a l bytes b
 feeds_served a b l (client unread) bytes node found served is = feeds_client a b l unread bytes node found is
+feeds_served a b l (waiting t unread) bytes node found served is = feeds_waiting a b l t unread bytes node found is
 feeds_served a b l (replica unread) bytes node found served is = feeds_replica a b l unread bytes node found is
 feeds_served a b l upstream bytes node found served is = absurd (no_true served)
   where
@@ -125,6 +164,7 @@ feeds_served a b l shut bytes node found served is = absurd (no_true served)
 pub feeds_master : (a b : NodeState) (l : LinkId) (bytes : List ℕ) → IsNode a → FedIsUnread → end_of a l ≡ Some upstream → b ≡ fed_as bytes a → Feeds a l bytes b
 feeds_master a b l bytes node fed found is = record {
   at_client = λ u at. absurd (other_client u (sym found ∙ at.is));
+  at_waiting = λ t u at. absurd (other_waiting t u (sym found ∙ at.is));
   at_replica = λ u at. absurd (other_replica u (sym found ∙ at.is));
   at_master = λ u at. record { reader = heard at.reader bytes; found = ap (λ (z : NodeState). z.follow) is ∙ ap (hears_more bytes) at.found; agrees = fed at.reader u bytes at.agrees };
   at_shut = λ at. absurd (other_shut (sym found ∙ at.is));
@@ -134,6 +174,9 @@ feeds_master a b l bytes node fed found is = record {
   heard = λ f at. ap (λ (z : NodeState). z.follow) is ∙ ap (hears_more bytes) at;
 }
   where
+    other_waiting : (t : Transaction) (u : List ℕ) → ◌≡◌ {A = Option EndState} (Some upstream) (Some (waiting t u)) → ⊥
+    other_waiting t u e = cc
+
     other_client : (u : List ℕ) → ◌≡◌ {A = Option EndState} (Some upstream) (Some (client u)) → ⊥
     other_client u e = cc
 
@@ -147,6 +190,7 @@ feeds_master a b l bytes node fed found is = record {
 pub feeds_shut : (a b : NodeState) (l : LinkId) (bytes : List ℕ) → IsNode a → end_of a l ≡ Some shut → b ≡ a → Feeds a l bytes b
 feeds_shut a b l bytes node found is = record {
   at_client = λ u at. absurd (other_client u (sym found ∙ at.is));
+  at_waiting = λ t u at. absurd (other_waiting t u (sym found ∙ at.is));
   at_replica = λ u at. absurd (other_replica u (sym found ∙ at.is));
   at_master = λ u at. absurd (other_upstream (sym found ∙ followed_end a l u node at));
   at_shut = λ at. is;
@@ -156,6 +200,9 @@ feeds_shut a b l bytes node found is = record {
   heard = λ f at. absurd (other_upstream (sym found ∙ followed_at a l f node at));
 }
   where
+    other_waiting : (t : Transaction) (u : List ℕ) → ◌≡◌ {A = Option EndState} (Some shut) (Some (waiting t u)) → ⊥
+    other_waiting t u e = cc
+
     other_client : (u : List ℕ) → ◌≡◌ {A = Option EndState} (Some shut) (Some (client u)) → ⊥
     other_client u e = cc
 
@@ -168,6 +215,7 @@ feeds_shut a b l bytes node found is = record {
 -- ---- the kind of an end
 pub kind_serves : (end : EndState) → (kind_of end ≡ kind.Client) ⊎ (kind_of end ≡ kind.Replica) → serves end ≡ true
 kind_serves (client unread) k = refl
+kind_serves (waiting t unread) k = refl
 kind_serves (replica unread) k = refl
 kind_serves upstream (inl e) = absurd (no_client e)
   where
@@ -188,12 +236,14 @@ kind_serves shut (inr e) = absurd (no_replica e)
 
 pub kind_upstream : (end : EndState) → kind_of end ≡ kind.Upstream → end ≡ upstream
 kind_upstream (client unread) k = cc
+kind_upstream (waiting t unread) k = cc
 kind_upstream (replica unread) k = cc
 kind_upstream upstream k = refl
 kind_upstream shut k = cc
 
 pub kind_shut : (end : EndState) → kind_of end ≡ kind.Shut → end ≡ shut
 kind_shut (client unread) k = cc
+kind_shut (waiting t unread) k = cc
 kind_shut (replica unread) k = cc
 kind_shut upstream k = cc
 kind_shut shut k = refl
@@ -201,6 +251,7 @@ kind_shut shut k = refl
 -- more than there is room for is too much
 over_room : (end : EndState) (room count : ℕ) → serves end ≡ true → IsRoom room end → room < count → full < length (unread_in end) + count
 over_room (client unread) room count served is more = omega (arith, is, more)
+over_room (waiting t unread) room count served is more = omega (arith, is, more)
 over_room (replica unread) room count served is more = omega (arith, is, more)
 over_room upstream room count served is more = absurd is
 over_room shut room count served is more = absurd is
@@ -211,6 +262,7 @@ too_much a l end room count up found served is more = record { up = up; end = en
 -- no more than there is room for isn't
 fits_room : (end : EndState) (room count : ℕ) → IsRoom room end → count ≤ room → full < length (unread_in end) + count → ⊥
 fits_room (client unread) room count is few over = omega (arith, is, few, over)
+fits_room (waiting t unread) room count is few over = omega (arith, is, few, over)
 fits_room (replica unread) room count is few over = omega (arith, is, few, over)
 fits_room upstream room count is few over = absurd is
 fits_room shut room count is few over = absurd is
@@ -232,7 +284,8 @@ fits_none a l bytes none some much = some (ap length none)
 
 -- ---- a client's end
 pub client_end : (a : NodeState) (l : LinkId) (end : EndState) → end_of a l ≡ Some end → kind_of end ≡ kind.Client → IsClients a l
-client_end a l (client unread) found k = record { unread = unread; agrees = record { is = found } }
+client_end a l (client unread) found k = IsClients.alone unread (record { is = found })
+client_end a l (waiting t unread) found k = IsClients.within t unread (record { is = found })
 client_end a l (replica unread) found k = absurd (cc)
 client_end a l upstream found k = absurd (cc)
 client_end a l shut found k = absurd (cc)

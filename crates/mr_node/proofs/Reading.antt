@@ -1,5 +1,5 @@
 -- What is to be done about a request, from its words.
-use Rattle.std.proofs.Common.{◌≡◌, ◌≤◌, ℕ, List, [], ◌∷◌, append-nil, Bool, true, length, take, drop, refl, sym, ap, subst, ◌∙◌, All, IsTrue}
+use Rattle.std.proofs.Common.{◌≡◌, ◌≤◌, ℕ, List, [], ◌∷◌, append-nil, append_assoc, inl, not, Vec, Global, Bool, true, false, length, take, drop, refl, sym, ap, subst, ◌∙◌, All, IsTrue}
 use Rattle.std.specs.Prelude.{Some, Result, Ok, Err, IfOk, OnErr}
 use Rattle.std.specs.List.{list_all, AllByRecursion}
 use Rattle.std.specs.Cmp.Derive.{both_true}
@@ -15,20 +15,34 @@ use Rattle.mr_resp.specs.Scans as scans
 use Rattle.mr_resp.specs.Usual.{usual}
 use Rattle.mr_resp.specs.declared.limits.Limits.{Limits}
 use Rattle.mr_resp.specs.declared.progress.Progress.{Progress}
+use Rattle.mr_inline.specs.Language.{Continues}
+use Rattle.mr_resp.specs.Request.{IsText}
+use Rattle.mr_resp.specs.declared.reply.Reply.{Reply}
 use Rattle.mr_resp.specs.declared.request.Scan.{Scan}
+use Rattle.mr_resp.specs.declared.request.Scan.TheVariants as scan
+use Rattle.std.specs.declared.borrow.CowSlice.{CowSlice}
+use Rattle.mr_resp.proofs.OneAnswer.{not_empty, same_requests, text_wants_no_more}
+use Rattle.mr_ends.specs.State.{CanWait}
 use Rattle.mr_entries.specs.Dataset.{Dataset}
 use Rattle.mr_data.specs.declared.given.Given.{Given}
+use Rattle.mr_data.specs.declared.plan.Plan.{Plan}
+use Rattle.mr_cmd_server.specs.declared.question.Question.{Question}
 use Rattle.mr_cmd_node.specs.declared.node_ask.NodeAsk.{NodeAsk}
 use Rattle.mr_ask.specs.Asks.{asked}
 use Rattle.mr_ask.specs.declared.ask.Ask.{Ask}
 use Rattle.mr_ask.specs.declared.ask.Ask.TheVariants as ask
 use Rattle.mr_words.specs.declared.fault.AskFault.{AskFault}
-use Rattle.mr_plan.specs.Requests.{HasTexts, IsAnswerTo, IsPlannedAs, Leads, halting_by, closes, left_by, question_by, rewriting_by}
+use Rattle.mr_plan.specs.Requests.{HasPlan, HasTexts, IsPlain, IsAnswerTo, IsPlannedAs, Leads, halting_by, halts, closes, left_by, question_by, quits, rewrites, rewriting_by}
+use Rattle.mr_plan.proofs.Questions.{halting_asks_nothing, quit_asks_nothing, rewriting_asks_nothing}
 use Rattle.mr_plan.specs.declared.requests.Answer.{Answer}
 use Rattle.mr_plan.specs.declared.requests.Answer.TheVariants as answer
 use Rattle.mr_ends.specs.Progresses.{AgreesAlong}
 use Rattle.mr_rows.specs.ClientRows.{MayLack}
 use Rattle.mr_rows.specs.Requests.{Asks}
+use Rattle.mr_rows.specs.State.{NodeState}
+use Rattle.mr_node.specs.Executing.{IsTold, IsWaited, MayNotWait}
+use Rattle.mr_node.specs.declared.waited.Waited.{Waited}
+use Rattle.mr_node.specs.declared.waited.Waited.TheVariants as waited
 use Rattle.mr_node.specs.Reading.{KeepsAlong, IsDone, IsTodo, Reads, carry_out}
 use Rattle.mr_node.specs.declared.todo.Todo.{Todo}
 use Rattle.mr_node.specs.declared.todo.Todo.TheVariants as todo
@@ -110,3 +124,53 @@ done_all (Err e) replica words u n given m enough asks d = tt
 -- what is to be done, once it is known which it is
 pub found_as : (replica : Bool) (u : List ℕ) (given : Given) (m : Dataset) (t s : Todo) → t ≡ s → IsTodo replica u given m t × KeepsAlong t u → IsTodo replica u given m s × KeepsAlong s u
 found_as replica u given m t s is h = subst (λ z. IsTodo replica u given m z × KeepsAlong z u) is h
+
+-- ---- words that waited
+true_false : (b : Bool) → b ≡ true → b ≡ false → ⊥
+true_false b p q = let wrong : true ≡ false = sym p ∙ q in cc
+
+-- neither carried out nor a question
+abbrev pub IsOther : Todo → Type 0
+IsOther (todo.Run used plan) = ⊥
+IsOther (todo.Tell used question) = ⊥
+IsOther _ = Unit {0}
+
+pub may_not_wait : (replica : Bool) (words : List (List ℕ)) (n : ℕ) (given : Given) (m : Dataset) (t : Todo) → IsOther t → IsDone replica words n given m t → MayNotWait words
+may_not_wait replica words n given m (todo.Wait progress) other d = absurd d
+may_not_wait replica words n given m (todo.Skip used) other d = absurd d
+may_not_wait replica words n given m (todo.Refuse fault) other d = absurd d
+may_not_wait replica words n given m todo.Quit other d = record { refused = λ plain goes. true_false (quits words) d goes; asks_data = quit_asks_nothing words d }
+may_not_wait replica words n given m (todo.Rewrite used) other d = record { refused = λ plain goes. true_false (rewrites words) d.1 plain.keeps_file; asks_data = rewriting_asks_nothing words d.1 }
+may_not_wait replica words n given m (todo.Tell used question) other d = absurd other
+may_not_wait replica words n given m (todo.Halt used) other d = record { refused = λ plain goes. true_false (halts words) d.1 plain.runs_on; asks_data = halting_asks_nothing words d.1 }
+may_not_wait replica words n given m (todo.Run used plan) other d = absurd other
+may_not_wait replica words n given m (todo.Ask used request) other d = record { refused = λ plain goes. plain.asks_no_node d.1 d.2; asks_data = ap question_by d.2 }
+
+pub is_other : (t : Todo) → ((used : ℕ) (plan : Plan) → t ≡ todo.Run used plan → ⊥) → ((used : ℕ) (question : Question) → t ≡ todo.Tell used question → ⊥) → IsOther t
+is_other (todo.Wait progress) run tell = tt
+is_other (todo.Skip used) run tell = tt
+is_other (todo.Refuse fault) run tell = tt
+is_other todo.Quit run tell = tt
+is_other (todo.Rewrite used) run tell = tt
+is_other (todo.Tell used question) run tell = tell used question refl
+is_other (todo.Halt used) run tell = tt
+is_other (todo.Run used plan) run tell = run used plan refl
+is_other (todo.Ask used request) run tell = tt
+
+-- ---- a request's text, read again
+pub must_be_whole : (request : List ℕ) (s : Scan) → CanWait request → scans.Reads usual request s → ((words : Vec (CowSlice ℕ Global) Global) (used : ℕ) → s ≡ scan.Whole words used → ⊥) → ⊥
+must_be_whole request (scan.Whole words used) can r other = other words used refl
+must_be_whole request (scan.Skip used) can r other = not_empty usual request (take used request) [] (drop used request) can.0 can.1 r.1 (append-nil request ∙ sym (take-append-drop used request))
+must_be_whole request scan.More can r other = text_wants_no_more usual request [] (inl can) (subst (λ (z : List ℕ). Continues (IsText usual) z) (sym (append-nil request)) r)
+must_be_whole request (scan.Bad fault) can r other =
+    r.doomed.never r.rest request [] (inl can) (append_assoc r.front (r.byte ∷ []) r.rest ∙ (sym r.is ∙ sym (append-nil request)))
+
+-- its words are the ones that were read
+pub words_again : (request : List ℕ) (words read : List (List ℕ)) (used : ℕ) → IsRequest usual request words → IsRequest usual (take used request) read → read ≡ words
+words_again request words read used asks r = (same_requests usual (take used request) request (drop used request) [] read words r asks (take-append-drop used request ∙ sym (append-nil request))).0
+
+pub waited_run : (a : NodeState) (words : List (List ℕ)) (given : Given) (w : Waited) (plan : Plan) → IsWaited a words given w → w ≡ waited.Run plan → IsPlain words × HasPlan (not a.core.master) a.core.held words given (view plan.reply) plan.effects.items
+waited_run a words given w plan is e = subst (λ (z : Waited). IsWaited a words given z) e is
+
+pub waited_say : (a : NodeState) (words : List (List ℕ)) (given : Given) (w : Waited) (reply : Reply) → IsWaited a words given w → w ≡ waited.Say reply → IsTold a words (view reply)
+waited_say a words given w reply is e = subst (λ (z : Waited). IsWaited a words given z) e is

@@ -12,7 +12,7 @@ use Rattle.mr_repl.specs.Lineage.{renamed}
 use Rattle.mr_follow.specs.State.{FollowState}
 use Rattle.mr_course.specs.State.{name_of}
 use Rattle.mr_ends.specs.State.{EndState, end_at, streams}
-use Rattle.mr_ends.specs.State.EndState.{client, replica, upstream, shut}
+use Rattle.mr_ends.specs.State.EndState.{client, waiting, replica, upstream, shut}
 use Rattle.mr_ends.specs.Parts.{TurnsAt}
 use Rattle.mr_ends.specs.Replicas.{Lists, ShutsReplicas, shut_where}
 use Rattle.mr_ends.proofs.Naming.{at_or_other}
@@ -109,6 +109,7 @@ turn_row a mid b l u given fresh used address at follows port another w uses is 
 quiet_stays : (o : Option EndState) → streams o ≡ false → shut_where (streams o) o ≡ o
 quiet_stays None e = refl
 quiet_stays (Some (client u)) e = refl
+quiet_stays (Some (waiting t u)) e = refl
 quiet_stays (Some (replica u)) e = absurd (no_false e)
   where
     no_false : true ≡ false → ⊥
@@ -119,6 +120,7 @@ quiet_stays (Some shut) e = refl
 streaming_is_shut : (o : Option EndState) → streams o ≡ true → shut_where (streams o) o ≡ Some shut
 streaming_is_shut None e = absurd (no_true e)
 streaming_is_shut (Some (client u)) e = absurd (no_true e)
+streaming_is_shut (Some (waiting t u)) e = absurd (no_true e)
 streaming_is_shut (Some (replica u)) e = refl
 streaming_is_shut (Some upstream) e = absurd (no_true e)
 streaming_is_shut (Some shut) e = absurd (no_true e)

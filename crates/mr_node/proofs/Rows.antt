@@ -27,7 +27,7 @@ use Rattle.mr_rows.specs.Growing.{FedTo, Remakes, grown_by, offset_behind, offse
 use Rattle.mr_rows.specs.Ends.{Leaves}
 use Rattle.mr_rows.specs.Telling.{Around, IsAround, link_of, reply_about}
 use Rattle.mr_rows.specs.Served.{Answered, Served, left_of, rewritten_as, says}
-use Rattle.mr_rows.specs.ClientRows.{ClientRow, Ends, MayLack, Stops}
+use Rattle.mr_rows.specs.ClientRows.{ClientRow, Closes, Ends, MayLack, Stops}
 use Rattle.mr_node.specs.Reading.{HaltsAt, Passes, Questions, Quits, Reads, Rewrites, Runs}
 use Rattle.mr_node.specs.Parts.{Keeps, Uses}
 use Rattle.mr_node.specs.Steps.{IsAt}
@@ -71,10 +71,10 @@ halt_row a b l u given fresh used at h uses = ClientRow.halts (record {
   outs_are = refl;
 })
 
-pub last_row : (a b : NodeState) (l : LinkId) (u last : List ℕ) (given : Given) (fresh : List ℕ) → IsAt a l u → Ends u last → b.core ≡ a.core → Leaves a l b shut
-    → ClientRow a l u given fresh b (record no_outs { link = Some l; reply = last; closes = true })
-last_row a b l u last given fresh at ends core leaves = ClientRow.closes (record {
-  up = at.up;
+-- a last reply
+pub last_closes : (a b : NodeState) (l : LinkId) (u last : List ℕ) → a.core.up ≡ true → Ends u last → b.core ≡ a.core → Leaves a l b shut → Closes a l u b (record no_outs { link = Some l; reply = last; closes = true })
+last_closes a b l u last up ends core leaves = record {
+  up = up;
   last = last;
   ends = ends;
   core = core;
@@ -82,7 +82,7 @@ last_row a b l u last given fresh at ends core leaves = ClientRow.closes (record
   shut = record { is = leaves.is };
   others = leaves.others;
   outs_are = refl;
-})
+}
 
 pub doomed_ends : (u : List ℕ) (fault : Fault) → IsDoomedBy u fault → Ends u (reply_text (error (fault_text fault)))
 doomed_ends u fault d = Ends.doomed fault d refl

@@ -2,8 +2,9 @@
 use Rattle.std.specs.Prelude.{◌≡◌, ◌≢◌, ◌≤◌, ◌<◌, ◌^◌, ℕ, ℤ, List, [], true, false, Option, Some, None, Result, Ok, Err, length}
 use Rattle.mr_links.specs.declared.link_id.LinkId.{LinkId}
 use Rattle.mr_outs.specs.Outs.{OutsState}
+use Rattle.mr_ends.specs.State.{Transaction}
 use Rattle.mr_ends.specs.State.EndState.{shut as closed}
-use Rattle.mr_rows.specs.State.{NodeState, Agrees, IsShut, IsTooMuch, MasterAgrees, ReplicaAgrees, end_of, stopped_as}
+use Rattle.mr_rows.specs.State.{NodeState, Agrees, AgreesWithin, IsShut, IsTooMuch, MasterAgrees, ReplicaAgrees, end_of, stopped_as}
 use Rattle.mr_rows.specs.LinkRows.{Opens, Dials, Feeds}
 use Rattle.mr_rows.specs.TimeRows.{TickRow}
 use Rattle.mr_node.specs.declared.fault.NodeFault.{NodeFault}
@@ -61,13 +62,15 @@ pub record IsUnread (a : NodeState) (l : LinkId) (count : Option ℕ) : Type 0 w
   pub down : a.core.up ≡ false → count ≡ None
   pub absent : end_of a l ≡ None → count ≡ None
   pub at_client : (u : List ℕ) → a.core.up ≡ true → Agrees a l u → count ≡ Some (length u)
+  pub at_waiting : (t : Transaction) (u : List ℕ) → a.core.up ≡ true → AgreesWithin a l t u → count ≡ Some (length u)
   pub at_replica : (u : List ℕ) → a.core.up ≡ true → ReplicaAgrees a l u → count ≡ Some (length u)
   pub at_master : (u : List ℕ) → a.core.up ≡ true → MasterAgrees a l u → count ≡ Some (length u)
   pub at_shut : a.core.up ≡ true → IsShut a l → count ≡ Some 0
 
--- The end agrees with these bytes: as a client's, as a replica's, as that of the link to the master, or as one that the node closed.
+-- The end agrees with these bytes: as a client's, with a transaction open or without, as a replica's, as that of the link to the master, or as one that the node closed.
 pub data Agreeing (a : NodeState) (l : LinkId) (bytes : List ℕ) : Type 0 where
   client : Agrees a l bytes → Agreeing a l bytes
+  waiting : (t : Transaction) → AgreesWithin a l t bytes → Agreeing a l bytes
   replica : ReplicaAgrees a l bytes → Agreeing a l bytes
   master : MasterAgrees a l bytes → Agreeing a l bytes
   shut : IsShut a l → bytes ≡ [] → Agreeing a l bytes
@@ -79,7 +82,7 @@ pub record Unreads (a : NodeState) (l : LinkId) (count : ℕ) : Type 0 where
   pub counted : count ≡ length bytes
   pub agree : Agreeing a l bytes
 
--- The link is a client's, and open.
-pub record IsClients (a : NodeState) (l : LinkId) : Type 0 where
-  pub unread : List ℕ
-  pub agrees : Agrees a l unread
+-- The link is a client's, and open, whether a transaction is open there or not.
+pub data IsClients (a : NodeState) (l : LinkId) : Type 0 where
+  alone : (unread : List ℕ) → Agrees a l unread → IsClients a l
+  within : (t : Transaction) (unread : List ℕ) → AgreesWithin a l t unread → IsClients a l

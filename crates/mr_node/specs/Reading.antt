@@ -7,14 +7,13 @@ use Rattle.mr_data.specs.declared.plan.Plan.{Plan}
 use Rattle.mr_cmd_server.specs.declared.question.Question.{Question}
 use Rattle.mr_cmd_node.specs.declared.node_ask.NodeAsk.{NodeAsk}
 use Rattle.mr_cmd_node.specs.declared.node_ask.NodeAsk.TheVariants as node
-use Rattle.mr_plan.specs.Requests.{HasPlan, halts, question_in, quits, rewrites}
+use Rattle.mr_plan.specs.Requests.{AsksNode, HasPlan, IsPlain, halts, question_in, quits, rewrites}
 use Rattle.mr_plan.specs.declared.requests.Answer.{Answer}
 use Rattle.mr_plan.specs.declared.requests.Answer.TheVariants as answer
 use Rattle.mr_ends.specs.State.{full}
 use Rattle.mr_ends.specs.Progresses.{AgreesAlong}
 use Rattle.mr_rows.specs.Requests.{Asks, AsksNothing, Waits, IsDoomedBy}
 use Rattle.mr_rows.specs.ClientRows.{MayLack}
-use Rattle.mr_rows.specs.Served.{AsksNode, IsPlain}
 use Rattle.mr_node.specs.declared.request.NodeRequest.{NodeRequest}
 use Rattle.mr_node.specs.declared.request.NodeRequest.TheVariants as request
 use Rattle.mr_node.specs.declared.todo.Todo.{Todo}
@@ -27,6 +26,9 @@ IsWish (node.ReplConf told) (request.Introduction introduction) = Unit {0}
 IsWish (node.Ack offset) (request.Acknowledgement kept) = kept ≡ offset
 IsWish (node.ReplicaOf host port) (request.Follow address) = address ≡ record { host = host; port = port }
 IsWish node.NoOne request.Lead = Unit {0}
+IsWish node.Multi request.Begin = Unit {0}
+IsWish node.Exec request.Exec = Unit {0}
+IsWish node.Discard request.Discard = Unit {0}
 IsWish _ _ = ⊥
 
 -- what is to be done about words that so many bytes are

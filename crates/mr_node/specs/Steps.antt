@@ -4,6 +4,7 @@ use Rattle.mr_links.specs.declared.link_id.LinkId.{LinkId}
 use Rattle.mr_entries.specs.Dataset.{Dataset}
 use Rattle.mr_data.specs.declared.given.Given.{Given}
 use Rattle.mr_outs.specs.Outs.{OutsState}
+use Rattle.mr_ends.specs.State.{Transaction}
 use Rattle.mr_course.specs.State.{name_of}
 use Rattle.mr_course.specs.declared.upstream.UpstreamStep.{UpstreamStep}
 use Rattle.mr_course.specs.declared.upstream.UpstreamStep.TheVariants as outcome
@@ -12,6 +13,7 @@ use Rattle.mr_rows.specs.ClientRows.{ClientRow, Idles, MayLack, Stops}
 use Rattle.mr_rows.specs.ReplicaRows.{ReplicaRow}
 use Rattle.mr_rows.specs.UpstreamRows as master
 use Rattle.mr_node.specs.Noting.{BeginsWithWords}
+use Rattle.mr_node.specs.Within.{IsAtOpen, WithinStep}
 use Rattle.mr_node.specs.declared.fault.NodeFault.{NodeFault}
 use Rattle.mr_node.specs.declared.fault.NodeFault.TheVariants as fault
 use Rattle.mr_node.specs.declared.step.Outcome.{Outcome}
@@ -75,6 +77,7 @@ MasterStep a l b (Err fault.InputFull) = ⊥
 -- A step on a link. One of these says what it came to, whatever the node is and whatever the link.
 pub record Steps (a : NodeState) (l : LinkId) (given : Given) (fresh : List ℕ) (b : NodeState) (result : Result Step NodeFault) : Type 0 where
   pub at_client : (u : List ℕ) → IsAt a l u → ClientStep a l u given fresh b result
+  pub at_waiting : (t : Transaction) (u : List ℕ) → IsAtOpen a l t u → WithinStep a l t u given b result
   pub at_replica : (u : List ℕ) → IsAtReplica a l u → ReplicaStep a l u b result
   pub at_master : a.core.up ≡ true → name_of a.follow ≡ Some l → MasterStep a l b result
   pub at_shut : a.core.up ≡ true → IsShut a l → (result ≡ Ok step.Closed) × (b ≡ a)

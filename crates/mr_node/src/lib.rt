@@ -10,6 +10,8 @@ mod request;
 mod role;
 mod step;
 mod todo;
+mod waited;
+mod within;
 
 pub use config::Config;
 pub use fault::NodeFault;

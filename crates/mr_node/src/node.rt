@@ -8,6 +8,7 @@ ghost use Rattle.mr_node.specs.Parts.{Uses};
 
 mod answering;
 mod asking;
+mod executing;
 mod following;
 mod linking;
 mod noting;
@@ -16,6 +17,7 @@ mod serving;
 mod synchronizing;
 mod telling;
 mod ticking;
+mod waiting;
 
 use crate::config::Config;
 use mr_course::Course;

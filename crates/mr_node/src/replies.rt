@@ -4,6 +4,7 @@ ghost use Rattle.mr_resp.specs.Replies.{error};
 ghost use Rattle.mr_resp.specs.ReplyView.{view};
 ghost use Rattle.mr_planning.specs.Answered.{done};
 ghost use Rattle.mr_cmd_server.specs.Commands.{rewriting};
+ghost use Rattle.mr_plan.specs.Transactions.{aborted, discard_alone, exec_alone, nested, queued};
 ghost use Rattle.mr_rows.specs.Growing.{limit_text};
 ghost use Rattle.mr_rows.specs.Served.{not_chained};
 
@@ -29,6 +30,41 @@ pub(crate) fn past_the_limit() -> Reply
     ensures { view result ≡ error limit_text }
 {
     Reply::Error(CowSlice::Borrowed(b"ERR offset limit"))
+}
+
+/// A request waits.
+pub(crate) fn queued() -> Reply
+    ensures { view result ≡ queued }
+{
+    Reply::Simple(CowSlice::Borrowed(b"QUEUED"))
+}
+
+/// `MULTI` where a transaction is open.
+pub(crate) fn nested() -> Reply
+    ensures { view result ≡ nested }
+{
+    Reply::Error(CowSlice::Borrowed(b"ERR MULTI calls can not be nested"))
+}
+
+/// `EXEC` where none is.
+pub(crate) fn exec_alone() -> Reply
+    ensures { view result ≡ exec_alone }
+{
+    Reply::Error(CowSlice::Borrowed(b"ERR EXEC without MULTI"))
+}
+
+/// `DISCARD` where none is.
+pub(crate) fn discard_alone() -> Reply
+    ensures { view result ≡ discard_alone }
+{
+    Reply::Error(CowSlice::Borrowed(b"ERR DISCARD without MULTI"))
+}
+
+/// `EXEC` of a transaction that was marked.
+pub(crate) fn aborted() -> Reply
+    ensures { view result ≡ aborted }
+{
+    Reply::Error(CowSlice::Borrowed(b"EXECABORT Transaction discarded because of previous errors."))
 }
 
 /// A replica sends no stream.

@@ -20,6 +20,12 @@ pub(crate) enum NodeRequest {
     Follow(Address),
     /// The node is to be a master.
     Lead,
+    /// A transaction begins.
+    Begin,
+    /// What waits is to be done.
+    Exec,
+    /// What waits is to be dropped.
+    Discard,
 }
 
 /// The stream of this id is wanted, from this byte on.
@@ -53,6 +59,9 @@ pub(crate) fn request_of(alloc: Global, ask: &NodeAsk<'_, '_>) -> Result<NodeReq
             Ok(NodeRequest::Follow(Address::copied(alloc, host.as_slice(), *port)?))
         }
         NodeAsk::NoOne => Ok(NodeRequest::Lead),
+        NodeAsk::Multi => Ok(NodeRequest::Begin),
+        NodeAsk::Exec => Ok(NodeRequest::Exec),
+        NodeAsk::Discard => Ok(NodeRequest::Discard),
     }
 }
 

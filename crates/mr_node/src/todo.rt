@@ -71,7 +71,7 @@ pub(crate) fn todo_of(
 }
 
 /// What is to be done about a request of these words, which so many bytes are.
-fn request_todo(
+pub(crate) fn request_todo(
     alloc: Global,
     held: &Dataset,
     replica: bool,

@@ -11,39 +11,42 @@ use Rattle.mr_repl.specs.Backlog.{IsWindow, Window, after_bytes, last_of}
 use Rattle.mr_follow.specs.State.{FollowState, started}
 use Rattle.mr_course.specs.State.{CourseState, dialled, grows, left, name_of, offer_of, promoted}
 use Rattle.mr_ends.specs.State.{EndState, end_at, opened_as, put_end, serves, streams, without}
-use Rattle.mr_ends.specs.State.EndState.{client, replica, upstream, shut}
+use Rattle.mr_ends.specs.State.EndState.{client, waiting, replica, upstream, shut}
 use Rattle.mr_ends.specs.Ending.{HasUnread, Takes, heard_of, used_of}
 use Rattle.mr_ends.specs.Parts.{HasAhead, HasRoom, HearsAt, IsClient, TurnsAt, UsesAt}
 use Rattle.mr_ends.proofs.Naming.{heard_streams, used_streams}
 use Rattle.mr_outs.specs.Address.{AddressState}
 use Rattle.mr_rows.specs.State.{Agrees, IsNode, NodeState}
 use Rattle.mr_rows.specs.LinkRows.{Opens, follow_without}
-use Rattle.mr_rows.specs.Growing.{grown_by}
-use Rattle.mr_state.specs.Parts.{Commits, node_of, with_ends, without_one}
+use Rattle.mr_state.specs.Parts.{Commits, Holds, node_of, streams_on, with_ends, without_one}
 use Rattle.mr_state.specs.Listening.{is_name}
 use Rattle.mr_state.proofs.Nodes.{alone_node, closed_node, dialled_node, get_put, opened_node, put_node, unopened_node}
 
 -- ---- an end that the node serves goes on as one
 takes_not : (n : ℕ) (e : EndState) → Takes n e → e ≡ upstream → ⊥
 takes_not n (client u) t is = cc
+takes_not n (waiting w u) t is = cc
 takes_not n (replica u) t is = cc
 takes_not n upstream t is = t
 takes_not n shut t is = t
 
 has_not : (n : ℕ) (e : EndState) → HasUnread n e → e ≡ upstream → ⊥
 has_not n (client u) t is = cc
+has_not n (waiting w u) t is = cc
 has_not n (replica u) t is = cc
 has_not n upstream t is = t
 has_not n shut t is = t
 
 heard_not : (bytes : List ℕ) (e : EndState) → (e ≡ upstream → ⊥) → heard_of bytes e ≡ upstream → ⊥
 heard_not bytes (client u) other is = cc
+heard_not bytes (waiting t u) other is = cc
 heard_not bytes (replica u) other is = cc
 heard_not bytes upstream other is = other refl
 heard_not bytes shut other is = cc
 
 used_not : (n : ℕ) (e : EndState) → (e ≡ upstream → ⊥) → used_of n e ≡ upstream → ⊥
 used_not n (client u) other is = cc
+used_not n (waiting t u) other is = cc
 used_not n (replica u) other is = cc
 used_not n upstream other is = other refl
 used_not n shut other is = cc
@@ -157,20 +160,19 @@ after_nothing w is =
     λ k. record { held = held k; capacity = w.capacity; offset = offset k }
 
 -- where there are none, nothing changes
-pub commits_nothing : (a : NodeState) (es : List Effect) → IsWindow a.core.lineage.stream → es ≡ [] → Commits a es a
-commits_nothing a es w none = record {
-  held = a.core.held;
-  applied = ap (λ (xs : List Effect). apply_all xs a.core.held) none;
-  node = sym (ap (λ (xs : List Effect). record a { core = grown_by xs a.core.held a.core }) none
-      ∙ ap (λ (s : Window). record a { core = record a.core { lineage = record a.core.lineage { stream = s } } }) (after_nothing a.core.lineage.stream w));
-}
+pub holds_nothing : (a : NodeState) (es : List Effect) → es ≡ [] → Holds a es a
+holds_nothing a es none = record { held = a.core.held; applied = ap (λ (xs : List Effect). apply_all xs a.core.held) none; node = refl }
 
-pub commits_all : (up : Bool) (port : ℕ) (told : Option AddressState) (mark : Option ℤ) (c d : CourseState) (m n : Dataset) (ends : Links EndState) (es : List Effect) (bytes : List ℕ) → apply_all es m ≡ Some n → bytes ≡ texts es → d ≡ grows bytes c
-    → Commits (node_of up port told mark c m ends) es (node_of up port told mark d n ends)
-commits_all up port told mark c d m n ends es bytes applied is grown = record {
-  held = n;
-  applied = applied;
-  node = ap (λ z. node_of up port told mark z n ends) (grown ∙ ap (λ z. grows z c) is);
+pub grows_nothing : (a : NodeState) (bytes : List ℕ) → IsWindow a.core.lineage.stream → bytes ≡ [] → a ≡ streams_on bytes a
+grows_nothing a bytes w none =
+    sym (ap (λ (z : List ℕ). streams_on z a) none ∙ ap (λ (s : Window). record a { core = record a.core { lineage = record a.core.lineage { stream = s } } }) (after_nothing a.core.lineage.stream w))
+
+-- they are applied, and their texts put behind the stream
+pub commits_of : (a b c : NodeState) (es : List Effect) (bytes : List ℕ) → Holds a es b → bytes ≡ texts es → c ≡ streams_on bytes b → Commits a es c
+commits_of a b c es bytes h is grows = record {
+  held = h.held;
+  applied = h.applied;
+  node = grows ∙ (ap (λ (z : List ℕ). streams_on z b) is ∙ ap (streams_on (texts es)) h.node);
 }
 
 pub none_there : (es : List Effect) → length es ≡ 0 → es ≡ []

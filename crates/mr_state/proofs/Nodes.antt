@@ -8,7 +8,7 @@ use Rattle.mr_links.proofs.LinkRows.{ids_total}
 use Rattle.mr_follow.specs.State.{FollowState}
 use Rattle.mr_course.specs.State.{name_of}
 use Rattle.mr_ends.specs.State.{EndState, end_at, put_end, without, opened_as, streams}
-use Rattle.mr_ends.specs.State.EndState.{client, replica, upstream, shut}
+use Rattle.mr_ends.specs.State.EndState.{client, waiting, replica, upstream, shut}
 use Rattle.mr_ends.specs.Replicas.{shut_where, ShutsReplicas}
 use Rattle.mr_ends.proofs.Naming.{at_or_not, at_or_other, silent}
 use Rattle.mr_rows.specs.State.{Core, NodeState, FollowedAt, IsNode}
@@ -144,6 +144,7 @@ closed_node a l i = record {
 upstream_was : (o : Option EndState) → shut_where (streams o) o ≡ Some upstream → o ≡ Some upstream
 upstream_was None e = e
 upstream_was (Some (client u)) e = e
+upstream_was (Some (waiting t u)) e = e
 upstream_was (Some (replica u)) e = absurd (shut_no e)
   where
     shut_no : ◌≡◌ {A = Option EndState} (Some shut) (Some upstream) → ⊥

@@ -5,7 +5,7 @@ use Rattle.mr_links.specs.declared.link_id.LinkId.{LinkId}
 use Rattle.mr_entries.specs.Dataset.{Dataset}
 use Rattle.mr_data.specs.Meaning.{apply_all}
 use Rattle.mr_effect.specs.declared.effect.Effect.{Effect}
-use Rattle.mr_repl.specs.Lineage.{renamed}
+use Rattle.mr_repl.specs.Lineage.{grown, renamed}
 use Rattle.mr_follow.specs.State.{started}
 use Rattle.mr_course.specs.State.{CourseState, name_of, hears_more, offer_of}
 use Rattle.mr_ends.specs.State.{EndState, without, opened_as}
@@ -67,6 +67,16 @@ pub record Commits (a : NodeState) (effects : List Effect) (b : NodeState) : Typ
   pub held : Dataset
   pub applied : apply_all effects a.core.held ≡ Some held
   pub node : b ≡ record a { core = grown_by effects held a.core }
+
+-- effects are applied, and the stream stays
+pub record Holds (a : NodeState) (effects : List Effect) (b : NodeState) : Type 0 where
+  pub held : Dataset
+  pub applied : apply_all effects a.core.held ≡ Some held
+  pub node : b ≡ record a { core = record a.core { held = held } }
+
+-- bytes stand behind the stream
+abbrev pub streams_on : List ℕ → NodeState → NodeState
+streams_on bytes a = record a { core = record a.core { lineage = grown a.core.lineage bytes } }
 
 -- memory ran out within some effects
 pub record Spends (a : NodeState) (effects : List Effect) (b : NodeState) : Type 0 where

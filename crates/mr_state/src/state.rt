@@ -11,6 +11,7 @@ ghost use Rattle.mr_state.specs.Parts.{node_of};
 mod linking;
 mod roles;
 mod streaming;
+mod waiting;
 
 use mr_course::Course;
 use mr_data::Dataset;

@@ -6,7 +6,7 @@ ghost use Rattle.mr_resp.specs.Faults.{fault_text};
 ghost use Rattle.mr_effect.specs.Spelling.{texts};
 ghost use Rattle.mr_data.specs.declared.given.Given.{Given};
 ghost use Rattle.mr_planning.specs.Answered.{done};
-ghost use Rattle.mr_ends.specs.State.{EndState, serves};
+ghost use Rattle.mr_ends.specs.State.{EndState, Transaction, serves};
 ghost use Rattle.mr_ends.specs.Parts.{HasAhead};
 ghost use Rattle.mr_outs.specs.Outs.{growth, outs_with, no_output, no_outs};
 ghost use Rattle.mr_rows.specs.State.{Agrees, end_of};
@@ -16,6 +16,7 @@ ghost use Rattle.mr_rows.specs.Served.{rewritten_as};
 ghost use Rattle.mr_node.specs.Reading.{HaltsAt, Passes, Quits, Rewrites, Runs};
 ghost use Rattle.mr_rows.specs.Requests.{IsDoomedBy};
 ghost use Rattle.mr_node.specs.Steps.{ClientStep, IsAt, step_of};
+ghost use Rattle.mr_node.specs.Within.{IsAtOpen, WithinStep};
 ghost use Rattle.mr_node.specs.Parts.{AreEmpty, FeedsAll, Leads, Tells};
 
 use crate::fault::NodeFault;
@@ -62,7 +63,8 @@ impl Node {
     ) -> Result<Outcome, NodeFault>
         requires serves { (end : EndState) × (end_of self.old link ≡ Some end) × (serves end ≡ true) }
         requires begun { outs.old ≡ record no_outs { link = Some link } }
-        ensures { (u : List ℕ) (given : Given) (fresh : List ℕ) → IsAt self.old link u → IsDoomedBy u fault → ClientStep self.old link u given fresh self.new (step_of outs.new result) }
+        ensures client { (u : List ℕ) (given : Given) (fresh : List ℕ) → IsAt self.old link u → IsDoomedBy u fault → ClientStep self.old link u given fresh self.new (step_of outs.new result) }
+        ensures open { (t : Transaction) (u : List ℕ) (given : Given) → IsAtOpen self.old link t u → IsDoomedBy u fault → WithinStep self.old link t u given self.new (step_of outs.new result) }
     {
         let Ok(reply) = fault.reply(self.alloc) else {
             return Err(NodeFault::Memory);
@@ -74,7 +76,8 @@ impl Node {
     pub(crate) fn quit(&mut self, link: LinkId, outs: &mut Outs) -> Result<Outcome, NodeFault>
         requires serves { (end : EndState) × (end_of self.old link ≡ Some end) × (serves end ≡ true) }
         requires begun { outs.old ≡ record no_outs { link = Some link } }
-        ensures { (u : List ℕ) (given : Given) (fresh : List ℕ) → IsAt self.old link u → Quits u → ClientStep self.old link u given fresh self.new (step_of outs.new result) }
+        ensures client { (u : List ℕ) (given : Given) (fresh : List ℕ) → IsAt self.old link u → Quits u → ClientStep self.old link u given fresh self.new (step_of outs.new result) }
+        ensures open { (t : Transaction) (u : List ℕ) (given : Given) → IsAtOpen self.old link t u → Quits u → WithinStep self.old link t u given self.new (step_of outs.new result) }
     {
         self.dismiss(link, &done(), outs)
     }
@@ -88,7 +91,8 @@ impl Node {
     ) -> Result<Outcome, NodeFault>
         requires serves { (end : EndState) × (end_of self.old link ≡ Some end) × (serves end ≡ true) }
         requires begun { outs.old ≡ record no_outs { link = Some link } }
-        ensures { (u : List ℕ) (given : Given) (fresh : List ℕ) → IsAt self.old link u → MayLack u → Ends u (reply_text (view reply.now)) → ClientStep self.old link u given fresh self.new (step_of outs.new result) }
+        ensures client { (u : List ℕ) (given : Given) (fresh : List ℕ) → IsAt self.old link u → MayLack u → Ends u (reply_text (view reply.now)) → ClientStep self.old link u given fresh self.new (step_of outs.new result) }
+        ensures open { (t : Transaction) (u : List ℕ) (given : Given) → IsAtOpen self.old link t u → MayLack u → Ends u (reply_text (view reply.now)) → WithinStep self.old link t u given self.new (step_of outs.new result) }
     {
         if outs.say(reply).is_err() {
             return Err(NodeFault::Memory);

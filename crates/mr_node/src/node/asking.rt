@@ -14,7 +14,7 @@ ghost use Rattle.mr_node.specs.Parts.{Keeps};
 
 use crate::fault::NodeFault;
 use crate::node::Node;
-use crate::replies::{done, not_chained};
+use crate::replies::{discard_alone, done, exec_alone, not_chained};
 use crate::request::NodeRequest;
 use crate::step::Outcome;
 use mr_ends::Introduction;
@@ -60,6 +60,9 @@ impl Node {
                     self.promote(link, used, fresh, outs)
                 }
             }
+            NodeRequest::Begin => self.begin(link, used, outs),
+            NodeRequest::Exec => self.say(link, used, &exec_alone(), outs),
+            NodeRequest::Discard => self.say(link, used, &discard_alone(), outs),
         }
     }
 

@@ -60,7 +60,13 @@ impl Node {
             return Err(NodeFault::NoLink);
         };
         match end.kind() {
-            Kind::Client => self.serve(link, given, fresh, outs),
+            Kind::Client => {
+                if end.transaction().is_some() {
+                    self.serve_within(link, given, outs)
+                } else {
+                    self.serve(link, given, fresh, outs)
+                }
+            }
             Kind::Replica => self.note(link, outs),
             Kind::Upstream => self.follow(link, outs),
             Kind::Shut => Ok(Outcome::Closed),

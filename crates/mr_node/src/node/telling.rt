@@ -79,7 +79,7 @@ impl Node {
     }
 
     /// What is answered to what is asked about the node.
-    fn answer_about(&self, question: Question) -> Result<Reply, AllocError>
+    pub(crate) fn answer_about(&self, question: Question) -> Result<Reply, AllocError>
         ensures { IfOk result (λ reply. TellsOf question self.now (view reply)) }
     {
         match question {

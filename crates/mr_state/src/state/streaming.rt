@@ -6,7 +6,7 @@ ghost use Rattle.mr_entries.specs.Changes.{NeedsNoMemory};
 ghost use Rattle.mr_rows.specs.Growing.{offset_limit};
 ghost use Rattle.mr_rows.specs.State.{stopped_as};
 ghost use Rattle.mr_rows.specs.UpstreamRows.{ends_behind};
-ghost use Rattle.mr_state.specs.Parts.{Commits, Leads, Spends, marked_at};
+ghost use Rattle.mr_state.specs.Parts.{Commits, Holds, Leads, Spends, marked_at, streams_on};
 ghost use Rattle.mr_state.specs.Listening.{Heard};
 
 use crate::spent::Spent;
@@ -28,17 +28,40 @@ impl State {
         // Effects that take no memory don't lack it.
         ensures light { AllByRecursion NeedsNoMemory effects.entry.items → IsOk result }
     {
+        self.apply(effects)?;
+        self.grow(told);
+        Ok(())
+    }
+
+    /// Applies effects; the stream stays. Where memory runs out the dataset is spent, and the node stops.
+    pub fn apply(&mut self, effects: Vec<Effect<'static>>) -> Result<(), Spent>
+        requires leads { Leads effects.items self.old.core.held }
+        ensures ok { OnOk result (Holds self.old effects.entry.items self.new) }
+        ensures spent { OnErr result (Spends self.old effects.entry.items self.new) }
+        ensures light { AllByRecursion NeedsNoMemory effects.entry.items → IsOk result }
+    {
         if effects.is_empty() {
-            // its clause bounds what the backlog holds: growing by nothing changes nothing
-            let _ = self.course.lineage().stream().end();
             return Ok(());
         }
         if self.held.apply_all(effects).is_err() {
             self.up = false;
             return Err(Spent);
         }
-        self.course.grow(told);
         Ok(())
+    }
+
+    /// Texts of effects that were applied come behind the stream.
+    pub fn grow(&mut self, told: &[u8])
+        requires master { told.now ≢ [] → self.old.core.master ≡ true }
+        requires within { self.old.core.lineage.stream.offset + length told.now ≤ offset_limit }
+        ensures { self.new ≡ streams_on told.now self.old }
+    {
+        if told.is_empty() {
+            // its clause bounds what the backlog holds: growing by nothing changes nothing
+            let _ = self.course.lineage().stream().end();
+            return;
+        }
+        self.course.grow(told);
     }
 
     /// Makes a step at the link to the master. What is to be sent, what was applied, or what rebuilds a snapshot is put into `out`.

@@ -7,7 +7,7 @@ use Rattle.mr_rows.specs.Served.{says}
 use Rattle.mr_node.specs.Parts.{Keeps}
 use Rattle.mr_node.specs.Reading.{IsWish, Wishes}
 use Rattle.mr_node.specs.Steps.{ClientStep, step_of}
-use Rattle.mr_node.proofs.Asking.{keeps_acknowledgement, keeps_introduction, keeps_master, keeps_unchained, of_acknowledgement, of_follow, of_introduction, of_lead, of_stream}
+use Rattle.mr_node.proofs.Asking.{keeps_acknowledgement, keeps_discard, keeps_exec, keeps_introduction, keeps_master, keeps_unchained, of_acknowledgement, of_begin, of_discard, of_exec, of_follow, of_introduction, of_lead, of_stream}
 use Rattle.mr_node.proofs.node.Node.ask.Goals as goal
 
 pub returns-then-master : goal.returns-then-master
@@ -47,7 +47,24 @@ returns-then-master-2 c = λ u given wish at w is.
     c.say-then-master-2.ensures u given c.args.fresh at
     (subst (λ (t : Tree). Keeps a.core u c.args.used (says t)) (sym c.done.ensures) (keeps_master a.core u c.args.used wish w told leads))
 
-pub returns : goal.returns
-returns c = λ u given wish at w is.
+pub returns-in-Lead : goal.returns-in-Lead
+returns-in-Lead c = λ u given wish at w is.
     let told = of_lead wish (subst (IsWish wish) c.in-Lead.is is) in
     c.promote.ensures u given at (subst (λ (z : NodeAsk). Wishes u c.args.used z) told w)
+
+pub returns-in-Begin : goal.returns-in-Begin
+returns-in-Begin c = λ u given wish at w is.
+    let told = of_begin wish (subst (IsWish wish) c.in-Begin.is is) in
+    c.begin.ensures u given c.args.fresh at (subst (λ (z : NodeAsk). Wishes u c.args.used z) told w)
+
+pub returns-in-Exec : goal.returns-in-Exec
+returns-in-Exec c = λ u given wish at w is.
+    let told = of_exec wish (subst (IsWish wish) c.in-Exec.is is) in
+    c.say-in-Exec.ensures u given c.args.fresh at
+    (subst (λ (t : Tree). Keeps c.args.self.now.core u c.args.used (says t)) (sym c.exec_alone.ensures) (keeps_exec c.args.self.now.core u c.args.used wish w told))
+
+pub returns : goal.returns
+returns c = λ u given wish at w is.
+    let told = of_discard wish (subst (IsWish wish) c.in-Discard.is is) in
+    c.say-in-Discard.ensures u given c.args.fresh at
+    (subst (λ (t : Tree). Keeps c.args.self.now.core u c.args.used (says t)) (sym c.discard_alone.ensures) (keeps_discard c.args.self.now.core u c.args.used wish w told))

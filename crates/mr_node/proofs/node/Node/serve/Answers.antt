@@ -69,12 +69,12 @@ returns-in-Skip c = λ u at.
 pub returns-in-Refuse : goal.returns-in-Refuse
 returns-in-Refuse c = λ u at.
     let todo = found_as (not c.args.self.now.core.master) u c.args.given c.args.self.now.core.held c.in-Ok.todo (todo.Refuse c.in-Refuse.fault) c.in-Refuse.is (c.in-Ok.ensures u at.agrees) in
-    c.refuse.ensures u c.args.given c.args.fresh at todo.0
+    c.refuse.ensures.client u c.args.given c.args.fresh at todo.0
 
 pub returns-in-Quit : goal.returns-in-Quit
 returns-in-Quit c = λ u at.
     let todo = found_as (not c.args.self.now.core.master) u c.args.given c.args.self.now.core.held c.in-Ok.todo (todo.Quit) c.in-Quit.is (c.in-Ok.ensures u at.agrees) in
-    c.quit.ensures u c.args.given c.args.fresh at todo.0
+    c.quit.ensures.client u c.args.given c.args.fresh at todo.0
 
 pub returns-in-Rewrite : goal.returns-in-Rewrite
 returns-in-Rewrite c = λ u at.

@@ -1,29 +1,5 @@
-use Rattle.std.proofs.Common.{◌≡◌, ap, length, rules, Some, subst}
-use Rattle.mr_effect.specs.Spelling.{texts}
-use Rattle.mr_data.specs.Meaning.{apply_all}
-use Rattle.mr_repl.specs.Backlog.{IsWindow}
-use Rattle.mr_rows.specs.State.{NodeState, spent_as}
-use Rattle.mr_state.specs.Parts.{Commits, node_of}
-use Rattle.mr_state.proofs.Changes.{commits_all, commits_nothing, none_there}
+use Rattle.mr_state.proofs.Changes.{commits_of}
 use Rattle.mr_state.proofs.state.State.commit.Goals as goal
 
-pub returns-then-is_empty-clause-ok : goal.returns-then-is_empty-clause-ok
-returns-then-is_empty-clause-ok c =
-    let none : length c.args.effects.items ≡ 0 = search rules in
-    let w : IsWindow c.args.self.now.core.lineage.stream = search rules in
-    commits_nothing c.args.self.now c.args.effects.items w (none_there c.args.effects.items none)
-
-pub returns-then-is_err-clause-spent : goal.returns-then-is_err-clause-spent
-returns-then-is_err-clause-spent c = record {
-  some = search rules;
-  held = c.apply_all.new.self;
-  node = ap (λ (s : NodeState). spent_as c.apply_all.new.self s) c.self.view_is;
-}
-
 pub returns-clause-ok : goal.returns-clause-ok
-returns-clause-ok c =
-    let i = c.self.inside in
-    let applied : apply_all c.args.effects.items i.held ≡ Some c.apply_all.new.self = search rules in
-    let bytes : c.args.told.now ≡ texts c.args.effects.items = c.requires.told in
-    subst (λ (s : NodeState). Commits s c.args.effects.items (node_of i.up i.port i.upstream i.mark c.grow.new.self c.apply_all.new.self i.ends)) c.self.view_is
-    (commits_all i.up i.port i.upstream i.mark i.course c.grow.new.self i.held c.apply_all.new.self i.ends c.args.effects.items c.args.told.now applied bytes c.grow.ensures)
+returns-clause-ok c = commits_of c.args.self.now c.apply.new.self c.grow.new.self c.args.effects.items c.args.told.now c.in_ok-apply.ensures.ok c.requires.told c.grow.ensures
