@@ -3,7 +3,7 @@ use Rattle.std.proofs.Common.{◌≡◌, ◌+◌, ◌-◌, ◌<◌, ◌^◌, ℕ
 use Rattle.std.specs.Prelude.{if◌then◌else◌}
 use Rattle.mr_links.specs.declared.link_id.LinkId.{LinkId}
 use Rattle.mr_ends.specs.State.{EndState, full, serves, unread_in}
-use Rattle.mr_ends.specs.State.EndState.{client, replica, upstream, shut}
+use Rattle.mr_ends.specs.State.EndState.{client, waiting, replica, upstream, shut}
 use Rattle.mr_rows.specs.State.{NodeState, IsTooMuch, end_of, room_at, room_of}
 use Rattle.mr_seen.proofs.Places.{some_is}
 
@@ -19,6 +19,7 @@ record IsOver (o : Option EndState) (count : ℕ) : Type 0 where
 over_room : (o : Option EndState) (room count : ℕ) → room_at o ≡ Some room → room < count → count < 2 ^ 64 → IsOver o count
 over_room None room count e h few = absurd (no_some room e)
 over_room (Some (client u)) room count e h few = let r = some_is (full - length u) room e in record { end = client u; found = refl; served = refl; over = omega (arith, r, h) }
+over_room (Some (waiting t u)) room count e h few = let r = some_is (full - length u) room e in record { end = waiting t u; found = refl; served = refl; over = omega (arith, r, h) }
 over_room (Some (replica u)) room count e h few = let r = some_is (full - length u) room e in record { end = replica u; found = refl; served = refl; over = omega (arith, r, h) }
 over_room (Some upstream) room count e h few = let r = some_is (2 ^ 64 - 1) room e in absurd (omega (arith, r, h, few))
 over_room (Some shut) room count e h few = let r = some_is (2 ^ 64 - 1) room e in absurd (omega (arith, r, h, few))

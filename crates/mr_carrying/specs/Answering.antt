@@ -1,7 +1,8 @@
 -- How a step at a server's end is made, and how what it gave out goes to the links: the reply on its own, what replicas are sent on the others.
 use Rattle.std.specs.Prelude.{◌≡◌, ◌⊎◌, ℕ, List, Bool, true, false, Some, map, slice_get, slice_set}
 use Rattle.mr_links.specs.declared.link_id.LinkId.{LinkId}
-use Rattle.mr_ends.specs.State.EndState.{client, replica, shut}
+use Rattle.mr_ends.specs.State.{Transaction}
+use Rattle.mr_ends.specs.State.EndState.{client, waiting, replica, shut}
 use Rattle.mr_ends.specs.Replicas.{is_named}
 use Rattle.mr_outs.specs.Outs.{OutsState}
 use Rattle.mr_rows.specs.State.{NodeState, end_of, stopped_as}
@@ -17,10 +18,11 @@ pub record IsServing (w : WorldState) (l n : ℕ) (name : LinkId) : Type 0 where
   pub number : n ≡ link.to
   pub named : name ≡ link.name
 
--- Behind a step whose outs say that the link is closed its end is shut; else it is open.
+-- Behind a step whose outs say that the link is closed its end is shut; else it is open: a client's, in no transaction or in one, or a replica's.
 pub data EndsAs (b : NodeState) (name : LinkId) (closes : Bool) : Type 0 where
   closed : closes ≡ true → end_of b name ≡ Some shut → EndsAs b name closes
   asks : closes ≡ false → (u : List ℕ) → end_of b name ≡ Some (client u) → EndsAs b name closes
+  waits : closes ≡ false → (t : Transaction) (u : List ℕ) → end_of b name ≡ Some (waiting t u) → EndsAs b name closes
   streams : closes ≡ false → (u : List ℕ) → end_of b name ≡ Some (replica u) → EndsAs b name closes
 
 -- The node runs behind its step on the link; the end is as the outs tell, and nothing that goes to replicas goes there.

@@ -1,6 +1,6 @@
 -- Heartbeats are left out.
 use Rattle.std.proofs.Common.{◌≡◌, List, [], ◌∷◌, ◌++◌, true, false, All, Some, refl, sym, ap, subst, ◌∙◌}
-use Rattle.std.specs.Prelude.{map, if◌then◌else◌}
+use Rattle.std.specs.Prelude.{if◌then◌else◌}
 use Rattle.std.specs.Option.{option_and_then}
 use Rattle.std.proofs.lemmas.List.Elements.{All-cons, All-head, All-tail}
 use Rattle.mr_effect.specs.declared.effect.Effect.{Effect}
@@ -70,16 +70,3 @@ singles_but (e ∷ es) =
       | true ↦ singles_but es
       | false ↦ ap (λ z. (e ∷ []) ∷ z) (singles_but es)
     ]
-
--- ---- effects without any
-pub but_append : (es fs : List Effect) → but_beats (es ++ fs) ≡ but_beats es ++ but_beats fs
-but_append [] fs = refl
-but_append (e ∷ es) fs =
-    elim (is_beat e) as (λ b. (if b then but_beats (es ++ fs) else e ∷ but_beats (es ++ fs)) ≡ (if b then but_beats es else e ∷ but_beats es) ++ but_beats fs) [
-      | true ↦ but_append es fs
-      | false ↦ ap (λ z. e ∷ z) (but_append es fs)
-    ]
-
-pub but_map : {A : Type 0} (f : A → Effect) (xs : List A) → ((x : A) → is_beat (f x) ≡ false) → but_beats (map f xs) ≡ map f xs
-but_map f [] none = refl
-but_map f (x ∷ xs) none = ap (λ b. if b then but_beats (map f xs) else f x ∷ but_beats (map f xs)) (none x) ∙ ap (λ z. f x ∷ z) (but_map f xs none)

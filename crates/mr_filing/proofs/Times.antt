@@ -11,7 +11,7 @@ use Rattle.mr_data.specs.Due.{due, deletions, most_deleted, within}
 use Rattle.mr_outs.specs.Outs.{OutsState}
 use Rattle.mr_rows.specs.State.{Core, NodeState}
 use Rattle.mr_rows.specs.TimeRows.{TickRow, Beats, Deletes, Rests, room_in, doomed}
-use Rattle.mr_seen.proofs.Asking.{good_all}
+use Rattle.mr_language.proofs.GoodGroups.{good_effects}
 use Rattle.mr_filing.specs.Filing.{but_beats, DoesToFile}
 use Rattle.mr_filing.specs.Steps.{TicksFile}
 use Rattle.mr_filing.proofs.Filing.{effects_grow, kept_does}
@@ -92,7 +92,7 @@ module _ (a b : NodeState) (now : ℤ) (outs : OutsState) where
   beats r =
       let t = told a now r.effects r.mark r.beats in
       DoesToFile.grows (effects_grow a.core b.core outs.appended r.effects
-      (good_all r.effects a.core.held r.held r.applied t.short)
+      (good_effects r.effects a.core.held r.held r.applied t.short)
       (r.applied ∙ ap (λ (z : Core). Some z.held) (sym r.core))
       (inl (ap (λ (z : Core). z.lineage.stream) r.core))
       (ap (λ (o : OutsState). o.appended) r.outs_are ∙ ap texts (sym t.filed))) (ap (λ (o : OutsState). o.replaced) r.outs_are)

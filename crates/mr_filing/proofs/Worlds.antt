@@ -20,9 +20,9 @@ use Rattle.mr_seen.specs.Events.{IsFollowed}
 use Rattle.mr_seen.specs.Carrying.{behind, filed_by, begun_slot}
 use Rattle.mr_seen.proofs.Places.{set_cases, push_cases, some_is}
 use Rattle.mr_filing.specs.Filing.{DoesToFile, Files, KeepsFile, Keeps}
-use Rattle.mr_filing.specs.Worlds.{FilesLoad, NothingHasFiles, HasGrown, FileBegins, FileGoesOn, FilesGoOn, FilesStayFolded, GoOn, GrownSince, FilesAreTrue, ClientStepsGoOn, ReplicaStepsGoOn, IdleStepsGoOn, StopsGoOn, MasterStepsGoOn, MasterWaitsGoOn, MasterLacksGoOn, TicksGoOn, OpensGoOn, DialsGoOn, FeedsGoOn, BreaksGoOn, OthersGoOn, StartsGoOn, RestartsGoOn, EmptyFilesMakeNothing, WhatLoadsMakes}
+use Rattle.mr_filing.specs.Worlds.{FilesLoad, NothingHasFiles, HasGrown, FileBegins, FileGoesOn, FilesGoOn, FilesStayFolded, GoOn, GrownSince, FilesAreTrue, ClientStepsGoOn, WithinStepsGoOn, ReplicaStepsGoOn, IdleStepsGoOn, StopsGoOn, MasterStepsGoOn, MasterWaitsGoOn, MasterLacksGoOn, TicksGoOn, OpensGoOn, DialsGoOn, FeedsGoOn, BreaksGoOn, OthersGoOn, StartsGoOn, RestartsGoOn, EmptyFilesMakeNothing, WhatLoadsMakes}
 use Rattle.mr_filing.proofs.Filing.{grows_leads, grow_on, read_whole, kept_grows, kept_stay}
-use Rattle.mr_filing.proofs.Clients.{client_files, replica_keeps, idle_keeps}
+use Rattle.mr_filing.proofs.Clients.{client_files, replica_keeps, idle_keeps, within_files}
 use Rattle.mr_filing.proofs.Masters.{master_files, waits_keep, lacks_keep}
 use Rattle.mr_filing.proofs.Times.{ticks_file}
 use Rattle.mr_filing.proofs.Links.{opens_keep, dials_keep, feeds_keep, breaks_keep}
@@ -117,6 +117,9 @@ files_are_true moments k v go e n t at up = let r = since moments go k v e n t a
 -- ---- steps
 pub client_steps : ClientStepsGoOn
 client_steps w n l k s name u given fresh b outs at up r = goes_behind w n s b at up outs (client_files s.node b name u given fresh outs r)
+
+pub within_steps : WithinStepsGoOn
+within_steps w n l k s name t u given b outs at up r = goes_behind w n s b at up outs (within_files s.node b name t u given outs r)
 
 pub replica_steps : ReplicaStepsGoOn
 replica_steps w n l k s name u b outs at up r = goes_behind w n s b at up outs (kept_stay s.node b outs s.file (replica_keeps s.node b name u outs r)).0

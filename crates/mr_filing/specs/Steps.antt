@@ -1,16 +1,19 @@
 -- What is promised of the calls on a node, by their rows.
-use Rattle.std.specs.Prelude.{◌≡◌, ℕ, ℤ, List, ◌++◌, length, Bool}
+use Rattle.std.specs.Prelude.{◌≡◌, ℕ, ℤ, List, [], ◌++◌, length, Bool}
 use Rattle.mr_links.specs.declared.link_id.LinkId.{LinkId}
 use Rattle.mr_entries.specs.Dataset.{Dataset}
 use Rattle.mr_data.specs.declared.given.Given.{Given}
 use Rattle.mr_effect.specs.declared.effect.Effect.{Effect}
 use Rattle.mr_resp.specs.Replies.{Tree}
 use Rattle.mr_plan.specs.Requests.{HasPlan}
+use Rattle.mr_plan.specs.Transactions.{DoesAll}
 use Rattle.mr_course.specs.declared.upstream.UpstreamStep.{UpstreamStep}
+use Rattle.mr_ends.specs.State.{Transaction}
 use Rattle.mr_groups.specs.Folding.{MakesByGroups, LoadsGroups}
 use Rattle.mr_outs.specs.Outs.{OutsState, no_outs}
 use Rattle.mr_rows.specs.State.{Core, NodeState, MasterAgrees}
 use Rattle.mr_rows.specs.ClientRows.{ClientRow, Idles}
+use Rattle.mr_rows.specs.Transactions.{WithinRow, frame_of}
 use Rattle.mr_rows.specs.ReplicaRows.{ReplicaRow}
 use Rattle.mr_rows.specs.UpstreamRows as master
 use Rattle.mr_rows.specs.TimeRows.{TickRow}
@@ -40,8 +43,17 @@ KeptFilesStay = (a b : NodeState) (outs : OutsState) (file : List ℕ) → Keeps
 abbrev pub RequestsHaveNoBeats : Type 0
 RequestsHaveNoBeats = (replica : Bool) (m : Dataset) (words : List (List ℕ)) (given : Given) (reply : Tree) (effects : List Effect) → HasPlan replica m words given reply effects → but_beats effects ≡ effects
 
+-- .. and what waited in a transaction has none
+abbrev pub WaitedHaveNoBeats : Type 0
+WaitedHaveNoBeats = (a : NodeState) (replica : Bool) (given : Given) (queued : List (List ℕ)) (m held : Dataset) (replies : List Tree) (effects : List Effect)
+    → DoesAll (frame_of a) replica given queued [] m replies effects held → but_beats effects ≡ effects
+
 abbrev pub ClientStepsFile : Type 0
 ClientStepsFile = (a b : NodeState) (l : LinkId) (u : List ℕ) (given : Given) (fresh : List ℕ) (outs : OutsState) → ClientRow a l u given fresh b outs → Files a b outs
+
+-- .. where a transaction is open too
+abbrev pub WithinStepsFile : Type 0
+WithinStepsFile = (a b : NodeState) (l : LinkId) (t : Transaction) (u : List ℕ) (given : Given) (outs : OutsState) → WithinRow a l t u given b outs → Files a b outs
 
 abbrev pub ReplicaStepsKeep : Type 0
 ReplicaStepsKeep = (a b : NodeState) (l : LinkId) (u : List ℕ) (outs : OutsState) → ReplicaRow a l u b outs → Keeps a b outs

@@ -5,12 +5,14 @@ use Rattle.mr_links.specs.declared.link_id.LinkId.{LinkId}
 use Rattle.mr_entries.specs.Dataset.{Dataset}
 use Rattle.mr_data.specs.declared.given.Given.{Given}
 use Rattle.mr_course.specs.declared.upstream.UpstreamStep.{UpstreamStep}
+use Rattle.mr_ends.specs.State.{Transaction}
 use Rattle.mr_replay.specs.Effects.{Makes}
 use Rattle.mr_groups.specs.Folding.{MakesByGroups, LoadsGroups}
 use Rattle.mr_outs.specs.Outs.{OutsState, no_outs}
 use Rattle.mr_rows.specs.State.{NodeState, started}
 use Rattle.mr_rows.specs.Growing.{rebuilt}
 use Rattle.mr_rows.specs.ClientRows.{ClientRow, Idles}
+use Rattle.mr_rows.specs.Transactions.{WithinRow}
 use Rattle.mr_rows.specs.ReplicaRows.{ReplicaRow}
 use Rattle.mr_rows.specs.UpstreamRows as master
 use Rattle.mr_rows.specs.TimeRows.{TickRow}
@@ -80,11 +82,18 @@ abbrev pub FilesAreTrue : Type 0
 FilesAreTrue = (moments : List WorldState) (number : ℕ) (v : WorldState) → GoOn no_world moments → slice_get (no_world ∷ moments) number ≡ Some v
     → (n : ℕ) (t : Slot) → slice_get v.slots n ≡ Some t → t.node.core.up ≡ true → MakesByGroups t.file t.node.core.held × GrownSince moments n number t
 
--- ---- files go on behind a step at an end that the node n serves: at a client's end, at a replica's, and where nothing whole is there
+-- ---- files go on behind a step at an end that the node n serves: at a client's end, where a transaction is open or none, at a replica's, and
+-- where nothing whole is there
 abbrev pub ClientStepsGoOn : Type 0
 ClientStepsGoOn = (w : WorldState) (n l : ℕ) (k : Link) (s : Slot) (name : LinkId) (u : List ℕ) (given : Given) (fresh : List ℕ) (b : NodeState) (outs : OutsState)
     → slice_get w.slots n ≡ Some s → s.node.core.up ≡ true
     → ClientRow s.node name u given fresh b outs
+    → FilesGoOn w (stepped w n s l k b outs)
+
+abbrev pub WithinStepsGoOn : Type 0
+WithinStepsGoOn = (w : WorldState) (n l : ℕ) (k : Link) (s : Slot) (name : LinkId) (t : Transaction) (u : List ℕ) (given : Given) (b : NodeState) (outs : OutsState)
+    → slice_get w.slots n ≡ Some s → s.node.core.up ≡ true
+    → WithinRow s.node name t u given b outs
     → FilesGoOn w (stepped w n s l k b outs)
 
 abbrev pub ReplicaStepsGoOn : Type 0

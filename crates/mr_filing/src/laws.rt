@@ -16,6 +16,8 @@ ghost use Rattle.mr_filing.specs.Steps.{
   ReplicaStepsKeep,
   RequestsHaveNoBeats,
   TicksFile,
+  WaitedHaveNoBeats,
+  WithinStepsFile,
 };
 ghost use Rattle.mr_filing.specs.Worlds.{
   BreaksGoOn,
@@ -39,6 +41,7 @@ ghost use Rattle.mr_filing.specs.Worlds.{
   StopsGoOn,
   TicksGoOn,
   WhatLoadsMakes,
+  WithinStepsGoOn,
 };
 
 /// Where a file makes a node's dataset, what a call makes of it makes the dataset that the node has then.
@@ -61,14 +64,17 @@ pub fn kept_files_stay()
     ensures { KeptFilesStay }
 {}
 
-/// No request has a heartbeat among its effects, a PING neither.
+/// No request has a heartbeat among its effects, a PING neither, and what waited in a transaction has none.
 pub fn requests_have_no_heartbeats()
-    ensures { RequestsHaveNoBeats }
+    ensures alone { RequestsHaveNoBeats }
+    ensures waited { WaitedHaveNoBeats }
 {}
 
-/// A step at a client's end files the texts of the effects that it applies, all of them, or the file is written anew.
+/// A step at a client's end files the texts of the effects that it applies, all of them, or the file is written anew. Where a
+/// transaction is open it files the text of one group, which is all that waited.
 pub fn client_steps_file()
-    ensures { ClientStepsFile }
+    ensures alone { ClientStepsFile }
+    ensures within { WithinStepsFile }
 {}
 
 /// A step at a replica's end keeps the file, and so does one that finds nothing whole.
@@ -120,6 +126,7 @@ pub fn files_stay_folded()
 /// Files go on behind each step at an end that a node serves, and where a node stops.
 pub fn files_go_on_at_steps()
     ensures clients { ClientStepsGoOn }
+    ensures within { WithinStepsGoOn }
     ensures replicas { ReplicaStepsGoOn }
     ensures idle { IdleStepsGoOn }
     ensures stops { StopsGoOn }

@@ -14,8 +14,8 @@ pub caught_up_is_level : CaughtUpIsLevel
 caught_up_is_level vs k v p l a s c =
     let m = moment no_world vs k v (λ i. None) worlds_begin p.run p.there in
     let r = caught_up minired_laws (seen v m.book) l (seen_node a) (seen_node s) m.holds.invariant (record {
-      link = seen_link c.link;
-      found = ap (option_map seen_link) c.found;
+      link = seen_link v.slots c.link;
+      found = ap (option_map (seen_link v.slots)) c.found;
       n = c.n;
       replica_found = ap (option_map seen_node) c.replica_found;
       replica_up = c.replica_up;

@@ -7,8 +7,8 @@ use Rattle.mr_history.specs.Node.Phase.{Greet, Asked, Loading, Stream}
 use Rattle.mr_history.specs.World.{Link, World}
 use Rattle.mr_history.specs.FollowerRows.{asked, HearsLastReply, Leaves, FollowerRow}
 use Rattle.mr_history.proofs.Moves.{Follows, heard, Reaches}
-use Rattle.mr_history.proofs.Moves.Move.{still, stop, leave, go_on, ask_all, ask_on, take_full, take_cont, load, follow}
-use Rattle.mr_history.proofs.Refine.{put_before, reads_left, then_counts, one}
+use Rattle.mr_history.proofs.Moves.Move.{still, leave, go_on, ask_all, ask_on, take_full, take_cont, load, follow}
+use Rattle.mr_history.proofs.Refine.{stops_reach, put_before, reads_left, then_counts, one}
 
 pub follower_reaches : {L : Language} (laws : Laws L) (w v : World L) (n l : ℕ) (a : Node L) (p : Phase L.Id) (k : Link) → w.link l ≡ Some k → w.node n ≡ Some a → a.follow ≡ Some (record { link = l; phase = p }) → a.up ≡ true
     → FollowerRow w v n l a p k → Reaches w v
@@ -36,7 +36,7 @@ follower_reaches {L} laws w v n l a p k ek ea ef u row = go row
 
     go : FollowerRow w v n l a p k → Reaches w v
     go (FollowerRow.idles r) = one w v (still r.still.nodes r.still.links r.still.book)
-    go (FollowerRow.stops r) = one w v (stop n r.wreck r.down r.becomes.nodes r.becomes.links r.becomes.book)
+    go (FollowerRow.stops r) = stops_reach w v n a r
     go (FollowerRow.leaves r) = left r
     go (FollowerRow.hears_reply r) =
         then_counts w v l (heard k r.hears.left.left r.request) (asked k r.hears.left r.request) r.becomes.links refl

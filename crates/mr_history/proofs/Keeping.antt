@@ -46,16 +46,16 @@ flow_keeps {L} w v k k' i o bytes keeps es tips f = record {
   streams = es ∙ f.streams;
 }
 
--- a link stays as it was, for a node with the same id and offset
+-- a link stays as it was, for a node with the same id and offset; what is open on it may be dropped
 pub talk_keeps : {L : Language} (w v : World L) (a b : Node L) (p : Phase L.Id) (k k' : Link) → Keeps L w.book v.book
-    → b.id ≡ a.id → b.offset ≡ a.offset → k'.streams ≡ k.streams → k'.transaction ≡ k.transaction → k'.ask.left ≡ k.ask.left → k'.tell.left ≡ k.tell.left
+    → b.id ≡ a.id → b.offset ≡ a.offset → k'.streams ≡ k.streams → (k.transaction ≡ None → k'.transaction ≡ k.transaction) → k'.ask.left ≡ k.ask.left → k'.tell.left ≡ k.tell.left
     → ((i : L.Id) (post : List L.Effect) → AtTip w k i post → AtTip v k' i post) → Talk w a p k → Talk v b p k'
-talk_keeps {L} w v a b p k k' keeps ei eo es en ea et tips (greeting n e s x y) = greeting n e (es ∙ s.0, en ∙ s.1) (subst (λ z. L.asks z k'.ask.left Handshake) (sym en) (subst (λ z. L.asks k.transaction z Handshake) (sym ea) x)) (et ∙ y)
-talk_keeps {L} w v a b p k k' keeps ei eo es en ea et tips (greeted n t e s x y z) = greeted n t e (es ∙ s.0, en ∙ s.1) (ea ∙ x) (et ∙ y) z
-talk_keeps {L} w v a b p k k' keeps ei eo es en ea et tips (asking e s x y) = asking e (es ∙ s.0, en ∙ s.1) (subst (λ z. L.asks z k'.ask.left (Psync None)) (sym en) (subst (λ z. L.asks k.transaction z (Psync None)) (sym ea) x)) (et ∙ y)
+talk_keeps {L} w v a b p k k' keeps ei eo es en ea et tips (greeting n e s x y) = greeting n e (es ∙ s.0, en s.1 ∙ s.1) (subst (λ z. L.asks z k'.ask.left Handshake) (sym (en s.1)) (subst (λ z. L.asks k.transaction z Handshake) (sym ea) x)) (et ∙ y)
+talk_keeps {L} w v a b p k k' keeps ei eo es en ea et tips (greeted n t e s x y z) = greeted n t e (es ∙ s.0, en s.1 ∙ s.1) (ea ∙ x) (et ∙ y) z
+talk_keeps {L} w v a b p k k' keeps ei eo es en ea et tips (asking e s x y) = asking e (es ∙ s.0, en s.1 ∙ s.1) (subst (λ z. L.asks z k'.ask.left (Psync None)) (sym (en s.1)) (subst (λ z. L.asks k.transaction z (Psync None)) (sym ea) x)) (et ∙ y)
 talk_keeps {L} w v a b p k k' keeps ei eo es en ea et tips (asking_for e s x y) =
-    asking_for e (es ∙ s.0, en ∙ s.1) (subst (λ z. L.asks z k'.ask.left (Psync (Some (b.id, b.offset + 1)))) (sym en) (subst (λ z. L.asks k.transaction k'.ask.left (Psync (Some (z, b.offset + 1)))) (sym ei) (subst (λ z. L.asks k.transaction k'.ask.left (Psync (Some (a.id, z + 1)))) (sym eo) (subst (λ z. L.asks k.transaction z (Psync (Some (a.id, a.offset + 1)))) (sym ea) x)))) (et ∙ y)
-talk_keeps {L} w v a b p k k' keeps ei eo es en ea et tips (refused t e s x y z) = refused t e (es ∙ s.0, en ∙ s.1) (ea ∙ x) (et ∙ y) z
+    asking_for e (es ∙ s.0, en s.1 ∙ s.1) (subst (λ z. L.asks z k'.ask.left (Psync (Some (b.id, b.offset + 1)))) (sym (en s.1)) (subst (λ z. L.asks k.transaction k'.ask.left (Psync (Some (z, b.offset + 1)))) (sym ei) (subst (λ z. L.asks k.transaction k'.ask.left (Psync (Some (a.id, z + 1)))) (sym eo) (subst (λ z. L.asks k.transaction z (Psync (Some (a.id, a.offset + 1)))) (sym ea) x)))) (et ∙ y)
+talk_keeps {L} w v a b p k k' keeps ei eo es en ea et tips (refused t e s x y z) = refused t e (es ∙ s.0, en s.1 ∙ s.1) (ea ∙ x) (et ∙ y) z
 talk_keeps {L} w v a b p k k' keeps ei eo es en ea et tips (answered_full i o m bytes e y at f) =
     answered_full i o m bytes e (et ∙ y) (at_grows L w.book v.book i o m.held (keeps_grows L w.book v.book keeps) at) (flow_keeps w v k k' i o bytes keeps es tips f)
 talk_keeps {L} w v a b p k k' keeps ei eo es en ea et tips (answered_cont i bytes e y g f) =
@@ -131,10 +131,10 @@ node_change {L} w v n b inv sn sl keeps good self rank tips mine = record {
     tip_if l k a p e (asking x s y z) = asking x s y z
     tip_if l k a p e (asking_for x s y z) = asking_for x s y z
     tip_if l k a p e (refused t x s y z q) = refused t x s y z q
-    tip_if l k a p e (answered_full i o m bytes x y at f) = talk_keeps w v a a p k k keeps refl refl refl refl refl refl (tip l k e f.streams) (answered_full i o m bytes x y at f)
-    tip_if l k a p e (answered_cont i bytes x y g f) = talk_keeps w v a a p k k keeps refl refl refl refl refl refl (tip l k e f.streams) (answered_cont i bytes x y g f)
-    tip_if l k a p e (loading i o m bytes x y at f) = talk_keeps w v a a p k k keeps refl refl refl refl refl refl (tip l k e f.streams) (loading i o m bytes x y at f)
-    tip_if l k a p e (streaming bytes x y f) = talk_keeps w v a a p k k keeps refl refl refl refl refl refl (tip l k e f.streams) (streaming bytes x y f)
+    tip_if l k a p e (answered_full i o m bytes x y at f) = talk_keeps w v a a p k k keeps refl refl refl (λ i. refl) refl refl (tip l k e f.streams) (answered_full i o m bytes x y at f)
+    tip_if l k a p e (answered_cont i bytes x y g f) = talk_keeps w v a a p k k keeps refl refl refl (λ i. refl) refl refl (tip l k e f.streams) (answered_cont i bytes x y g f)
+    tip_if l k a p e (loading i o m bytes x y at f) = talk_keeps w v a a p k k keeps refl refl refl (λ i. refl) refl refl (tip l k e f.streams) (loading i o m bytes x y at f)
+    tip_if l k a p e (streaming bytes x y f) = talk_keeps w v a a p k k keeps refl refl refl (λ i. refl) refl refl (tip l k e f.streams) (streaming bytes x y f)
 
     kept : (m : ℕ) (a : Node L) (f : Follow L.Id) → LinkIsSound w m a f → LinkIsSound v m a f
     kept m a f o = record { link = o.link; found = sl f.link ∙ o.found; mine = o.mine; talk = tip_if f.link o.link a f.phase o.found o.talk }
@@ -178,7 +178,7 @@ link_change {L} w v l k' inv sn sl sb at = record {
     there : (m : ℕ) (a : Node L) (f : Follow L.Id) → v.node m ≡ Some a → a.up ≡ true → a.follow ≡ Some f → f.link ≢ l → LinkIsSound v m a f
     there m a f e u g q =
         let o = inv.links m a f (was m a e) u g in
-        record { link = o.link; found = sl.1 f.link q ∙ o.found; mine = o.mine; talk = talk_keeps w v a a f.phase o.link o.link keeps refl refl refl refl refl refl (tip o.link) o.talk }
+        record { link = o.link; found = sl.1 f.link q ∙ o.found; mine = o.mine; talk = talk_keeps w v a a f.phase o.link o.link keeps refl refl refl (λ i. refl) refl refl (tip o.link) o.talk }
 
 -- A change at a replica and at the link that it follows.
 pub follower_change : {L : Language} (w v : World L) (n l : ℕ) (a b : Node L) (p q : Phase L.Id) (k k' : Link) → Invariant w → Follows w n a l p k
@@ -253,5 +253,5 @@ follower_change {L} w v n l a b p q k k' inv fo sn sl sb em eu ef efrom self tal
           link = o.link;
           found = sl.1 f.link other ∙ o.found;
           mine = o.mine;
-          talk = talk_keeps w v c c f.phase o.link o.link keeps refl refl refl refl refl refl (tip o.link o.link refl refl) o.talk;
+          talk = talk_keeps w v c c f.phase o.link o.link keeps refl refl refl (λ i. refl) refl refl (tip o.link o.link refl refl) o.talk;
         }

@@ -8,7 +8,7 @@ use Rattle.mr_history.specs.Changes.{SetAt, Same}
 use Rattle.mr_history.specs.History.{Front}
 use Rattle.mr_history.specs.Node.{Phase, Node, Continues, tail}
 use Rattle.mr_history.specs.Node.Phase.{Asked}
-use Rattle.mr_history.specs.World.{Link, World, shut}
+use Rattle.mr_history.specs.World.{Link, World, dropped, shut}
 use Rattle.mr_history.specs.Invariant.{NodeIsSound, AtTip, Flow, Talk, Invariant}
 use Rattle.mr_history.specs.Invariant.Talk.{greeting, greeted, asking, asking_for, refused, answered_full, answered_cont, loading, streaming}
 use Rattle.mr_history.proofs.Moves.{Serves, used}
@@ -25,6 +25,11 @@ shut_open : (b : Bool) (k : Link) → (shut b k).serving ≡ true → k.serving 
 shut_open true k e = true_false false e refl
 shut_open false k e = e
 
+-- where nothing is open nothing is dropped
+drop_none : (b : Bool) (k : Link) → k.transaction ≡ None → (dropped b k).transaction ≡ k.transaction
+drop_none true k e = sym e
+drop_none false k e = refl
+
 pub close_keeps : {L : Language} (w v : World L) (f : ℕ → Link → Bool) → Invariant w → Same w.node v.node
     → ((l : ℕ) (k : Link) → w.link l ≡ Some k → v.link l ≡ Some (shut (f l k) k)) → Same w.book v.book → Invariant v
 close_keeps {L} w v f inv sn sl sb = record {
@@ -35,8 +40,26 @@ close_keeps {L} w v f inv sn sl sb = record {
     link = shut (f g.link o.link) o.link;
     found = sl g.link o.link o.found;
     mine = o.mine;
-    talk = talk_keeps w v a a g.phase o.link (shut (f g.link o.link) o.link) keeps refl refl refl refl refl refl
+    talk = talk_keeps w v a a g.phase o.link (shut (f g.link o.link) o.link) keeps refl refl refl (drop_none (f g.link o.link) o.link) refl refl
         (same_tip w v o.link (shut (f g.link o.link) o.link) sn refl (shut_open (f g.link o.link) o.link)) o.talk;
+  };
+}
+  where
+    keeps : Keeps L w.book v.book
+    keeps = same_keeps L w.book v.book sb
+
+pub drop_keeps : {L : Language} (w v : World L) (f : ℕ → Link → Bool) → Invariant w → Same w.node v.node
+    → ((l : ℕ) (k : Link) → w.link l ≡ Some k → v.link l ≡ Some (dropped (f l k) k)) → Same w.book v.book → Invariant v
+drop_keeps {L} w v f inv sn sl sb = record {
+  good = same_good L w.book v.book sb inv.good;
+  nodes = λ n a e u. node_keeps w.book v.book a keeps (inv.nodes n a (sym (sn n) ∙ e) u);
+  masters = λ n m a b e e' u u' x x' y. inv.masters n m a b (sym (sn n) ∙ e) (sym (sn m) ∙ e') u u' x x' y;
+  links = λ n a g e u h. let o = inv.links n a g (sym (sn n) ∙ e) u h in record {
+    link = dropped (f g.link o.link) o.link;
+    found = sl g.link o.link o.found;
+    mine = o.mine;
+    talk = talk_keeps w v a a g.phase o.link (dropped (f g.link o.link) o.link) keeps refl refl refl (drop_none (f g.link o.link) o.link) refl refl
+        (same_tip w v o.link (dropped (f g.link o.link) o.link) sn refl (λ s. s)) o.talk;
   };
 }
   where
@@ -49,7 +72,7 @@ carry_keeps {L} w v l x y k inv e sn sl sb =
     link_change w v l k' inv sn sl sb (λ m c p z ec uc fc ez fz t.
     let i = some_is z k (sym ez ∙ e) in (
       ap (λ z. z.caller) (sym i) ∙ fz,
-      talk_keeps w v c c p k k' (same_keeps L w.book v.book sb) refl refl refl refl refl refl
+      talk_keeps w v c c p k k' (same_keeps L w.book v.book sb) refl refl refl (λ i. refl) refl refl
           (same_tip w v k k' sn refl (λ o. o))
           (subst (λ z. Talk w c p z) i t),
     ))

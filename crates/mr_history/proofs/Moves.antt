@@ -7,7 +7,7 @@ use Rattle.mr_history.specs.Changes.{SetAt, Same}
 use Rattle.mr_history.specs.History.{History, Front, texts, fold}
 use Rattle.mr_history.specs.Node.{Phase, Node, Continues, tail, continued, at_phase, EndsAs}
 use Rattle.mr_history.specs.Node.Phase.{Greet, Asked, Loading, Stream}
-use Rattle.mr_history.specs.World.{Link, World, hears, shut, told_if}
+use Rattle.mr_history.specs.World.{Link, World, dropped, hears, shut, told_if}
 use Rattle.mr_history.specs.World.Caller.{Peer}
 
 -- the server used one request, of which rest is left, and says bytes
@@ -41,6 +41,8 @@ pub data Move {L : Language} (w v : World L) : Type 0 where
   leave : (n : ℕ) (a : Node L) (x : Bool) (h : List ℕ) → w.node n ≡ Some a → SetAt w.node v.node n (record a { follow = None; offers = x; upstream = h }) → Same w.link v.link → Same w.book v.book → Move w v
   -- the server's end of some links closes
   close : (f : ℕ → Link → Bool) → Same w.node v.node → ((l : ℕ) (k : Link) → w.link l ≡ Some k → v.link l ≡ Some (shut (f l k) k)) → Same w.book v.book → Move w v
+  -- the server's end of some links drops what is open
+  drop_open : (f : ℕ → Link → Bool) → Same w.node v.node → ((l : ℕ) (k : Link) → w.link l ≡ Some k → v.link l ≡ Some (dropped (f l k) k)) → Same w.book v.book → Move w v
   -- bytes are delivered
   carry : (l x y : ℕ) (k : Link) → w.link l ≡ Some k → Same w.node v.node
       → SetAt w.link v.link l (record k { ask = record k.ask { taken = x }; tell = record k.tell { taken = y } }) → Same w.book v.book → Move w v

@@ -8,12 +8,12 @@ use Rattle.mr_history.specs.Language.Request.{Handshake, Psync, Ack, Command, Re
 use Rattle.mr_history.specs.Changes.{SetAt}
 use Rattle.mr_history.specs.Node.{Phase, Node}
 use Rattle.mr_history.specs.World.{Way, Link, World, hears, shut}
-use Rattle.mr_history.specs.Changing.{Reads}
+use Rattle.mr_history.specs.Changing.{Reads, Stops}
 use Rattle.mr_history.specs.ServerRows.{IsQuiet}
 use Rattle.mr_history.specs.Invariant.{Talk, Invariant}
 use Rattle.mr_history.specs.Invariant.Talk.{greeting, greeted, asking, asking_for, refused, answered_full, answered_cont, loading, streaming}
 use Rattle.mr_history.proofs.Moves.{Move, Reaches}
-use Rattle.mr_history.proofs.Moves.Move.{carry}
+use Rattle.mr_history.proofs.Moves.Move.{carry, drop_open, stop}
 use Rattle.mr_history.proofs.Moves.Reaches.{by_moves}
 use Rattle.mr_history.proofs.Histories.{append_nil}
 use Rattle.mr_history.proofs.Fronts.{some_is}
@@ -67,6 +67,14 @@ then_counts {L} w v l mid fin sl e m =
 
 pub one : {L : Language} (w v : World L) → Move w v → Reaches w v
 one w v m = by_moves [] m
+
+-- A node's ends drop what is open, and it stops.
+pub stops_reach : {L : Language} (w v : World L) (n : ℕ) (a : Node L) → Stops w v n a → Reaches w v
+stops_reach {L} w v n a r =
+    by_moves (mid ∷ []) (drop_open (λ j k. k.to == n) (λ j. refl) r.links (λ j. refl), stop n r.wreck r.down r.nodes (λ j. refl) r.book)
+  where
+    mid : World L
+    mid = record { node = w.node; link = v.link; book = w.book }
 
 -- what a follower of a link that doesn't stream yet has asked
 abbrev pub Asking : Language → Option Transaction → List ℕ → Type 0

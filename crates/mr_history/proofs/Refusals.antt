@@ -30,7 +30,7 @@ unless_stays w v a Act (Unless.stopped u s) f = BookChange.stays s.book
 server_books : {L : Language} (w v : World L) (l : ℕ) (k : Link) (s : Node L) (given : L.Given) (fresh : L.Id) → w.node k.to ≡ Some s → s.up ≡ true
     → ServerRow w v l k s given fresh → Booked w v
 server_books w v l k s given fresh e u (ServerRow.idles r) = BookChange.stays r.still.book
-server_books w v l k s given fresh e u (ServerRow.stops r) = BookChange.stays r.becomes.book
+server_books w v l k s given fresh e u (ServerRow.stops r) = BookChange.stays r.book
 server_books w v l k s given fresh e u (ServerRow.notes r) = BookChange.stays r.becomes.book
 server_books w v l k s given fresh e u (ServerRow.shuts r) = BookChange.stays r.becomes.book
 server_books w v l k s given fresh e u (ServerRow.skips r) = BookChange.stays r.becomes.book
@@ -54,7 +54,7 @@ leaving_books w v n a p k (Leaves.at_the_stream c b) = BookChange.stays b.book
 
 follower_books : {L : Language} (w v : World L) (n l : ℕ) (a : Node L) (p : Phase L.Id) (k : Link) → FollowerRow w v n l a p k → Booked w v
 follower_books w v n l a p k (FollowerRow.idles r) = BookChange.stays r.still.book
-follower_books w v n l a p k (FollowerRow.stops r) = BookChange.stays r.becomes.book
+follower_books w v n l a p k (FollowerRow.stops r) = BookChange.stays r.book
 follower_books w v n l a p k (FollowerRow.leaves r) = leaving_books w v n a p k r
 follower_books w v n l a p k (FollowerRow.hears_reply r) = BookChange.stays r.becomes.book
 follower_books w v n l a p k (FollowerRow.hears_last_reply r) = BookChange.stays r.becomes.book
@@ -65,18 +65,18 @@ follower_books w v n l a p k (FollowerRow.applies r) = BookChange.stays r.become
 
 opening_books : {L : Language} (w v : World L) (n : ℕ) (a : Node L) → Opens w v n a → Booked w v
 opening_books w v n a (Opens.opens l new b) = BookChange.stays b.book
-opening_books w v n a (Opens.stops r) = BookChange.stays r.becomes.book
+opening_books w v n a (Opens.stops r) = BookChange.stays r.book
 
 dialling_books : {L : Language} (w v : World L) (n s : ℕ) (a b : Node L) → Dials w v n s a b → Booked w v
 dialling_books w v n s a b (Dials.connects r) = BookChange.stays r.book
-dialling_books w v n s a b (Dials.stops r) = BookChange.stays r.becomes.book
-dialling_books w v n s a b (Dials.server_stops r) = BookChange.stays r.becomes.book
+dialling_books w v n s a b (Dials.stops r) = BookChange.stays r.book
+dialling_books w v n s a b (Dials.server_stops r) = BookChange.stays r.book
 
 ticking_books : {L : Language} (w v : World L) (n : ℕ) (a : Node L) (given : L.Given) → w.node n ≡ Some a → a.up ≡ true → Ticks w v n a given → Booked w v
 ticking_books w v n a given e u (Ticks.beats r) = BookChange.extends n a r.effects e u r.master r.grown.book
 ticking_books w v n a given e u (Ticks.acknowledges r) = BookChange.stays r.becomes.book
 ticking_books w v n a given e u (Ticks.rests m s) = BookChange.stays s.book
-ticking_books w v n a given e u (Ticks.stops r) = BookChange.stays r.becomes.book
+ticking_books w v n a given e u (Ticks.stops r) = BookChange.stays r.book
 
 either : {A B P : Type 0} → A ⊎ B → (A → P) → (B → P) → P
 either (inl x) f g = f x
@@ -123,7 +123,7 @@ masters_take_new_ids {L} w v e row n a b ea ma eb ub mb = go e row
         (λ h. let i = some_is b a (sym eb ∙ (s.1 n h ∙ ea)) in true_false b.master mb (ap (λ z. z.master) i ∙ ma))
 
     stopped : (m : ℕ) (x : Node L) → Stops w v m x → LeadsAnew w b
-    stopped m x r = changed m r.wreck r.becomes.nodes (λ h q. true_false b.up ub (ap (λ z. z.up) (sym q) ∙ r.down))
+    stopped m x r = changed m r.wreck r.nodes (λ h q. true_false b.up ub (ap (λ z. z.up) (sym q) ∙ r.down))
 
     as_it_was : (m : ℕ) (x old : Node L) → SetAt w.node v.node m x → w.node m ≡ Some old → x.master ≡ old.master → LeadsAnew w b
     as_it_was m x old s eo em = changed m x s (λ h q.
@@ -213,7 +213,7 @@ parts_change_nothing {L} w v n l a b p k ea row nothing eb ub = go row
     go : FollowerRow w v n l a p k → ShowsTheSame a b
     go (FollowerRow.idles r) =
         let i = some_is b a (sym eb ∙ (r.still.nodes n ∙ ea)) in record { id = ap (λ z. z.id) i; offset = ap (λ z. z.offset) i; held = ap (λ z. z.held) i }
-    go (FollowerRow.stops r) = true_false b.up ub (ap (λ z. z.up) (sym (is r.wreck r.becomes.nodes)) ∙ r.down)
+    go (FollowerRow.stops r) = true_false b.up ub (ap (λ z. z.up) (sym (is r.wreck r.nodes)) ∙ r.down)
     go (FollowerRow.leaves (Leaves.at_an_answer x r)) = subst (λ z. ShowsTheSame a z) (is _ r.nodes) (record { id = refl; offset = refl; held = refl })
     go (FollowerRow.leaves (Leaves.at_the_stream x r)) = subst (λ z. ShowsTheSame a z) (is _ r.nodes) (record { id = refl; offset = refl; held = refl })
     go (FollowerRow.hears_reply r) = absurd (nothing (a_reply r.number r.hears.text r.hears.reads.rest _ r.phase r.hears.says r.hears.reads.begins))
@@ -237,7 +237,7 @@ answers {L} w v l k k' s given fresh ek row st ek' st' = go row
 
     go : ServerRow w v l k s given fresh → Answered w v s k k'
     go (ServerRow.idles r) = no k (r.still.links l ∙ ek) refl
-    go (ServerRow.stops r) = no k (r.becomes.links l ∙ ek) refl
+    go (ServerRow.stops r) = no _ (r.links l k ek) refl
     go (ServerRow.notes r) = no _ r.becomes.links.0 refl
     go (ServerRow.shuts r) = no _ r.becomes.links.0 refl
     go (ServerRow.skips r) = no _ r.becomes.links.0 refl
@@ -266,7 +266,7 @@ asks_from_where_it_stands {L} w v n l a b k k' ea row offers eb ub ek' ek = go r
 
     go : FollowerRow w v n l a (Greet 2) k → (k' ≡ k) ⊎ ((request : List ℕ) × L.asks None request (Psync (Some (a.id, a.offset + 1))) × (k'.ask.left ≡ k.ask.left ++ request))
     go (FollowerRow.idles r) = inl (some_is k' k (sym ek' ∙ (r.still.links l ∙ ek)))
-    go (FollowerRow.stops r) = let i = some_is r.wreck b (sym r.becomes.nodes.0 ∙ eb) in true_false b.up ub (ap (λ z. z.up) (sym i) ∙ r.down)
+    go (FollowerRow.stops r) = let i = some_is r.wreck b (sym r.nodes.0 ∙ eb) in true_false b.up ub (ap (λ z. z.up) (sym i) ∙ r.down)
     go (FollowerRow.leaves (Leaves.at_an_answer x r)) = inl (some_is k' k (sym ek' ∙ (r.links l ∙ ek)))
     go (FollowerRow.leaves (Leaves.at_the_stream x r)) = inl (some_is k' k (sym ek' ∙ (r.links l ∙ ek)))
     go (FollowerRow.hears_reply r) = absurd (let e = number_is r.number r.phase in omega (arith, r.not_last, e))
@@ -302,7 +302,7 @@ streams_are_followed {L} w v n l a b k ea fa row e m more rest good fits within 
 
     go : FollowerRow w v n l a Stream k → b.follow ≡ Some (record { link = l; phase = Stream })
     go (FollowerRow.idles r) = let i = some_is b a (sym eb ∙ (r.still.nodes n ∙ ea)) in ap (λ z. z.follow) i ∙ fa
-    go (FollowerRow.stops r) = true_false b.up ub (ap (λ z. z.up) (sym (is r.wreck r.becomes.nodes)) ∙ r.down)
+    go (FollowerRow.stops r) = true_false b.up ub (ap (λ z. z.up) (sym (is r.wreck r.nodes)) ∙ r.down)
     go (FollowerRow.leaves (Leaves.at_an_answer x r)) = absurd (answer x)
     go (FollowerRow.leaves (Leaves.at_the_stream x r)) = absurd (stream x)
     go (FollowerRow.hears_reply r) = let p = r.phase in absurd (cc)
@@ -329,10 +329,10 @@ dialled_links_are_empty {L} w v n s row b f k eb ub ef ek = first row.does
         let j = some_is (record { link = r.link; phase = Greet 0 }) f (ap (λ z. z.follow) i ∙ ef) in
         let here = some_is _ k (sym r.links.0 ∙ (ap (λ z. v.link z.link) j ∙ ek)) in
         ap (λ z. z.tell) (sym here)
-    go (Dials.stops r) = let i = some_is r.wreck b (sym r.becomes.nodes.0 ∙ eb) in true_false b.up ub (ap (λ z. z.up) (sym i) ∙ r.down)
+    go (Dials.stops r) = let i = some_is r.wreck b (sym r.nodes.0 ∙ eb) in true_false b.up ub (ap (λ z. z.up) (sym i) ∙ r.down)
     go (Dials.server_stops r) = elim (same_or n s) [
-      | inl q ↦ (let i = some_is r.wreck b (sym r.becomes.nodes.0 ∙ (ap (λ z. v.node z) (sym q) ∙ eb)) in true_false b.up ub (ap (λ z. z.up) (sym i) ∙ r.down))
-      | inr ne ↦ (let i = some_is b row.node (sym eb ∙ (r.becomes.nodes.1 n ne ∙ row.found)) in none_some row.node.follow f row.waiting (ap (λ z. z.follow) (sym i) ∙ ef))
+      | inl q ↦ (let i = some_is r.wreck b (sym r.nodes.0 ∙ (ap (λ z. v.node z) (sym q) ∙ eb)) in true_false b.up ub (ap (λ z. z.up) (sym i) ∙ r.down))
+      | inr ne ↦ (let i = some_is b row.node (sym eb ∙ (r.nodes.1 n ne ∙ row.found)) in none_some row.node.follow f row.waiting (ap (λ z. z.follow) (sym i) ∙ ef))
     ]
 
     second : Unless w v row.server (Dials w v n s row.node row.server) → k.tell ≡ no_bytes

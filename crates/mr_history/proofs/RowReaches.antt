@@ -7,27 +7,24 @@ use Rattle.mr_history.specs.World.{Caller, Link, World, shut}
 use Rattle.mr_history.specs.World.Caller.{Client, Peer}
 use Rattle.mr_history.specs.Event.{Event}
 use Rattle.mr_history.specs.Event.Side.{Server, Dialler}
-use Rattle.mr_history.specs.Changing.{Still, LinkBecomes, Stops, Unless, NodeBecomes}
+use Rattle.mr_history.specs.Changing.{Still, LinkBecomes, Unless, NodeBecomes}
 use Rattle.mr_history.specs.ServerRows.{ServerRow}
 use Rattle.mr_history.specs.FollowerRows.{FollowerRow}
 use Rattle.mr_history.specs.Rows.{fresh_node, fresh_link, more, StartRow, RestartRow, Opens, ClientRow, Dials, DialRow, CommandRow, DeliverToServer, DeliverToReplica, DeliverToClient, BreakOfReplica, BreakOfClient, Acknowledges, Ticks, Row}
 use Rattle.mr_history.specs.Invariant.{Talk, Invariant}
 use Rattle.mr_history.specs.Invariant.Talk.{greeting, greeted, asking, asking_for, refused, answered_full, answered_cont, loading, streaming}
 use Rattle.mr_history.proofs.Moves.{Move, Reaches}
-use Rattle.mr_history.proofs.Moves.Move.{still, stop, leave, close, carry, loose, draw, extend, dial, noted}
+use Rattle.mr_history.proofs.Moves.Move.{still, leave, close, carry, loose, draw, extend, dial, noted}
 use Rattle.mr_history.proofs.Moves.Reaches.{by_moves}
 use Rattle.mr_history.proofs.Keeping.{none_some}
 use Rattle.mr_history.proofs.Fronts.{some_is}
 use Rattle.mr_history.proofs.Extend.{same_eqb}
-use Rattle.mr_history.proofs.Refine.{one, Free, shut_one}
+use Rattle.mr_history.proofs.Refine.{one, Free, shut_one, stops_reach}
 use Rattle.mr_history.proofs.FollowerReaches.{follower_reaches}
 use Rattle.mr_history.proofs.ServerReaches.{server_reaches}
 
 still_reaches : {L : Language} (w v : World L) → Still w v → Reaches w v
 still_reaches w v s = one w v (still s.nodes s.links s.book)
-
-stops_reach : {L : Language} (w v : World L) (n : ℕ) (a : Node L) → Stops w v n a → Reaches w v
-stops_reach w v n a r = one w v (stop n r.wreck r.down r.becomes.nodes r.becomes.links r.becomes.book)
 
 unless : {L : Language} (w v : World L) (a : Node L) (Act : Type 0) → (a.up ≡ true → Act → Reaches w v) → Unless w v a Act → Reaches w v
 unless w v a Act f (Unless.acts u x) = f u x

@@ -9,10 +9,10 @@ use Rattle.mr_history.specs.World.{Link, World, hears, shut, told, told_if}
 use Rattle.mr_history.specs.ServerRows.{answered, joined, Skips, Runs, Promotes, Demotes, Turns, ServerRow, concluded}
 use Rattle.mr_history.specs.Invariant.{Invariant}
 use Rattle.mr_history.proofs.Moves.{Move, Serves, used, Reaches}
-use Rattle.mr_history.proofs.Moves.Move.{still, stop, leave, close, loose, extend, promote, demote, greet, refuse, answer_full, answer_cont, noted}
+use Rattle.mr_history.proofs.Moves.Move.{still, leave, close, loose, extend, promote, demote, greet, refuse, answer_full, answer_cont, noted}
 use Rattle.mr_history.proofs.Moves.Reaches.{by_moves}
 use Rattle.mr_history.proofs.Theorem.{move_keeps}
-use Rattle.mr_history.proofs.Refine.{put, put_here, put_sets, put_before, put_over, reads_left, then_counts, one, Free, free_ask, free_doomed, each, each_link, mute, shut_one, each_silent, other_command, other_promote, other_obey, other_blank, other_quit, quiet_else}
+use Rattle.mr_history.proofs.Refine.{stops_reach, put, put_here, put_sets, put_before, put_over, reads_left, then_counts, one, Free, free_ask, free_doomed, each, each_link, mute, shut_one, each_silent, other_command, other_promote, other_obey, other_blank, other_quit, quiet_else}
 
 runs_reach : {L : Language} (laws : Laws L) (w v : World L) (l : ℕ) (k : Link) (s : Node L) (given : L.Given) → Invariant w → w.link l ≡ Some k → w.node k.to ≡ Some s → s.up ≡ true
     → Runs w v l k s given → Reaches w v
@@ -130,7 +130,7 @@ server_reaches {L} laws w v l k s given fresh inv ek en eo u row = go row
 
     go : ServerRow w v l k s given fresh → Reaches w v
     go (ServerRow.idles r) = one w v (still r.still.nodes r.still.links r.still.book)
-    go (ServerRow.stops r) = one w v (stop k.to r.wreck r.down r.becomes.nodes r.becomes.links r.becomes.book)
+    go (ServerRow.stops r) = stops_reach w v k.to s r
     go (ServerRow.notes r) =
         then_counts w v l (record k { ask = record k.ask { left = r.uses.left.left } }) (record k { ask = r.uses.left }) r.becomes.links refl
         (noted l k r.uses.left.left ek r.streams r.becomes.nodes (put_before w.link v.link l _ _ r.becomes.links) r.becomes.book)

@@ -16,13 +16,13 @@ use Rattle.mr_history.specs.FollowerRows.Usable.{a_snapshot, an_effect, an_answe
 use Rattle.mr_history.specs.Invariant.{AtTip, Talk, Invariant, NodeIsSound}
 use Rattle.mr_history.specs.Invariant.Talk.{greeting, greeted, asking, asking_for, refused, answered_full, answered_cont, loading, streaming}
 use Rattle.mr_history.proofs.Moves.{Move, Chain, Reaches}
-use Rattle.mr_history.proofs.Moves.Move.{still, stop, leave, close, carry, loose, draw, extend, promote, demote, dial, greet, refuse, answer_full, answer_cont, noted, go_on, ask_all, ask_on, take_full, take_cont, load, follow}
+use Rattle.mr_history.proofs.Moves.Move.{still, stop, leave, close, drop_open, carry, loose, draw, extend, promote, demote, dial, greet, refuse, answer_full, answer_cont, noted, go_on, ask_all, ask_on, take_full, take_cont, load, follow}
 use Rattle.mr_history.proofs.Moves.Reaches.{by_moves}
 use Rattle.mr_history.proofs.Histories.{append_nil, all_back}
 use Rattle.mr_history.proofs.Fronts.{Keeps, some_is, at_unique, keeps_grows, history_is}
 use Rattle.mr_history.proofs.Keeping.{same_keeps, same_good, node_keeps, talk_keeps, true_false, none_some}
 use Rattle.mr_history.proofs.NodeMoves.{stop_keeps, leave_keeps, draw_keeps, promote_keeps, demote_keeps, set_keeps}
-use Rattle.mr_history.proofs.LinkMoves.{close_keeps, carry_keeps, loose_keeps, greet_keeps, refuse_keeps, answer_full_keeps, answer_cont_keeps, noted_keeps}
+use Rattle.mr_history.proofs.LinkMoves.{close_keeps, drop_keeps, carry_keeps, loose_keeps, greet_keeps, refuse_keeps, answer_full_keeps, answer_cont_keeps, noted_keeps}
 use Rattle.mr_history.proofs.FollowerMoves.{go_on_keeps, ask_all_keeps, ask_on_keeps, take_full_keeps, take_cont_keeps, load_keeps, follow_keeps}
 use Rattle.mr_history.proofs.Extend.{extend_keeps, dial_keeps, extends_grows}
 
@@ -35,7 +35,7 @@ still_keeps {L} w v inv sn sl sb = record {
     link = o.link;
     found = sl f.link ∙ o.found;
     mine = o.mine;
-    talk = talk_keeps w v a a f.phase o.link o.link keeps refl refl refl refl refl refl (λ i post t s e' u' z. t s (sym (sn o.link.to) ∙ e') u' z) o.talk;
+    talk = talk_keeps w v a a f.phase o.link o.link keeps refl refl refl (λ i. refl) refl refl (λ i post t s e' u' z. t s (sym (sn o.link.to) ∙ e') u' z) o.talk;
   };
 }
   where
@@ -47,6 +47,7 @@ move_keeps laws w v inv (still sn sl sb) = still_keeps w v inv sn sl sb
 move_keeps laws w v inv (stop n a e sn sl sb) = stop_keeps w v n a inv e sn sl sb
 move_keeps laws w v inv (leave n a x h e sn sl sb) = leave_keeps w v n a x h inv e sn sl sb
 move_keeps laws w v inv (close f sn sl sb) = close_keeps w v f inv sn sl sb
+move_keeps laws w v inv (drop_open f sn sl sb) = drop_keeps w v f inv sn sl sb
 move_keeps laws w v inv (carry l x y k e sn sl sb) = carry_keeps w v l x y k inv e sn sl sb
 move_keeps laws w v inv (loose l k f sn sl sb) = loose_keeps w v l k inv f sn sl sb
 move_keeps laws w v inv (draw n b x1 x2 x3 x4 x5 x6 sn sl sb) = draw_keeps laws w v n b inv x1 x2 x3 x4 x5 x6 sn sl sb
@@ -79,6 +80,7 @@ move_grows laws w v (still sn sl sb) = same_grows w v sb
 move_grows laws w v (stop n a e sn sl sb) = same_grows w v sb
 move_grows laws w v (leave n a x h e sn sl sb) = same_grows w v sb
 move_grows laws w v (close f sn sl sb) = same_grows w v sb
+move_grows laws w v (drop_open f sn sl sb) = same_grows w v sb
 move_grows laws w v (carry l x y k e sn sl sb) = same_grows w v sb
 move_grows laws w v (loose l k f sn sl sb) = same_grows w v sb
 move_grows laws w v (demote n a h x1 x2 x3 sn sl sb) = same_grows w v sb

@@ -1,10 +1,10 @@
 -- The changes that the rows of several events share.
-use Rattle.std.specs.Prelude.{ℕ, List, ◌++◌, ◌+◌, ◌-◌, ◌≤◌, ◌≡◌, Some, true, false, length, drop, All}
+use Rattle.std.specs.Prelude.{ℕ, List, ◌++◌, ◌+◌, ◌-◌, ◌≤◌, ◌≡◌, None, Some, true, false, length, drop, All, ◌==◌}
 use Rattle.mr_history.specs.Language.{Language}
 use Rattle.mr_history.specs.Changes.{SetAt, Same}
 use Rattle.mr_history.specs.History.{Extends, texts, fold}
 use Rattle.mr_history.specs.Node.{Node, EndsAs}
-use Rattle.mr_history.specs.World.{Way, Link, World, unread}
+use Rattle.mr_history.specs.World.{Way, Link, World, unread, dropped}
 
 -- nothing changes
 pub record Still {L : Language} (w v : World L) : Type 0 where
@@ -24,12 +24,16 @@ pub record NodeBecomes {L : Language} (w v : World L) (n : ℕ) (a : Node L) : T
   pub links : Same w.link v.link
   pub book : Same w.book v.book
 
--- The node stops, and shows nothing from now on. What is left of it may be anything: some effects may have been applied.
+-- The node stops, shows nothing from now on, and drops what is open at its ends. What is left of it may be anything: some
+-- effects may have been applied.
 pub record Stops {L : Language} (w v : World L) (n : ℕ) (a : Node L) : Type 0 where
   pub wreck : Node L
   pub down : wreck.up ≡ false
   pub role : wreck.starts_as_master ≡ a.starts_as_master
-  pub becomes : NodeBecomes w v n wreck
+  pub nodes : SetAt w.node v.node n wreck
+  pub no_links : (l : ℕ) → w.link l ≡ None → v.link l ≡ None
+  pub links : (l : ℕ) (k : Link) → w.link l ≡ Some k → v.link l ≡ Some (dropped (k.to == n) k)
+  pub book : Same w.book v.book
 
 -- At a node that runs the event acts; at one that stopped nothing changes.
 pub data Unless {L : Language} (w v : World L) (a : Node L) (Act : Type 0) : Type 0 where

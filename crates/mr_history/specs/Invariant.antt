@@ -1,5 +1,5 @@
 -- What holds at every moment of a run.
-use Rattle.std.specs.Prelude.{ℕ, List, [], ◌++◌, ◌≡◌, ◌+◌, ◌-◌, None, Some, true, false, All}
+use Rattle.std.specs.Prelude.{ℕ, List, [], ◌++◌, ◌≡◌, ◌+◌, ◌-◌, None, Some, true, All}
 use Rattle.mr_history.specs.Language.{Language}
 use Rattle.mr_history.specs.Language.Line.{Plain, Refusal, FullResync, Continue}
 use Rattle.mr_history.specs.Language.Request.{Handshake, Psync}

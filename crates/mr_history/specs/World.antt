@@ -42,9 +42,13 @@ IsPlain k = (k.streams ≡ false) × (k.transaction ≡ None)
 abbrev pub hears : ℕ → Link → Bool
 hears n k = (k.to == n) && (k.serving && k.streams)
 
--- the server's end closes
+-- what is open on the link is dropped
+abbrev pub dropped : Bool → Link → Link
+dropped b k = record k { transaction = cond b None k.transaction }
+
+-- the server's end closes, and drops what is open
 abbrev pub shut : Bool → Link → Link
-shut b k = record k { serving = cond b false k.serving }
+shut b k = record (dropped b k) { serving = cond b false k.serving }
 
 abbrev pub told : Link → List ℕ → Link
 told k bytes = record k { tell = record k.tell { left = k.tell.left ++ bytes } }

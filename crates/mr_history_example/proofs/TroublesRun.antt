@@ -5,7 +5,7 @@ use Rattle.mr_history.specs.Language.{Request}
 use Rattle.mr_history.specs.Language.Line.{Plain, Refusal}
 use Rattle.mr_history.specs.Language.Request.{Handshake, Psync, Ack, Command, ReplicaOfNoOne, ReplicaOf, Empty, Quit}
 use Rattle.mr_history.specs.Node.Phase.{Greet, Asked, Loading, Stream}
-use Rattle.mr_history.specs.World.{hears, shut, told_if}
+use Rattle.mr_history.specs.World.{dropped, hears, shut, told_if}
 use Rattle.mr_history.specs.Changing.{Unless}
 use Rattle.mr_history.specs.ServerRows.{ServerRow, Unwanted}
 use Rattle.mr_history.specs.FollowerRows.{BadAnswer, Leaves, FollowerRow}
@@ -259,13 +259,13 @@ step_77 : Row moment_76 (Event.Deliver 6 Server 1) moment_77
 step_77 = record { at = record { link = link6_1; found = refl; serving = refl; node = node0_1; node_found = refl }; sent = let h : 1 ≤ 1 = omega arith in h; does = Unless.acts refl (record { nodes = λ m. refl; links = changed links_52 6 _ link6_2 refl; book = λ m. refl }) }
 
 step_78 : Row moment_77 (Event.Step 6 Server tt 3) moment_78
-step_78 = record { at = record { link = link6_2; found = refl; serving = refl; node = node0_1; node_found = refl }; does = Unless.acts refl (ServerRow.stops (record { wreck = node0_2; down = refl; role = refl; becomes = record { nodes = changed nodes_18 0 _ node0_2 refl; links = λ m. refl; book = λ m. refl } })) }
+step_78 = record { at = record { link = link6_2; found = refl; serving = refl; node = node0_1; node_found = refl }; does = Unless.acts refl (ServerRow.stops (record { wreck = node0_2; down = refl; role = refl; nodes = changed nodes_18 0 _ node0_2 refl; no_links = each_none (λ x. dropped (x.to == 0) x) links_53; links = each_some (λ x. dropped (x.to == 0) x) links_53; book = λ m. refl })) }
 
 step_79 : Row moment_78 (Event.Tick 0 tt) moment_79
 step_79 = record { node = node0_2; found = refl; does = Unless.stopped refl (record { nodes = λ m. refl; links = λ m. refl; book = λ m. refl }) }
 
 step_80 : Row moment_79 (Event.Dial 1 2) moment_80
-step_80 = record { node = node1_8; found = refl; replica = refl; waiting = refl; server = node2_6; server_found = refl; does = Unless.acts refl (Unless.acts refl (Dials.server_stops (record { wreck = node2_7; down = refl; role = refl; becomes = record { nodes = changed nodes_19 2 _ node2_7 refl; links = λ m. refl; book = λ m. refl } }))) }
+step_80 = record { node = node1_8; found = refl; replica = refl; waiting = refl; server = node2_6; server_found = refl; does = Unless.acts refl (Unless.acts refl (Dials.server_stops (record { wreck = node2_7; down = refl; role = refl; nodes = changed nodes_19 2 _ node2_7 refl; no_links = each_none (λ x. dropped (x.to == 2) x) links_53; links = each_some (λ x. dropped (x.to == 2) x) links_53; book = λ m. refl }))) }
 
 step_81 : Row moment_80 (Event.Restart 0 (1 ∷ 7 ∷ []) 4) moment_81
 step_81 = record { old = node0_2; found = refl; held = []; restored = refl; nodes = changed nodes_20 0 _ node0_3 refl; no_links = each_none (λ x. shut (x.to == 0) x) links_53; links = each_some (λ x. shut (x.to == 0) x) links_53; book = record { new_id = refl; book = added book_5 history4_0 } }

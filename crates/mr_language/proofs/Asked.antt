@@ -1,4 +1,4 @@
--- No request begins another, and each asks one thing.
+-- No request begins another, and each asks one thing, in a transaction or in none.
 use Rattle.std.proofs.Common.{◌≡◌, ◌≢◌, ℕ, ℤ, pos, List, [], ◌++◌, inl, inr, refl, sym, ◌∙◌, ap, subst, Option, Some, None}
 use Rattle.std.proofs.lemmas.List.{append-nil}
 use Rattle.mr_map.specs.Bytes.{Bytes}
@@ -7,9 +7,9 @@ use Rattle.mr_resp.specs.Spelling.{array}
 use Rattle.mr_resp.specs.Request.{IsText}
 use Rattle.mr_resp.specs.Usual.{usual}
 use Rattle.mr_resp.proofs.OneAnswer.{same_requests, not_empty, one_text, same_texts}
-use Rattle.mr_history.specs.Language.{Request}
+use Rattle.mr_history.specs.Language.{Request, Transaction}
 use Rattle.mr_history.specs.Language.Request.{Psync}
-use Rattle.mr_language.specs.Requests.{Kind, kind_of, IsWanted, Asks, IsAsked}
+use Rattle.mr_language.specs.Requests.{Kind, kind_in, IsWanted, Asks, IsAsked}
 use Rattle.mr_language.specs.Requests.Kind.{handshake, psync, ack, no_one, follow, quit, command}
 use Rattle.mr_language.specs.Requests.IsAsked.{by_words, by_nothing}
 use Rattle.mr_language.proofs.Ids.{one_id}
@@ -38,20 +38,20 @@ one_asked (follow host port) a b x y = x ∙ sym y
 one_asked quit a b x y = x ∙ sym y
 one_asked command a b x y = x ∙ sym y
 
-is_text : (t : List ℕ) (a : Request (List ℕ)) → IsAsked t a → IsText usual t
-is_text t a (by_words ws r e) = inl (ws, r)
-is_text t a (by_nothing n e) = inr n
+is_text : (n : Option Transaction) (t : List ℕ) (a : Request (List ℕ)) → IsAsked n t a → IsText usual t
+is_text n t a (by_words ws r e) = inl (ws, r)
+is_text n t a (by_nothing m e) = inr m
 
-pub asks_cut : (s t : List ℕ) (a b : Request (List ℕ)) (x y : List ℕ) → IsAsked s a → IsAsked t b → s ++ x ≡ t ++ y → (s ≡ t) × (a ≡ b)
-asks_cut s t a b x y p q e = (same_texts usual s t x y (is_text s a p) (is_text t b q) e, go p q)
+pub asks_cut : (n : Option Transaction) (s t : List ℕ) (a b : Request (List ℕ)) (x y : List ℕ) → IsAsked n s a → IsAsked n t b → s ++ x ≡ t ++ y → (s ≡ t) × (a ≡ b)
+asks_cut n s t a b x y p q e = (same_texts usual s t x y (is_text n s a p) (is_text n t b q) e, go p q)
   where
-    go : IsAsked s a → IsAsked t b → a ≡ b
+    go : IsAsked n s a → IsAsked n t b → a ≡ b
     go (by_words ws r f) (by_words vs u g) =
         let same = (same_requests usual s t x y ws vs r u e).0 in
-        one_asked (kind_of vs) a b (subst (λ z. Asks (kind_of z) a) same f) g
-    go (by_words ws r f) (by_nothing n g) = absurd (not_empty usual s t x y ws r n e)
-    go (by_nothing n f) (by_words vs u g) = absurd (not_empty usual t s y x vs u n (sym e))
-    go (by_nothing n f) (by_nothing m g) = f ∙ sym g
+        one_asked (kind_in n vs) a b (subst (λ z. Asks (kind_in n z) a) same f) g
+    go (by_words ws r f) (by_nothing m g) = absurd (not_empty usual s t x y ws r m e)
+    go (by_nothing m f) (by_words vs u g) = absurd (not_empty usual t s y x vs u m (sym e))
+    go (by_nothing m f) (by_nothing k g) = f ∙ sym g
 
 -- the empty array is a text, and isn't empty
 empty_array : IsText usual (array [])
@@ -60,12 +60,12 @@ empty_array = inr (inl (inl refl))
 array_some : array [] ≢ []
 array_some e = cc
 
-pub asks_some : (t : List ℕ) (a : Request (List ℕ)) → IsAsked t a → t ≢ []
-asks_some t a p e =
-    array_some (one_text usual t (array []) (array []) [] (is_text t a p) empty_array (ap (λ z. z ++ array []) e ∙ sym (append-nil (array []))))
+pub asks_some : (n : Option Transaction) (t : List ℕ) (a : Request (List ℕ)) → IsAsked n t a → t ≢ []
+asks_some n t a p e =
+    array_some (one_text usual t (array []) (array []) [] (is_text n t a p) empty_array (ap (λ z. z ++ array []) e ∙ sym (append-nil (array []))))
 
-pub doomed_cut : (s t : List ℕ) (a : Request (List ℕ)) (x y : List ℕ) → IsDoomed (IsText usual) s → IsAsked t a → s ++ x ≡ t ++ y → ⊥
-doomed_cut s t a x y d p e = d.never x t y (is_text t a p) e
+pub doomed_cut : (n : Option Transaction) (s t : List ℕ) (a : Request (List ℕ)) (x y : List ℕ) → IsDoomed (IsText usual) s → IsAsked n t a → s ++ x ≡ t ++ y → ⊥
+doomed_cut n s t a x y d p e = d.never x t y (is_text n t a p) e
 
 pub doomed_some : IsDoomed (IsText usual) [] → ⊥
 doomed_some d = d.never (array []) (array []) [] empty_array (sym (append-nil (array [])))

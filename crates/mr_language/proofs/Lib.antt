@@ -3,5 +3,10 @@ pub mod Texts
 pub mod Ids
 pub mod Said
 pub mod Asked
-pub mod MiniredLaws
+pub mod Joining
+pub mod GoodGroups
+pub mod Waited
 pub mod Planned
+pub mod Comings
+pub mod Opened
+pub mod MiniredLaws

@@ -13,10 +13,10 @@ minired_laws = record {
   text_some = text_some;
   says_cut = says_cut;
   says_some = says_some;
-  asks_cut = λ n. asks_cut;
-  asks_some = λ n. asks_some;
+  asks_cut = asks_cut;
+  asks_some = asks_some;
   loads_cut = loads_cut;
   loads_some = loads_some;
-  doomed_cut = λ n. doomed_cut;
+  doomed_cut = doomed_cut;
   doomed_some = doomed_some;
 }

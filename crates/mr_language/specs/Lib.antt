@@ -2,4 +2,5 @@ pub mod Lines
 pub mod Snapshots
 pub mod Requests
 pub mod Changes
+pub mod Transactions
 pub mod Minired

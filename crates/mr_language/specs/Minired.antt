@@ -1,6 +1,6 @@
--- The language of minired's replicas. What is done at once is a group of effects, all of it or nothing. No request begins a
--- transaction, and each effect of a master is a group of its own.
-use Rattle.std.specs.Prelude.{◌≡◌, ℕ, List, bytes_eq}
+-- The language of minired's replicas. What is done at once is a group of effects, all of it or nothing: those of all that waited in a
+-- transaction, and else each effect by itself.
+use Rattle.std.specs.Prelude.{ℕ, List, bytes_eq}
 use Rattle.std.specs.FinMap.{empty}
 use Rattle.mr_inline.specs.Language.{IsDoomed}
 use Rattle.mr_resp.specs.Request.{IsText}
@@ -12,7 +12,7 @@ use Rattle.mr_data.specs.declared.given.Given.{Given}
 use Rattle.mr_groups.specs.Groups.{IsGoodGroup, group_text}
 use Rattle.mr_history.specs.Language.{Language}
 use Rattle.mr_lines.specs.Lines.{most_counted}
-use Rattle.mr_language.specs.Changes.{HasEffects, IsDue}
+use Rattle.mr_language.specs.Changes.{HasEffects, IsDue, Leads}
 use Rattle.mr_language.specs.Lines.{Says}
 use Rattle.mr_language.specs.Requests.{IsAsked}
 use Rattle.mr_language.specs.Snapshots.{IsSnapshot, IsReadAs}
@@ -29,11 +29,11 @@ minired = record {
   IsGood = IsGoodGroup;
   limit = most_counted;
   Given = Given;
-  effects = λ room transaction. HasEffects;
+  effects = HasEffects;
   due = IsDue;
-  leads = λ master transaction text new. new ≡ transaction;
+  leads = Leads;
   says = Says;
-  asks = λ transaction. IsAsked;
+  asks = IsAsked;
   loads = IsSnapshot;
   doomed = IsDoomed (IsText usual);
   restores = IsReadAs;

@@ -13,7 +13,7 @@ use Rattle.mr_cmd_node.specs.declared.node_ask.NodeAsk.TheVariants as node
 use Rattle.mr_ask.specs.Asks.{asked}
 use Rattle.mr_ask.specs.declared.ask.Ask.{Ask}
 use Rattle.mr_ask.specs.declared.ask.Ask.TheVariants as ask
-use Rattle.mr_history.specs.Language.{Request}
+use Rattle.mr_history.specs.Language.{Request, Transaction}
 use Rattle.mr_history.specs.Language.Request.{Handshake, Psync, Ack, Command, ReplicaOfNoOne, ReplicaOf, Empty, Quit}
 
 -- what words ask, but for what PSYNC wants
@@ -33,6 +33,9 @@ kind_to_node (node.ReplConf told) = handshake
 kind_to_node (node.Ack offset) = ack
 kind_to_node (node.ReplicaOf host port) = follow host port
 kind_to_node node.NoOne = no_one
+kind_to_node node.Multi = command
+kind_to_node node.Exec = command
+kind_to_node node.Discard = command
 
 -- PING without a message is one too
 abbrev pub kind_to_server : ServerAsk → Kind
@@ -77,7 +80,16 @@ Asks (follow host port) request = request ≡ ReplicaOf (address host port)
 Asks quit request = request ≡ Quit
 Asks command request = request ≡ Command
 
--- The bytes are one request whose words ask this, or an empty one.
-pub data IsAsked (text : List ℕ) (request : Request (List ℕ)) : Type 0 where
-  by_words : (words : List Bytes) → IsRequest usual text words → Asks (kind_of words) request → IsAsked text request
-  by_nothing : IsEmptyRequest text → request ≡ Empty → IsAsked text request
+-- where a transaction is open, all but QUIT is a command
+abbrev pub within_kind : Kind → Kind
+within_kind quit = quit
+within_kind _ = command
+
+abbrev pub kind_in : Option Transaction → List Bytes → Kind
+kind_in None words = kind_of words
+kind_in (Some t) words = within_kind (kind_of words)
+
+-- The bytes are one request whose words ask this, in a transaction or in none, or an empty one.
+pub data IsAsked (transaction : Option Transaction) (text : List ℕ) (request : Request (List ℕ)) : Type 0 where
+  by_words : (words : List Bytes) → IsRequest usual text words → Asks (kind_in transaction words) request → IsAsked transaction text request
+  by_nothing : IsEmptyRequest text → request ≡ Empty → IsAsked transaction text request

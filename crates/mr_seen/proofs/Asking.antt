@@ -1,5 +1,5 @@
 -- What words ask of a node, in the words of histories.
-use Rattle.std.proofs.Common.{◌≡◌, ◌≢◌, ◌<◌, ◌≤◌, ◌⊎◌, ◌||◌, inl, inr, ℕ, ℤ, pos, negsuc, List, [], ◌∷◌, ◌++◌, Bool, true, false, not, Option, None, Some, Result, Ok, Err, length, codes, refl, sym, ap, subst, ◌∙◌, arith, All}
+use Rattle.std.proofs.Common.{◌≡◌, ◌≢◌, ◌<◌, ◌≤◌, ◌⊎◌, ◌||◌, inl, inr, ℕ, ℤ, pos, negsuc, List, [], ◌∷◌, ◌++◌, Bool, true, false, not, Option, None, Some, Result, Ok, Err, length, codes, refl, sym, ap, subst, ◌∙◌, arith}
 use Rattle.std.specs.Prelude.{is_some}
 use Rattle.std.specs.List.{AllPass}
 use Rattle.std.specs.Fmt.{decimal}
@@ -8,18 +8,18 @@ use Rattle.std.proofs.lemmas.List.Elements.{All-nil, All-cons, All-head, All-tai
 use Rattle.std.proofs.lemmas.List.Sums.{AllPass-from_list_all}
 use Rattle.mr_repl.specs.ReplId.{IsId, digits_of, is_lower_digit}
 use Rattle.mr_repl.proofs.IdTexts.{texts_are_forty}
-use Rattle.mr_resp.specs.Replies.{Tree, reply_text}
+use Rattle.mr_resp.specs.Replies.{Tree, error, reply_text}
 use Rattle.mr_resp.specs.Command.{IsCommandText}
 use Rattle.mr_resp.specs.Usual.{commands}
 use Rattle.mr_resp.proofs.Digits.{AreDigits, decimal_digits}
 use Rattle.mr_effect.specs.Spelling.{text, IsShort}
 use Rattle.mr_effect.specs.declared.effect.Effect.{Effect}
 use Rattle.mr_entries.specs.Dataset.{Dataset}
-use Rattle.mr_data.specs.Meaning.{apply, apply_all}
 use Rattle.mr_data.specs.declared.given.Given.{Given}
-use Rattle.mr_replay.specs.Effects.{IsGoodEffect}
 use Rattle.mr_planning.specs.Answered.{done}
+use Rattle.mr_words.specs.Faults.{fault_text}
 use Rattle.mr_words.specs.declared.fault.AskFault.{AskFault}
+use Rattle.mr_words.specs.declared.fault.AskFault.TheVariants.{Unknown}
 use Rattle.mr_cmd_server.specs.Commands.{server_reply}
 use Rattle.mr_cmd_server.specs.declared.server_ask.ServerAsk.{ServerAsk}
 use Rattle.mr_cmd_server.specs.declared.server_ask.ServerAsk.TheVariants as server
@@ -42,7 +42,6 @@ use Rattle.mr_history.specs.Language.Line.{Plain, Refusal}
 use Rattle.mr_language.specs.Lines.{Says}
 use Rattle.mr_language.specs.Requests.{Kind, kind_by, kind_to_server, Asks, IsWanted, address}
 use Rattle.mr_language.specs.Requests.Kind.{handshake, psync, ack, no_one, follow, quit, command}
-use Rattle.mr_follow.proofs.Loadings.{possible, then_some}
 
 -- ---- commands to the server that are answered by the node
 abbrev pub is_special : Result Ask AskFault → Bool
@@ -85,6 +84,19 @@ pub special_plan : (words : List (List ℕ)) (given : Given) (m : Dataset) (x : 
 special_plan words given m x e q = record {
   goes_on = ap closes e ∙ q;
   planned = record { planned = subst (λ (r : Result Ask AskFault). IsPlannedAs r false given m (server_reply x) []) (sym e) (record { reply_is = refl; effects_are = refl }) };
+  leads = ap (λ (r : Result Ask AskFault). Some (left_by r false given m)) (sym e);
+  texts = All-nil (λ e. IsCommandText commands (text e));
+  short = All-nil IsShort;
+}
+
+-- A request to the node has one too, at a dataset, which knows no such command.
+abbrev pub unknown : Tree
+unknown = error (fault_text Unknown)
+
+pub node_plan : (words : List (List ℕ)) (given : Given) (m : Dataset) (wish : NodeAsk) → asked words ≡ Ok (ask.Node wish) → HasPlan false m words given unknown []
+node_plan words given m wish e = record {
+  goes_on = ap closes e;
+  planned = record { planned = subst (λ (r : Result Ask AskFault). IsPlannedAs r false given m unknown []) (sym e) (record { reply_is = refl; effects_are = refl }) };
   leads = ap (λ (r : Result Ask AskFault). Some (left_by r false given m)) (sym e);
   texts = All-nil (λ e. IsCommandText commands (text e));
   short = All-nil IsShort;
@@ -254,11 +266,3 @@ says_not_chained = record {
   };
   means = tt;
 }
-
--- ---- effects that lead on are good
-pub good_all : (effects : List Effect) (m n : Dataset) → apply_all effects m ≡ Some n → All IsShort effects → All IsGoodEffect effects
-good_all [] m n e h = All-nil IsGoodEffect
-good_all (x ∷ effects) m n e h =
-    let t = then_some (apply x m) (apply_all effects) n e in
-    let p = possible x m t.0 t.1.0 in
-    All-cons IsGoodEffect x effects (record { spelled = p.0; fits = p.1; short = All-head IsShort x effects h }) (good_all effects t.0 n t.1.1 (All-tail IsShort x effects h))

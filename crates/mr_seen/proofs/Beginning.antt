@@ -1,5 +1,5 @@
 -- Nodes that begin, as histories see them; and what an event keeps.
-use Rattle.std.proofs.Common.{◌≡◌, ℕ, List, [], Bool, true, false, Option, None, Some, ◌==◌, length, refl, sym, ap, subst, ◌∙◌}
+use Rattle.std.proofs.Common.{◌≡◌, ℕ, List, [], ◌∷◌, ◌++◌, Bool, true, false, cond, Option, None, Some, ◌==◌, length, refl, sym, ap, subst, ◌∙◌}
 use Rattle.std.specs.Prelude.{slice_get, slice_set, bytes_eq}
 use Rattle.std.specs.Option.{option_map}
 use Rattle.std.specs.FinMap.{empty}
@@ -15,14 +15,15 @@ use Rattle.mr_history.proofs.Headline.{row_keeps}
 use Rattle.mr_history.proofs.Theorem.{nowhere_ok}
 use Rattle.mr_language.specs.Minired.{minired}
 use Rattle.mr_language.proofs.MiniredLaws.{minired_laws}
-use Rattle.mr_seen.specs.State.{Link, Entry}
-use Rattle.mr_seen.specs.Seeing.{seen, seen_node, seen_link}
+use Rattle.mr_seen.specs.State.{Link, Slot, Entry}
+use Rattle.mr_seen.specs.Seeing.{seen, seen_node, open_at, link_with, seen_link}
 use Rattle.mr_seen.specs.Books.{entry_of, IsKeptAs, IsBook, begun}
 use Rattle.mr_seen.specs.Carrying.{shut_if, begun_slot}
 use Rattle.mr_seen.specs.Events.{StartsAreRows, RestartsAreRows, EventsKeepHistories, WorldsBegin}
-use Rattle.mr_seen.proofs.Seen.{put_at, push_at, none_at_end, is_seen}
-use Rattle.mr_seen.proofs.Places.{push_none}
+use Rattle.mr_seen.proofs.Seen.{put_at, push_at, none_at_end, is_seen, same_each}
+use Rattle.mr_seen.proofs.Places.{push_none, push_old}
 use Rattle.mr_seen.proofs.Reading.{set_as}
+use Rattle.mr_seen.proofs.Open.{elsewhere, eqb_yes}
 use Rattle.mr_seen.proofs.Keeping.{entry_push, kept_on, is_none, with_history, set_history}
 
 abbrev history_from : Dataset → History minired
@@ -48,18 +49,21 @@ starts w book as_replica port backlog id file holds none = record {
     node = length w.slots;
     new_node = none_at_end seen_node w.slots;
     unnamed = λ l k e q.
-        let x = is_seen seen_link (slice_get w.links l) k e in
+        let x = is_seen (seen_link w.slots) (slice_get w.links l) k e in
         let h = holds.world.servers l x.0 x.1 in
         let z : None ≡ Some h.slot = sym (push_none w.slots) ∙ (ap (slice_get w.slots) (sym q ∙ ap (λ z. z.to) (sym x.2)) ∙ h.found) in absurd (cc);
     nodes = push_at seen_node w.slots (begun_slot as_replica port backlog id empty file);
-    links = λ j. refl;
+    links = same_each (seen_link w.slots) (seen_link (w.slots ++ begun_slot as_replica port backlog id empty file ∷ [])) w.links (λ j k e.
+        let h = holds.world.servers j k e in
+        ap (λ o. link_with (cond k.serving (open_at o k.name) None) k) (push_old w.slots (begun_slot as_replica port backlog id empty file) k.to h.slot h.found ∙ sym h.found));
     book = begun_draws w.book book id empty holds.kept none;
   };
 }
 
-shut_seen : (b : Bool) (k : Link) → seen_link (shut_if b k) ≡ history.shut b (seen_link k)
-shut_seen true k = refl
-shut_seen false k = refl
+-- what is open at another node's end stays
+shut_seen : (slots : List Slot) (n : ℕ) (s t : Slot) (k : Link) → slice_get slots n ≡ Some s → (b : Bool) → (k.to == n) ≡ b → seen_link (slice_set slots n t) (shut_if b k) ≡ history.shut b (seen_link slots k)
+shut_seen slots n s t k at true e = refl
+shut_seen slots n s t k at false e = ap (λ o. link_with o k) (elsewhere slots n s t at k (λ same. let yes = eqb_yes k.to n same in let wrong : false ≡ true = sym e ∙ yes in cc))
 
 pub restarts : RestartsAreRows
 restarts w book n s as_replica port backlog id found kept start m holds at role none reads makes = record {
@@ -72,19 +76,23 @@ restarts w book n s as_replica port backlog id found kept start m holds at role 
     restored = reads;
     nodes = set_as (λ i. option_map seen_node (slice_get w.slots i)) (λ i. option_map seen_node (slice_get (slice_set w.slots n (begun_slot as_replica port backlog id m kept)) i)) n (seen_node (begun_slot as_replica port backlog id m kept)) _
         (put_at seen_node w.slots n (begun_slot as_replica port backlog id m kept) s at) (ap (λ b. fresh_node minired id b m) (sym role));
-    no_links = λ l e. ap (option_map seen_link) (slice_get-map (λ k. shut_if (k.to == n) k) w.links l) ∙ nothing (slice_get w.links l) e;
-    links = λ l k e. ap (option_map seen_link) (slice_get-map (λ k. shut_if (k.to == n) k) w.links l) ∙ closed (slice_get w.links l) k e;
+    no_links = λ l e. ap (option_map new) (slice_get-map (λ k. shut_if (k.to == n) k) w.links l) ∙ nothing (slice_get w.links l) e;
+    links = λ l k e. ap (option_map new) (slice_get-map (λ k. shut_if (k.to == n) k) w.links l) ∙ closed (slice_get w.links l) k e;
     book = begun_draws w.book book id m holds.kept none;
   };
 }
   where
-    nothing : (o : Option Link) → option_map seen_link o ≡ None → option_map seen_link (option_map (λ k. shut_if (k.to == n) k) o) ≡ None
+    new : Link → history.Link
+    new = seen_link (slice_set w.slots n (begun_slot as_replica port backlog id m kept))
+
+    nothing : (o : Option Link) → option_map (seen_link w.slots) o ≡ None → option_map new (option_map (λ k. shut_if (k.to == n) k) o) ≡ None
     nothing None e = refl
     nothing (Some x) e = absurd (cc)
 
-    closed : (o : Option Link) (k : history.Link) → option_map seen_link o ≡ Some k → option_map seen_link (option_map (λ k. shut_if (k.to == n) k) o) ≡ Some (history.shut (k.to == n) k)
+    closed : (o : Option Link) (k : history.Link) → option_map (seen_link w.slots) o ≡ Some k → option_map new (option_map (λ k. shut_if (k.to == n) k) o) ≡ Some (history.shut (k.to == n) k)
     closed None k e = absurd (cc)
-    closed (Some x) k e = let same : seen_link x ≡ k = cc in ap (λ z. Some z) (shut_seen (x.to == n) x) ∙ ap (λ z. Some (history.shut (z.to == n) z)) same
+    closed (Some x) k e = let same : seen_link w.slots x ≡ k = cc in
+        ap (λ z. Some z) (shut_seen w.slots n s (begun_slot as_replica port backlog id m kept) x at (x.to == n) refl) ∙ ap (λ (z : history.Link). Some (history.shut (z.to == n) z)) same
 
 pub kept_histories : EventsKeepHistories
 kept_histories w book e v holds x = row_keeps minired_laws (seen w book) e (seen v x.new_book) holds.invariant x.row

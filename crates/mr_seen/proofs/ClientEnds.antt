@@ -17,11 +17,11 @@ use Rattle.mr_seen.proofs.Reading.{set_as}
 use Rattle.mr_seen.proofs.Linking.{more_left}
 
 -- a link that changes alone
-link_becomes : (w : WorldState) (book : Book minired) (l : ℕ) (k m : Link) (x : history.Link) → slice_get w.links l ≡ Some k → seen_link m ≡ x
+link_becomes : (w : WorldState) (book : Book minired) (l : ℕ) (k m : Link) (x : history.Link) → slice_get w.links l ≡ Some k → seen_link w.slots m ≡ x
     → LinkBecomes (seen w book) (seen (record w { links = slice_set w.links l m }) book) l x
 link_becomes w book l k m x found is = record {
   nodes = λ n. refl;
-  links = set_as (λ j. option_map seen_link (slice_get w.links j)) (λ j. option_map seen_link (slice_get (slice_set w.links l m) j)) l (seen_link m) x (put_at seen_link w.links l m k found) is;
+  links = set_as (λ j. option_map (seen_link w.slots) (slice_get w.links j)) (λ j. option_map (seen_link w.slots) (slice_get (slice_set w.links l m) j)) l (seen_link w.slots m) x (put_at (seen_link w.slots) w.links l m k found) is;
   book = λ i. refl;
 }
 
@@ -30,11 +30,11 @@ commands w book l k bytes holds at = record {
   new_book = book;
   kept = holds.kept;
   row = record {
-    link = seen_link k;
-    found = ap (option_map seen_link) at.found;
+    link = seen_link w.slots k;
+    found = ap (option_map (seen_link w.slots)) at.found;
     client = ap seen_caller at.asking;
-    becomes = link_becomes w book l k (record k { ask = sent_on bytes k.ask }) (record (seen_link k) { ask = record (seen_way k.ask) { left = (seen_way k.ask).left ++ bytes } }) at.found
-        (ap (λ z. record (seen_link k) { ask = z }) (sent_seen k.ask bytes (holds.world.asks l k at.found)));
+    becomes = link_becomes w book l k (record k { ask = sent_on bytes k.ask }) (record (seen_link w.slots k) { ask = record (seen_way k.ask) { left = (seen_way k.ask).left ++ bytes } }) at.found
+        (ap (λ z. record (seen_link w.slots k) { ask = z }) (sent_seen k.ask bytes (holds.world.asks l k at.found)));
   };
 }
 
@@ -45,10 +45,10 @@ client_feeds w book l k count holds at few =
       new_book = book;
       kept = holds.kept;
       row = inr (record {
-        at = record { link = seen_link k; found = ap (option_map seen_link) at.found; client = ap seen_caller at.asking };
+        at = record { link = seen_link w.slots k; found = ap (option_map (seen_link w.slots)) at.found; client = ap seen_caller at.asking };
         sent = more_left k.tell count way few;
-        becomes = link_becomes w book l k (record k { tell = taken_on count k.tell }) (record (seen_link k) { tell = rows.more count (seen_way k.tell) }) at.found
-            (ap (λ z. record (seen_link k) { tell = z }) (taken_seen k.tell count way));
+        becomes = link_becomes w book l k (record k { tell = taken_on count k.tell }) (record (seen_link w.slots k) { tell = rows.more count (seen_way k.tell) }) at.found
+            (ap (λ z. record (seen_link w.slots k) { tell = z }) (taken_seen k.tell count way));
       });
     }
 
@@ -57,7 +57,7 @@ client_breaks w book l k holds at = record {
   new_book = book;
   kept = holds.kept;
   row = inr (record {
-    at = record { link = seen_link k; found = ap (option_map seen_link) at.found; client = ap seen_caller at.asking };
-    becomes = link_becomes w book l k (record k { caller = a_client false }) (record (seen_link k) { caller = Client false }) at.found refl;
+    at = record { link = seen_link w.slots k; found = ap (option_map (seen_link w.slots)) at.found; client = ap seen_caller at.asking };
+    becomes = link_becomes w book l k (record k { caller = a_client false }) (record (seen_link w.slots k) { caller = Client false }) at.found refl;
   });
 }

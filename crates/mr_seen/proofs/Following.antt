@@ -1,22 +1,17 @@
 -- What is true of a World is kept by a step at the link to a node's master.
-use Rattle.std.proofs.Common.{◌≡◌, ◌≢◌, ◌⊎◌, inl, inr, ℕ, List, [], ◌++◌, Bool, true, false, cond, Option, None, Some, Ok, refl, sym, ap, subst, ◌∙◌, arith}
+use Rattle.std.proofs.Common.{◌≡◌, ◌≢◌, ◌⊎◌, inl, inr, ℕ, List, [], ◌++◌, true, Option, None, Some, Ok, refl, sym, ap, subst, ◌∙◌, arith}
 use Rattle.std.specs.Prelude.{slice_get}
-use Rattle.std.specs.FinMap.{get, get-remove}
 use Rattle.mr_links.specs.declared.link_id.LinkId.{LinkId}
-use Rattle.mr_links.proofs.LinkRows.{ids_total}
 use Rattle.mr_entries.specs.Dataset.{Dataset}
 use Rattle.mr_follow.specs.State.{FollowState, Agrees}
 use Rattle.mr_course.specs.State.{CourseState}
 use Rattle.mr_course.specs.Rows as course
 use Rattle.mr_course.specs.declared.upstream.UpstreamStep.{UpstreamStep}
 use Rattle.mr_course.specs.declared.upstream.UpstreamStep.TheVariants as outcome
-use Rattle.mr_ends.specs.State.{end_at, without}
 use Rattle.mr_ends.specs.State.EndState.{upstream}
-use Rattle.mr_ends.proofs.Naming.{at_or_other}
 use Rattle.mr_outs.specs.Outs.{OutsState}
 use Rattle.mr_rows.specs.State.{NodeState, FollowedAt, course_of, end_of}
 use Rattle.mr_rows.specs.Sound.{IsSound}
-use Rattle.mr_rows.specs.UpstreamRows.{ends_behind}
 use Rattle.mr_seen.specs.Way.{IsWay, unread, left_on}
 use Rattle.mr_seen.specs.State.{Link, Slot, WorldState, a_node}
 use Rattle.mr_seen.specs.Worlds.{IsWorld, HasServer, HasMaster, end_for}
@@ -25,7 +20,8 @@ use Rattle.mr_seen.specs.Events.{IsFollowed, MasterStepsKeepWorlds}
 use Rattle.mr_seen.proofs.Places.{set_here, set_there, set_cases, some_is}
 use Rattle.mr_seen.proofs.Unread.{sent_way, unread_sent, left_used, rest_of}
 use Rattle.mr_seen.proofs.Reading.{number_or}
-use Rattle.mr_seen.proofs.Others.{served_end}
+use Rattle.mr_seen.proofs.Others.{KeepsEnds, served_end}
+use Rattle.mr_seen.proofs.Beside.{keeps_behind}
 use Rattle.mr_seen.proofs.Hearing as hearing
 use Rattle.mr_seen.proofs.Masters.{counted}
 
@@ -65,7 +61,7 @@ pub record Reads (u : List ℕ) (g : FollowState) : Type 0 where
 
 -- What a step does to the node: the ends that it serves stay, and it reads on at this link, or nowhere.
 pub record Read (a : NodeState) (name : LinkId) (u : List ℕ) (b : NodeState) : Type 0 where
-  pub others : (q : LinkId) (streams : Bool) (v : List ℕ) → end_of a q ≡ Some (end_for streams v) → end_of b q ≡ Some (end_for streams v)
+  pub keeps : KeepsEnds a b
   pub follow : (x : LinkId) (g : FollowState) → b.follow ≡ Some (x, g) → (x ≡ name) × Reads u g
   pub sound : IsSound b
 
@@ -93,16 +89,21 @@ module _ (w : WorldState) (is : IsWorld w) (n : ℕ) (s : Slot) (k : Link) (name
   server_of j x y e h (inl at) = record {
     slot = behind s b outs;
     found = ap (slice_get V.slots) (h.to ∙ at) ∙ set_here w.slots n (behind s b outs) s here.at;
-    agrees = λ up q. ap (end_of b) h.name
-        ∙ (read.others x.name x.streams (unread x.ask) (served_end w is n s here.at here.up j x e at (sym h.serving ∙ q))
-        ∙ (ap (λ z. Some (end_for z (unread x.ask))) (sym h.streams) ∙ ap (λ z. Some (end_for y.streams z)) (sym (h.asked (is.asks j x e)))));
+    agrees = λ up q. let its = served_end w is n s here.at here.up j x e at (sym h.serving ∙ q) in (
+      its.0,
+      ap (end_of b) h.name
+          ∙ (read.keeps.all x.name x.streams its.0 (unread x.ask) its.1
+          ∙ (ap (λ z. Some (end_for z its.0 (unread x.ask))) (sym h.streams) ∙ ap (λ z. Some (end_for y.streams its.0 z)) (sym (h.asked (is.asks j x e))))),
+    );
   }
   server_of j x y e h (inr ne) = let o = is.servers j x e in record {
     slot = o.slot;
     found = ap (slice_get V.slots) h.to ∙ (set_there w.slots n x.to (behind s b outs) ne ∙ o.found);
-    agrees = λ up q. ap (end_of o.slot.node) h.name
-        ∙ (o.agrees up (sym h.serving ∙ q)
-        ∙ (ap (λ z. Some (end_for z (unread x.ask))) (sym h.streams) ∙ ap (λ z. Some (end_for y.streams z)) (sym (h.asked (is.asks j x e)))));
+    agrees = λ up q. let its = o.agrees up (sym h.serving ∙ q) in (
+      its.0,
+      ap (end_of o.slot.node) h.name
+          ∙ (its.1 ∙ (ap (λ z. Some (end_for z its.0 (unread x.ask))) (sym h.streams) ∙ ap (λ z. Some (end_for y.streams its.0 z)) (sym (h.asked (is.asks j x e))))),
+    );
   }
 
   -- its own link carries what it has of it
@@ -150,25 +151,6 @@ module _ (w : WorldState) (is : IsWorld w) (n : ℕ) (s : Slot) (k : Link) (name
       follower_of i t x g (inr p) u q = other i t x g p.0 (is.followers i t x g p.1 u q)
 
 -- ---- the rows
-served_apart : (streams : Bool) (u : List ℕ) → Some upstream ≡ Some (end_for streams u) → ⊥
-served_apart true u e = absurd (cc)
-served_apart false u e = absurd (cc)
-
--- without the end of the link to the master the others stay
-gone : (a : NodeState) (l : LinkId) (q : LinkId) (streams : Bool) (v : List ℕ) → end_of a l ≡ Some upstream → end_of a q ≡ Some (end_for streams v) → end_at (without a.ends l) q ≡ Some (end_for streams v)
-gone a l q streams v up e = get-remove ids_total a.ends.open_links l q
-    ∙ at_or_other q l (λ b. cond b None (get a.ends.open_links q) ≡ Some (end_for streams v)) (λ same. absurd (served_apart streams v (sym up ∙ (ap (end_of a) (sym same) ∙ e)))) (λ ne. e)
-
-ends_stay : (a : NodeState) (step : UpstreamStep) (l : LinkId) (q : LinkId) (streams : Bool) (v : List ℕ) → end_of a l ≡ Some upstream → end_of a q ≡ Some (end_for streams v) → end_at (ends_behind step l a.ends) q ≡ Some (end_for streams v)
-ends_stay a outcome.Idle l q streams v up e = e
-ends_stay a outcome.Said l q streams v up e = e
-ends_stay a outcome.Announced l q streams v up e = e
-ends_stay a outcome.Continued l q streams v up e = e
-ends_stay a outcome.Loaded l q streams v up e = e
-ends_stay a outcome.Applied l q streams v up e = e
-ends_stay a outcome.Left l q streams v up e = gone a l q streams v up e
-ends_stay a outcome.Spoiled l q streams v up e = gone a l q streams v up e
-
 pub pair_is : (x y : LinkId) (g h : FollowState) → ◌≡◌ {A = Option (LinkId × FollowState)} (Some (x, g)) (Some (y, h)) → (y ≡ x) × (h ≡ g)
 pair_is x y g h e = let p = both_are (x, g) (y, h) e in (sym (ap (λ (z : LinkId × FollowState). z.0) p), sym (ap (λ (z : LinkId × FollowState). z.1) p))
   where
@@ -206,7 +188,7 @@ masters_keep w n s k name step b outs is here sound r =
     let agrees : Agrees h.follow (unread k.tell) = subst (λ (z : Link). Agrees h.follow (unread z.tell)) (some_is master.link k (sym master.found ∙ here.found)) master.agrees in
     let up : end_of s.node name ≡ Some upstream = ap (end_of s.node) (sym r.named) ∙ subst (λ o. FollowedAt s.node.ends o) h.found before.node.followed in
     kept_followed w is n s k h.name h.follow b outs here h.found (record {
-      others = λ q streams v e. ap (λ (z : NodeState). end_of z q) r.node ∙ ends_stay s.node step name q streams v up e;
+      keeps = keeps_behind s.node b step name up (ap (λ (z : NodeState). z.core.up) r.node) (ap (λ (z : NodeState). z.ends) r.node);
       follow = λ x g e. reads_by s.node h.name h.follow (unread k.tell) h.next r.course b.core.held r.told step (h.row (unread k.tell) agrees) x g (sym (ap (λ (z : NodeState). z.follow) r.node) ∙ e);
       sound = sound;
     })

@@ -5,8 +5,8 @@ use Rattle.std.specs.Option.{option_map}
 use Rattle.std.proofs.lemmas.Option.{slice_get-map}
 use Rattle.mr_links.specs.declared.link_id.LinkId.{LinkId}
 use Rattle.mr_follow.specs.State.{FollowState, Agrees}
-use Rattle.mr_ends.specs.State.{EndState, end_at}
-use Rattle.mr_ends.specs.State.EndState.{client, replica, upstream, shut}
+use Rattle.mr_ends.specs.State.{EndState, Transaction, end_at}
+use Rattle.mr_ends.specs.State.EndState.{client, waiting, replica, upstream, shut}
 use Rattle.mr_ends.specs.Replicas.{is_named}
 use Rattle.mr_outs.specs.Outs.{OutsState}
 use Rattle.mr_rows.specs.State.{NodeState, end_of}
@@ -20,7 +20,8 @@ use Rattle.mr_seen.specs.Events.{IsServed, TicksKeepWorlds}
 use Rattle.mr_seen.proofs.Places.{set_here, set_there, set_cases, some_is}
 use Rattle.mr_seen.proofs.Unread.{sent_way, unread_sent, left_used, rest_of}
 use Rattle.mr_seen.proofs.Reading.{number_or}
-use Rattle.mr_seen.proofs.Others.{served_end}
+use Rattle.mr_seen.proofs.Open.{eqb_yes}
+use Rattle.mr_seen.proofs.Others.{Apart, and_third, served_end}
 
 -- the same link, on which something may have been sent
 record Same (x y : Link) : Type 0 where
@@ -51,19 +52,25 @@ left_way w n h = record { used_within = omega arith; taken_within = h.taken_with
 record Stepped (o : Option EndState) (x y : Link) : Type 0 where
   same : Same x y
   ask : IsWay x.ask → IsWay y.ask
-  agrees : IsWay x.ask → ((u : List ℕ) → (o ≡ Some (client u)) ⊎ (o ≡ Some (replica u)) → (text : List ℕ) × (unread x.ask ≡ text ++ u)) → y.serving ≡ true → o ≡ Some (end_for y.streams (unread y.ask))
+  agrees : IsWay x.ask → ((streams : Bool) (held : Option Transaction) (u : List ℕ) → o ≡ Some (end_for streams held u) → (text : List ℕ) × (unread x.ask ≡ text ++ u)) → y.serving ≡ true
+      → (held : Option Transaction) × (o ≡ Some (end_for y.streams held (unread y.ask)))
 
 stepped_one : (o : Option EndState) (reply : List ℕ) (x : Link) → x.serving ≡ true → Stepped o x (settled o (told reply x))
 stepped_one None reply x open_now = record { same = record { to = refl; name = refl; caller = refl; way = λ h. sent_way x.tell reply h; heard = λ h. unread_sent x.tell reply h; serving = λ e. open_now }; ask = λ h. h; agrees = λ h t e. absurd (cc) }
 stepped_one (Some (client u)) reply x open_now = record {
   same = record { to = refl; name = refl; caller = refl; way = λ h. sent_way x.tell reply h; heard = λ h. unread_sent x.tell reply h; serving = λ e. open_now };
   ask = λ h. left_way x.ask (length u) h;
-  agrees = λ h t e. let q = t u (inl refl) in ap (λ z. Some (client z)) (sym (ap unread (left_used x.ask q.0 u (length u) h q.1 refl) ∙ rest_of x.ask q.0 u q.1));
+  agrees = λ h t e. let q = t false None u refl in (None, ap (λ z. Some (client z)) (sym (ap unread (left_used x.ask q.0 u (length u) h q.1 refl) ∙ rest_of x.ask q.0 u q.1)));
+}
+stepped_one (Some (waiting t u)) reply x open_now = record {
+  same = record { to = refl; name = refl; caller = refl; way = λ h. sent_way x.tell reply h; heard = λ h. unread_sent x.tell reply h; serving = λ e. open_now };
+  ask = λ h. left_way x.ask (length u) h;
+  agrees = λ h f e. let q = f false (Some t) u refl in (Some t, ap (λ z. Some (waiting t z)) (sym (ap unread (left_used x.ask q.0 u (length u) h q.1 refl) ∙ rest_of x.ask q.0 u q.1)));
 }
 stepped_one (Some (replica u)) reply x open_now = record {
   same = record { to = refl; name = refl; caller = refl; way = λ h. sent_way x.tell reply h; heard = λ h. unread_sent x.tell reply h; serving = λ e. open_now };
   ask = λ h. left_way x.ask (length u) h;
-  agrees = λ h t e. let q = t u (inr refl) in ap (λ z. Some (replica z)) (sym (ap unread (left_used x.ask q.0 u (length u) h q.1 refl) ∙ rest_of x.ask q.0 u q.1));
+  agrees = λ h t e. let q = t true None u refl in (None, ap (λ z. Some (replica z)) (sym (ap unread (left_used x.ask q.0 u (length u) h q.1 refl) ∙ rest_of x.ask q.0 u q.1)));
 }
 stepped_one (Some upstream) reply x open_now = record { same = record { to = refl; name = refl; caller = refl; way = λ h. sent_way x.tell reply h; heard = λ h. unread_sent x.tell reply h; serving = λ e. open_now }; ask = λ h. h; agrees = λ h t e. absurd (cc) }
 stepped_one (Some shut) reply x open_now = record { same = record { to = refl; name = refl; caller = refl; way = λ h. sent_way x.tell reply h; heard = λ h. unread_sent x.tell reply h; serving = λ e. open_now }; ask = λ h. h; agrees = λ h t e. absurd (cc) }
@@ -72,19 +79,11 @@ back : (f : Link → Link) (o : Option Link) (y : Link) → option_map f o ≡ S
 back f None y e = absurd (cc)
 back f (Some x) y e = (x, refl, some_is (f x) y e)
 
-and_third : (a c d : Bool) → ((a && c) && d) ≡ false → a ≡ true → c ≡ true → d ≡ false
-and_third true true d e p q = e
-and_third true false d e p q = absurd (cc)
-and_third false c d e p q = absurd (cc)
-
-same_eqb : (m n : ℕ) → m ≡ n → (m == n) ≡ true
-same_eqb m n e = grind arith
-
 -- What a step does to the node: its own end has an end of what was unread there; the other ends that it serves stay, but for those that are
 -- closed; it follows whom it followed, or nobody; and it is sound.
 pub record Turned (a : NodeState) (name : LinkId) (u : List ℕ) (b : NodeState) (outs : OutsState) : Type 0 where
-  pub left : (v : List ℕ) → (end_of b name ≡ Some (client v)) ⊎ (end_of b name ≡ Some (replica v)) → (text : List ℕ) × (u ≡ text ++ v)
-  pub others : (q : LinkId) (streams : Bool) (v : List ℕ) → q ≢ name → is_named outs.closed q ≡ false → end_of a q ≡ Some (end_for streams v) → end_of b q ≡ Some (end_for streams v)
+  pub left : (streams : Bool) (held : Option Transaction) (v : List ℕ) → end_of b name ≡ Some (end_for streams held v) → (text : List ℕ) × (u ≡ text ++ v)
+  pub apart : Apart a name b outs
   pub follow : (f : LinkId × FollowState) → b.follow ≡ Some f → a.follow ≡ Some f
   pub sound : b.core.up ≡ true → IsSound b
 
@@ -131,7 +130,7 @@ module _ (w : WorldState) (is : IsWorld w) (l : ℕ) (k : Link) (s : Slot) (b : 
   server_of j y (inl p) = subst (λ z. HasServer V.slots z) (sym p.1) (record {
     slot = behind s b outs;
     found = ap (slice_get V.slots) here.same.to ∙ found_here;
-    agrees = λ up q. ap (end_of b) here.same.name ∙ here.agrees (is.asks l k served.found) turned.left q;
+    agrees = λ up q. let e = here.agrees (is.asks l k served.found) turned.left q in (e.0, ap (end_of b) here.same.name ∙ e.1);
   })
   server_of j y (inr p) = subst (λ z. HasServer V.slots z) p.1.2 (go (number_or p.1.0.to k.to))
     where
@@ -142,16 +141,22 @@ module _ (w : WorldState) (is : IsWorld w) (l : ℕ) (k : Link) (s : Slot) (b : 
         agrees = λ up q.
             let open_now = t.same.serving q in
             let apart : p.1.0.name ≢ k.name = λ n. p.0 (is.names j l p.1.0 k p.1.1 served.found open_now served.serving at n) in
-            let unnamed = and_third (p.1.0.to == k.to) p.1.0.serving (is_named outs.closed p.1.0.name) (t.open_now q) (same_eqb p.1.0.to k.to at) open_now in
-            ap (end_of b) t.same.name
-            ∙ (turned.others p.1.0.name p.1.0.streams (unread p.1.0.ask) apart unnamed (served_end w is k.to s served.at served.up j p.1.0 p.1.1 at open_now)
-            ∙ (ap (λ z. Some (end_for z (unread p.1.0.ask))) (sym t.streams) ∙ ap (λ z. Some (end_for (reached k.to outs p.1.0).streams (unread z))) (sym t.ask)));
+            let unnamed = and_third (p.1.0.to == k.to) p.1.0.serving (is_named outs.closed p.1.0.name) (t.open_now q) (eqb_yes p.1.0.to k.to at) open_now in
+            let e = served_end w is k.to s served.at served.up j p.1.0 p.1.1 at open_now in (
+              e.0,
+              ap (end_of b) t.same.name
+                  ∙ (turned.apart.others p.1.0.name p.1.0.streams e.0 (unread p.1.0.ask) apart unnamed e.1
+                  ∙ (ap (λ z. Some (end_for z e.0 (unread p.1.0.ask))) (sym t.streams) ∙ ap (λ z. Some (end_for (reached k.to outs p.1.0).streams e.0 (unread z))) (sym t.ask))),
+            );
       }
       go (inr ne) = let t = there p.1.0 in let h = is.servers j p.1.0 p.1.1 in record {
         slot = h.slot;
         found = ap (slice_get V.slots) t.same.to ∙ (set_there w.slots k.to p.1.0.to (behind s b outs) ne ∙ h.found);
-        agrees = λ up q. ap (end_of h.slot.node) t.same.name ∙ (h.agrees up (t.same.serving q)
-            ∙ (ap (λ z. Some (end_for z (unread p.1.0.ask))) (sym t.streams) ∙ ap (λ z. Some (end_for (reached k.to outs p.1.0).streams (unread z))) (sym t.ask)));
+        agrees = λ up q. let e = h.agrees up (t.same.serving q) in (
+          e.0,
+          ap (end_of h.slot.node) t.same.name
+              ∙ (e.1 ∙ (ap (λ z. Some (end_for z e.0 (unread p.1.0.ask))) (sym t.streams) ∙ ap (λ z. Some (end_for (reached k.to outs p.1.0).streams e.0 (unread z))) (sym t.ask))),
+        );
       }
 
   ask_of : (j : ℕ) (y : Link) → Origin j y → IsWay y.ask
@@ -257,16 +262,20 @@ module _ (w : WorldState) (is : IsWorld w) (n : ℕ) (s : Slot) (b : NodeState) 
   server_at j x y e h (inl here_at) = record {
     slot = behind s b outs;
     found = ap (slice_get T.slots) (h.same.to ∙ here_at) ∙ set_here w.slots n (behind s b outs) s at;
-    agrees = λ u q. ap (end_of b) h.same.name
-        ∙ (ends x.name ∙ (served_end w is n s at up j x e here_at (h.same.serving q)
-        ∙ (ap (λ z. Some (end_for z (unread x.ask))) (sym h.streams) ∙ ap (λ z. Some (end_for y.streams z)) (sym (h.asked (is.asks j x e))))));
+    agrees = λ u q. let its = served_end w is n s at up j x e here_at (h.same.serving q) in (
+      its.0,
+      ap (end_of b) h.same.name
+          ∙ (ends x.name ∙ (its.1 ∙ (ap (λ z. Some (end_for z its.0 (unread x.ask))) (sym h.streams) ∙ ap (λ z. Some (end_for y.streams its.0 z)) (sym (h.asked (is.asks j x e)))))),
+    );
   }
   server_at j x y e h (inr ne) = let o = is.servers j x e in record {
     slot = o.slot;
     found = ap (slice_get T.slots) h.same.to ∙ (set_there w.slots n x.to (behind s b outs) ne ∙ o.found);
-    agrees = λ u q. ap (end_of o.slot.node) h.same.name
-        ∙ (o.agrees u (h.same.serving q)
-        ∙ (ap (λ z. Some (end_for z (unread x.ask))) (sym h.streams) ∙ ap (λ z. Some (end_for y.streams z)) (sym (h.asked (is.asks j x e)))));
+    agrees = λ u q. let its = o.agrees u (h.same.serving q) in (
+      its.0,
+      ap (end_of o.slot.node) h.same.name
+          ∙ (its.1 ∙ (ap (λ z. Some (end_for z its.0 (unread x.ask))) (sym h.streams) ∙ ap (λ z. Some (end_for y.streams its.0 z)) (sym (h.asked (is.asks j x e))))),
+    );
   }
 
   master_at : (i : ℕ) (t t' : Slot) (name : LinkId) (f : FollowState) → t'.dialled ≡ t.dialled → HasMaster w.links i t name f → HasMaster T.links i t' name f

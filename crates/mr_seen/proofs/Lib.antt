@@ -4,10 +4,14 @@ pub mod Seen
 pub mod Singles
 pub mod Keeping
 pub mod Reading
+pub mod Open
 pub mod Others
+pub mod Beside
+pub mod Stopping
 pub mod Asking
 pub mod Steps
 pub mod Clients
+pub mod Within
 pub mod Roles
 pub mod Replicas
 pub mod Lines

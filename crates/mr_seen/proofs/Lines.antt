@@ -58,7 +58,7 @@ each_fits [] h = All-nil (λ word. length word ≤ usual.word)
 each_fits (w ∷ ws) h = let a = h.0 in All-cons (λ word. length word ≤ usual.word) w ws (omega (arith, a, usual-word)) (each_fits ws h.1)
 
 -- a few short words
-asks_short : (ws : List (List ℕ)) (r : Request (List ℕ)) → 0 < length ws → length ws < 10 → AreShort ws → Asks (kind_of ws) r → IsAsked (array ws) r
+asks_short : (ws : List (List ℕ)) (r : Request (List ℕ)) → 0 < length ws → length ws < 10 → AreShort ws → Asks (kind_of ws) r → IsAsked None (array ws) r
 asks_short ws r some few each asks = by_words ws (inl (record {
   spelled = refl;
   some = some;
@@ -71,16 +71,16 @@ asks_short ws r some few each asks = by_words ws (inl (record {
       omega (arith, few, n, b, c, usual-text);
 })) asks
 
-pub ping_asks : IsAsked ping_line Handshake
+pub ping_asks : IsAsked None ping_line Handshake
 unfolding named
 ping_asks = asks_short (codes "PING" ∷ []) Handshake (omega arith) (omega arith) (lit< tt, tt) refl
 
-pub port_asks : (port : ℕ) → port < ports → IsAsked (port_line port) Handshake
+pub port_asks : (port : ℕ) → port < ports → IsAsked None (port_line port) Handshake
 unfolding named
 port_asks port h = asks_short (codes "REPLCONF" ∷ codes "listening-port" ∷ decimal port ∷ []) Handshake (omega arith) (omega arith)
     (lit< tt, (lit< tt, (let d = length-decimal-le 7 port (lit< tt) (omega (arith, h)) (omega (arith, h)) in omega (arith, d), tt))) refl
 
-pub capabilities_ask : IsAsked capabilities_line Handshake
+pub capabilities_ask : IsAsked None capabilities_line Handshake
 unfolding named
 capabilities_ask = asks_short (codes "REPLCONF" ∷ codes "capa" ∷ codes "eof" ∷ codes "capa" ∷ codes "psync2" ∷ []) Handshake (omega arith) (omega arith)
     (lit< tt, (lit< tt, (lit< tt, (lit< tt, (lit< tt, tt))))) refl
@@ -90,7 +90,7 @@ wants_kind : (id number : List ℕ) (n : ℤ) → number_of number ≡ Some n �
 unfolding named
 wants_kind id number n e = ap (λ (x : Option ℤ). kind_by (of_kind ask.Node (with (ok_or x Integer) (λ wanted. Ok (node.Psync id wanted))))) e
 
-pub psync_asks : (id : List ℕ) (o : ℕ) → IsId id → o ≤ most_counted → IsAsked (psync_line (Some (id, o))) (Psync (Some (id, o + 1)))
+pub psync_asks : (id : List ℕ) (o : ℕ) → IsId id → o ≤ most_counted → IsAsked None (psync_line (Some (id, o))) (Psync (Some (id, o + 1)))
 psync_asks id o is few = asks_short (codes "PSYNC" ∷ digits_of id ∷ decimal (o + 1) ∷ []) (Psync (Some (id, o + 1))) (omega arith) (omega arith)
     (lit< tt, (let l = forty id is in omega (arith, l), (let d = length-decimal-le 20 (o + 1) (lit< tt) (omega (arith, few)) (omega (arith, few)) in omega (arith, d), tt)))
     (subst (λ k. Asks k (Psync (Some (id, o + 1)))) (sym (wants_kind (digits_of id) (decimal (o + 1)) (pos (o + 1)) (number_is (decimal (o + 1)) (pos (o + 1)) (fits o few) refl)))
@@ -100,7 +100,7 @@ psync_asks id o is few = asks_short (codes "PSYNC" ∷ digits_of id ∷ decimal 
     fits n few = grind (arith, nat_tests, few)
 
 -- where there is nothing to continue
-pub psync_all_asks : IsAsked (psync_line None) (Psync None)
+pub psync_all_asks : IsAsked None (psync_line None) (Psync None)
 psync_all_asks = asks_short (codes "PSYNC" ∷ codes "?" ∷ codes "-1" ∷ []) (Psync None) (omega arith) (omega arith) (lit< tt, (lit< tt, (lit< tt, tt)))
     (subst (λ k. Asks k (Psync None)) (sym (wants_kind (codes "?") (codes "-1") (negsuc 0) (number_is (codes "-1") (negsuc 0) refl (ap (λ z. 45 ∷ z) (sym (decimal_digit 1 (lit< tt)))))))
     (None, λ id o w. long id w.is_id w.id_is, refl))

@@ -23,8 +23,9 @@ use Rattle.mr_course.specs.Rows as course
 use Rattle.mr_course.specs.declared.upstream.UpstreamStep.{UpstreamStep}
 use Rattle.mr_course.specs.declared.upstream.UpstreamStep.TheVariants as outcome
 use Rattle.mr_ends.specs.State.{EndState}
+use Rattle.mr_ends.specs.State.EndState.{upstream}
 use Rattle.mr_outs.specs.Outs.{OutsState, no_outs}
-use Rattle.mr_rows.specs.State.{NodeState, course_of}
+use Rattle.mr_rows.specs.State.{NodeState, FollowedAt, course_of, end_of}
 use Rattle.mr_rows.specs.Sound.{IsReading}
 use Rattle.mr_rows.specs.UpstreamRows as row
 use Rattle.mr_rows.specs.UpstreamRows.{node_behind, outs_behind}
@@ -45,16 +46,21 @@ use Rattle.mr_history.specs.FollowerRows.{FollowerRow, FollowerBecomes, asked, B
 use Rattle.mr_language.specs.Minired.{minired}
 use Rattle.mr_language.specs.Requests.{IsAsked}
 use Rattle.mr_language.specs.Lines.{Means}
-use Rattle.mr_seen.specs.Way.{unread, used_on, left_on}
+use Rattle.mr_seen.specs.Way.{unread, sent_on, used_on, left_on}
 use Rattle.mr_seen.specs.State.{Link, Slot, WorldState}
-use Rattle.mr_seen.specs.Seeing.{seen, seen_way, seen_node, seen_link, seen_follow, seen_phase}
+use Rattle.mr_seen.specs.Seeing.{seen, seen_way, seen_node, open_on, link_with, seen_link, seen_follow, seen_phase}
 use Rattle.mr_seen.specs.Books.{IsBook}
 use Rattle.mr_seen.specs.Carrying.{behind, followed, heard_as, unread_count, count_by, put_node}
+use Rattle.mr_seen.specs.Worlds.{IsWorld}
 use Rattle.mr_seen.specs.Events.{IsEvent, Holds, IsFollowed, MasterStepsAreRows, WaitsAreRows, LacksAreUnseen, SpendsAreRows, MasterStopsAreRows}
 use Rattle.mr_seen.proofs.Places.{some_is}
-use Rattle.mr_seen.proofs.Seen.{put_at, sent_seen}
+use Rattle.mr_seen.proofs.Seen.{put_at, put_by, sent_seen}
 use Rattle.mr_seen.proofs.Unread.{left_used}
-use Rattle.mr_seen.proofs.Reading.{reads_on as reads_way, set_as, still_at}
+use Rattle.mr_seen.proofs.Reading.{reads_on as reads_way, set_as, still_at, still_by}
+use Rattle.mr_seen.proofs.Open.{open_stays}
+use Rattle.mr_seen.proofs.Others.{KeepsEnds, kept_open, all_seen}
+use Rattle.mr_seen.proofs.Beside.{keeps_all, keeps_behind}
+use Rattle.mr_seen.proofs.Stopping.{node_stops}
 use Rattle.mr_seen.proofs.Steps.{ends_as}
 use Rattle.mr_seen.proofs.Lines.{port_asks, capabilities_ask, psync_asks, psync_all_asks}
 use Rattle.mr_seen.proofs.Hearing as hearing
@@ -104,7 +110,7 @@ continued_seen s id follow = go (bytes_eq s.node.core.lineage.id id)
     go false = refl
 
 module _ (w : WorldState) (book : Book minired) (n : ℕ) (s : Slot) (k : Link) (name : LinkId) (f : FollowState) (b : NodeState) (outs : OutsState)
-    (holds : Holds w book) (is : IsFollowed w n s k) (following : s.node.follow ≡ Some (name, f)) where
+    (holds : Holds w book) (is : IsFollowed w n s k) (following : s.node.follow ≡ Some (name, f)) (keeps : KeepsEnds s.node b) where
   abbrev V : WorldState
   V = followed w n s k b outs
 
@@ -115,6 +121,13 @@ module _ (w : WorldState) (book : Book minired) (n : ℕ) (s : Slot) (k : Link) 
   agrees = let h = holds.world.followers n s name f is.at is.up following in
       subst (λ (z : Link). Agrees f (unread z.tell)) (some_is h.link k (sym h.found ∙ is.found)) h.agrees
 
+  -- what is open at the ends that the node serves stays
+  links_stay : (j : ℕ) (y : Link) → slice_get w.links j ≡ Some y → seen_link V.slots y ≡ seen_link w.slots y
+  links_stay j y found = all_seen w holds.world n s is.at is.up (behind s b outs) keeps j y found
+
+  open_stay : open_on V.slots k ≡ open_on w.slots k
+  open_stay = open_stays w.slots n s (behind s b outs) is.at k (kept_open w holds.world n s is.at is.up (behind s b outs) keeps s.dialled k is.found)
+
   -- ---- the node and the link behind it
   node_is : (c d : CourseState) (m : Dataset) (ends : Links EndState) → b ≡ node_behind s.node c b.core.held ends → c ≡ d → b.core.held ≡ m → seen_node (behind s b outs) ≡ on_course s d m
   node_is c d m ends e q h = ap (λ (z : NodeState). seen_node (record s { node = z })) e ∙ (ap (λ (z : CourseState). on_course s z b.core.held) q ∙ ap (λ (z : Dataset). on_course s d z) h)
@@ -122,18 +135,19 @@ module _ (w : WorldState) (book : Book minired) (n : ℕ) (s : Slot) (k : Link) 
   follow_is : (c d : CourseState) (ends : Links EndState) → b ≡ node_behind s.node c b.core.held ends → c ≡ d → b.follow ≡ d.follow
   follow_is c d ends e q = ap (λ (z : NodeState). z.follow) e ∙ ap (λ (z : CourseState). z.follow) q
 
-  link_is : (g : FollowState) (text rest : List ℕ) → b.follow ≡ Some (name, g) → Agrees g rest → unread k.tell ≡ text ++ rest → seen_link (heard_as b.follow outs.reply k) ≡ asked (seen_link k) (seen_way (used_on (length text) k.tell)) outs.reply
-  link_is g text rest e a u = ap (λ z. seen_link (heard_as z outs.reply k)) e
-      ∙ (ap (λ z. record (seen_link k) { ask = z; tell = seen_way (left_on (unread_count g) k.tell) }) (sent_seen k.ask outs.reply (holds.world.asks s.dialled k is.found))
-      ∙ ap (λ z. record (seen_link k) { ask = record (seen_way k.ask) { left = (seen_way k.ask).left ++ outs.reply }; tell = seen_way z }) (left_used k.tell text rest (unread_count g) (holds.world.tells s.dialled k is.found) u (counted g rest a)))
+  link_is : (g : FollowState) (text rest : List ℕ) → b.follow ≡ Some (name, g) → Agrees g rest → unread k.tell ≡ text ++ rest → seen_link V.slots (heard_as b.follow outs.reply k) ≡ asked (seen_link w.slots k) (seen_way (used_on (length text) k.tell)) outs.reply
+  link_is g text rest e a u = ap (λ z. seen_link V.slots (heard_as z outs.reply k)) e
+      ∙ (ap (λ o. link_with o (record k { ask = sent_on outs.reply k.ask; tell = left_on (unread_count g) k.tell })) open_stay
+      ∙ (ap (λ z. record (seen_link w.slots k) { ask = z; tell = seen_way (left_on (unread_count g) k.tell) }) (sent_seen k.ask outs.reply (holds.world.asks s.dialled k is.found))
+      ∙ ap (λ z. record (seen_link w.slots k) { ask = record (seen_way k.ask) { left = (seen_way k.ask).left ++ outs.reply }; tell = seen_way z }) (left_used k.tell text rest (unread_count g) (holds.world.tells s.dialled k is.found) u (counted g rest a))))
 
-  becomes : (a : history_node.Node minired) (way : history.Way) (bytes : List ℕ) → outs.reply ≡ bytes → seen_node (behind s b outs) ≡ a → seen_link (heard_as b.follow outs.reply k) ≡ asked (seen_link k) way outs.reply
-      → FollowerBecomes (seen w book) (seen V book) n s.dialled a (asked (seen_link k) way bytes)
+  becomes : (a : history_node.Node minired) (way : history.Way) (bytes : List ℕ) → outs.reply ≡ bytes → seen_node (behind s b outs) ≡ a → seen_link V.slots (heard_as b.follow outs.reply k) ≡ asked (seen_link w.slots k) way outs.reply
+      → FollowerBecomes (seen w book) (seen V book) n s.dialled a (asked (seen_link w.slots k) way bytes)
   becomes a way bytes said e q = record {
     nodes = set_as (λ m. option_map seen_node (slice_get w.slots m)) (λ m. option_map seen_node (slice_get (slice_set w.slots n (behind s b outs)) m)) n (seen_node (behind s b outs)) a
         (put_at seen_node w.slots n (behind s b outs) s is.at) e;
-    links = set_as (λ j. option_map seen_link (slice_get w.links j)) (λ j. option_map seen_link (slice_get (slice_set w.links s.dialled (heard_as b.follow outs.reply k)) j)) s.dialled (seen_link (heard_as b.follow outs.reply k))
-        (asked (seen_link k) way bytes) (put_at seen_link w.links s.dialled (heard_as b.follow outs.reply k) k is.found) (q ∙ ap (asked (seen_link k) way) said);
+    links = set_as (λ j. option_map (seen_link w.slots) (slice_get w.links j)) (λ j. option_map (seen_link V.slots) (slice_get (slice_set w.links s.dialled (heard_as b.follow outs.reply k)) j)) s.dialled (seen_link V.slots (heard_as b.follow outs.reply k))
+        (asked (seen_link w.slots k) way bytes) (put_by (seen_link w.slots) (seen_link V.slots) w.links s.dialled (heard_as b.follow outs.reply k) k is.found (λ j y ne e. links_stay j y e)) (q ∙ ap (asked (seen_link w.slots k) way) said);
     book = λ i. refl;
   }
 
@@ -148,11 +162,11 @@ module _ (w : WorldState) (book : Book minired) (n : ℕ) (s : Slot) (k : Link) 
       → Still (seen w book) (seen V book)
   still c g ends e q h p a none = record {
     nodes = still_at seen_node w.slots n (behind s b outs) s is.at (node_is c (reads_on name g (course_of s.node)) s.node.core.held ends e q h ∙ ap (λ z. record (seen_node s) { follow = z }) (same_follow g p));
-    links = still_at seen_link w.links s.dialled (heard_as b.follow outs.reply k) k is.found
+    links = still_by (seen_link w.slots) (seen_link V.slots) w.links s.dialled (heard_as b.follow outs.reply k) k is.found
         (link_is g [] (unread k.tell) (follow_is c (reads_on name g (course_of s.node)) ends e q) a refl
-        ∙ (ap (asked (seen_link k) (seen_way (used_on 0 k.tell))) none
-        ∙ (ap (λ z. record (seen_link k) { ask = record (seen_way k.ask) { left = z }; tell = seen_way (used_on 0 k.tell) }) (append-nil (seen_way k.ask).left)
-        ∙ ap (λ z. record (seen_link k) { tell = seen_way z }) untaken)));
+        ∙ (ap (asked (seen_link w.slots k) (seen_way (used_on 0 k.tell))) none
+        ∙ (ap (λ z. record (seen_link w.slots k) { ask = record (seen_way k.ask) { left = z }; tell = seen_way (used_on 0 k.tell) }) (append-nil (seen_way k.ask).left)
+        ∙ ap (λ z. record (seen_link w.slots k) { tell = seen_way z }) untaken))) (λ j y ne f. links_stay j y f);
     book = λ i. refl;
   }
 
@@ -167,12 +181,12 @@ module _ (w : WorldState) (book : Book minired) (n : ℕ) (s : Slot) (k : Link) 
     abbrev Event : WorldState → Type 0
     Event v = IsEvent w book (events.Event.Step s.dialled Dialler given fresh) v
 
-    event : (v : WorldState) → v.book ≡ w.book → FollowerRow (seen w book) (seen v book) n s.dialled (seen_node s) (seen_phase f.phase) (seen_link k) → Event v
+    event : (v : WorldState) → v.book ≡ w.book → FollowerRow (seen w book) (seen v book) n s.dialled (seen_node s) (seen_phase f.phase) (seen_link w.slots k) → Event v
     event v same row = record {
       new_book = book;
       kept = subst (λ z. IsBook z book) (sym same) holds.kept;
       row = record {
-        at = record { link = seen_link k; found = ap (option_map seen_link) is.found; n = n; node = seen_node s; node_found = ap (option_map seen_node) is.at; phase = seen_phase f.phase; follow = ap (seen_follow s.dialled) following };
+        at = record { link = seen_link w.slots k; found = ap (option_map (seen_link w.slots)) is.found; n = n; node = seen_node s; node_found = ap (option_map seen_node) is.at; phase = seen_phase f.phase; follow = ap (seen_follow s.dialled) following };
         does = acts is.up row;
       };
     }
@@ -193,10 +207,10 @@ module _ (w : WorldState) (book : Book minired) (n : ℕ) (s : Slot) (k : Link) 
     offer_is phase.Stream h e = absurd h
 
     psync_line_asks : (o : Option (List ℕ × ℕ)) (offers : Bool) → o ≡ offer_of offers s.node.core.lineage → IsOffer o
-        → IsAsked (psync_line o) (Psync (cond offers (Some (s.node.core.lineage.id, s.node.core.lineage.stream.offset + 1)) None))
-    psync_line_asks o true e h = subst (λ z. IsAsked (psync_line z) (Psync (Some (s.node.core.lineage.id, s.node.core.lineage.stream.offset + 1)))) (sym e)
+        → IsAsked None (psync_line o) (Psync (cond offers (Some (s.node.core.lineage.id, s.node.core.lineage.stream.offset + 1)) None))
+    psync_line_asks o true e h = subst (λ z. IsAsked None (psync_line z) (Psync (Some (s.node.core.lineage.id, s.node.core.lineage.stream.offset + 1)))) (sym e)
         (let g = subst IsOffer e h in psync_asks s.node.core.lineage.id s.node.core.lineage.stream.offset g.0 g.1)
-    psync_line_asks o false e h = subst (λ z. IsAsked (psync_line z) (Psync None)) (sym e) psync_all_asks
+    psync_line_asks o false e h = subst (λ z. IsAsked None (psync_line z) (Psync None)) (sym e) psync_all_asks
 
     module _ (c : CourseState) (g : FollowState) (told : List ℕ) (ends : Links EndState) (e : b ≡ node_behind s.node c b.core.held ends) (said : outs.reply ≡ told)
         (r : course.Greets (course_of s.node) s.node.core.held name f (unread k.tell) g c b.core.held told) where
@@ -206,7 +220,7 @@ module _ (w : WorldState) (book : Book minired) (n : ℕ) (s : Slot) (k : Link) 
       abbrev line : (line : Line (List ℕ)) × (line ≢ Refusal) × Means (status r.greets.text) line
       line = hearing.meaning_of r.greets.text (answer_or r.greets.text)
 
-      abbrev hears : rows.Hears minired (seen_link k) line.0
+      abbrev hears : rows.Hears minired (seen_link w.slots k) line.0
       hears = record {
         text = r.greets.answer.text;
         says = record { said = status r.greets.text; whole = r.greets.answer.says; means = line.2 };
@@ -214,7 +228,7 @@ module _ (w : WorldState) (book : Book minired) (n : ℕ) (s : Slot) (k : Link) 
         reads = reads_way k.tell r.greets.answer.text r.greets.rest r.greets.answer.is;
       }
 
-      becomes_at : (p q : Phase) → f.phase ≡ p → next_of p ≡ q → FollowerBecomes (seen w book) (seen V book) n s.dialled (at_phase (seen_node s) s.dialled (seen_phase q)) (asked (seen_link k) way told)
+      becomes_at : (p q : Phase) → f.phase ≡ p → next_of p ≡ q → FollowerBecomes (seen w book) (seen V book) n s.dialled (at_phase (seen_node s) s.dialled (seen_phase q)) (asked (seen_link w.slots k) way told)
       becomes_at p q at next = becomes (at_phase (seen_node s) s.dialled (seen_phase q)) way told said
           (node_is c (reads_on name g (course_of s.node)) s.node.core.held ends e r.is r.held ∙ ap (λ z. at_phase (seen_node s) s.dialled (seen_phase z)) (r.greets.state.waits ∙ (ap next_of at ∙ next)))
           (link_is g r.greets.answer.text r.greets.rest (follow_is c (reads_on name g (course_of s.node)) ends e r.is) r.greets.state.agrees r.greets.answer.is)
@@ -231,7 +245,7 @@ module _ (w : WorldState) (book : Book minired) (n : ℕ) (s : Slot) (k : Link) 
         plus = line.1;
         hears = hears;
         request = told;
-        asks = subst (λ z. IsAsked z Handshake) (sym (told_is phase.Ping at)) (port_asks f.port reading.port);
+        asks = subst (λ z. IsAsked None z Handshake) (sym (told_is phase.Ping at)) (port_asks f.port reading.port);
         becomes = becomes_at phase.Ping phase.Port at refl;
       }))
       greets_at phase.Port at h = event V refl (FollowerRow.hears_reply (record {
@@ -242,7 +256,7 @@ module _ (w : WorldState) (book : Book minired) (n : ℕ) (s : Slot) (k : Link) 
         plus = line.1;
         hears = hears;
         request = told;
-        asks = subst (λ z. IsAsked z Handshake) (sym (told_is phase.Port at)) capabilities_ask;
+        asks = subst (λ z. IsAsked None z Handshake) (sym (told_is phase.Port at)) capabilities_ask;
         becomes = becomes_at phase.Port phase.Capabilities at refl;
       }))
       greets_at phase.Capabilities at h = event V refl (FollowerRow.hears_last_reply (record {
@@ -251,7 +265,7 @@ module _ (w : WorldState) (book : Book minired) (n : ℕ) (s : Slot) (k : Link) 
         plus = line.1;
         hears = hears;
         request = told;
-        asks = subst (λ z. IsAsked z (Psync (wanted (seen_node s)))) (sym (told_is phase.Capabilities at))
+        asks = subst (λ z. IsAsked None z (Psync (wanted (seen_node s)))) (sym (told_is phase.Capabilities at))
             (psync_line_asks f.offer s.node.core.offers (offer_is f.phase h reading.reader.fits) reading.follower.offer);
         becomes = becomes_at phase.Capabilities phase.Psync at refl;
       }))
@@ -361,7 +375,7 @@ module _ (w : WorldState) (book : Book minired) (n : ℕ) (s : Slot) (k : Link) 
     node_becomes a e gone = record {
       nodes = set_as (λ m. option_map seen_node (slice_get w.slots m)) (λ m. option_map seen_node (slice_get (slice_set w.slots n (behind s b outs)) m)) n (seen_node (behind s b outs)) a
           (put_at seen_node w.slots n (behind s b outs) s is.at) e;
-      links = still_at seen_link w.links s.dialled (heard_as b.follow outs.reply k) k is.found (ap (λ z. seen_link (heard_as z outs.reply k)) gone);
+      links = still_by (seen_link w.slots) (seen_link V.slots) w.links s.dialled (heard_as b.follow outs.reply k) k is.found (ap (λ z. seen_link V.slots (heard_as z outs.reply k)) gone ∙ links_stay s.dialled k is.found) (λ j y ne e. links_stay j y e);
       book = λ i. refl;
     }
 
@@ -403,30 +417,48 @@ module _ (w : WorldState) (book : Book minired) (n : ℕ) (s : Slot) (k : Link) 
     outcome_row outcome.Left l c g told ends e o r = leaves c told ends e r
     outcome_row outcome.Spoiled l c g told ends e o r = spoils c told ends e r
 
-    pub stops : b.core.up ≡ false → Event (put_node w n s b)
-    stops down = event (put_node w n s b) refl (FollowerRow.stops (record {
-      wreck = seen_node (record s { node = b });
-      down = down;
-      role = refl;
-      becomes = record { nodes = put_at seen_node w.slots n (record s { node = b }) s is.at; links = λ j. refl; book = λ i. refl };
-    }))
+-- the end of the link that is followed is the master's
+upstream_at : (w : WorldState) (n : ℕ) (s : Slot) (k : Link) (name l : LinkId) (f : FollowState) → IsWorld w → IsFollowed w n s k → s.node.follow ≡ Some (l, f) → l ≡ name → end_of s.node name ≡ Some upstream
+upstream_at w n s k name l f world is found named = ap (end_of s.node) (sym named) ∙ subst (λ o. FollowedAt s.node.ends o) found (world.nodes n s is.at is.up).node.followed
 
 pub master_steps : MasterStepsAreRows
 master_steps w book n s k name step given fresh b outs holds is r = let h = r.listens in
-    outcome_row w book n s k h.name h.follow b outs holds is h.found given fresh step name r.course h.next r.told (row.ends_behind step name s.node.ends) r.node r.outs_are
-    (h.row (unread k.tell) (agreed w book n s k h.name h.follow b outs holds is h.found))
+    let keeps = keeps_behind s.node b step name (upstream_at w n s k name h.name h.follow holds.world is h.found r.named) (ap (λ (z : NodeState). z.core.up) r.node) (ap (λ (z : NodeState). z.ends) r.node) in
+    outcome_row w book n s k h.name h.follow b outs holds is h.found keeps given fresh step name r.course h.next r.told (row.ends_behind step name s.node.ends) r.node r.outs_are
+    (h.row (unread k.tell) (agreed w book n s k h.name h.follow b outs holds is h.found keeps))
 
 pub master_waits : WaitsAreRows
 master_waits w book n s k name given fresh b holds is r = let h = r.listens in
-    idles w book n s k h.name h.follow b no_outs holds is h.found given fresh r.course h.next r.told s.node.ends r.node refl (h.row (unread k.tell) (agreed w book n s k h.name h.follow b no_outs holds is h.found))
+    let keeps = keeps_all s.node b (ap (λ (z : NodeState). z.core.up) r.node) (ap (λ (z : NodeState). z.ends) r.node) in
+    idles w book n s k h.name h.follow b no_outs holds is h.found keeps given fresh r.course h.next r.told s.node.ends r.node refl (h.row (unread k.tell) (agreed w book n s k h.name h.follow b no_outs holds is h.found keeps))
 
 pub master_lacks : LacksAreUnseen
 master_lacks w book n s k name b holds is r = let h = r.listens in
-    lacks w book n s k h.name h.follow b no_outs holds is h.found r.course h.next r.told s.node.ends r.node refl
-    (h.row (unread k.tell) (agreed w book n s k h.name h.follow b no_outs holds is h.found))
+    let keeps = keeps_all s.node b (ap (λ (z : NodeState). z.core.up) r.node) (ap (λ (z : NodeState). z.ends) r.node) in
+    lacks w book n s k h.name h.follow b no_outs holds is h.found keeps r.course h.next r.told s.node.ends r.node refl
+    (h.row (unread k.tell) (agreed w book n s k h.name h.follow b no_outs holds is h.found keeps))
+
+stops : (w : WorldState) (book : Book minired) (n : ℕ) (s : Slot) (k : Link) (name : LinkId) (f : FollowState) (given : Given) (fresh : List ℕ) (b : NodeState) → Holds w book → IsFollowed w n s k → s.node.follow ≡ Some (name, f) → b.core.up ≡ false
+    → IsEvent w book (events.Event.Step s.dialled Dialler given fresh) (put_node w n s b)
+stops w book n s k name f given fresh b holds is following down = record {
+  new_book = book;
+  kept = holds.kept;
+  row = record {
+    at = record {
+      link = seen_link w.slots k;
+      found = ap (option_map (seen_link w.slots)) is.found;
+      n = n;
+      node = seen_node s;
+      node_found = ap (option_map seen_node) is.at;
+      phase = seen_phase f.phase;
+      follow = ap (seen_follow s.dialled) following;
+    };
+    does = acts is.up (FollowerRow.stops (node_stops w book n s b is.at down));
+  };
+}
 
 pub master_spends : SpendsAreRows
-master_spends w book n s k name given fresh b holds is r = let h = r.listens in stops w book n s k h.name h.follow b no_outs holds is h.found given fresh r.down
+master_spends w book n s k name given fresh b holds is r = let h = r.listens in stops w book n s k h.name h.follow given fresh b holds is h.found r.down
 
 pub master_stops : MasterStopsAreRows
-master_stops w book n s k name f given fresh b holds is found down = stops w book n s k name f b no_outs holds is found given fresh down
+master_stops w book n s k name f given fresh b holds is found down = stops w book n s k name f given fresh b holds is found down

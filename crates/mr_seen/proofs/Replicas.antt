@@ -1,5 +1,5 @@
 -- Each row of a step at a replica's end is a row of histories; and so are steps that find nothing whole, and stops.
-use Rattle.std.proofs.Common.{◌≡◌, ◌≢◌, inl, inr, ℕ, ℤ, List, [], ◌++◌, true, false, None, Some, Result, Ok, Err, length, length-append, append_assoc, refl, sym, ap, subst, ◌∙◌, arith}
+use Rattle.std.proofs.Common.{◌≡◌, ◌≢◌, inl, inr, ℕ, ℤ, List, [], ◌++◌, true, false, Option, None, Some, Result, Ok, Err, length, length-append, append_assoc, refl, sym, ap, subst, ◌∙◌, arith}
 use Rattle.std.proofs.lemmas.List.{append-nil}
 use Rattle.mr_data.specs.declared.given.Given.{Given}
 use Rattle.mr_inline.specs.Language.{IsDoomed}
@@ -19,7 +19,7 @@ use Rattle.mr_rows.specs.Requests.{Waits}
 use Rattle.mr_rows.specs.ReplicaRows as row
 use Rattle.mr_rows.specs.ReplicaRows.{ReplicaRow}
 use Rattle.mr_rows.specs.ClientRows.{Idles}
-use Rattle.mr_history.specs.Language.{Request}
+use Rattle.mr_history.specs.Language.{Request, Transaction}
 use Rattle.mr_history.specs.Language.Request.{Ack, Empty}
 use Rattle.mr_history.specs.History.{Book}
 use Rattle.mr_history.specs.World as history
@@ -33,12 +33,14 @@ use Rattle.mr_language.specs.Requests.{Kind, kind_of, kind_by, kind_to_server, I
 use Rattle.mr_language.specs.Requests as language
 use Rattle.mr_seen.specs.Way.{unread, used_on}
 use Rattle.mr_seen.specs.State.{Link, Slot, WorldState}
-use Rattle.mr_seen.specs.Seeing.{seen, seen_way, seen_node, seen_link}
+use Rattle.mr_seen.specs.Seeing.{seen, seen_way, seen_node, open_on, seen_link}
 use Rattle.mr_seen.specs.Carrying.{filed, put_node}
 use Rattle.mr_seen.specs.Events.{IsEvent, Holds, IsServed, ReplicaStepsAreRows, IdleStepsAreRows, StopsAreRows}
-use Rattle.mr_seen.proofs.Seen.{put_at}
+use Rattle.mr_seen.proofs.Seen.{same_each}
 use Rattle.mr_seen.proofs.Reading.{node_is, still_at}
-use Rattle.mr_seen.proofs.Others.{no_names}
+use Rattle.mr_seen.proofs.Others.{Apart, no_names, all_seen}
+use Rattle.mr_seen.proofs.Beside.{apart_replica, at_replica, keeps_all}
+use Rattle.mr_seen.proofs.Stopping.{node_stops}
 use Rattle.mr_seen.proofs.Asking.{asks_some}
 use Rattle.mr_seen.proofs.Clients.{doomed_by}
 use Rattle.mr_seen.proofs.Steps as steps
@@ -73,6 +75,9 @@ ack_asked (Ok (ask.Node (node.ReplConf told))) e = absurd (cc)
 ack_asked (Ok (ask.Node (node.Ack offset))) e = (offset, refl)
 ack_asked (Ok (ask.Node (node.ReplicaOf host port))) e = absurd (cc)
 ack_asked (Ok (ask.Node node.NoOne)) e = absurd (cc)
+ack_asked (Ok (ask.Node node.Multi)) e = absurd (cc)
+ack_asked (Ok (ask.Node node.Exec)) e = absurd (cc)
+ack_asked (Ok (ask.Node node.Discard)) e = absurd (cc)
 
 asks_ack : (k : Kind) → (asks_some k).0 ≡ Ack → k ≡ Kind.ack
 unfolding asks_some
@@ -95,16 +100,16 @@ asks_empty Kind.quit e = cc
 asks_empty Kind.command e = cc
 
 -- ---- what waits
-is_text : (t : List ℕ) (a : Request (List ℕ)) → IsAsked t a → IsText usual t
-is_text t a (IsAsked.by_words ws r e) = inl (ws, r)
-is_text t a (IsAsked.by_nothing n e) = inr n
+is_text : (n : Option Transaction) (t : List ℕ) (a : Request (List ℕ)) → IsAsked n t a → IsText usual t
+is_text n t a (IsAsked.by_words ws r e) = inl (ws, r)
+is_text n t a (IsAsked.by_nothing none e) = inr none
 
 -- no request begins what waits
-waits_none : (u : List ℕ) → Waits u → (text rest : List ℕ) (request : Request (List ℕ)) → IsAsked text request → u ≡ text ++ rest → ⊥
-waits_none u w text rest request asks e =
+waits_none : (n : Option Transaction) (u : List ℕ) → Waits u → (text rest : List ℕ) (request : Request (List ℕ)) → IsAsked n text request → u ≡ text ++ rest → ⊥
+waits_none n u w text rest request asks e =
     let c = w.more in
     let q : u ++ c.more ≡ text ++ (rest ++ c.more) = ap (λ z. z ++ c.more) e ∙ append_assoc text rest c.more in
-    let same : text ≡ u ++ c.more = same_texts usual text (u ++ c.more) (rest ++ c.more) [] (is_text text request asks) c.whole (sym q ∙ sym (append-nil (u ++ c.more))) in
+    let same : text ≡ u ++ c.more = same_texts usual text (u ++ c.more) (rest ++ c.more) [] (is_text n text request asks) c.whole (sym q ∙ sym (append-nil (u ++ c.more))) in
     let a : length (u ++ c.more) ≡ length (text ++ (rest ++ c.more)) = ap length q in
     let b = length-append text (rest ++ c.more) in
     let d = length-append rest c.more in
@@ -118,46 +123,49 @@ waits_hopeful u w d = let c = w.more in d.never c.more (u ++ c.more) [] c.whole 
 
 module _ (w : WorldState) (book : Book minired) (l : ℕ) (k : Link) (s : Slot) (given : Given) (fresh : List ℕ) (b : NodeState) (outs : OutsState) (holds : Holds w book) (served : IsServed w l k s) where
   -- ---- nothing is given out
-  event : ServerRow (seen w book) (seen (put_node w k.to s b) book) l (seen_link k) (seen_node s) given fresh → IsEvent w book (events.Event.Step l Server given fresh) (put_node w k.to s b)
+  event : ServerRow (seen w book) (seen (put_node w k.to s b) book) l (seen_link w.slots k) (seen_node s) given fresh → IsEvent w book (events.Event.Step l Server given fresh) (put_node w k.to s b)
   event row = steps.event w book l k s given fresh b outs holds served (put_node w k.to s b) book holds.kept row
 
   pub idles : Idles s.node (unread k.ask) b → IsEvent w book (events.Event.Step l Server given fresh) (put_node w k.to s b)
   idles r = event (ServerRow.idles (record {
-    none = waits_none (unread k.ask) r.waits;
+    none = waits_none (open_on w.slots k) (unread k.ask) r.waits;
     hopeful = waits_hopeful (unread k.ask) r.waits;
-    still = record { nodes = still_at seen_node w.slots k.to (record s { node = b }) s served.at (ap (λ z. seen_node (record s { node = z })) r.same); links = λ j. refl; book = λ i. refl };
+    still = record {
+      nodes = still_at seen_node w.slots k.to (record s { node = b }) s served.at (ap (λ z. seen_node (record s { node = z })) r.same);
+      links = same_each (seen_link w.slots) (seen_link (put_node w k.to s b).slots) w.links
+          (all_seen w holds.world k.to s served.at served.up (record s { node = b }) (keeps_all s.node b (ap (λ (z : NodeState). z.core.up) r.same) (ap (λ (z : NodeState). z.ends) r.same)));
+      book = λ i. refl;
+    };
   }))
 
   pub stops : b.core.up ≡ false → IsEvent w book (events.Event.Step l Server given fresh) (put_node w k.to s b)
-  stops down = event (ServerRow.stops (record {
-    wreck = seen_node (record s { node = b });
-    down = down;
-    role = refl;
-    becomes = record { nodes = put_at seen_node w.slots k.to (record s { node = b }) s served.at; links = λ j. refl; book = λ i. refl };
-  }))
+  stops down = event (ServerRow.stops (node_stops w book k.to s b served.at down))
 
   -- ---- a replica's end
-  module _ (streams : k.streams ≡ true) where
-    done : Quiet w book l k s given fresh b outs holds served → ServerRow (seen w book) (seen (steps.V w book l k s given fresh b outs holds served) book) l (seen_link k) (seen_node s) given fresh
+  module _ (streams : k.streams ≡ true) (apart : Apart s.node k.name b outs) where
+    held : open_on w.slots k ≡ None
+    held = at_replica w holds.world l k s served streams
+
+    done : Quiet w book l k s given fresh b outs holds served apart → ServerRow (seen w book) (seen (steps.V w book l k s given fresh b outs holds served) book) l (seen_link w.slots k) (seen_node s) given fresh
         → IsEvent w book (events.Event.Step l Server given fresh) (steps.V w book l k s given fresh b outs holds served)
-    done q x = steps.event w book l k s given fresh b outs holds served (steps.V w book l k s given fresh b outs holds served) book (steps.quiet_book w book l k s given fresh b outs holds served q) x
+    done q x = steps.event w book l k s given fresh b outs holds served (steps.V w book l k s given fresh b outs holds served) book (steps.quiet_book w book l k s given fresh b outs holds served apart q) x
 
     module _ (r : row.Notes s.node k.name (unread k.ask) b outs) where
-      quiet : Quiet w book l k s given fresh b outs holds served
+      quiet : Quiet w book l k s given fresh b outs holds served apart
       quiet = record { fed = ap (λ (o : OutsState). o.fed) r.outs_are; closed = no_names s.node outs.closed (ap (λ (o : OutsState). o.closed) r.outs_are); unused = ap (λ (o : OutsState). o.used) r.outs_are; none = ap (λ (o : OutsState). o.grown) r.outs_are }
 
-      becomes : (text : List ℕ) → unread k.ask ≡ text ++ r.rest → LinkBecomes (seen w book) (seen (steps.V w book l k s given fresh b outs holds served) book) l (record (seen_link k) { ask = seen_way (used_on (length text) k.ask) })
-      becomes text e = steps.quiet_becomes w book l k s given fresh b outs holds served (record (seen_link k) { ask = seen_way (used_on (length text) k.ask) }) quiet
+      becomes : (text : List ℕ) → unread k.ask ≡ text ++ r.rest → LinkBecomes (seen w book) (seen (steps.V w book l k s given fresh b outs holds served) book) l (record (seen_link w.slots k) { ask = seen_way (used_on (length text) k.ask) })
+      becomes text e = steps.quiet_becomes w book l k s given fresh b outs holds served apart (record (seen_link w.slots k) { ask = seen_way (used_on (length text) k.ask) }) quiet
           (node_is s b (filed outs s.file) s.node.core s.node.follow r.core r.leaves.follow)
-          (steps.here_joined w book l k s given fresh b outs holds served text r.rest r.leaves.is e
-          ∙ (ap (rows.joined (seen_link k) (seen_way (used_on (length text) k.ask))) (ap (λ (o : OutsState). o.reply) r.outs_are)
-          ∙ (ap (λ z. record (rows.answered (seen_link k) (seen_way (used_on (length text) k.ask)) []) { streams = z }) (sym streams)
+          (steps.here_joined w book l k s given fresh b outs holds served text r.rest held r.leaves.is e
+          ∙ (ap (rows.joined (seen_link w.slots k) (seen_way (used_on (length text) k.ask))) (ap (λ (o : OutsState). o.reply) r.outs_are)
+          ∙ (ap (λ z. record (rows.answered (seen_link w.slots k) (seen_way (used_on (length text) k.ask)) []) { streams = z }) (sym streams)
           ∙ steps.answered_nothing w book l k s given fresh b outs holds served (seen_way (used_on (length text) k.ask)))))
 
       pub notes : row.IsExpected (unread k.ask) r.rest → IsEvent w book (events.Event.Step l Server given fresh) (steps.V w book l k s given fresh b outs holds served)
       notes (row.IsExpected.acknowledgement words offset asks wish) = done quiet (ServerRow.notes (record {
         streams = streams;
-        uses = steps.uses_of w book l k s given fresh b outs holds served words r.rest asks Ack (subst (λ z. language.Asks z Ack) (sym (ap kind_by wish)) refl);
+        uses = steps.uses_of w book l k s given fresh b outs holds served None held words r.rest asks Ack (subst (λ z. language.Asks z Ack) (sym (ap kind_by wish)) refl);
         becomes = becomes asks.text asks.begins;
       }))
       notes (row.IsExpected.nothing asks) = done quiet (ServerRow.skips (record { uses = steps.uses_none w book l k s given fresh b outs holds served r.rest asks; becomes = becomes asks.text asks.begins }))
@@ -166,18 +174,18 @@ module _ (w : WorldState) (book : Book minired) (l : ℕ) (k : Link) (s : Slot) 
     parts r = done unheard (ServerRow.shuts (record {
       streams = streams;
       unwanted = unwanted r.unwanted;
-      becomes = steps.quiet_becomes w book l k s given fresh b outs holds served (history.shut true (seen_link k)) unheard (node_is s b (filed outs s.file) s.node.core s.node.follow r.core r.follow)
-          (steps.here_shut w book l k s given fresh b outs holds served r.shut.is ∙ (ap (λ z. history.shut true (history.told (seen_link k) z)) (ap (λ (o : OutsState). o.reply) r.outs_are)
-          ∙ ap (λ z. history.shut true (record (seen_link k) { tell = record (seen_way k.tell) { left = z } })) (append-nil (seen_way k.tell).left)));
+      becomes = steps.quiet_becomes w book l k s given fresh b outs holds served apart (history.shut true (seen_link w.slots k)) unheard (node_is s b (filed outs s.file) s.node.core s.node.follow r.core r.follow)
+          (steps.here_shut w book l k s given fresh b outs holds served r.shut.is ∙ (ap (λ z. history.shut true (history.told (seen_link w.slots k) z)) (ap (λ (o : OutsState). o.reply) r.outs_are)
+          ∙ ap (λ z. history.shut true (record (seen_link w.slots k) { tell = record (seen_way k.tell) { left = z } })) (append-nil (seen_way k.tell).left)));
     }))
       where
-        unheard : Quiet w book l k s given fresh b outs holds served
+        unheard : Quiet w book l k s given fresh b outs holds served apart
         unheard = record { fed = ap (λ (o : OutsState). o.fed) r.outs_are; closed = no_names s.node outs.closed (ap (λ (o : OutsState). o.closed) r.outs_are); unused = ap (λ (o : OutsState). o.used) r.outs_are; none = ap (λ (o : OutsState). o.grown) r.outs_are }
 
-        unwanted : row.IsUnwanted (unread k.ask) → rows.Unwanted minired (seen_link k)
+        unwanted : row.IsUnwanted (unread k.ask) → rows.Unwanted minired (seen_link w.slots k)
         unwanted (row.IsUnwanted.doomed fault d) = rows.Unwanted.doomed (doomed_by (unread k.ask) fault d)
         unwanted (row.IsUnwanted.other words rest asks no_ack) = let a = asks_some (kind_of words) in
-            rows.Unwanted.other a.0 (steps.uses_of w book l k s given fresh b outs holds served words rest asks a.0 a.1)
+            rows.Unwanted.other a.0 (steps.uses_of w book l k s given fresh b outs holds served None held words rest asks a.0 a.1)
             (λ e. let o = ack_asked (asked words) (asks_ack (kind_of words) e) in no_ack o.0 o.1) (asks_empty (kind_of words))
 
     pub replica_row : ReplicaRow s.node k.name (unread k.ask) b outs → IsEvent w book (events.Event.Step l Server given fresh) (steps.V w book l k s given fresh b outs holds served)
@@ -185,7 +193,7 @@ module _ (w : WorldState) (book : Book minired) (l : ℕ) (k : Link) (s : Slot) 
     replica_row (ReplicaRow.parts r) = parts r
 
 pub replica_steps : ReplicaStepsAreRows
-replica_steps w book l k s given fresh b outs holds served streams r = replica_row w book l k s given fresh b outs holds served streams r
+replica_steps w book l k s given fresh b outs holds served streams r = replica_row w book l k s given fresh b outs holds served streams (apart_replica s.node k.name (unread k.ask) b outs r) r
 
 pub idle_steps : IdleStepsAreRows
 idle_steps w book l k s given fresh b holds served r = idles w book l k s given fresh b no_outs holds served r

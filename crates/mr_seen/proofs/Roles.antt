@@ -29,7 +29,7 @@ use Rattle.mr_rows.specs.State.{NodeState, FollowedAt, end_of}
 use Rattle.mr_rows.specs.Sound.{IsSound, ports}
 use Rattle.mr_rows.specs.Growing.{Remakes, rebuilt}
 use Rattle.mr_rows.specs.Ends.{names_of}
-use Rattle.mr_rows.specs.Served.{AsksNode}
+use Rattle.mr_plan.specs.Requests.{AsksNode}
 use Rattle.mr_rows.specs.ClientRows as row
 use Rattle.mr_rows.specs.ClientRows.{ClientRow, IsAnswerToPsync}
 use Rattle.mr_history.specs.Language.{Request}
@@ -49,17 +49,19 @@ use Rattle.mr_language.specs.Requests.{Kind, kind_of, kind_by, Wants, IsWanted, 
 use Rattle.mr_language.specs.Requests as language
 use Rattle.mr_seen.specs.Way.{unread, used_on}
 use Rattle.mr_seen.specs.State.{Link, Slot, WorldState}
-use Rattle.mr_seen.specs.Seeing.{seen, seen_way, seen_node, seen_link, seen_host}
+use Rattle.mr_seen.specs.Seeing.{seen, seen_way, seen_node, open_on, seen_link, seen_host}
 use Rattle.mr_seen.specs.Books.{IsBook, entry_of}
-use Rattle.mr_seen.specs.Carrying.{filed, reached, booked_as}
+use Rattle.mr_seen.specs.Carrying.{behind, filed, reached, booked_as}
 use Rattle.mr_seen.specs.Events.{IsEvent, Holds, IsServed, ClientStepsAreRows}
 use Rattle.mr_seen.proofs.Reading.{node_is}
-use Rattle.mr_seen.proofs.Others.{NoneServed, no_names, shut_reached, others_there, here}
+use Rattle.mr_seen.proofs.Others.{Apart, NoneServed, no_names, shut_reached, others_there, here}
 use Rattle.mr_seen.proofs.Keeping.{with_history, branched_kept, branches}
-use Rattle.mr_seen.proofs.Asking.{wanted_or, one_address, good_all}
+use Rattle.mr_language.proofs.GoodGroups.{good_effects}
+use Rattle.mr_seen.proofs.Asking.{wanted_or, one_address}
 use Rattle.mr_seen.proofs.Steps as steps
 use Rattle.mr_seen.proofs.Steps.{Quiet}
 use Rattle.mr_seen.proofs.Clients as clients
+use Rattle.mr_seen.proofs.Beside.{apart_client, at_client}
 
 -- ---- the link to the master is none that the node serves
 named_followed : (a : NodeState) (follow : Option (LinkId × FollowState)) → FollowedAt a.ends follow → NoneServed a (names_of (name_of follow))
@@ -73,9 +75,10 @@ named_followed a (Some g) f x e named is = at_or_other x g.0 (λ b. cond b true 
 
 -- ---- what PSYNC is answered
 makes_again : (m : Dataset) → Remakes (rebuilding m) m → Makes (rebuilt m) m
-makes_again m r = record { effects = rebuilding m; good = good_all (rebuilding m) empty m r.again r.short; are_texts = refl; applied = r.again }
+makes_again m r = record { effects = rebuilding m; good = good_effects (rebuilding m) empty m r.again r.short; are_texts = refl; applied = r.again }
 
-module _ (w : WorldState) (book : Book minired) (l : ℕ) (k : Link) (s : Slot) (given : Given) (fresh : List ℕ) (b : NodeState) (outs : OutsState) (holds : Holds w book) (served : IsServed w l k s) (plain : k.streams ≡ false) where
+module _ (w : WorldState) (book : Book minired) (l : ℕ) (k : Link) (s : Slot) (given : Given) (fresh : List ℕ) (b : NodeState) (outs : OutsState) (holds : Holds w book) (served : IsServed w l k s) (plain : k.streams ≡ false)
+    (apart : Apart s.node k.name b outs) (held : open_on w.slots k ≡ None) where
   abbrev Event : Type 0
   Event = IsEvent w book (events.Event.Step l Server given fresh) (steps.V w book l k s given fresh b outs holds served)
 
@@ -86,23 +89,23 @@ module _ (w : WorldState) (book : Book minired) (l : ℕ) (k : Link) (s : Slot) 
   kind_of_wish words wish kind request e is a = subst (λ z. language.Asks z request) (sym (ap kind_by e ∙ is)) a
 
   module _ (r : row.Synchronizes s.node k.name (unread k.ask) b outs) where
-    quiet : Quiet w book l k s given fresh b outs holds served
+    quiet : Quiet w book l k s given fresh b outs holds served apart
     quiet = record { fed = ap (λ (o : OutsState). o.fed) r.outs_are; closed = no_names s.node outs.closed (ap (λ (o : OutsState). o.closed) r.outs_are); unused = ap (λ (o : OutsState). o.used) r.outs_are; none = ap (λ (o : OutsState). o.grown) r.outs_are }
 
     said : outs.reply ≡ r.text
     said = ap (λ (o : OutsState). o.reply) r.outs_are
 
-    event : ServerRow (seen w book) (seen (steps.V w book l k s given fresh b outs holds served) book) l (seen_link k) (seen_node s) given fresh → Event
-    event x = steps.event w book l k s given fresh b outs holds served (steps.V w book l k s given fresh b outs holds served) book (steps.quiet_book w book l k s given fresh b outs holds served quiet) x
+    event : ServerRow (seen w book) (seen (steps.V w book l k s given fresh b outs holds served) book) l (seen_link w.slots k) (seen_node s) given fresh → Event
+    event x = steps.event w book l k s given fresh b outs holds served (steps.V w book l k s given fresh b outs holds served) book (steps.quiet_book w book l k s given fresh b outs holds served apart quiet) x
 
     becomes : (bytes : List ℕ) → outs.reply ≡ bytes
-        → LinkBecomes (seen w book) (seen (steps.V w book l k s given fresh b outs holds served) book) l (rows.joined (seen_link k) (seen_way (used_on (length r.asks.text) k.ask)) bytes)
-    becomes bytes e = steps.quiet_becomes w book l k s given fresh b outs holds served (rows.joined (seen_link k) (seen_way (used_on (length r.asks.text) k.ask)) bytes) quiet
+        → LinkBecomes (seen w book) (seen (steps.V w book l k s given fresh b outs holds served) book) l (rows.joined (seen_link w.slots k) (seen_way (used_on (length r.asks.text) k.ask)) bytes)
+    becomes bytes e = steps.quiet_becomes w book l k s given fresh b outs holds served apart (rows.joined (seen_link w.slots k) (seen_way (used_on (length r.asks.text) k.ask)) bytes) quiet
         (node_is s b (filed outs s.file) s.node.core s.node.follow r.core r.leaves.follow)
-        (steps.here_joined w book l k s given fresh b outs holds served r.asks.text r.rest r.leaves.is r.asks.begins ∙ ap (rows.joined (seen_link k) (seen_way (used_on (length r.asks.text) k.ask))) e)
+        (steps.here_joined w book l k s given fresh b outs holds served r.asks.text r.rest held r.leaves.is r.asks.begins ∙ ap (rows.joined (seen_link w.slots k) (seen_way (used_on (length r.asks.text) k.ask))) e)
 
-    abbrev uses : (query : Option (List ℕ × ℕ)) → IsWanted r.id r.wanted query → rows.Uses minired (seen_link k) (Psync query)
-    uses query q = steps.uses_of w book l k s given fresh b outs holds served r.words r.rest r.asks (Psync query) (kind_of_wish r.words (node.Psync r.id r.wanted) (Kind.psync r.id r.wanted) (Psync query) r.wish refl (query, q, refl))
+    abbrev uses : (query : Option (List ℕ × ℕ)) → IsWanted r.id r.wanted query → rows.Uses minired (seen_link w.slots k) (Psync query)
+    uses query q = steps.uses_of w book l k s given fresh b outs holds served None held r.words r.rest r.asks (Psync query) (kind_of_wish r.words (node.Psync r.id r.wanted) (Kind.psync r.id r.wanted) (Psync query) r.wish refl (query, q, refl))
 
     goes_on : (id : List ℕ) (from : ℕ) → Wants r.id r.wanted id from → Continues (seen_node s) id from → r.text ≡ reply_line (reply.Continue s.node.core.lineage.id) ++ bytes_from s.node.core.lineage.stream from → Event
     goes_on id from q c is =
@@ -180,13 +183,13 @@ module _ (w : WorldState) (book : Book minired) (l : ℕ) (k : Link) (s : Slot) 
       (ServerRow.promotes (record {
         client = plain;
         replica = r.replica;
-        uses = steps.uses_of w book l k s given fresh b outs holds served r.words r.rest r.asks ReplicaOfNoOne (kind_of_wish r.words node.NoOne Kind.no_one ReplicaOfNoOne r.wish refl refl);
+        uses = steps.uses_of w book l k s given fresh b outs holds served None held r.words r.rest r.asks ReplicaOfNoOne (kind_of_wish r.words node.NoOne Kind.no_one ReplicaOfNoOne r.wish refl refl);
         nodes = steps.node_becomes w book l k s given fresh b outs holds served _
             (node_is s b (filed outs s.file) (record s.node.core { master = true; offers = true; upstream = None; mark = None; lineage = renamed fresh s.node.core.lineage }) None r.core r.follow);
         reply = outs.reply;
-        links = steps.links_become w book l k s given fresh b outs holds served (answered (seen_link k) (seen_way (used_on (length r.asks.text) k.ask)) outs.reply) fed
+        links = steps.links_become w book l k s given fresh b outs holds served apart (answered (seen_link w.slots k) (seen_way (used_on (length r.asks.text) k.ask)) outs.reply) fed
             (subst (NoneServed s.node) (sym closed) (named_followed s.node s.node.follow sound.node.followed))
-            (steps.here_client w book l k s given fresh b outs holds served r.asks.text r.rest plain r.ends.is r.asks.begins);
+            (steps.here_answered w book l k s given fresh b outs holds served r.asks.text r.rest plain held r.ends.is r.asks.begins);
         book = branches w.book book s.node.core.lineage.id fresh s.node.core.lineage.stream.offset inner.start inner.earlier inner.later holds.kept inner.front undrawn;
       }))
 
@@ -195,19 +198,19 @@ module _ (w : WorldState) (book : Book minired) (l : ℕ) (k : Link) (s : Slot) 
       let fed : outs.fed ≡ [] = ap (λ (o : OutsState). o.fed) r.outs_are in
       let closed : outs.closed ≡ names_of (name_of s.node.follow) = ap (λ (o : OutsState). o.closed) r.outs_are in
       steps.event w book l k s given fresh b outs holds served (steps.V w book l k s given fresh b outs holds served) book
-      (steps.quiet_book w book l k s given fresh b outs holds served (record { fed = fed; closed = subst (NoneServed s.node) (sym closed) (named_followed s.node s.node.follow sound.node.followed); unused = ap (λ (o : OutsState). o.used) r.outs_are; none = ap (λ (o : OutsState). o.grown) r.outs_are }))
+      (steps.quiet_book w book l k s given fresh b outs holds served apart (record { fed = fed; closed = subst (NoneServed s.node) (sym closed) (named_followed s.node s.node.follow sound.node.followed); unused = ap (λ (o : OutsState). o.used) r.outs_are; none = ap (λ (o : OutsState). o.grown) r.outs_are }))
       (ServerRow.turns (record {
         client = plain;
         replica = r.replica;
         host = address r.address.host r.address.port;
         another = other s.node.core.upstream refl sound.upstream;
-        uses = steps.uses_of w book l k s given fresh b outs holds served r.words r.rest r.asks (ReplicaOf (address r.address.host r.address.port))
+        uses = steps.uses_of w book l k s given fresh b outs holds served None held r.words r.rest r.asks (ReplicaOf (address r.address.host r.address.port))
             (kind_of_wish r.words (node.ReplicaOf r.address.host r.address.port) (Kind.follow r.address.host r.address.port) (ReplicaOf (address r.address.host r.address.port)) r.wish refl refl);
         nodes = steps.node_becomes w book l k s given fresh b outs holds served _ (node_is s b (filed outs s.file) (record s.node.core { upstream = Some r.address }) None r.core r.follow);
         reply = outs.reply;
-        links = steps.links_become w book l k s given fresh b outs holds served (answered (seen_link k) (seen_way (used_on (length r.asks.text) k.ask)) outs.reply) fed
+        links = steps.links_become w book l k s given fresh b outs holds served apart (answered (seen_link w.slots k) (seen_way (used_on (length r.asks.text) k.ask)) outs.reply) fed
             (subst (NoneServed s.node) (sym closed) (named_followed s.node s.node.follow sound.node.followed))
-            (steps.here_client w book l k s given fresh b outs holds served r.asks.text r.rest plain r.ends.is r.asks.begins);
+            (steps.here_answered w book l k s given fresh b outs holds served r.asks.text r.rest plain held r.ends.is r.asks.begins);
         book = λ i. refl;
       }))
     where
@@ -228,30 +231,36 @@ module _ (w : WorldState) (book : Book minired) (l : ℕ) (k : Link) (s : Slot) 
         client = plain;
         master = r.master;
         host = address r.address.host r.address.port;
-        uses = steps.uses_of w book l k s given fresh b outs holds served r.words r.rest r.asks (ReplicaOf (address r.address.host r.address.port))
+        uses = steps.uses_of w book l k s given fresh b outs holds served None held r.words r.rest r.asks (ReplicaOf (address r.address.host r.address.port))
             (kind_of_wish r.words (node.ReplicaOf r.address.host r.address.port) (Kind.follow r.address.host r.address.port) (ReplicaOf (address r.address.host r.address.port)) r.wish refl refl);
         nodes = steps.node_becomes w book l k s given fresh b outs holds served _
             (node_is s b (filed outs s.file) (record s.node.core { master = false; offers = true; upstream = Some r.address; mark = None }) s.node.follow r.core (r.follow ∙ sym (sound.node.nobody r.master)));
         reply = outs.reply;
-        link = here (reached k.to outs) w.links l (steps.m w book l k s given fresh b outs holds served) k served.found ∙ ap (λ z. Some z) (steps.here_client w book l k s given fresh b outs holds served r.asks.text r.rest plain r.ends.is r.asks.begins);
+        link = here (seen_link w.slots) (seen_link (steps.V w book l k s given fresh b outs holds served).slots) (reached k.to outs) w.links l (steps.m w book l k s given fresh b outs holds served) k served.found ∙ ap (λ z. Some z) (steps.here_answered w book l k s given fresh b outs holds served r.asks.text r.rest plain held r.ends.is r.asks.begins);
         no_links = λ j ne e. gone fed j ne ∙ ap (option_map (λ y. history.shut (hears k.to y) y)) e;
         links = λ j x ne e. gone fed j ne ∙ ap (option_map (λ y. history.shut (hears k.to y) y)) e;
         book = λ i. refl;
       }))
     where
-      gone : outs.fed ≡ [] → (j : ℕ) → j ≢ l → option_map seen_link (slice_get (slice_set (map (reached k.to outs) w.links) l (steps.m w book l k s given fresh b outs holds served)) j)
-          ≡ option_map (λ y. history.shut (hears k.to y) y) (option_map seen_link (slice_get w.links j))
-      gone fed j ne = others_there (reached k.to outs) w.links l (steps.m w book l k s given fresh b outs holds served) (λ y. history.shut (hears k.to y) y)
-          (λ i y f. shut_reached w holds.world k.to s served.at served.up outs fed r.closed i y f) j ne
+      new : Link → history.Link
+      new = seen_link (steps.V w book l k s given fresh b outs holds served).slots
+
+      gone : outs.fed ≡ [] → (j : ℕ) → j ≢ l → option_map new (slice_get (slice_set (map (reached k.to outs) w.links) l (steps.m w book l k s given fresh b outs holds served)) j)
+          ≡ option_map (λ y. history.shut (hears k.to y) y) (option_map (seen_link w.slots) (slice_get w.links j))
+      gone fed j ne = others_there (seen_link w.slots) new (reached k.to outs) w.links l (steps.m w book l k s given fresh b outs holds served) (λ y. history.shut (hears k.to y) y) j ne
+          (λ y f. shut_reached w holds.world k.to s served.at served.up (behind s b outs) outs j y f (steps.stays w book l k s given fresh b outs holds served apart j y ne f) fed r.closed)
 
   pub client_row : entry_of w.book fresh ≡ None → ClientRow s.node k.name (unread k.ask) given fresh b outs → Event
-  client_row undrawn (ClientRow.serves r) = clients.serves w book l k s given fresh b outs holds served plain r
-  client_row undrawn (ClientRow.closes r) = clients.closes w book l k s given fresh b outs holds served plain r
-  client_row undrawn (ClientRow.halts r) = clients.halts w book l k s given fresh b outs holds served plain r
+  client_row undrawn (ClientRow.serves r) = clients.serves w book l k s given fresh b outs holds served plain apart held r
+  client_row undrawn (ClientRow.closes r) = clients.closes w book l k s given fresh b outs holds served plain apart held r
+  client_row undrawn (ClientRow.halts r) = clients.halts w book l k s given fresh b outs holds served plain apart held r
   client_row undrawn (ClientRow.synchronizes r) = synchronizes r
   client_row undrawn (ClientRow.promotes r) = promotes undrawn r
   client_row undrawn (ClientRow.turns r) = turns r
   client_row undrawn (ClientRow.demotes r) = demotes r
+  client_row undrawn (ClientRow.begins r) = clients.begins w book l k s given fresh b outs holds served plain apart held r
 
 pub client_steps : ClientStepsAreRows
-client_steps w book l k s given fresh b outs holds served plain undrawn r = client_row w book l k s given fresh b outs holds served plain undrawn r
+client_steps w book l k s given fresh b outs holds served agrees undrawn r =
+    let at = at_client w holds.world l k s served (unread k.ask) agrees in
+    client_row w book l k s given fresh b outs holds served at.0 (apart_client s.node k.name (unread k.ask) b outs (holds.world.nodes k.to s served.at served.up).node.followed given fresh r) at.1 undrawn r

@@ -16,6 +16,7 @@ use Rattle.mr_data.specs.declared.given.Given.{Given}
 use Rattle.mr_groups.specs.Groups.{group_texts, singles}
 use Rattle.mr_groups.proofs.Runs.{single_texts}
 use Rattle.mr_repl.specs.Backlog.{IsWindow, last_of}
+use Rattle.mr_ends.specs.Replicas.{is_named}
 use Rattle.mr_outs.specs.Outs.{OutsState, no_outs}
 use Rattle.mr_rows.specs.State.{Core, NodeState}
 use Rattle.mr_rows.specs.Growing.{FedTo, grown_by}
@@ -23,6 +24,7 @@ use Rattle.mr_rows.specs.TimeRows.{TickRow, room_in, doomed}
 use Rattle.mr_rows.specs.TimeRows as row
 use Rattle.mr_history.specs.History.{Book}
 use Rattle.mr_history.specs.Node.{EndsAs}
+use Rattle.mr_history.specs.World as history
 use Rattle.mr_history.specs.World.{hears, told_if}
 use Rattle.mr_history.specs.Event as events
 use Rattle.mr_history.specs.Changing.Unless.{acts}
@@ -31,7 +33,7 @@ use Rattle.mr_language.specs.Minired.{minired}
 use Rattle.mr_language.specs.Changes.{IsDue}
 use Rattle.mr_seen.specs.Way.{sent_on}
 use Rattle.mr_seen.specs.State.{Link, Slot, WorldState}
-use Rattle.mr_seen.specs.Seeing.{seen, seen_node, seen_link, seen_follow, seen_phase}
+use Rattle.mr_seen.specs.Seeing.{seen, seen_node, open_at, link_with, seen_link, seen_follow, seen_phase}
 use Rattle.mr_seen.specs.Books.{IsBook}
 use Rattle.mr_seen.specs.Carrying.{behind, filed, reached, booked_as, said_on, said_by, ticked}
 use Rattle.mr_seen.specs.Events.{IsEvent, Holds, IsRunning, TickStopsAreRows, TicksAreRows}
@@ -39,8 +41,11 @@ use Rattle.mr_seen.proofs.Seen.{put_at, sent_seen}
 use Rattle.mr_seen.proofs.Singles.{single_folds, single_good}
 use Rattle.mr_seen.proofs.Keeping.{with_history, extended_kept, extends}
 use Rattle.mr_seen.proofs.Reading.{node_is, set_as, still_at}
-use Rattle.mr_seen.proofs.Others.{no_names, unreached, fed_reached, map_there, others_there, here}
-use Rattle.mr_seen.proofs.Asking.{good_all}
+use Rattle.mr_seen.proofs.Open.{open_stays}
+use Rattle.mr_seen.proofs.Others.{KeepsEnds, kept_open, no_names, unreached, unreached_seen, fed_reached, map_there, others_there, here}
+use Rattle.mr_seen.proofs.Beside.{keeps_all}
+use Rattle.mr_seen.proofs.Stopping.{node_stops}
+use Rattle.mr_language.proofs.GoodGroups.{good_effects}
 use Rattle.mr_seen.proofs.Steps.{book_stays, map_same, ends_as}
 
 -- ---- what a tick writes has room, and few words
@@ -93,7 +98,7 @@ fits_of a given effects mark (row.Beats.beats all some passed is m) = fits_withi
 fits_of a given effects mark (row.Beats.waits all waiting is m) = fits_within a.core given effects (doomed given.now a.core.held) (IsDue.deletes (ap singles (is ∙ sym all))) (dels_short (take most_deleted (due given.now a.core.held))) (is ∙ sym all)
 fits_of a given effects mark (row.Beats.alone all none passed is m) = fits_within a.core given effects (doomed given.now a.core.held) (IsDue.deletes (ap singles (is ∙ sym all))) (dels_short (take most_deleted (due given.now a.core.held))) (is ∙ sym all)
 
-module _ (w : WorldState) (book : Book minired) (n : ℕ) (s : Slot) (given : Given) (b : NodeState) (outs : OutsState) (holds : Holds w book) (runs : IsRunning w n s) where
+module _ (w : WorldState) (book : Book minired) (n : ℕ) (s : Slot) (given : Given) (b : NodeState) (outs : OutsState) (holds : Holds w book) (runs : IsRunning w n s) (keeps : KeepsEnds s.node b) where
   abbrev V : WorldState
   V = ticked w n s b outs
 
@@ -102,6 +107,13 @@ module _ (w : WorldState) (book : Book minired) (n : ℕ) (s : Slot) (given : Gi
 
   window : IsWindow s.node.core.lineage.stream
   window = (holds.world.nodes n s runs.at runs.up).window
+
+  abbrev new : Link → history.Link
+  new = seen_link V.slots
+
+  -- what is open at the ends that the node serves stays
+  stays : (j : ℕ) (y : Link) → slice_get w.links j ≡ Some y → is_named outs.closed y.name ≡ false → y.to ≡ n → y.serving ≡ true → open_at (Some (behind s b outs)) y.name ≡ open_at (Some s) y.name
+  stays j y found named to g = kept_open w holds.world n s runs.at runs.up (behind s b outs) keeps j y found to g
 
   same_nodes : seen_node (behind s b outs) ≡ seen_node s → (m : ℕ) → option_map seen_node (slice_get (slice_set w.slots n (behind s b outs)) m) ≡ option_map seen_node (slice_get w.slots m)
   same_nodes e = still_at seen_node w.slots n (behind s b outs) s runs.at e
@@ -124,7 +136,7 @@ module _ (w : WorldState) (book : Book minired) (n : ℕ) (s : Slot) (given : Gi
         effects = groups;
         due = fits.is_due;
         grown = record {
-          good = single_good r.effects (good_all r.effects s.node.core.held r.held r.applied fits.short);
+          good = single_good r.effects (good_effects r.effects s.node.core.held r.held r.applied fits.short);
           within = (let few = subst (λ (t : List ℕ). length t ≤ room_in s.node.core) same fits.few in let countable = window.countable in omega (arith, few, countable));
           held = r.held;
           folds = single_folds r.effects s.node.core.held ∙ r.applied;
@@ -148,23 +160,26 @@ module _ (w : WorldState) (book : Book minired) (n : ℕ) (s : Slot) (given : Gi
       fed : FedTo outs.grown s.node outs.fed
       fed = subst (λ z. FedTo z s.node outs.fed) (sym (ap (λ (o : OutsState). o.grown) r.outs_are)) r.fed
 
-      fed_there : (j : ℕ) → option_map seen_link (slice_get (said_on outs.link s.dialled outs.reply (map (reached n outs) w.links)) j) ≡ option_map (λ y. told_if (hears n y) y outs.grown) (option_map seen_link (slice_get w.links j))
-      fed_there j = ap (λ z. option_map seen_link (slice_get (said_on z s.dialled outs.reply (map (reached n outs) w.links)) j)) (ap (λ (o : OutsState). o.link) r.outs_are)
-          ∙ map_there (reached n outs) w.links (λ y. told_if (hears n y) y outs.grown)
-          (λ i y f. fed_reached w holds.world n s runs.at runs.up outs fed (ap (λ (o : OutsState). o.closed) r.outs_are) i y f) j
+      fed_there : (j : ℕ) → option_map new (slice_get (said_on outs.link s.dialled outs.reply (map (reached n outs) w.links)) j) ≡ option_map (λ y. told_if (hears n y) y outs.grown) (option_map (seen_link w.slots) (slice_get w.links j))
+      fed_there j = ap (λ z. option_map new (slice_get (said_on z s.dialled outs.reply (map (reached n outs) w.links)) j)) (ap (λ (o : OutsState). o.link) r.outs_are)
+          ∙ map_there (seen_link w.slots) new (reached n outs) w.links (λ y. told_if (hears n y) y outs.grown) j
+          (λ y f. fed_reached w holds.world n s runs.at runs.up (behind s b outs) outs j y f (stays j y f) fed (ap (λ (o : OutsState). o.closed) r.outs_are))
 
   -- ---- a replica
   module _ (alone : s.node.core.master ≡ false) (mark : Option ℤ) (is : b ≡ record s.node { core = record s.node.core { mark = mark } }) where
     same : seen_node (behind s b outs) ≡ seen_node s
     same = ap (λ (z : NodeState). seen_node (record s { node = z })) is
 
+    still_seen : outs.fed ≡ [] → outs.closed ≡ [] → (j : ℕ) (y : Link) → slice_get w.links j ≡ Some y → new (reached n outs y) ≡ seen_link w.slots y
+    still_seen fed closed j y f = unreached_seen w holds.world n s runs.at runs.up (behind s b outs) outs j y f (stays j y f) fed (no_names s.node outs.closed closed)
+
     -- nothing is given out
     rests : outs ≡ no_outs → IsEvent w book (events.Event.Tick n given) V
     rests e = event book (book_stays w.book book s.node outs holds.kept (ap (λ (o : OutsState). o.used) e) (ap (λ (o : OutsState). o.grown) e)) (Ticks.rests alone (record {
       nodes = same_nodes same;
-      links = λ j. ap (λ z. option_map seen_link (slice_get (said_on z s.dialled outs.reply (map (reached n outs) w.links)) j)) (ap (λ (o : OutsState). o.link) e)
-          ∙ (map_there (reached n outs) w.links (λ y. y) (λ i y f. ap seen_link (unreached w holds.world n s runs.at runs.up outs (ap (λ (o : OutsState). o.fed) e) (no_names s.node outs.closed (ap (λ (o : OutsState). o.closed) e)) i y f)) j
-          ∙ map_same (option_map seen_link (slice_get w.links j)));
+      links = λ j. ap (λ z. option_map new (slice_get (said_on z s.dialled outs.reply (map (reached n outs) w.links)) j)) (ap (λ (o : OutsState). o.link) e)
+          ∙ (map_there (seen_link w.slots) new (reached n outs) w.links (λ y. y) j (λ y f. still_seen (ap (λ (o : OutsState). o.fed) e) (ap (λ (o : OutsState). o.closed) e) j y f)
+          ∙ map_same (option_map (seen_link w.slots) (slice_get w.links j)));
       book = λ i. refl;
     }))
 
@@ -179,16 +194,18 @@ module _ (w : WorldState) (book : Book minired) (n : ℕ) (s : Slot) (given : Gi
           replica = alone;
           l = s.dialled;
           follow = ap (seen_follow s.dialled) st.found ∙ ap (λ z. Some (record { link = s.dialled; phase = seen_phase z })) st.streams;
-          link = seen_link h.link;
-          found = ap (option_map seen_link) h.found;
+          link = seen_link w.slots h.link;
+          found = ap (option_map (seen_link w.slots)) h.found;
           bytes = outs.reply;
           becomes = record {
             nodes = same_nodes same;
             links = (
-              ap (λ z. option_map seen_link (slice_get z s.dialled)) links ∙ (here (reached n outs) w.links s.dialled (record h.link { ask = sent_on outs.reply h.link.ask }) h.link h.found
-                  ∙ ap (λ z. Some (record (seen_link h.link) { ask = z })) (sent_seen h.link.ask outs.reply (holds.world.asks s.dialled h.link h.found))),
-              λ j ne. ap (λ z. option_map seen_link (slice_get z j)) links ∙ (others_there (reached n outs) w.links s.dialled (record h.link { ask = sent_on outs.reply h.link.ask }) (λ y. y) (λ i y f. ap seen_link (quiet i y f)) j ne
-                  ∙ map_same (option_map seen_link (slice_get w.links j))),
+              ap (λ z. option_map new (slice_get z s.dialled)) links ∙ (here (seen_link w.slots) new (reached n outs) w.links s.dialled (record h.link { ask = sent_on outs.reply h.link.ask }) h.link h.found
+                  ∙ (ap (λ o. Some (link_with o (record h.link { ask = sent_on outs.reply h.link.ask }))) (open_stays w.slots n s (behind s b outs) runs.at h.link (kept_open w holds.world n s runs.at runs.up (behind s b outs) keeps s.dialled h.link h.found))
+                  ∙ ap (λ z. Some (record (seen_link w.slots h.link) { ask = z })) (sent_seen h.link.ask outs.reply (holds.world.asks s.dialled h.link h.found)))),
+              λ j ne. ap (λ z. option_map new (slice_get z j)) links ∙ (others_there (seen_link w.slots) new (reached n outs) w.links s.dialled (record h.link { ask = sent_on outs.reply h.link.ask }) (λ y. y) j ne
+                  (λ y f. still_seen (ap (λ (o : OutsState). o.fed) e) (ap (λ (o : OutsState). o.closed) e) j y f)
+                  ∙ map_same (option_map (seen_link w.slots) (slice_get w.links j))),
             );
             book = λ i. refl;
           };
@@ -204,8 +221,12 @@ module _ (w : WorldState) (book : Book minired) (n : ℕ) (s : Slot) (given : Gi
   tick_row (TickRow.deletes up r) = beats r
   tick_row (TickRow.rests up alone mark r is) = replica_rests alone mark is r
 
+keeps_by : (a : NodeState) (now : ℤ) (b : NodeState) (outs : OutsState) → TickRow a now b outs → KeepsEnds a b
+keeps_by a now b outs (TickRow.deletes up r) = keeps_all a b (ap (λ (z : Core). z.up) r.core) r.ends
+keeps_by a now b outs (TickRow.rests up alone mark r is) = keeps_all a b (ap (λ (z : NodeState). z.core.up) is) (ap (λ (z : NodeState). z.ends) is)
+
 pub ticks : TicksAreRows
-ticks w book n s given b outs holds runs r = tick_row w book n s given b outs holds runs r
+ticks w book n s given b outs holds runs r = tick_row w book n s given b outs holds runs (keeps_by s.node given.now b outs r) r
 
 pub tick_stops : TickStopsAreRows
 tick_stops w book n s given b holds runs down = record {
@@ -214,11 +235,6 @@ tick_stops w book n s given b holds runs down = record {
   row = record {
     node = seen_node s;
     found = ap (option_map seen_node) runs.at;
-    does = acts runs.up (Ticks.stops (record {
-      wreck = seen_node (record s { node = b });
-      down = down;
-      role = refl;
-      becomes = record { nodes = put_at seen_node w.slots n (record s { node = b }) s runs.at; links = λ j. refl; book = λ i. refl };
-    }));
+    does = acts runs.up (Ticks.stops (node_stops w book n s b runs.at down));
   };
 }

@@ -1,69 +1,55 @@
 -- What is true of a World is kept by each row of a step at an end that a node serves.
-use Rattle.std.proofs.Common.{◌≡◌, ◌≢◌, ◌⊎◌, inl, inr, ℕ, List, [], ◌++◌, Bool, true, false, Option, None, Some, refl, sym, ap, subst, ◌∙◌}
+use Rattle.std.proofs.Common.{◌≡◌, ◌≢◌, ◌⊎◌, inl, inr, ℕ, List, ◌++◌, Bool, true, false, Option, None, Some, refl, sym, ap, subst, ◌∙◌}
 use Rattle.std.specs.Prelude.{slice_get}
 use Rattle.mr_links.specs.declared.link_id.LinkId.{LinkId}
 use Rattle.mr_data.specs.declared.given.Given.{Given}
 use Rattle.mr_follow.specs.State.{FollowState}
-use Rattle.mr_course.specs.State.{name_of}
-use Rattle.mr_ends.specs.State.{EndState}
-use Rattle.mr_ends.specs.State.EndState.{client, replica, upstream, shut}
+use Rattle.mr_ends.specs.State.{EndState, Transaction, begun, unread_in}
+use Rattle.mr_ends.specs.State.EndState.{shut}
 use Rattle.mr_outs.specs.Outs.{OutsState, Output}
-use Rattle.mr_rows.specs.State.{Core, NodeState, FollowedAt, OthersStay, end_of}
+use Rattle.mr_rows.specs.State.{Core, NodeState, end_of}
 use Rattle.mr_rows.specs.Sound.{IsSound}
-use Rattle.mr_rows.specs.Ends.{Settles}
 use Rattle.mr_rows.specs.Telling.{Around}
 use Rattle.mr_rows.specs.Served.{Served}
 use Rattle.mr_rows.specs.ClientRows.{ClientRow}
+use Rattle.mr_rows.specs.Transactions.{WithinRow}
 use Rattle.mr_rows.specs.ReplicaRows.{ReplicaRow, IsExpected}
 use Rattle.mr_seen.specs.Way.{unread}
 use Rattle.mr_seen.specs.State.{Link, Slot}
 use Rattle.mr_seen.specs.Worlds.{HasServer, HasMaster, end_for}
 use Rattle.mr_seen.specs.Carrying.{put_node}
-use Rattle.mr_seen.specs.Events.{ClientStepsKeepWorlds, ReplicaStepsKeepWorlds, StopsKeepWorlds}
+use Rattle.mr_seen.specs.Events.{ClientStepsKeepWorlds, WithinStepsKeepWorlds, ReplicaStepsKeepWorlds, StopsKeepWorlds}
 use Rattle.mr_seen.proofs.Places.{set_here, set_there, set_cases}
 use Rattle.mr_seen.proofs.Reading.{number_or}
+use Rattle.mr_seen.proofs.Others.{Apart}
+use Rattle.mr_seen.proofs.Beside.{apart_client, apart_within, apart_replica}
 use Rattle.mr_seen.proofs.Kept.{Turned, kept_stepped}
 
 -- ---- what is left of the unread bytes
 abbrev Left : NodeState → LinkId → List ℕ → Type 0
-Left b name u = (v : List ℕ) → (end_of b name ≡ Some (client v)) ⊎ (end_of b name ≡ Some (replica v)) → (text : List ℕ) × (u ≡ text ++ v)
+Left b name u = (streams : Bool) (held : Option Transaction) (v : List ℕ) → end_of b name ≡ Some (end_for streams held v) → (text : List ℕ) × (u ≡ text ++ v)
 
-client_is : (o : Option EndState) (v rest : List ℕ) → o ≡ Some (client rest) → (o ≡ Some (client v)) ⊎ (o ≡ Some (replica v)) → rest ≡ v
-client_is o v rest e (inl q) = cc
-client_is o v rest e (inr q) = absurd (cc)
+unread_for : (streams : Bool) (held : Option Transaction) (v : List ℕ) → unread_in (end_for streams held v) ≡ v
+unread_for true held v = refl
+unread_for false None v = refl
+unread_for false (Some t) v = refl
 
-replica_is : (o : Option EndState) (v rest : List ℕ) → o ≡ Some (replica rest) → (o ≡ Some (client v)) ⊎ (o ≡ Some (replica v)) → rest ≡ v
-replica_is o v rest e (inl q) = absurd (cc)
-replica_is o v rest e (inr q) = cc
+one_end : (x y : EndState) → Some x ≡ Some y → x ≡ y
+one_end x y e = cc
 
-shut_is : (o : Option EndState) (v : List ℕ) → o ≡ Some shut → (o ≡ Some (client v)) ⊎ (o ≡ Some (replica v)) → ⊥
-shut_is o v e (inl q) = cc
-shut_is o v e (inr q) = cc
+-- an end that is open
+left_open : (b : NodeState) (name : LinkId) (u text rest : List ℕ) (streams : Bool) (held : Option Transaction) → end_of b name ≡ Some (end_for streams held rest) → u ≡ text ++ rest → Left b name u
+left_open b name u text rest streams held is e other its v q =
+    let same : rest ≡ v = sym (unread_for streams held rest) ∙ (ap unread_in (one_end (end_for streams held rest) (end_for other its v) (sym is ∙ q)) ∙ unread_for other its v) in
+    (text, e ∙ ap (λ z. text ++ z) same)
 
-left_client : (b : NodeState) (name : LinkId) (u text rest : List ℕ) → end_of b name ≡ Some (client rest) → u ≡ text ++ rest → Left b name u
-left_client b name u text rest is e v q = (text, e ∙ ap (λ z. text ++ z) (client_is (end_of b name) v rest is q))
-
-left_replica : (b : NodeState) (name : LinkId) (u text rest : List ℕ) → end_of b name ≡ Some (replica rest) → u ≡ text ++ rest → Left b name u
-left_replica b name u text rest is e v q = (text, e ∙ ap (λ z. text ++ z) (replica_is (end_of b name) v rest is q))
+shut_is : (streams : Bool) (held : Option Transaction) (v : List ℕ) → Some shut ≡ Some (end_for streams held v) → ⊥
+shut_is true held v e = absurd (cc)
+shut_is false None v e = absurd (cc)
+shut_is false (Some t) v e = absurd (cc)
 
 left_shut : (b : NodeState) (name : LinkId) (u : List ℕ) → end_of b name ≡ Some shut → Left b name u
-left_shut b name u is v q = absurd (shut_is (end_of b name) v is q)
-
--- ---- the other ends
-served_apart : (streams : Bool) (u : List ℕ) → Some upstream ≡ Some (end_for streams u) → ⊥
-served_apart true u e = absurd (cc)
-served_apart false u e = absurd (cc)
-
-name_is : (x y : LinkId) → Some x ≡ Some y → x ≡ y
-name_is x y e = cc
-
-no_name : (x : LinkId) → ◌≡◌ {A = Option LinkId} None (Some x) → ⊥
-no_name x e = cc
-
--- a link that is served isn't the one to the master
-unfollowed : (a : NodeState) (follow : Option (LinkId × FollowState)) (q : LinkId) (streams : Bool) (v : List ℕ) → FollowedAt a.ends follow → end_of a q ≡ Some (end_for streams v) → name_of follow ≢ Some q
-unfollowed a None q streams v f e n = no_name q n
-unfollowed a (Some g) q streams v f e n = served_apart streams v (sym f ∙ (ap (end_of a) (name_is g.0 q n) ∙ e))
+left_shut b name u is streams held v q = absurd (shut_is streams held v (sym is ∙ q))
 
 -- ---- whom it follows
 nobody : (o : Option (LinkId × FollowState)) (f : LinkId × FollowState) → o ≡ None → o ≡ Some f → ⊥
@@ -77,45 +63,48 @@ expected_text : (u rest : List ℕ) → IsExpected u rest → (text : List ℕ) 
 expected_text u rest (IsExpected.acknowledgement words offset asks wish) = (asks.text, asks.begins)
 expected_text u rest (IsExpected.nothing asks) = (asks.text, asks.begins)
 
-module _ (a : NodeState) (name : LinkId) (u : List ℕ) (b : NodeState) (outs : OutsState) (before : FollowedAt a.ends a.follow) (sound : IsSound b) where
-  -- its end alone changes
-  only : Left b name u → OthersStay a b name → b.follow ≡ a.follow → Turned a name u b outs
-  only left others follow = record { left = left; others = λ q streams v ne named e. others.stay q ne ∙ e; follow = λ f e. sym follow ∙ e; sound = λ up. sound }
+module _ (a : NodeState) (name : LinkId) (u : List ℕ) (b : NodeState) (outs : OutsState) (sound : IsSound b) where
+  -- it follows whom it followed
+  stays : Apart a name b outs → Left b name u → b.follow ≡ a.follow → Turned a name u b outs
+  stays apart left follow = record { left = left; apart = apart; follow = λ f e. sym follow ∙ e; sound = λ up. sound }
 
-  -- it leaves its master
-  leaves : (rest text : List ℕ) → Settles a name b (client rest) [] (name_of a.follow) → u ≡ text ++ rest → b.follow ≡ None → Turned a name u b outs
-  leaves rest text ends e gone = record {
-    left = left_client b name u text rest ends.is e;
-    others = λ q streams v ne named h. ends.others q ne refl (unfollowed a a.follow q streams v before h) ∙ h;
-    follow = λ f q. absurd (nobody b.follow f gone q);
-    sound = λ up. sound;
-  }
+  -- .. or nobody
+  leaves : Apart a name b outs → Left b name u → b.follow ≡ None → Turned a name u b outs
+  leaves apart left gone = record { left = left; apart = apart; follow = λ f q. absurd (nobody b.follow f gone q); sound = λ up. sound }
 
-  pub turned_client : (given : Given) (fresh : List ℕ) → ClientRow a name u given fresh b outs → Turned a name u b outs
-  turned_client given fresh (ClientRow.serves r) = let t = text_of a.core b.core r.around u r.rest given r.out r.served in only (left_client b name u t.0 r.rest r.leaves.is t.1) r.leaves.others r.leaves.follow
-  turned_client given fresh (ClientRow.closes r) = only (left_shut b name u r.shut.is) r.others r.follow
-  turned_client given fresh (ClientRow.halts r) = only (left_client b name u r.asks.asks.text r.rest r.leaves.is r.asks.asks.begins) r.leaves.others r.leaves.follow
-  turned_client given fresh (ClientRow.synchronizes r) = only (left_replica b name u r.asks.text r.rest r.leaves.is r.asks.begins) r.leaves.others r.leaves.follow
-  turned_client given fresh (ClientRow.promotes r) = leaves r.rest r.asks.text r.ends r.asks.begins r.follow
-  turned_client given fresh (ClientRow.turns r) = leaves r.rest r.asks.text r.ends r.asks.begins r.follow
-  turned_client given fresh (ClientRow.demotes r) = record {
-    left = left_client b name u r.asks.text r.rest r.ends.is r.asks.begins;
-    others = λ q streams v ne named h. r.ends.others q ne named (λ n. no_name q n) ∙ h;
-    follow = λ f q. absurd (nobody b.follow f r.follow q);
-    sound = λ up. sound;
-  }
+  turned_client : (given : Given) (fresh : List ℕ) → Apart a name b outs → ClientRow a name u given fresh b outs → Turned a name u b outs
+  turned_client given fresh apart (ClientRow.serves r) = let t = text_of a.core b.core r.around u r.rest given r.out r.served in stays apart (left_open b name u t.0 r.rest false None r.leaves.is t.1) r.leaves.follow
+  turned_client given fresh apart (ClientRow.closes r) = stays apart (left_shut b name u r.shut.is) r.follow
+  turned_client given fresh apart (ClientRow.halts r) = stays apart (left_open b name u r.asks.asks.text r.rest false None r.leaves.is r.asks.asks.begins) r.leaves.follow
+  turned_client given fresh apart (ClientRow.synchronizes r) = stays apart (left_open b name u r.asks.text r.rest true None r.leaves.is r.asks.begins) r.leaves.follow
+  turned_client given fresh apart (ClientRow.promotes r) = leaves apart (left_open b name u r.asks.text r.rest false None r.ends.is r.asks.begins) r.follow
+  turned_client given fresh apart (ClientRow.turns r) = leaves apart (left_open b name u r.asks.text r.rest false None r.ends.is r.asks.begins) r.follow
+  turned_client given fresh apart (ClientRow.demotes r) = leaves apart (left_open b name u r.asks.text r.rest false None r.ends.is r.asks.begins) r.follow
+  turned_client given fresh apart (ClientRow.begins r) = stays apart (left_open b name u r.asks.text r.rest false (Some begun) r.leaves.is r.asks.begins) r.leaves.follow
 
-  pub turned_replica : ReplicaRow a name u b outs → Turned a name u b outs
-  turned_replica (ReplicaRow.notes r) = let t = expected_text u r.rest r.expected in only (left_replica b name u t.0 r.rest r.leaves.is t.1) r.leaves.others r.leaves.follow
-  turned_replica (ReplicaRow.parts r) = only (left_shut b name u r.shut.is) r.others r.follow
+  turned_within : (t : Transaction) (given : Given) → Apart a name b outs → WithinRow a name t u given b outs → Turned a name u b outs
+  turned_within t given apart (WithinRow.stands r) = stays apart (left_open b name u r.asks.text r.rest false (Some r.next) r.leaves.is r.asks.begins) r.leaves.follow
+  turned_within t given apart (WithinRow.passes r) = stays apart (left_open b name u r.asks.text r.rest false (Some t) r.leaves.is r.asks.begins) r.leaves.follow
+  turned_within t given apart (WithinRow.drops r) = stays apart (left_open b name u r.asks.text r.rest false None r.leaves.is r.asks.begins) r.leaves.follow
+  turned_within t given apart (WithinRow.executes r) = stays apart (left_open b name u r.asks.text r.rest false None r.leaves.is r.asks.begins) r.leaves.follow
+  turned_within t given apart (WithinRow.closes r) = stays apart (left_shut b name u r.shut.is) r.follow
+
+  turned_replica : Apart a name b outs → ReplicaRow a name u b outs → Turned a name u b outs
+  turned_replica apart (ReplicaRow.notes r) = let t = expected_text u r.rest r.expected in stays apart (left_open b name u t.0 r.rest true None r.leaves.is t.1) r.leaves.follow
+  turned_replica apart (ReplicaRow.parts r) = stays apart (left_shut b name u r.shut.is) r.follow
 
 pub clients_keep : ClientStepsKeepWorlds
 clients_keep w l k s given fresh b outs is served sound r =
-    kept_stepped w is l k s b outs served (turned_client s.node k.name (unread k.ask) b outs (is.nodes k.to s served.at served.up).node.followed sound given fresh r)
+    let apart = apart_client s.node k.name (unread k.ask) b outs (is.nodes k.to s served.at served.up).node.followed given fresh r in
+    kept_stepped w is l k s b outs served (turned_client s.node k.name (unread k.ask) b outs sound given fresh apart r)
+
+pub within_keep : WithinStepsKeepWorlds
+within_keep w l k s t given b outs is served sound r =
+    kept_stepped w is l k s b outs served (turned_within s.node k.name (unread k.ask) b outs sound t given (apart_within s.node k.name (unread k.ask) b outs t given r) r)
 
 pub replicas_keep : ReplicaStepsKeepWorlds
 replicas_keep w l k s b outs is served sound r =
-    kept_stepped w is l k s b outs served (turned_replica s.node k.name (unread k.ask) b outs (is.nodes k.to s served.at served.up).node.followed sound r)
+    kept_stepped w is l k s b outs served (turned_replica s.node k.name (unread k.ask) b outs sound (apart_replica s.node k.name (unread k.ask) b outs r) r)
 
 -- ---- a node that stops
 runs_not : (up : Bool) → up ≡ false → up ≡ true → ⊥

@@ -5,7 +5,6 @@ use Rattle.std.proofs.lemmas.List.{append-nil, length-drop, length-take}
 use Rattle.mr_links.specs.declared.link_id.LinkId.{LinkId}
 use Rattle.mr_follow.specs.State.{FollowState, Agrees}
 use Rattle.mr_course.specs.State.{CourseState}
-use Rattle.mr_ends.specs.State.{end_at}
 use Rattle.mr_outs.specs.Outs.{no_outs}
 use Rattle.mr_rows.specs.State.{NodeState}
 use Rattle.mr_rows.specs.Sound.{IsSound}
@@ -16,6 +15,7 @@ use Rattle.mr_seen.specs.Worlds.{IsWorld}
 use Rattle.mr_seen.specs.Carrying.{followed, heard_as, put_node, unread_count}
 use Rattle.mr_seen.specs.Events.{IsFollowed, LacksChangeNodes, LacksKeepWorlds, WaitsChangeNodes, WaitsKeepWorlds}
 use Rattle.mr_seen.proofs.Places.{set_same, some_is}
+use Rattle.mr_seen.proofs.Beside.{keeps_all}
 use Rattle.mr_seen.proofs.Masters.{counted}
 use Rattle.mr_seen.proofs.Following.{Reads, kept_followed, pair_is}
 
@@ -24,6 +24,7 @@ record Stays (a : NodeState) (name : LinkId) (u : List ℕ) (b : NodeState) : Ty
   reader : FollowState
   follow : b.follow ≡ Some (name, reader)
   agrees : Agrees reader u
+  up : b.core.up ≡ a.core.up
   ends : b.ends ≡ a.ends
 
 module _ (w : WorldState) (n : ℕ) (s : Slot) (k : Link) (name : LinkId) (f : FollowState) (b : NodeState) (is : IsWorld w) (here : IsFollowed w n s k) (following : s.node.follow ≡ Some (name, f)) where
@@ -33,7 +34,7 @@ module _ (w : WorldState) (n : ℕ) (s : Slot) (k : Link) (name : LinkId) (f : F
   module _ (stays : Stays s.node name (unread k.tell) b) where
     keeps : IsSound b → IsWorld (followed w n s k b no_outs)
     keeps sound = kept_followed w is n s k name f b no_outs here following (record {
-      others = λ q streams v e. ap (λ z. end_at z q) stays.ends ∙ e;
+      keeps = keeps_all s.node b stays.up stays.ends;
       follow = λ x g e. let p = pair_is name x stays.reader g (sym stays.follow ∙ e) in
           (p.0, subst (λ z. Reads (unread k.tell) z) (sym p.1) (record { text = []; rest = unread k.tell; is = refl; agrees = stays.agrees }));
       sound = sound;
@@ -60,7 +61,7 @@ module _ (w : WorldState) (n : ℕ) (s : Slot) (k : Link) (name : LinkId) (f : F
 -- ---- nothing whole is there
 waited : (w : WorldState) (n : ℕ) (s : Slot) (k : Link) (name : LinkId) (b : NodeState) → IsWorld w → IsFollowed w n s k → (r : Waits s.node name b) → Stays s.node r.listens.name (unread k.tell) b
 waited w n s k name b is here r = let h = r.listens in let row = h.row (unread k.tell) (agreed w n s k h.name h.follow b is here h.found) in
-    record { reader = h.next; follow = ap (λ (z : NodeState). z.follow) r.node ∙ ap (λ (z : CourseState). z.follow) row.is; agrees = row.stays.state.agrees; ends = ap (λ (z : NodeState). z.ends) r.node }
+    record { reader = h.next; follow = ap (λ (z : NodeState). z.follow) r.node ∙ ap (λ (z : CourseState). z.follow) row.is; agrees = row.stays.state.agrees; up = ap (λ (z : NodeState). z.core.up) r.node; ends = ap (λ (z : NodeState). z.ends) r.node }
 
 pub waits_keep : WaitsKeepWorlds
 waits_keep w n s k name b is here sound r = keeps w n s k r.listens.name r.listens.follow b is here r.listens.found (waited w n s k name b is here r) sound
@@ -71,7 +72,7 @@ waits_alone w n s k name b is here r = alone w n s k r.listens.name r.listens.fo
 -- ---- memory is lacking
 lacked : (w : WorldState) (n : ℕ) (s : Slot) (k : Link) (name : LinkId) (b : NodeState) → IsWorld w → IsFollowed w n s k → (r : Lacks s.node name b) → Stays s.node r.listens.name (unread k.tell) b
 lacked w n s k name b is here r = let h = r.listens in let row = h.row (unread k.tell) (agreed w n s k h.name h.follow b is here h.found) in
-    record { reader = h.next; follow = ap (λ (z : NodeState). z.follow) r.node ∙ ap (λ (z : CourseState). z.follow) row.is; agrees = row.stays.state.agrees; ends = ap (λ (z : NodeState). z.ends) r.node }
+    record { reader = h.next; follow = ap (λ (z : NodeState). z.follow) r.node ∙ ap (λ (z : CourseState). z.follow) row.is; agrees = row.stays.state.agrees; up = ap (λ (z : NodeState). z.core.up) r.node; ends = ap (λ (z : NodeState). z.ends) r.node }
 
 pub lacks_keep : LacksKeepWorlds
 lacks_keep w n s k name b is here sound r = keeps w n s k r.listens.name r.listens.follow b is here r.listens.found (lacked w n s k name b is here r) sound

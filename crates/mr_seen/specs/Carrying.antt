@@ -4,7 +4,7 @@ use Rattle.mr_links.specs.declared.link_id.LinkId.{LinkId}
 use Rattle.mr_follow.specs.State.{FollowState}
 use Rattle.mr_follow.specs.declared.taking.Taking.{Taking}
 use Rattle.mr_ends.specs.State.{EndState}
-use Rattle.mr_ends.specs.State.EndState.{client, replica, upstream, shut}
+use Rattle.mr_ends.specs.State.EndState.{client, waiting, replica, upstream, shut}
 use Rattle.mr_ends.specs.Replicas.{is_named}
 use Rattle.mr_outs.specs.Outs.{OutsState}
 use Rattle.mr_entries.specs.Dataset.{Dataset}
@@ -36,6 +36,7 @@ told reply k = record k { tell = sent_on reply k.tell }
 abbrev pub settled : Option EndState → Link → Link
 settled None k = record k { serving = false }
 settled (Some (client u)) k = record k { streams = false; ask = left_on (length u) k.ask }
+settled (Some (waiting t u)) k = record k { streams = false; ask = left_on (length u) k.ask }
 settled (Some (replica u)) k = record k { streams = true; ask = left_on (length u) k.ask }
 settled (Some upstream) k = record k { serving = false }
 settled (Some shut) k = record k { serving = false }

@@ -16,10 +16,12 @@ use Rattle.mr_history.specs.Rows.{Row}
 use Rattle.mr_history.specs.Invariant.{Invariant}
 use Rattle.mr_language.specs.Minired.{minired}
 use Rattle.mr_language.specs.Snapshots.{IsReadAs}
-use Rattle.mr_rows.specs.State.{NodeState}
+use Rattle.mr_ends.specs.State.{Transaction}
+use Rattle.mr_rows.specs.State.{Agrees, AgreesWithin, NodeState}
 use Rattle.mr_rows.specs.Sound.{IsSound}
 use Rattle.mr_rows.specs.ClientRows.{ClientRow}
 use Rattle.mr_rows.specs.ClientRows as client
+use Rattle.mr_rows.specs.Transactions.{WithinRow}
 use Rattle.mr_rows.specs.ReplicaRows.{ReplicaRow}
 use Rattle.mr_rows.specs.UpstreamRows as master
 use Rattle.mr_rows.specs.TimeRows.{TickRow}
@@ -52,8 +54,15 @@ pub record IsServed (w : WorldState) (l : ℕ) (k : Link) (s : Slot) : Type 0 wh
 
 abbrev pub ClientStepsAreRows : Type 0
 ClientStepsAreRows = (w : WorldState) (book : Book minired) (l : ℕ) (k : Link) (s : Slot) (given : Given) (fresh : List ℕ) (b : NodeState) (outs : OutsState)
-    → Holds w book → IsServed w l k s → k.streams ≡ false → entry_of w.book fresh ≡ None
+    → Holds w book → IsServed w l k s → Agrees s.node k.name (unread k.ask) → entry_of w.book fresh ≡ None
     → ClientRow s.node k.name (unread k.ask) given fresh b outs
+    → IsEvent w book (events.Event.Step l Server given fresh) (stepped w k.to s l k b outs)
+
+-- .. where a transaction is open
+abbrev pub WithinStepsAreRows : Type 0
+WithinStepsAreRows = (w : WorldState) (book : Book minired) (l : ℕ) (k : Link) (s : Slot) (t : Transaction) (given : Given) (fresh : List ℕ) (b : NodeState) (outs : OutsState)
+    → Holds w book → IsServed w l k s → AgreesWithin s.node k.name t (unread k.ask)
+    → WithinRow s.node k.name t (unread k.ask) given b outs
     → IsEvent w book (events.Event.Step l Server given fresh) (stepped w k.to s l k b outs)
 
 abbrev pub ReplicaStepsAreRows : Type 0
@@ -211,6 +220,13 @@ abbrev pub ClientStepsKeepWorlds : Type 0
 ClientStepsKeepWorlds = (w : WorldState) (l : ℕ) (k : Link) (s : Slot) (given : Given) (fresh : List ℕ) (b : NodeState) (outs : OutsState)
     → IsWorld w → IsServed w l k s → IsSound b
     → ClientRow s.node k.name (unread k.ask) given fresh b outs
+    → IsWorld (stepped w k.to s l k b outs)
+
+-- .. where a transaction is open
+abbrev pub WithinStepsKeepWorlds : Type 0
+WithinStepsKeepWorlds = (w : WorldState) (l : ℕ) (k : Link) (s : Slot) (t : Transaction) (given : Given) (b : NodeState) (outs : OutsState)
+    → IsWorld w → IsServed w l k s → IsSound b
+    → WithinRow s.node k.name t (unread k.ask) given b outs
     → IsWorld (stepped w k.to s l k b outs)
 
 -- .. at a replica's end

@@ -1,6 +1,7 @@
 -- A World as one of histories.
-use Rattle.std.specs.Prelude.{ℕ, ◌-◌, List, [], Option, None, Some, drop, slice_get}
+use Rattle.std.specs.Prelude.{ℕ, ◌-◌, List, [], Option, None, Some, cond, drop, slice_get}
 use Rattle.std.specs.Option.{option_map}
+use Rattle.mr_history.specs.Language.{Transaction}
 use Rattle.mr_history.specs.History.{Book}
 use Rattle.mr_history.specs.Node as history_node
 use Rattle.mr_history.specs.Node.Phase.{Greet, Asked, Loading, Stream}
@@ -9,10 +10,13 @@ use Rattle.mr_history.specs.World.Caller.{Client, Peer}
 use Rattle.mr_language.specs.Minired.{minired}
 use Rattle.mr_language.specs.Requests.{address}
 use Rattle.mr_links.specs.declared.link_id.LinkId.{LinkId}
+use Rattle.mr_ends.specs.State.{EndState, transaction_in}
+use Rattle.mr_ends.specs.State as ends
 use Rattle.mr_outs.specs.Address.{AddressState}
 use Rattle.mr_follow.specs.State.{FollowState}
 use Rattle.mr_follow.specs.declared.phase.Phase.{Phase}
 use Rattle.mr_follow.specs.declared.phase.Phase.TheVariants as phase
+use Rattle.mr_rows.specs.State.{end_of}
 use Rattle.mr_seen.specs.Way.{WayState}
 use Rattle.mr_seen.specs.State.{Caller, a_client, a_node, Link, Slot, WorldState}
 
@@ -55,13 +59,34 @@ abbrev pub seen_caller : Caller → history.Caller
 seen_caller (a_client b) = Client b
 seen_caller (a_node n name) = Peer n
 
-abbrev pub seen_link : Link → history.Link
-seen_link k = record { caller = seen_caller k.caller; to = k.to; serving = k.serving; streams = k.streams; ask = seen_way k.ask; tell = seen_way k.tell; transaction = None }
+abbrev pub seen_transaction : ends.Transaction → Transaction
+seen_transaction t = record { queued = t.queued; marked = t.marked }
+
+-- what is open at an end
+abbrev pub open_in : Option EndState → Option Transaction
+open_in None = None
+open_in (Some end) = option_map seen_transaction (transaction_in end)
+
+-- .. at a node's end of this name: nothing once the node has stopped
+abbrev pub open_at : Option Slot → LinkId → Option Transaction
+open_at None name = None
+open_at (Some s) name = cond s.node.core.up (open_in (end_of s.node name)) None
+
+-- .. on a link, whose server has it: nothing once the server's end is closed
+abbrev pub open_on : List Slot → Link → Option Transaction
+open_on slots k = cond k.serving (open_at (slice_get slots k.to) k.name) None
+
+-- a link on which this is open
+abbrev pub link_with : Option Transaction → Link → history.Link
+link_with within k = record { caller = seen_caller k.caller; to = k.to; serving = k.serving; streams = k.streams; ask = seen_way k.ask; tell = seen_way k.tell; transaction = within }
+
+abbrev pub seen_link : List Slot → Link → history.Link
+seen_link slots k = link_with (open_on slots k) k
 
 -- The book is related to the entries, not computed from them: see `Books`.
 abbrev pub seen : WorldState → Book minired → history.World minired
 seen w book = record {
   node = λ n. option_map seen_node (slice_get w.slots n);
-  link = λ l. option_map seen_link (slice_get w.links l);
+  link = λ l. option_map (seen_link w.slots) (slice_get w.links l);
   book = book;
 }

@@ -1,24 +1,25 @@
 -- What is true of each World.
-use Rattle.std.specs.Prelude.{◌≡◌, ℕ, List, [], Bool, true, false, Some, slice_get}
+use Rattle.std.specs.Prelude.{◌≡◌, ℕ, List, [], Bool, true, false, Option, None, Some, slice_get}
 use Rattle.mr_links.specs.declared.link_id.LinkId.{LinkId}
 use Rattle.mr_follow.specs.State.{FollowState, Agrees}
-use Rattle.mr_ends.specs.State.{EndState}
-use Rattle.mr_ends.specs.State.EndState.{client, replica}
+use Rattle.mr_ends.specs.State.{EndState, Transaction}
+use Rattle.mr_ends.specs.State.EndState.{client, waiting, replica}
 use Rattle.mr_rows.specs.State.{end_of}
 use Rattle.mr_rows.specs.Sound.{IsSound}
 use Rattle.mr_seen.specs.Way.{IsWay, unread}
 use Rattle.mr_seen.specs.State.{Link, Slot, WorldState, a_node}
 
--- the end that a link's server has while it is open
-abbrev pub end_for : Bool → List ℕ → EndState
-end_for true unread = replica unread
-end_for false unread = client unread
+-- the end that a link's server has while it is open: a replica's where the stream is sent, and else a client's, in this transaction or in none
+abbrev pub end_for : Bool → Option Transaction → List ℕ → EndState
+end_for true held unread = replica unread
+end_for false None unread = client unread
+end_for false (Some t) unread = waiting t unread
 
--- The server of a link is there. While it runs and its end is open, it agrees with the link.
+-- The server of a link is there. While it runs and its end is open, that agrees with the link, whatever is open there.
 pub record HasServer (slots : List Slot) (k : Link) : Type 0 where
   pub slot : Slot
   pub found : slice_get slots k.to ≡ Some slot
-  pub agrees : slot.node.core.up ≡ true → k.serving ≡ true → end_of slot.node k.name ≡ Some (end_for k.streams (unread k.ask))
+  pub agrees : slot.node.core.up ≡ true → k.serving ≡ true → (held : Option Transaction) × (end_of slot.node k.name ≡ Some (end_for k.streams held (unread k.ask)))
 
 -- The link that a node dialled last carries what the node has of it.
 pub record HasMaster (links : List Link) (n : ℕ) (s : Slot) (name : LinkId) (f : FollowState) : Type 0 where

@@ -1,10 +1,15 @@
 //! That what each call on a node of a World does is a row of histories. No function here does anything: each is the law that it ensures.
-ghost use Rattle.mr_seen.specs.Events.{ClientStepsAreRows, ClientStepsKeepWorlds, DialsAreRows, EventsKeepHistories, IdleStepsAreRows, LacksAreUnseen, LacksChangeNodes, LacksKeepWorlds, MasterBreaksAreRows, MasterFeedsAreRows, MasterStepsAreRows, MasterStepsKeepWorlds, MasterStopsAreRows, OpenStopsAreRows, OpensAreRows, ReplicaStepsAreRows, ReplicaStepsKeepWorlds, RestartsAreRows, ServerBreaksAreRows, ServerFeedsAreRows, SpendsAreRows, StartsAreRows, StopsAreRows, StopsKeepWorlds, TickStopsAreRows, TicksAreRows, TicksKeepWorlds, WaitsAreRows, WaitsChangeNodes, WaitsKeepWorlds, WorldsBegin};
+ghost use Rattle.mr_seen.specs.Events.{ClientStepsAreRows, ClientStepsKeepWorlds, DialsAreRows, EventsKeepHistories, IdleStepsAreRows, LacksAreUnseen, LacksChangeNodes, LacksKeepWorlds, MasterBreaksAreRows, MasterFeedsAreRows, MasterStepsAreRows, MasterStepsKeepWorlds, MasterStopsAreRows, OpenStopsAreRows, OpensAreRows, ReplicaStepsAreRows, ReplicaStepsKeepWorlds, RestartsAreRows, ServerBreaksAreRows, ServerFeedsAreRows, SpendsAreRows, StartsAreRows, StopsAreRows, StopsKeepWorlds, TickStopsAreRows, TicksAreRows, TicksKeepWorlds, WaitsAreRows, WaitsChangeNodes, WaitsKeepWorlds, WithinStepsAreRows, WithinStepsKeepWorlds, WorldsBegin};
 ghost use Rattle.mr_seen.specs.OwnEnds.{ClientBreaksAreRows, ClientFeedsAreRows, CommandsAreRows};
 
 /// A step at a client's end by its exact row, with what it gives out carried, is a step by a row of histories, of the World that is seen.
 pub fn client_steps_are_rows()
     ensures { ClientStepsAreRows }
+{}
+
+/// So is one where a transaction is open.
+pub fn within_steps_are_rows()
+    ensures { WithinStepsAreRows }
 {}
 
 /// So is a step at a replica's end.
@@ -101,6 +106,7 @@ pub fn events_keep_histories()
 /// What is true of each World stays behind a step at an end that a node serves, and where a node stops.
 pub fn steps_keep_worlds()
     ensures clients { ClientStepsKeepWorlds }
+    ensures within { WithinStepsKeepWorlds }
     ensures replicas { ReplicaStepsKeepWorlds }
     ensures stops { StopsKeepWorlds }
 {}

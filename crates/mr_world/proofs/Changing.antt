@@ -1,15 +1,24 @@
 -- What is true of each World stays so, where a node or a link of it changes, or one comes.
-use Rattle.std.proofs.Common.{◌≡◌, ◌≢◌, ◌⊎◌, inl, inr, ℕ, List, [], ◌∷◌, ◌++◌, true, Some, refl, sym, ap, subst, ◌∙◌}
+use Rattle.std.proofs.Common.{◌≡◌, ◌≢◌, ◌⊎◌, inl, inr, ℕ, List, [], ◌∷◌, ◌++◌, true, Option, Some, refl, sym, ap, subst, ◌∙◌}
 use Rattle.std.specs.Prelude.{slice_get, slice_set}
 use Rattle.mr_links.specs.declared.link_id.LinkId.{LinkId}
 use Rattle.mr_follow.specs.State.{FollowState, Agrees}
-use Rattle.mr_rows.specs.State.{end_of}
+use Rattle.mr_ends.specs.State.{Transaction}
+use Rattle.mr_rows.specs.State.{NodeState, end_of}
 use Rattle.mr_rows.specs.Sound.{IsSound}
 use Rattle.mr_seen.specs.Way.{IsWay, unread}
 use Rattle.mr_seen.specs.State.{a_node, Entry, Link, Slot, WorldState}
 use Rattle.mr_seen.specs.Worlds.{IsWorld, HasServer, HasMaster, end_for}
 use Rattle.mr_seen.proofs.Places.{set_here, set_there, set_cases, push_cases, push_old, some_is}
 use Rattle.mr_seen.proofs.Reading.{number_or}
+
+-- the node's end of a link is open and agrees with it, in a transaction or in none
+abbrev pub HasEnd : NodeState → Link → Type 0
+HasEnd a k = (held : Option Transaction) × (end_of a k.name ≡ Some (end_for k.streams held (unread k.ask)))
+
+-- the ends that would agree with the one link agree with the other
+abbrev pub SameEnds : Link → Link → Type 0
+SameEnds x y = (held : Option Transaction) → end_for x.streams held (unread x.ask) ≡ end_for y.streams held (unread y.ask)
 
 -- a link that was there, at the same node by the same name, and its server's end isn't opened anew
 pub record Was (w : WorldState) (j : ℕ) (y : Link) : Type 0 where
@@ -24,8 +33,8 @@ pub record Changed (w : WorldState) (n : ℕ) (t : Slot) (links : List Link) : T
   pub origin : (j : ℕ) (y : Link) → slice_get links j ≡ Some y → Was w j y
   pub asks : (j : ℕ) (y : Link) → slice_get links j ≡ Some y → IsWay y.ask
   pub tells : (j : ℕ) (y : Link) → slice_get links j ≡ Some y → IsWay y.tell
-  pub here : (j : ℕ) (y : Link) → slice_get links j ≡ Some y → y.to ≡ n → t.node.core.up ≡ true → y.serving ≡ true → end_of t.node y.name ≡ Some (end_for y.streams (unread y.ask))
-  pub there : (j : ℕ) (x y : Link) → slice_get w.links j ≡ Some x → slice_get links j ≡ Some y → y.to ≢ n → y.serving ≡ true → end_for x.streams (unread x.ask) ≡ end_for y.streams (unread y.ask)
+  pub here : (j : ℕ) (y : Link) → slice_get links j ≡ Some y → y.to ≡ n → t.node.core.up ≡ true → y.serving ≡ true → HasEnd t.node y
+  pub there : (j : ℕ) (x y : Link) → slice_get w.links j ≡ Some x → slice_get links j ≡ Some y → y.to ≢ n → y.serving ≡ true → SameEnds x y
   pub sound : t.node.core.up ≡ true → IsSound t.node
   pub own : (name : LinkId) (f : FollowState) → t.node.core.up ≡ true → t.node.follow ≡ Some (name, f) → HasMaster links n t name f
   pub onward : (i : ℕ) (u : Slot) (name : LinkId) (f : FollowState) → i ≢ n → HasMaster w.links i u name f → HasMaster links i u name f
@@ -41,7 +50,7 @@ module _ (w : WorldState) (n : ℕ) (s t : Slot) (links : List Link) (is : IsWor
     | inr apart ↦ (let h = is.servers j x.link x.found in record {
       slot = h.slot;
       found = set_there w.slots n y.to t apart ∙ (ap (slice_get w.slots) x.to ∙ h.found);
-      agrees = λ up q. ap (end_of h.slot.node) x.name ∙ (h.agrees up (x.serving q) ∙ ap (λ z. Some z) (c.there j x.link y x.found e apart q));
+      agrees = λ up q. let v = h.agrees up (x.serving q) in (v.0, ap (end_of h.slot.node) x.name ∙ (v.1 ∙ ap (λ z. Some z) (c.there j x.link y x.found e apart q v.0)));
     })
   ]
 
@@ -68,7 +77,7 @@ module _ (w : WorldState) (n : ℕ) (s t : Slot) (links : List Link) (is : IsWor
 
 -- ---- a node changes alone
 pub record NodeChanges (w : WorldState) (n : ℕ) (t : Slot) : Type 0 where
-  pub here : (j : ℕ) (y : Link) → slice_get w.links j ≡ Some y → y.to ≡ n → t.node.core.up ≡ true → y.serving ≡ true → end_of t.node y.name ≡ Some (end_for y.streams (unread y.ask))
+  pub here : (j : ℕ) (y : Link) → slice_get w.links j ≡ Some y → y.to ≡ n → t.node.core.up ≡ true → y.serving ≡ true → HasEnd t.node y
   pub sound : t.node.core.up ≡ true → IsSound t.node
   pub own : (name : LinkId) (f : FollowState) → t.node.core.up ≡ true → t.node.follow ≡ Some (name, f) → HasMaster w.links n t name f
 
@@ -78,7 +87,7 @@ node_world w n s t is at c = changed_world w n s t w.links is at (record {
   asks = is.asks;
   tells = is.tells;
   here = c.here;
-  there = λ j x y d e apart q. let one : x ≡ y = some_is x y (sym d ∙ e) in ap (λ (z : Link). end_for z.streams (unread z.ask)) one;
+  there = λ j x y d e apart q held. let one : x ≡ y = some_is x y (sym d ∙ e) in ap (λ (z : Link). end_for z.streams held (unread z.ask)) one;
   sound = c.sound;
   own = c.own;
   onward = λ i u name f apart h. h;
@@ -91,9 +100,9 @@ pub record LinkChanges (w : WorldState) (n : ℕ) (t : Slot) (l : ℕ) (k m : Li
   pub serving : m.serving ≡ true → k.serving ≡ true
   pub ask : IsWay m.ask
   pub tell : IsWay m.tell
-  pub here : m.to ≡ n → t.node.core.up ≡ true → m.serving ≡ true → end_of t.node m.name ≡ Some (end_for m.streams (unread m.ask))
-  pub others : (j : ℕ) (y : Link) → j ≢ l → slice_get w.links j ≡ Some y → y.to ≡ n → t.node.core.up ≡ true → y.serving ≡ true → end_of t.node y.name ≡ Some (end_for y.streams (unread y.ask))
-  pub there : m.to ≢ n → m.serving ≡ true → end_for k.streams (unread k.ask) ≡ end_for m.streams (unread m.ask)
+  pub here : m.to ≡ n → t.node.core.up ≡ true → m.serving ≡ true → HasEnd t.node m
+  pub others : (j : ℕ) (y : Link) → j ≢ l → slice_get w.links j ≡ Some y → y.to ≡ n → t.node.core.up ≡ true → y.serving ≡ true → HasEnd t.node y
+  pub there : m.to ≢ n → m.serving ≡ true → SameEnds k m
   pub sound : t.node.core.up ≡ true → IsSound t.node
   pub own : (name : LinkId) (f : FollowState) → t.node.core.up ≡ true → t.node.follow ≡ Some (name, f) → HasMaster (slice_set w.links l m) n t name f
   pub onward : (i : ℕ) (name : LinkId) (f : FollowState) → i ≢ n → k.caller ≡ a_node i name → Agrees f (unread k.tell) → (m.caller ≡ a_node i name) × Agrees f (unread m.tell)
@@ -119,15 +128,15 @@ link_world w n s t l k m is at found c = changed_world w n s t (slice_set w.link
   asks = λ j y e. elim (set_cases w.links l j m y e) [ inl p ↦ subst (λ (z : Link). IsWay z.ask) (sym p.1) c.ask | inr p ↦ is.asks j y p.1 ];
   tells = λ j y e. elim (set_cases w.links l j m y e) [ inl p ↦ subst (λ (z : Link). IsWay z.tell) (sym p.1) c.tell | inr p ↦ is.tells j y p.1 ];
   here = λ j y e. elim (set_cases w.links l j m y e) [
-    | inl p ↦ subst (λ (z : Link). z.to ≡ n → t.node.core.up ≡ true → z.serving ≡ true → end_of t.node z.name ≡ Some (end_for z.streams (unread z.ask))) (sym p.1) c.here
+    | inl p ↦ subst (λ (z : Link). z.to ≡ n → t.node.core.up ≡ true → z.serving ≡ true → HasEnd t.node z) (sym p.1) c.here
     | inr p ↦ c.others j y p.0 p.1
   ];
   there = λ j x y d e. elim (set_cases w.links l j m y e) [
     | inl p ↦
         (let one : k ≡ x = some_is k x (sym found ∙ (ap (slice_get w.links) (sym p.0) ∙ d)) in
-        subst (λ (z : Link). y.to ≢ n → y.serving ≡ true → end_for z.streams (unread z.ask) ≡ end_for y.streams (unread y.ask)) one
-        (subst (λ (z : Link). z.to ≢ n → z.serving ≡ true → end_for k.streams (unread k.ask) ≡ end_for z.streams (unread z.ask)) (sym p.1) c.there))
-    | inr p ↦ (let one : x ≡ y = some_is x y (sym d ∙ p.1) in λ apart q. ap (λ (z : Link). end_for z.streams (unread z.ask)) one)
+        subst (λ (z : Link). y.to ≢ n → y.serving ≡ true → SameEnds z y) one
+        (subst (λ (z : Link). z.to ≢ n → z.serving ≡ true → SameEnds k z) (sym p.1) c.there))
+    | inr p ↦ (let one : x ≡ y = some_is x y (sym d ∙ p.1) in λ apart q held. ap (λ (z : Link). end_for z.streams held (unread z.ask)) one)
   ];
   sound = c.sound;
   own = c.own;

@@ -3,16 +3,18 @@ use Rattle.std.proofs.Common.{◌≡◌, ℕ, Bool, false, true, refl, sym, ap, 
 use Rattle.std.specs.Option.{option_map}
 use Rattle.mr_history.specs.History.{Book}
 use Rattle.mr_history.specs.Event as events
+use Rattle.mr_history.specs.Changing.{Stops}
 use Rattle.mr_history.specs.Changing.Unless.{acts, stopped}
 use Rattle.mr_history.specs.Rows as rows
 use Rattle.mr_language.specs.Minired.{minired}
 use Rattle.mr_rows.specs.State.{stopped_as}
 use Rattle.mr_seen.specs.State.{Slot, WorldState}
-use Rattle.mr_seen.specs.Seeing.{seen_follow, seen_node}
+use Rattle.mr_seen.specs.Seeing.{seen, seen_follow, seen_node}
+use Rattle.mr_seen.specs.Carrying.{put_node}
 use Rattle.mr_seen.specs.Events.{Holds, IsEvent}
 use Rattle.mr_seen.proofs.Linking.{dials}
 use Rattle.mr_seen.proofs.Places.{some_is}
-use Rattle.mr_seen.proofs.Seen.{put_at}
+use Rattle.mr_seen.proofs.Stopping.{node_stops}
 use Rattle.mr_world.specs.Calls.{IsDown}
 use Rattle.mr_world.specs.Connecting.{BothRun, CanDial, Dialled, DiallerStops, ServerStops}
 
@@ -32,12 +34,7 @@ module _ (w : WorldState) (book : Book minired) (n m : ℕ) (holds : Holds w boo
       waiting = ap (seen_follow b.can.dialler.dialled) b.can.alone;
       server = seen_node d.server;
       server_found = ap (option_map seen_node) d.running.at;
-      does = acts b.dialler_up (acts d.running.up (rows.Dials.server_stops (record {
-        wreck = seen_node (record d.server { node = stopped_as d.server.node });
-        down = refl;
-        role = refl;
-        becomes = record { nodes = put_at seen_node w.slots m (record d.server { node = stopped_as d.server.node }) d.server d.running.at; links = λ l. refl; book = λ i. refl };
-      })));
+      does = acts b.dialler_up (acts d.running.up (rows.Dials.server_stops (node_stops w book m d.server (stopped_as d.server.node) d.running.at refl)));
     };
   })
 
@@ -54,12 +51,8 @@ module _ (w : WorldState) (book : Book minired) (n m : ℕ) (holds : Holds w boo
           waiting = ap (seen_follow b.can.dialler.dialled) b.can.alone;
           server = seen_node b.can.server;
           server_found = ap (option_map seen_node) b.can.found;
-          does = acts b.dialler_up (acts b.server_up (rows.Dials.stops (record {
-            wreck = seen_node (record d.dialler { node = stopped_as d.dialler.node });
-            down = refl;
-            role = ap (λ (z : Slot). (seen_node z).starts_as_master) same;
-            becomes = record { nodes = put_at seen_node w.slots n (record d.dialler { node = stopped_as d.dialler.node }) d.dialler d.dialling.at; links = λ l. refl; book = λ i. refl };
-          })));
+          does = acts b.dialler_up (acts b.server_up (rows.Dials.stops (subst (λ (z : Slot). Stops (seen w book) (seen (put_node w n d.dialler (stopped_as d.dialler.node)) book) n (seen_node z)) same
+              (node_stops w book n d.dialler (stopped_as d.dialler.node) d.dialling.at refl))));
         };
       })
 

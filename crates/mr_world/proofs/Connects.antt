@@ -59,7 +59,7 @@ module _ (w : WorldState) (n m : ℕ) (v : WorldState) (is : IsWorld w) (d : Con
 
   linked_world : IsWorld (record w { slots = slice_set w.slots m (record d.server { node = d.served }); links = w.links ++ link ∷ [] })
   linked_world = link_comes (put_node w m d.server d.served) link opened_world (record { used_within = omega arith; taken_within = omega arith }) no_ways
-      (record { slot = record d.server { node = d.served }; found = set_here w.slots m (record d.server { node = d.served }) d.server d.running.at; agrees = λ u q. d.opens.agrees.is })
+      (record { slot = record d.server { node = d.served }; found = set_here w.slots m (record d.server { node = d.served }) d.server d.running.at; agrees = λ u q. (None, d.opens.agrees.is) })
       (apart w m d.server d.at d.served is d.running.at d.running.up d.opens)
 
   own_link : (name : LinkId) (f : FollowState) → d.node.follow ≡ Some (name, f) → HasMaster (w.links ++ link ∷ []) n anew name f
@@ -71,9 +71,11 @@ module _ (w : WorldState) (n m : ℕ) (v : WorldState) (is : IsWorld w) (d : Con
   pub connects_world : IsWorld (connected w n d.dialler d.node d.name d.outs m d.server d.served d.at)
   connects_world = node_world (record w { slots = slice_set w.slots m (record d.server { node = d.served }); links = w.links ++ link ∷ [] }) n d.dialler anew linked_world d.found (record {
     here = λ j y e to up q.
-        let served = served_end (record w { slots = slice_set w.slots m (record d.server { node = d.served }); links = w.links ++ link ∷ [] }) linked_world n d.dialler d.found d.up j y e to q in
-        ap (λ (z : NodeState). end_of z y.name) d.dials.node
-        ∙ (other_end d.dialler.node.ends d.name y.name upstream (λ same. no_some (end_for y.streams (unread y.ask)) (sym d.dials.fresh ∙ (ap (end_of d.dialler.node) (sym same) ∙ served))) ∙ served);
+        let served = served_end (record w { slots = slice_set w.slots m (record d.server { node = d.served }); links = w.links ++ link ∷ [] }) linked_world n d.dialler d.found d.up j y e to q in (
+          served.0,
+          ap (λ (z : NodeState). end_of z y.name) d.dials.node
+              ∙ (other_end d.dialler.node.ends d.name y.name upstream (λ same. no_some (end_for y.streams served.0 (unread y.ask)) (sym d.dials.fresh ∙ (ap (end_of d.dialler.node) (sym same) ∙ served.1))) ∙ served.1),
+        );
     sound = λ up. d.sound;
     own = λ name f up e. own_link name f e;
   })

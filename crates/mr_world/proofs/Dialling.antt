@@ -35,7 +35,7 @@ module _ (w : WorldState) (l n : ℕ) (k : Link) (s : Slot) (name : LinkId) (f :
   drops_world = node_world w n s (record s { node = closed_at name s.node }) is v.followed.at (record {
     here = λ j y e to up q.
         let served = served_end w is n s v.followed.at v.followed.up j y e to q in
-        closed_end s.node name y.name (λ same. not_upstream y.streams (unread y.ask) (sym up_end ∙ (ap (end_of s.node) (sym same) ∙ served))) ∙ served;
+        (served.0, closed_end s.node name y.name (λ same. not_upstream y.streams served.0 (unread y.ask) (sym up_end ∙ (ap (end_of s.node) (sym same) ∙ served.1))) ∙ served.1);
     sound = λ up. let i = is.nodes n s v.followed.at v.followed.up in
         record { node = closed_node s.node name i.node; window = i.window; id = i.id; second = i.second; upstream = i.upstream; reading = reads_without s.node name s.node.follow i.reading };
     own = λ m g up e. let h = is.followers n s m g v.followed.at v.followed.up (follow_was name s.node.follow (m, g) e) in record { link = h.link; found = h.found; caller = h.caller; agrees = h.agrees };

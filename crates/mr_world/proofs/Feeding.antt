@@ -6,7 +6,7 @@ use Rattle.mr_links.specs.Links.{Links}
 use Rattle.mr_links.specs.declared.link_id.LinkId.{LinkId}
 use Rattle.mr_follow.specs.State.{FollowState}
 use Rattle.mr_course.specs.State.{name_of}
-use Rattle.mr_ends.specs.State.{EndState, end_at}
+use Rattle.mr_ends.specs.State.{EndState, Transaction, end_at}
 use Rattle.mr_ends.specs.State.EndState.{upstream}
 use Rattle.mr_rows.specs.State.{NodeState, FollowedAt, IsTooMuch, end_of}
 use Rattle.mr_rows.specs.Sound.{IsSound}
@@ -25,28 +25,31 @@ use Rattle.mr_carrying.proofs.Places.{stands}
 use Rattle.mr_world.specs.declared.refusal.Refusal.{Refusal}
 use Rattle.mr_world.specs.declared.refusal.Refusal.TheVariants as refusal
 use Rattle.mr_world.specs.Linking.{CanHear, DeliverCall, Delivers, IsOverfull, NeedsRoom}
-use Rattle.mr_world.proofs.Changing.{link_world, master_set}
+use Rattle.mr_world.proofs.Changing.{HasEnd, link_world, master_set}
 
 -- ---- a link that is served isn't the one that its node follows
 followed_end : (ends : Links EndState) (o : Option (LinkId × FollowState)) (x : LinkId) → FollowedAt ends o → name_of o ≡ Some x → end_at ends x ≡ Some upstream
 followed_end ends None x h e = absurd (no_some x e)
 followed_end ends (Some f) x h e = ap (end_at ends) (sym (some_is f.0 x e)) ∙ h
 
-pub not_upstream : (b : Bool) (u : List ℕ) → ◌≡◌ {A = Option EndState} (Some upstream) (Some (end_for b u)) → ⊥
-not_upstream true u e = cc
-not_upstream false u e = cc
+pub not_upstream : (b : Bool) (held : Option Transaction) (u : List ℕ) → ◌≡◌ {A = Option EndState} (Some upstream) (Some (end_for b held u)) → ⊥
+not_upstream true held u e = cc
+not_upstream false None u e = cc
+not_upstream false (Some t) u e = cc
 
 module _ (w : WorldState) (l : ℕ) (k : Link) (s : Slot) (is : IsWorld w) (v : IsServed w l k s) where
-  pub its_end : end_of s.node k.name ≡ Some (end_for k.streams (unread k.ask))
+  pub its_end : HasEnd s.node k
   its_end = served_end w is k.to s v.at v.up l k v.found refl v.serving
 
   pub unfollowed : name_of s.node.follow ≢ Some k.name
-  unfollowed e = not_upstream k.streams (unread k.ask) (sym (followed_end s.node.ends s.node.follow k.name (is.nodes k.to s v.at v.up).node.followed e) ∙ its_end)
+  unfollowed e = not_upstream k.streams its_end.0 (unread k.ask) (sym (followed_end s.node.ends s.node.follow k.name (is.nodes k.to s v.at v.up).node.followed e) ∙ its_end.1)
 
 -- ---- what is true of each World stays
-fed_end : (a b : NodeState) (l : LinkId) (streams : Bool) (u bytes : List ℕ) → Feeds a l bytes b → end_of a l ≡ Some (end_for streams u) → end_of b l ≡ Some (end_for streams (u ++ bytes))
-fed_end a b l true u bytes f e = (f.at_replica u (record { is = e })).is
-fed_end a b l false u bytes f e = (f.at_client u (record { is = e })).is
+fed_end : (a b : NodeState) (l : LinkId) (streams : Bool) (held : Option Transaction) (u bytes : List ℕ) → Feeds a l bytes b → end_of a l ≡ Some (end_for streams held u)
+    → end_of b l ≡ Some (end_for streams held (u ++ bytes))
+fed_end a b l true held u bytes f e = (f.at_replica u (record { is = e })).is
+fed_end a b l false None u bytes f e = (f.at_client u (record { is = e })).is
+fed_end a b l false (Some t) u bytes f e = (f.at_waiting t u (record { is = e })).is
 
 hears_world : (w : WorldState) (l count : ℕ) (k : Link) (s : Slot) (b : NodeState) → IsWorld w → CanHear w l count k s → Feeds s.node k.name (take count (drop k.ask.taken k.ask.sent)) b → IsSound b
     → IsWorld (fed_server w k.to s b l k count)
@@ -56,9 +59,12 @@ hears_world w l count k s b is can f sound = link_world w k.to s (record s { nod
   serving = λ q. q;
   ask = taken_way k.ask count (is.asks l k can.served.found) can.sent;
   tell = is.tells l k can.served.found;
-  here = λ to up q. fed_end s.node b k.name k.streams (unread k.ask) (take count (drop k.ask.taken k.ask.sent)) f (its_end w l k s is can.served)
-      ∙ ap (λ z. Some (end_for k.streams z)) (sym (unread_taken k.ask count (is.asks l k can.served.found)));
-  others = λ j y ne e to up q. f.others.stay y.name (λ same. ne (is.names j l y k e can.served.found q can.served.serving to same)) ∙ served_end w is k.to s can.served.at can.served.up j y e to q;
+  here = λ to up q.
+      let at = its_end w l k s is can.served in
+      (at.0, fed_end s.node b k.name k.streams at.0 (unread k.ask) (take count (drop k.ask.taken k.ask.sent)) f at.1 ∙ ap (λ z. Some (end_for k.streams at.0 z)) (sym (unread_taken k.ask count (is.asks l k can.served.found))));
+  others = λ j y ne e to up q.
+      let served = served_end w is k.to s can.served.at can.served.up j y e to q in
+      (served.0, f.others.stay y.name (λ same. ne (is.names j l y k e can.served.found q can.served.serving to same)) ∙ served.1);
   there = λ ne q. absurd (ne refl);
   sound = λ up. sound;
   own = λ name g up e. let h = is.followers k.to s name g can.served.at can.served.up (sym (f.follow (unfollowed w l k s is can.served)) ∙ e) in
@@ -102,7 +108,7 @@ module _ (w : WorldState) (l to count : ℕ) (k : Link) (within : l < length w.l
   needs_room up bytes is some fits = record { link = k; slot = x; can = can_hear up; some = λ z. some (is ∙ ap (λ i. take i (drop k.ask.taken k.ask.sent)) z ∙ refl); fits = fits }
 
   pub has_end : IsWorld w → x.node.core.up ≡ true → (name : LinkId) → name ≡ k.name → end_of x.node name ≡ None → ⊥
-  has_end is up name n e = no_some (end_for k.streams (unread k.ask)) (sym e ∙ (ap (end_of x.node) n ∙ its_end w l k x is (can_hear up).served))
+  has_end is up name n e = let at = its_end w l k x is (can_hear up).served in no_some (end_for k.streams at.0 (unread k.ask)) (sym e ∙ (ap (end_of x.node) n ∙ at.1))
 
   pub hears_here : IsWorld w → (t : Slot) (m : Link) (name : LinkId) (bytes : List ℕ) → x.node.core.up ≡ true → name ≡ k.name → bytes ≡ take count (drop k.ask.taken k.ask.sent) → Feeds x.node name bytes t.node → IsSound t.node
       → FitsMore x.node k.name count → t ≡ record x { node = t.node } → m ≡ record k { ask = taken_on count k.ask } → Delivers w l count (record w { slots = slice_set w.slots to t; links = slice_set w.links l m })

@@ -15,6 +15,7 @@ use Rattle.mr_world.specs.Serving.{StepCall, Serves, ServedRow}
 use Rattle.mr_world.specs.Following.{FollowCall, Follows, HasLacked}
 use Rattle.mr_world.specs.Restarting.{RestartCall}
 use Rattle.mr_world.proofs.Filed.{no_file}
+use Rattle.mr_world.proofs.Spent.{spends_down}
 
 module _ (w v : WorldState) where
   is_as : (u : WorldState) → v ≡ u → FilesGoOn w u → FilesGoOn w v
@@ -22,14 +23,15 @@ module _ (w v : WorldState) where
 
   -- ---- at the end of the node that serves a link
   served : (l : ℕ) (given : Given) (fresh : List ℕ) (k : Link) (s : Slot) (b : NodeState) (outs : OutsState) → IsServed w l k s → ServedRow k s.node given fresh b outs → FilesGoOn w (stepped w k.to s l k b outs)
-  served l given fresh k s b outs h (ServedRow.client as_client r) = files.client_steps w k.to l k s k.name (unread k.ask) given fresh b outs h.at h.up r
+  served l given fresh k s b outs h (ServedRow.client as_client agrees r) = files.client_steps w k.to l k s k.name (unread k.ask) given fresh b outs h.at h.up r
+  served l given fresh k s b outs h (ServedRow.within t as_client agrees r) = files.within_steps w k.to l k s k.name t (unread k.ask) given b outs h.at h.up r
   served l given fresh k s b outs h (ServedRow.replica as_replica r) = files.replica_steps w k.to l k s k.name (unread k.ask) b outs h.at h.up r
 
   serves : (l : ℕ) (given : Given) (fresh : List ℕ) → Serves w l given fresh v → FilesGoOn w v
   serves l given fresh (Serves.carries t is) = is_as _ is (served l given fresh t.link t.slot t.node t.outs t.served t.row)
   serves l given fresh (Serves.fails t is) = is_as _ is (files.stops w t.link.to t.slot (stopped_as t.node) refl)
   serves l given fresh (Serves.idles t is) = is_as _ is (files.idle_steps w t.link.to t.slot (unread t.link.ask) t.node t.served.at t.served.up t.idles)
-  serves l given fresh (Serves.spends t is) = is_as _ is (files.stops w t.link.to t.slot t.node (ap (λ (z : NodeState). z.core.up) t.stops.spent))
+  serves l given fresh (Serves.spends t is) = is_as _ is (files.stops w t.link.to t.slot t.node (spends_down t.link t.slot.node given t.node t.spends))
   serves l given fresh (Serves.rests k at down is) = no_file w v w is refl
 
   pub step_files : (l : ℕ) (given : Given) (fresh : List ℕ) → StepCall w l given fresh v (Ok tt) → FilesGoOn w v

@@ -32,8 +32,8 @@ module _ (w : WorldState) (book : Book minired) (l : ℕ) (given : Given) (fresh
         kept = holds.kept;
         row = record {
           at = record {
-            link = seen_link r.who.link;
-            found = ap (option_map seen_link) r.who.at.found;
+            link = seen_link w.slots r.who.link;
+            found = ap (option_map (seen_link w.slots)) r.who.at.found;
             n = r.number;
             node = seen_node s;
             node_found = ap (option_map seen_node) r.who.at.at;

@@ -28,7 +28,7 @@ use Rattle.mr_seen.proofs.Others.{served_end}
 use Rattle.mr_world.specs.declared.refusal.Refusal.{Refusal}
 use Rattle.mr_world.specs.declared.refusal.Refusal.TheVariants as refusal
 use Rattle.mr_world.specs.Calls.{BreakCall, Breaks, StartCall, ClientCall, Clients, CommandCall, TakeCall, LeaveCall, put_link}
-use Rattle.mr_world.proofs.Changing.{node_world, link_world, link_comes, node_comes, master_set}
+use Rattle.mr_world.proofs.Changing.{SameEnds, node_world, link_world, link_comes, node_comes, master_set}
 
 no_some : {A : Type 0} (x : A) → ◌≡◌ {A = Option A} None (Some x) → ⊥
 no_some x e = cc
@@ -93,21 +93,21 @@ module _ (w : WorldState) (n : ℕ) (s : Slot) (name : LinkId) (b : NodeState) (
       ∙ at_or_other x name (λ v. cond v (Some (client [])) (get s.node.ends.open_links x) ≡ get s.node.ends.open_links x) (λ same. absurd (ne same)) (λ other. refl))
 
   pub apart : (j : ℕ) (y : Link) → slice_get w.links j ≡ Some y → y.serving ≡ true → y.to ≡ n → y.name ≡ name → ⊥
-  apart j y e q to same = no_some (end_for y.streams (unread y.ask)) (sym o.fresh ∙ (ap (end_of s.node) (sym same) ∙ served_end w is n s at up j y e to q))
+  apart j y e q to same = let served = served_end w is n s at up j y e to q in no_some (end_for y.streams served.0 (unread y.ask)) (sym o.fresh ∙ (ap (end_of s.node) (sym same) ∙ served.1))
 
   sound_is : IsSound b
   sound_is = subst IsSound (sym o.node) (let i = is.nodes n s at up in record { node = opened_node s.node name [] i.node o.fresh; window = i.window; id = i.id; second = i.second; upstream = i.upstream; reading = reads_on s.node (opened_as s.node.ends name (client [])) s.node.follow i.reading })
 
   pub between : IsWorld (put_node w n s b)
   between = node_world w n s (record s { node = b }) is at (record {
-    here = λ j y e to u q. other_end y.name (λ same. apart j y e q to same) ∙ served_end w is n s at up j y e to q;
+    here = λ j y e to u q. let served = served_end w is n s at up j y e to q in (served.0, other_end y.name (λ same. apart j y e q to same) ∙ served.1);
     sound = λ u. sound_is;
     own = λ m f u e. let h = is.followers n s m f at up (sym follow_is ∙ e) in record { link = h.link; found = h.found; caller = h.caller; agrees = h.agrees };
   })
 
   pub opens_world : IsWorld (opened w n s b name)
   opens_world = link_comes (put_node w n s b) (opened_link n name) between no_ways no_ways
-      (record { slot = record s { node = b }; found = set_here w.slots n (record s { node = b }) s at; agrees = λ u q. o.agrees.is }) apart
+      (record { slot = record s { node = b }; found = set_here w.slots n (record s { node = b }) s at; agrees = λ u q. (None, o.agrees.is) }) apart
     where
       no_ways : IsWay no_way
       no_ways = record { used_within = omega arith; taken_within = omega arith }
@@ -139,7 +139,7 @@ pub record Calls (k m : Link) : Type 0 where
 pub calls_world : (w : WorldState) (l : ℕ) (k m : Link) → IsWorld w → slice_get w.links l ≡ Some k → Calls k m → IsWorld (put_link w l m)
 calls_world w l k m is found c =
     let h = is.servers l k found in
-    let ends : end_for k.streams (unread k.ask) ≡ end_for m.streams (unread m.ask) = ap (λ z. end_for z (unread k.ask)) (sym c.streams) ∙ ap (end_for m.streams) (sym c.heard) in
+    let ends : SameEnds k m = λ held. ap (λ z. end_for z held (unread k.ask)) (sym c.streams) ∙ ap (end_for m.streams held) (sym c.heard) in
     subst (λ (z : List Slot). IsWorld (record w { slots = z; links = slice_set w.links l m })) (set_same w.slots k.to h.slot h.found)
     (link_world w k.to h.slot h.slot l k m is h.found found (record {
       to = c.to;
@@ -147,7 +147,7 @@ calls_world w l k m is found c =
       serving = λ q. sym c.serving ∙ q;
       ask = c.ask;
       tell = c.tell;
-      here = λ to up q. ap (end_of h.slot.node) c.name ∙ (h.agrees up (sym c.serving ∙ q) ∙ ap (λ z. Some z) ends);
+      here = λ to up q. let v = h.agrees up (sym c.serving ∙ q) in (v.0, ap (end_of h.slot.node) c.name ∙ (v.1 ∙ ap (λ z. Some z) (ends v.0)));
       others = λ j y ne e to up q. served_end w is k.to h.slot h.found up j y e to q;
       there = λ ne q. ends;
       sound = λ up. is.nodes k.to h.slot h.found up;
@@ -231,7 +231,9 @@ breaks_world w l k s is v = link_world w k.to s (record s { node = closed_at k.n
   ask = is.asks l k v.found;
   tell = is.tells l k v.found;
   here = λ to up q. absurd (shut q);
-  others = λ j y ne e to up q. closed_end s.node k.name y.name (λ same. ne (is.names j l y k e v.found q v.serving to same)) ∙ served_end w is k.to s v.at v.up j y e to q;
+  others = λ j y ne e to up q.
+      let served = served_end w is k.to s v.at v.up j y e to q in
+      (served.0, closed_end s.node k.name y.name (λ same. ne (is.names j l y k e v.found q v.serving to same)) ∙ served.1);
   there = λ ne q. absurd (shut q);
   sound = λ up. let i = is.nodes k.to s v.at v.up in record { node = closed_node s.node k.name i.node; window = i.window; id = i.id; second = i.second; upstream = i.upstream; reading = reads_without s.node k.name s.node.follow i.reading };
   own = λ name f up e. let h = is.followers k.to s name f v.at v.up (follow_was k.name s.node.follow (name, f) e) in

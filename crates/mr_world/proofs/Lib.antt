@@ -16,6 +16,7 @@ mod Telling
 pub mod Served
 pub mod Servings
 pub mod ServedEvents
+mod Spent
 mod Restarts
 pub mod Heard
 pub mod Happening

@@ -79,10 +79,10 @@ module _ (w : WorldState) (n : ℕ) (s t : Slot) (is : IsWorld w) (at : slice_ge
     asks = λ j y e. let x = was j y e in subst IsWay (sym x.2.ask) (is.asks j x.0 x.1);
     tells = λ j y e. let x = was j y e in subst IsWay (sym x.2.tell) (is.tells j x.0 x.1);
     here = λ j y e to up q. let x = was j y e in absurd (here_is x.0.to n (sym x.2.to ∙ to) (x.2.open_now q));
-    there = λ j x y d e apart q.
+    there = λ j x y d e apart q held.
         let v = was j y e in
         let one : v.0 ≡ x = some_is v.0 x (sym v.1 ∙ d) in
-        ap (λ (z : Link). end_for z.streams (unread z.ask)) (sym one) ∙ (ap (λ z. end_for z (unread v.0.ask)) (sym v.2.streams) ∙ ap (λ z. end_for y.streams (unread z)) (sym v.2.ask));
+        ap (λ (z : Link). end_for z.streams held (unread z.ask)) (sym one) ∙ (ap (λ z. end_for z held (unread v.0.ask)) (sym v.2.streams) ∙ ap (λ z. end_for y.streams held (unread z)) (sym v.2.ask));
     sound = λ up. sound;
     own = λ name f up e. absurd (no_some (name, f) (sym alone ∙ e));
     onward = λ i u name f apart h. master i u name f h;

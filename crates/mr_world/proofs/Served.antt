@@ -5,8 +5,9 @@ use Rattle.mr_links.specs.declared.link_id.LinkId.{LinkId}
 use Rattle.mr_data.specs.declared.given.Given.{Given}
 use Rattle.mr_follow.specs.State.{FollowState}
 use Rattle.mr_course.specs.State.{name_of}
-use Rattle.mr_ends.specs.State.{EndState, end_at, streams}
-use Rattle.mr_ends.specs.State.EndState.{client, upstream}
+use Rattle.mr_groups.specs.Groups.{grown_text}
+use Rattle.mr_ends.specs.State.{EndState, Transaction, begun, end_at, streams}
+use Rattle.mr_ends.specs.State.EndState.{client, waiting, upstream}
 use Rattle.mr_ends.specs.Replicas.{is_named}
 use Rattle.mr_ends.proofs.Naming.{at_or_other}
 use Rattle.mr_outs.specs.Outs.{OutsState, Output}
@@ -16,6 +17,7 @@ use Rattle.mr_rows.specs.Growing.{FedTo}
 use Rattle.mr_rows.specs.Telling.{Around}
 use Rattle.mr_rows.specs.Served.{Answered, Served}
 use Rattle.mr_rows.specs.ClientRows.{ClientRow}
+use Rattle.mr_rows.specs.Transactions.{WithinRow}
 use Rattle.mr_rows.specs.ReplicaRows.{ReplicaRow}
 use Rattle.mr_carrying.specs.Answering.{EndsAs, IsBehind}
 
@@ -94,6 +96,46 @@ module _ (a b : NodeState) (name : LinkId) (u : List ℕ) (outs : OutsState) whe
       end = EndsAs.asks (ap (λ (o : OutsState). o.closes) r.outs_are) r.rest r.ends.is;
       unfed = unnamed outs.fed name (ap (λ (o : OutsState). o.fed) r.outs_are);
       unclosed = r.closed.each name ∙ ap streams at;
+    }
+    client_behind given fresh (ClientRow.begins r) = record {
+      up = ap (λ (c : Core). c.up) r.core ∙ r.up;
+      end = EndsAs.waits (ap (λ (o : OutsState). o.closes) r.outs_are) begun r.rest r.leaves.is;
+      unfed = unnamed outs.fed name (ap (λ (o : OutsState). o.fed) r.outs_are);
+      unclosed = unnamed outs.closed name (ap (λ (o : OutsState). o.closed) r.outs_are);
+    }
+
+  -- where a transaction is open
+  module _ (t : Transaction) (at : end_of a name ≡ Some (waiting t u)) where
+    pub within_behind : (given : Given) → WithinRow a name t u given b outs → IsBehind b name outs
+    within_behind given (WithinRow.stands r) = record {
+      up = ap (λ (c : Core). c.up) r.core ∙ r.up;
+      end = EndsAs.waits (ap (λ (o : OutsState). o.closes) r.outs_are) r.next r.rest r.leaves.is;
+      unfed = unnamed outs.fed name (ap (λ (o : OutsState). o.fed) r.outs_are);
+      unclosed = unnamed outs.closed name (ap (λ (o : OutsState). o.closed) r.outs_are);
+    }
+    within_behind given (WithinRow.passes r) = record {
+      up = ap (λ (c : Core). c.up) r.core ∙ r.up;
+      end = EndsAs.waits (ap (λ (o : OutsState). o.closes) r.outs_are) t r.rest r.leaves.is;
+      unfed = unnamed outs.fed name (ap (λ (o : OutsState). o.fed) r.outs_are);
+      unclosed = unnamed outs.closed name (ap (λ (o : OutsState). o.closed) r.outs_are);
+    }
+    within_behind given (WithinRow.drops r) = record {
+      up = ap (λ (c : Core). c.up) r.core ∙ r.up;
+      end = EndsAs.asks (ap (λ (o : OutsState). o.closes) r.outs_are) r.rest r.leaves.is;
+      unfed = unnamed outs.fed name (ap (λ (o : OutsState). o.fed) r.outs_are);
+      unclosed = unnamed outs.closed name (ap (λ (o : OutsState). o.closed) r.outs_are);
+    }
+    within_behind given (WithinRow.executes r) = record {
+      up = ap (λ (c : Core). c.up) r.core ∙ r.up;
+      end = EndsAs.asks (ap (λ (o : OutsState). o.closes) r.outs_are) r.rest r.leaves.is;
+      unfed = unfed (grown_text r.effects) a outs.fed name r.fed (ap streams at);
+      unclosed = unnamed outs.closed name (ap (λ (o : OutsState). o.closed) r.outs_are);
+    }
+    within_behind given (WithinRow.closes r) = record {
+      up = ap (λ (c : Core). c.up) r.core ∙ r.up;
+      end = EndsAs.closed (ap (λ (o : OutsState). o.closes) r.outs_are) r.shut.is;
+      unfed = unnamed outs.fed name (ap (λ (o : OutsState). o.fed) r.outs_are);
+      unclosed = unnamed outs.closed name (ap (λ (o : OutsState). o.closed) r.outs_are);
     }
 
   pub replica_behind : ReplicaRow a name u b outs → IsBehind b name outs

@@ -4,7 +4,7 @@ use Rattle.std.specs.Prelude.{bytes_eq, is_some}
 use Rattle.std.specs.Option.{option_map}
 use Rattle.mr_data.specs.declared.given.Given.{Given}
 use Rattle.mr_repl.specs.ReplId.{zero_id}
-use Rattle.mr_rows.specs.State.{NodeState, stopped_as}
+use Rattle.mr_rows.specs.State.{stopped_as}
 use Rattle.mr_history.specs.History.{Book}
 use Rattle.mr_history.specs.Event as events
 use Rattle.mr_history.specs.Event.Side.{Server}
@@ -17,9 +17,11 @@ use Rattle.mr_seen.specs.Carrying.{stepped}
 use Rattle.mr_seen.specs.Events.{Holds, IsEvent}
 use Rattle.mr_seen.proofs.Replicas.{idle_steps, replica_steps, stopped_steps}
 use Rattle.mr_seen.proofs.Roles.{client_steps}
+use Rattle.mr_seen.proofs.Within.{within_steps}
 use Rattle.mr_carrying.specs.AtNode.{is_spent}
 use Rattle.mr_world.specs.Calls.{IsDown, ServesAt}
 use Rattle.mr_world.specs.Serving.{HasServed, ServedRow, Serves}
+use Rattle.mr_world.proofs.Spent.{spends_down}
 
 -- an id that may be drawn has no entry
 no_entry : (p : Bool) (o : Option Entry) → (p || is_some o) ≡ false → o ≡ None
@@ -33,7 +35,8 @@ module _ (w : WorldState) (book : Book minired) (l : ℕ) (given : Given) (fresh
 
   served_event : (unspent : is_spent w.book fresh ≡ false) (t : HasServed w l given fresh) → Event (stepped w t.link.to t.slot l t.link t.node t.outs)
   served_event unspent t = elim t.row [
-    | ServedRow.client q r ↦ client_steps w book l t.link t.slot given fresh t.node t.outs holds t.served q (no_entry (bytes_eq fresh zero_id) (entry_of w.book fresh) unspent) r
+    | ServedRow.client q g r ↦ client_steps w book l t.link t.slot given fresh t.node t.outs holds t.served g (no_entry (bytes_eq fresh zero_id) (entry_of w.book fresh) unspent) r
+    | ServedRow.within held q g r ↦ within_steps w book l t.link t.slot held given fresh t.node t.outs holds t.served g r
     | ServedRow.replica q r ↦ replica_steps w book l t.link t.slot given fresh t.node t.outs holds t.served q r
   ]
 
@@ -43,7 +46,7 @@ module _ (w : WorldState) (book : Book minired) (l : ℕ) (given : Given) (fresh
     new_book = book;
     kept = holds.kept;
     row = record {
-      at = record { link = seen_link k; found = ap (option_map seen_link) at.found; serving = at.serving; node = seen_node down.slot; node_found = ap (option_map seen_node) down.at };
+      at = record { link = seen_link w.slots k; found = ap (option_map (seen_link w.slots)) at.found; serving = at.serving; node = seen_node down.slot; node_found = ap (option_map seen_node) down.at };
       does = stopped down.down (record { nodes = λ i. refl; links = λ j. refl; book = λ i. refl });
     };
   }
@@ -52,5 +55,5 @@ module _ (w : WorldState) (book : Book minired) (l : ℕ) (given : Given) (fresh
   step_is_event v unspent (Serves.carries t e) = subst Event (sym e) (served_event unspent t)
   step_is_event v unspent (Serves.fails t e) = subst Event (sym e) (stopped_steps w book l t.link t.slot given fresh (stopped_as t.node) holds t.served refl)
   step_is_event v unspent (Serves.idles t e) = subst Event (sym e) (idle_steps w book l t.link t.slot given fresh t.node holds t.served t.idles)
-  step_is_event v unspent (Serves.spends t e) = subst Event (sym e) (stopped_steps w book l t.link t.slot given fresh t.node holds t.served (ap (λ (z : NodeState). z.core.up) t.stops.spent))
+  step_is_event v unspent (Serves.spends t e) = subst Event (sym e) (stopped_steps w book l t.link t.slot given fresh t.node holds t.served (spends_down t.link t.slot.node given t.node t.spends))
   step_is_event v unspent (Serves.rests k at down e) = subst Event (sym e) (rests_event k at down)

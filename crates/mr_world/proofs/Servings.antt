@@ -1,12 +1,14 @@
 -- How the parts of a step at a server's end make it, and that what is true of each World stays.
-use Rattle.std.proofs.Common.{◌≡◌, ◌<◌, ◌⊎◌, inl, inr, ◌∙◌, ℕ, List, Bool, true, false, Some, Result, Ok, Err, length, get_or, refl, sym, ap, subst}
+use Rattle.std.proofs.Common.{◌≡◌, ◌<◌, inl, inr, ◌∙◌, ℕ, List, Bool, true, false, Option, None, Some, Result, Ok, Err, length, get_or, refl, sym, ap, subst}
 use Rattle.std.specs.Prelude.{slice_get, slice_set}
 use Rattle.mr_links.specs.declared.link_id.LinkId.{LinkId}
 use Rattle.mr_data.specs.declared.given.Given.{Given}
 use Rattle.mr_outs.specs.Outs.{OutsState}
-use Rattle.mr_rows.specs.State.{NodeState, end_of, shown, stopped_as}
+use Rattle.mr_ends.specs.State.{Transaction}
+use Rattle.mr_rows.specs.State.{Agrees, AgreesWithin, NodeState, end_of, shown, stopped_as}
 use Rattle.mr_rows.specs.Sound.{IsSound}
 use Rattle.mr_node.specs.Steps.{ClientStep, ReplicaStep, Steps}
+use Rattle.mr_node.specs.Within.{WithinStep}
 use Rattle.mr_node.specs.declared.fault.NodeFault.{NodeFault}
 use Rattle.mr_node.specs.declared.fault.NodeFault.TheVariants as fault
 use Rattle.mr_node.specs.declared.step.Step.{Step}
@@ -16,21 +18,24 @@ use Rattle.mr_seen.specs.State.{Entry, Link, Slot, WorldState}
 use Rattle.mr_seen.specs.Worlds.{IsWorld, end_for}
 use Rattle.mr_seen.specs.Carrying.{behind, booked_as, filed, put_node, stepped}
 use Rattle.mr_seen.proofs.Places.{is_within, set_here, set_same, some_is}
-use Rattle.mr_seen.proofs.Turning.{clients_keep, replicas_keep}
+use Rattle.mr_seen.proofs.Turning.{clients_keep, within_keep, replicas_keep}
 use Rattle.mr_carrying.specs.Answering.{Carries, IsBehind, IsServing, answered_links, carried_as}
 use Rattle.mr_carrying.proofs.Places.{stands, set_twice}
 use Rattle.mr_world.specs.declared.refusal.Refusal.{Refusal}
 use Rattle.mr_world.specs.declared.refusal.Refusal.TheVariants as refusal
-use Rattle.mr_world.specs.Serving.{HasServed, MayLackAt, NeedsMemory, ServedRow, Serves, StepCall}
+use Rattle.mr_world.specs.Serving.{HasServed, MayLackAt, NeedsMemory, ServedRow, Serves, Spends, StepCall}
+use Rattle.mr_world.proofs.Changing.{HasEnd}
 use Rattle.mr_world.proofs.Feeding.{its_end}
 use Rattle.mr_world.proofs.Kept.{stops_world}
-use Rattle.mr_world.proofs.Served.{client_behind, replica_behind}
+use Rattle.mr_world.proofs.Served.{client_behind, within_behind, replica_behind}
+use Rattle.mr_world.proofs.Spent.{spends_down}
 use Rattle.mr_world.proofs.Ticking.{shown_id, shown_offset}
 
 -- ---- what is true of each World stays
 served_keeps : (w : WorldState) (l : ℕ) (given : Given) (fresh : List ℕ) → IsWorld w → (t : HasServed w l given fresh) → IsWorld (stepped w t.link.to t.slot l t.link t.node t.outs)
 served_keeps w l given fresh is t = elim t.row [
-  | ServedRow.client q r ↦ clients_keep w l t.link t.slot given fresh t.node t.outs is t.served t.sound r
+  | ServedRow.client q g r ↦ clients_keep w l t.link t.slot given fresh t.node t.outs is t.served t.sound r
+  | ServedRow.within held q g r ↦ within_keep w l t.link t.slot held given t.node t.outs is t.served t.sound r
   | ServedRow.replica q r ↦ replicas_keep w l t.link t.slot t.node t.outs is t.served t.sound r
 ]
 
@@ -40,7 +45,7 @@ step_keeps w v l given fresh (Ok done) is c = elim c.1 [
   | Serves.fails t e ↦ subst (λ (z : WorldState). IsWorld z) (sym e) (stops_world w t.link.to t.slot (stopped_as t.node) is t.served.at refl)
   | Serves.idles t e ↦ subst (λ (z : WorldState). IsWorld z)
       (sym (e ∙ (ap (put_node w t.link.to t.slot) t.idles.same ∙ ap (λ (z : List Slot). record w { slots = z }) (set_same w.slots t.link.to t.slot t.served.at)))) is
-  | Serves.spends t e ↦ subst (λ (z : WorldState). IsWorld z) (sym e) (stops_world w t.link.to t.slot t.node is t.served.at (ap (λ (z : NodeState). z.core.up) t.stops.spent))
+  | Serves.spends t e ↦ subst (λ (z : WorldState). IsWorld z) (sym e) (stops_world w t.link.to t.slot t.node is t.served.at (spends_down t.link t.slot.node given t.node t.spends))
   | Serves.rests k at down e ↦ subst (λ (z : WorldState). IsWorld z) (sym e) is
 ]
 step_keeps w v l given fresh (Err refusal.Drawn) is c = subst (λ (z : WorldState). IsWorld z) (sym c.1) is
@@ -74,17 +79,19 @@ module _ (w : WorldState) (n l : ℕ) (s x : Slot) (k : Link) (within : n < leng
       (set_twice w.slots n g f ∙ ap (slice_set w.slots n) (stops ∙ ap (λ (z : Slot). record z { node = stopped_as z.node }) (two ∙ (same ∙ one)))))
 
 -- ---- the step
--- by the kind of the end
-abbrev pub AtServer : Link → NodeState → Given → List ℕ → NodeState → Result Step NodeFault → Type 0
-AtServer k a given fresh b r = ((k.streams ≡ false) × ClientStep a k.name (unread k.ask) given fresh b r) ⊎ ((k.streams ≡ true) × ReplicaStep a k.name (unread k.ask) b r)
+-- by the kind of the end, and what is open there
+data AtServer (k : Link) (a : NodeState) (given : Given) (fresh : List ℕ) (b : NodeState) (r : Result Step NodeFault) : Type 0 where
+  client : k.streams ≡ false → Agrees a k.name (unread k.ask) → ClientStep a k.name (unread k.ask) given fresh b r → AtServer k a given fresh b r
+  within : (t : Transaction) → k.streams ≡ false → AgreesWithin a k.name t (unread k.ask) → WithinStep a k.name t (unread k.ask) given b r → AtServer k a given fresh b r
+  replica : k.streams ≡ true → ReplicaStep a k.name (unread k.ask) b r → AtServer k a given fresh b r
 
-at_server : (k : Link) (a b : NodeState) (given : Given) (fresh : List ℕ) (r : Result Step NodeFault) → a.core.up ≡ true → end_of a k.name ≡ Some (end_for k.streams (unread k.ask))
-    → Steps a k.name given fresh b r → AtServer k a given fresh b r
-at_server k a b given fresh r up at row = go k.streams refl
+at_server : (k : Link) (a b : NodeState) (given : Given) (fresh : List ℕ) (r : Result Step NodeFault) → a.core.up ≡ true → HasEnd a k → Steps a k.name given fresh b r → AtServer k a given fresh b r
+at_server k a b given fresh r up at row = go k.streams at.0 refl at.1
   where
-    go : (c : Bool) → k.streams ≡ c → AtServer k a given fresh b r
-    go false q = inl (q, row.at_client (unread k.ask) (record { up = up; agrees = record { is = at ∙ ap (λ c. Some (end_for c (unread k.ask))) q } }))
-    go true q = inr (q, row.at_replica (unread k.ask) (record { up = up; agrees = record { is = at ∙ ap (λ c. Some (end_for c (unread k.ask))) q } }))
+    go : (c : Bool) (held : Option Transaction) → k.streams ≡ c → end_of a k.name ≡ Some (end_for c held (unread k.ask)) → AtServer k a given fresh b r
+    go true held q e = AtServer.replica q (row.at_replica (unread k.ask) (record { up = up; agrees = record { is = e } }))
+    go false None q e = AtServer.client q (record { is = e }) (row.at_client (unread k.ask) (record { up = up; agrees = record { is = e } }))
+    go false (Some t) q e = AtServer.within t q (record { is = e }) (row.at_waiting t (unread k.ask) (record { up = up; agrees = record { is = e } }))
 
 module _ (w : WorldState) (l n : ℕ) (name : LinkId) (given : Given) (fresh : List ℕ) (is : IsWorld w) (v : IsServing w l n name) where
   placed : slice_get w.slots n ≡ Some v.slot
@@ -109,13 +116,13 @@ module _ (w : WorldState) (l n : ℕ) (name : LinkId) (given : Given) (fresh : L
       put = ap (λ i. record w { slots = slice_set w.slots i t }) v.number ∙ ap (λ (z : Slot). record w { slots = slice_set w.slots v.link.to z }) whole
 
       pub never_closed : r ≡ Ok step.Closed → ⊥
-      never_closed e = elim (subst (λ z. AtServer v.link v.slot.node given fresh t.node z) e came) [ inl p ↦ p.1 | inr p ↦ p.1 ]
+      never_closed e = elim (subst (λ z. AtServer v.link v.slot.node given fresh t.node z) e came) [ AtServer.client q g p ↦ p | AtServer.within held q g p ↦ p | AtServer.replica q p ↦ p ]
 
       pub never_absent : r ≡ Err fault.NoLink → ⊥
-      never_absent e = elim (subst (λ z. AtServer v.link v.slot.node given fresh t.node z) e came) [ inl p ↦ p.1 | inr p ↦ p.1 ]
+      never_absent e = elim (subst (λ z. AtServer v.link v.slot.node given fresh t.node z) e came) [ AtServer.client q g p ↦ p | AtServer.within held q g p ↦ p | AtServer.replica q p ↦ p ]
 
       pub never_full : r ≡ Err fault.InputFull → ⊥
-      never_full e = elim (subst (λ z. AtServer v.link v.slot.node given fresh t.node z) e came) [ inl p ↦ p.1 | inr p ↦ p.1 ]
+      never_full e = elim (subst (λ z. AtServer v.link v.slot.node given fresh t.node z) e came) [ AtServer.client q g p ↦ p | AtServer.within held q g p ↦ p | AtServer.replica q p ↦ p ]
 
       pub idles_there : r ≡ Ok step.Idle → Serves w l given fresh (record w { slots = slice_set w.slots n t })
       idles_there e = Serves.idles (record {
@@ -123,32 +130,44 @@ module _ (w : WorldState) (l n : ℕ) (name : LinkId) (given : Given) (fresh : L
         slot = v.slot;
         served = v.served;
         node = t.node;
-        idles = elim (subst (λ z. AtServer v.link v.slot.node given fresh t.node z) e came) [ inl p ↦ p.1 | inr p ↦ p.1 ];
+        idles = elim (subst (λ z. AtServer v.link v.slot.node given fresh t.node z) e came) [ AtServer.client q g p ↦ p | AtServer.within held q g p ↦ p | AtServer.replica q p ↦ p ];
       }) put
+
+      spent : Spends v.link v.slot.node given t.node → Serves w l given fresh (record w { slots = slice_set w.slots n t })
+      spent p = Serves.spends (record { link = v.link; slot = v.slot; served = v.served; node = t.node; spends = p }) put
 
       pub spends_there : r ≡ Err fault.Stopped → Serves w l given fresh (record w { slots = slice_set w.slots n t })
       spends_there e = elim (subst (λ z. AtServer v.link v.slot.node given fresh t.node z) e came) [
-        | inl p ↦ Serves.spends (record { link = v.link; slot = v.slot; served = v.served; client = p.0; node = t.node; stops = p.1 }) put
-        | inr p ↦ absurd p.1
+        | AtServer.client q g p ↦ spent (Spends.client q g p)
+        | AtServer.within held q g p ↦ spent (Spends.within held q g p)
+        | AtServer.replica q p ↦ absurd p
       ]
 
       pub lacks_there : r ≡ Err fault.Memory → NeedsMemory w l × (◌≡◌ {A = WorldState} (record w { slots = slice_set w.slots n t }) w)
       lacks_there e = elim (subst (λ z. AtServer v.link v.slot.node given fresh t.node z) e came) [
-        | inl p ↦ (record { link = v.link; slot = v.slot; served = v.served; may_lack = subst (λ z. MayLackAt z (unread v.link.ask)) (sym p.0) p.1.0 }, same p.1.1)
-        | inr p ↦ (record { link = v.link; slot = v.slot; served = v.served; may_lack = subst (λ z. MayLackAt z (unread v.link.ask)) (sym p.0) p.1.0 }, same p.1.1)
+        | AtServer.client q g p ↦ (needs false q p.0, same p.1)
+        | AtServer.within held q g p ↦ (needs false q p.0, same p.1)
+        | AtServer.replica q p ↦ (needs true q p.0, same p.1)
       ]
         where
+          needs : (c : Bool) → v.link.streams ≡ c → MayLackAt c (unread v.link.ask) → NeedsMemory w l
+          needs c q lacks = record { link = v.link; slot = v.slot; served = v.served; may_lack = subst (λ z. MayLackAt z (unread v.link.ask)) (sym q) lacks }
+
           same : t.node ≡ v.slot.node → ◌≡◌ {A = WorldState} (record w { slots = slice_set w.slots n t }) w
           same q = put ∙ (ap (put_node w v.link.to v.slot) q ∙ ap (λ (z : List Slot). record w { slots = z }) (set_same w.slots v.link.to v.slot v.served.at))
 
       module _ (outs : OutsState) (e : r ≡ Ok (step.Done outs)) where
         row_there : ServedRow v.link v.slot.node given fresh t.node outs
-        row_there = elim (subst (λ z. AtServer v.link v.slot.node given fresh t.node z) e came) [ inl p ↦ ServedRow.client p.0 p.1 | inr p ↦ ServedRow.replica p.0 p.1 ]
+        row_there = elim (subst (λ z. AtServer v.link v.slot.node given fresh t.node z) e came) [
+          | AtServer.client q g p ↦ ServedRow.client q g p
+          | AtServer.within held q g p ↦ ServedRow.within held q g p
+          | AtServer.replica q p ↦ ServedRow.replica q p
+        ]
 
         its_behind : IsBehind t.node v.link.name outs
         its_behind = elim row_there [
-          | ServedRow.client q c ↦ client_behind v.slot.node t.node v.link.name (unread v.link.ask) outs (its_end w l v.link v.slot is v.served ∙ ap (λ z. Some (end_for z (unread v.link.ask))) q)
-              (is.nodes v.link.to v.slot v.served.at v.served.up).node.followed given fresh c
+          | ServedRow.client q g c ↦ client_behind v.slot.node t.node v.link.name (unread v.link.ask) outs g.is (is.nodes v.link.to v.slot v.served.at v.served.up).node.followed given fresh c
+          | ServedRow.within held q g c ↦ within_behind v.slot.node t.node v.link.name (unread v.link.ask) outs held g.is given c
           | ServedRow.replica q c ↦ replica_behind v.slot.node t.node v.link.name (unread v.link.ask) outs c
         ]
 

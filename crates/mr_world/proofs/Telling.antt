@@ -10,7 +10,7 @@ use Rattle.mr_rows.specs.Sound.{IsSound}
 use Rattle.mr_rows.specs.LinkRows.{Feeds}
 use Rattle.mr_seen.specs.Way.{taken_on, unread}
 use Rattle.mr_seen.specs.State.{a_node, Link, Slot, WorldState}
-use Rattle.mr_seen.specs.Worlds.{IsWorld, HasMaster, end_for}
+use Rattle.mr_seen.specs.Worlds.{IsWorld, HasMaster}
 use Rattle.mr_seen.specs.Carrying.{fed_caller}
 use Rattle.mr_seen.proofs.Places.{set_here, some_is}
 use Rattle.mr_seen.proofs.Unread.{taken_way, unread_taken}
@@ -19,7 +19,7 @@ use Rattle.mr_world.specs.declared.refusal.Refusal.{Refusal}
 use Rattle.mr_world.specs.declared.refusal.Refusal.TheVariants as refusal
 use Rattle.mr_world.specs.Linking.{FollowsBy, IsDialler}
 use Rattle.mr_world.specs.Hearing.{IsTold, KeepsTold, ListenCall, Tells, WereNotTold}
-use Rattle.mr_world.proofs.Changing.{link_world}
+use Rattle.mr_world.proofs.Changing.{HasEnd, link_world}
 use Rattle.mr_world.proofs.Dialling.{follows_here, its_caller, link_is, down_here, slot_is, up_end}
 use Rattle.mr_world.proofs.Feeding.{not_upstream}
 
@@ -32,10 +32,10 @@ module _ (w : WorldState) (l n : ℕ) (k : Link) (s : Slot) (name : LinkId) (f :
   found = ap (slice_get w.links) (sym t.by.dialled) ∙ t.by.followed.found
 
   -- the ends of the links that the node serves stay
-  serves_still : (j : ℕ) (y : Link) → slice_get w.links j ≡ Some y → y.to ≡ n → y.serving ≡ true → end_of b y.name ≡ Some (end_for y.streams (unread y.ask))
+  serves_still : (j : ℕ) (y : Link) → slice_get w.links j ≡ Some y → y.to ≡ n → y.serving ≡ true → HasEnd b y
   serves_still j y e to q =
       let here = served_end w is n s t.by.followed.at t.by.followed.up j y e to q in
-      feeds.others.stay y.name (λ same. not_upstream y.streams (unread y.ask) (sym (up_end w l n k s name f is t.by) ∙ (ap (end_of s.node) (sym same) ∙ here))) ∙ here
+      (here.0, feeds.others.stay y.name (λ same. not_upstream y.streams here.0 (unread y.ask) (sym (up_end w l n k s name f is t.by) ∙ (ap (end_of s.node) (sym same) ∙ here.1))) ∙ here.1)
 
   -- what reads at the link to the master agrees with what is unread there now
   reads_on : (m : LinkId) (g : FollowState) → b.follow ≡ Some (m, g) → HasMaster (slice_set w.links l (record k { tell = taken_on count k.tell })) n (record s { node = b }) m g
@@ -60,7 +60,7 @@ module _ (w : WorldState) (l n : ℕ) (k : Link) (s : Slot) (name : LinkId) (f :
     tell = taken_way k.tell count (is.tells l k found) t.sent;
     here = λ to up q. serves_still l k found to q;
     others = λ j y ne e to up q. serves_still j y e to q;
-    there = λ ne q. refl;
+    there = λ ne q held. refl;
     sound = λ up. sound;
     own = λ m g up e. reads_on m g e;
     onward = λ i m g ne c a. absurd (ne (same_number i n m name (sym c ∙ its_caller w l n k s name f is t.by)));

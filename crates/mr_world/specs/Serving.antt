@@ -2,13 +2,16 @@
 -- gave out, the node stops, and nothing else changes.
 use Rattle.std.specs.Prelude.{◌≡◌, ℕ, List, Bool, true, false, Result, Ok, Err}
 use Rattle.mr_data.specs.declared.given.Given.{Given}
+use Rattle.mr_ends.specs.State.{Transaction}
 use Rattle.mr_outs.specs.Outs.{OutsState}
 use Rattle.mr_rows.specs.Sound.{IsSound}
-use Rattle.mr_rows.specs.State.{NodeState, stopped_as}
+use Rattle.mr_rows.specs.State.{Agrees, AgreesWithin, NodeState, stopped_as}
 use Rattle.mr_rows.specs.ClientRows.{ClientRow, Idles, MayLack}
+use Rattle.mr_rows.specs.Transactions.{WithinRow}
 use Rattle.mr_rows.specs.ReplicaRows.{ReplicaRow}
 use Rattle.mr_node.specs.Noting.{BeginsWithWords}
 use Rattle.mr_node.specs.Steps.{StopsAt}
+use Rattle.mr_node.specs.Within.{StopsAtOpen}
 use Rattle.mr_seen.specs.Way.{unread}
 use Rattle.mr_seen.specs.State.{Link, Slot, WorldState}
 use Rattle.mr_seen.specs.Carrying.{put_node, stepped}
@@ -18,9 +21,11 @@ use Rattle.mr_world.specs.declared.refusal.Refusal.{Refusal}
 use Rattle.mr_world.specs.declared.refusal.Refusal.TheVariants as refusal
 use Rattle.mr_world.specs.Calls.{IsDown, NoneServes, ServesAt}
 
--- The step used something of the link's unread bytes, or closed the link: it is a row of a client's end, or of a replica's.
+-- The step used something of the link's unread bytes, or closed the link: it is a row of a client's end, where no transaction is open or one is, or of
+-- a replica's.
 pub data ServedRow (k : Link) (a : NodeState) (given : Given) (fresh : List ℕ) (b : NodeState) (outs : OutsState) : Type 0 where
-  client : k.streams ≡ false → ClientRow a k.name (unread k.ask) given fresh b outs → ServedRow k a given fresh b outs
+  client : k.streams ≡ false → Agrees a k.name (unread k.ask) → ClientRow a k.name (unread k.ask) given fresh b outs → ServedRow k a given fresh b outs
+  within : (t : Transaction) → k.streams ≡ false → AgreesWithin a k.name t (unread k.ask) → WithinRow a k.name t (unread k.ask) given b outs → ServedRow k a given fresh b outs
   replica : k.streams ≡ true → ReplicaRow a k.name (unread k.ask) b outs → ServedRow k a given fresh b outs
 
 -- A step at the server's end of the link comes to this node and these outs.
@@ -41,14 +46,18 @@ pub record HasIdled (w : WorldState) (l : ℕ) : Type 0 where
   pub node : NodeState
   pub idles : Idles slot.node (unread link.ask) node
 
--- Memory ran out within the effects of a client's request, and the node is stopped, with its dataset spent.
+-- Memory ran out within the effects of a client's request, or within what waits in its transaction, and the node is stopped, with its dataset spent.
+pub data Spends (k : Link) (a : NodeState) (given : Given) (b : NodeState) : Type 0 where
+  client : k.streams ≡ false → Agrees a k.name (unread k.ask) → StopsAt a (unread k.ask) given b → Spends k a given b
+  within : (t : Transaction) → k.streams ≡ false → AgreesWithin a k.name t (unread k.ask) → StopsAtOpen a t (unread k.ask) given b → Spends k a given b
+
+-- A step there comes to that.
 pub record HasSpent (w : WorldState) (l : ℕ) (given : Given) : Type 0 where
   pub link : Link
   pub slot : Slot
   pub served : IsServed w l link slot
-  pub client : link.streams ≡ false
   pub node : NodeState
-  pub stops : StopsAt slot.node (unread link.ask) given node
+  pub spends : Spends link slot.node given node
 
 -- what the node gave out is carried; or the node stops; or nothing whole is there; or the node spends its dataset; or it is stopped, and nothing happens
 pub data Serves (w : WorldState) (l : ℕ) (given : Given) (fresh : List ℕ) (v : WorldState) : Type 0 where

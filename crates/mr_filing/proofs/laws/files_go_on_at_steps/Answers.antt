@@ -1,8 +1,11 @@
-use Rattle.mr_filing.proofs.Worlds.{client_steps, replica_steps, idle_steps, stops}
+use Rattle.mr_filing.proofs.Worlds.{client_steps, within_steps, replica_steps, idle_steps, stops}
 use Rattle.mr_filing.proofs.laws.files_go_on_at_steps.Goals as goal
 
 pub returns-clause-clients : goal.returns-clause-clients
 returns-clause-clients c = client_steps
+
+pub returns-clause-within : goal.returns-clause-within
+returns-clause-within c = within_steps
 
 pub returns-clause-replicas : goal.returns-clause-replicas
 returns-clause-replicas c = replica_steps
