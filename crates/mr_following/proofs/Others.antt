@@ -5,26 +5,30 @@ use Rattle.std.specs.Ordering.{eq_by_cmp}
 use Rattle.mr_links.specs.LinkId.{id_cmp}
 use Rattle.mr_links.specs.declared.link_id.LinkId.{LinkId}
 use Rattle.mr_effect.specs.Spelling.{texts}
+use Rattle.mr_groups.specs.Groups.{grown_text}
 use Rattle.mr_effect.specs.declared.effect.Effect.{Effect}
 use Rattle.mr_data.specs.Meaning.{apply_all}
 use Rattle.mr_data.specs.declared.given.Given.{Given}
 use Rattle.mr_plan.proofs.Replicas.{none_on_replica}
+use Rattle.mr_plan.proofs.Doing.{do_nothing, have_none}
 use Rattle.mr_repl.specs.Backlog.{IsWindow}
 use Rattle.mr_repl.specs.Lineage.{grown}
 use Rattle.mr_follow.specs.State.{FollowState}
 use Rattle.mr_course.specs.State.{name_of}
-use Rattle.mr_ends.specs.State.{EndState}
-use Rattle.mr_ends.specs.State.EndState.{client, replica, upstream, shut}
+use Rattle.mr_ends.specs.State.{EndState, Transaction}
+use Rattle.mr_ends.specs.State.EndState.{client, waiting, replica, upstream, shut}
 use Rattle.mr_outs.specs.Outs.{OutsState, Output}
 use Rattle.mr_rows.specs.State.{Core, NodeState, end_of}
 use Rattle.mr_rows.specs.Telling.{Around}
 use Rattle.mr_rows.specs.Served.{Answered, Served}
 use Rattle.mr_rows.specs.ClientRows.{ClientRow}
+use Rattle.mr_rows.specs.Transactions.{Executes, WithinRow, frame_of}
 use Rattle.mr_rows.specs.ReplicaRows.{ReplicaRow}
 use Rattle.mr_rows.specs.TimeRows.{TickRow}
 use Rattle.mr_rows.specs.LinkRows.{closed_at, follow_without}
 use Rattle.mr_node.specs.Calls.{FeedRow, OpenRow, OpensNoMore, TickStep}
 use Rattle.mr_node.specs.Steps.{ClientStep, ReplicaStep, Steps}
+use Rattle.mr_node.specs.Within.{WithinStep}
 use Rattle.mr_node.specs.declared.step.Step.{Step}
 use Rattle.mr_node.specs.declared.step.Step.TheVariants as outcome
 use Rattle.mr_node.specs.declared.fault.NodeFault.{NodeFault}
@@ -93,6 +97,7 @@ module _ (a b : NodeState) (l : LinkId) (before : IsFollowing a l) (behind : IsF
   at_client x u given fresh outs (ClientRow.promotes s) = left_no s.follow
   at_client x u given fresh outs (ClientRow.turns s) = left_no s.follow
   at_client x u given fresh outs (ClientRow.demotes s) = left_no s.follow
+  at_client x u given fresh outs (ClientRow.begins s) = beside s.core s.leaves.follow
 
   client_step : (x : LinkId) (u : List ℕ) (given : Given) (fresh : List ℕ) (result : Result Step NodeFault) → ClientStep a x u given fresh b result → Rests a b
   client_step x u given fresh (Ok outcome.Idle) s = same s.same
@@ -102,6 +107,33 @@ module _ (a b : NodeState) (l : LinkId) (before : IsFollowing a l) (behind : IsF
   client_step x u given fresh (Err fault.Stopped) s = stopped_no (ap (λ (z : NodeState). z.core.up) s.spent)
   client_step x u given fresh (Err fault.NoLink) s = absurd s
   client_step x u given fresh (Err fault.InputFull) s = absurd s
+
+  -- .. where a transaction is open: what waited has no effect on a replica
+  executed : (x : LinkId) (t : Transaction) (u : List ℕ) (given : Given) (outs : OutsState) → Executes a x t u given b outs → Rests a b
+  executed x t u given outs s =
+      let none : s.effects ≡ [] = have_none (frame_of a) (not a.core.master) given t.queued [] a.core.held s.held s.replies s.effects (ap not replica_is) s.does in
+      let left : s.held ≡ a.core.held = do_nothing (frame_of a) (not a.core.master) given t.queued [] a.core.held s.held s.replies s.effects none s.does in
+      record {
+        lineage = ap (λ (z : Core). z.lineage) s.core ∙ (ap (λ (es : List Effect). grown a.core.lineage (grown_text es)) none ∙ grown_none a.core.lineage before.sound.window);
+        held = ap (λ (z : Core). z.held) s.core ∙ left;
+        follow = s.leaves.follow;
+      }
+
+  at_open : (x : LinkId) (t : Transaction) (u : List ℕ) (given : Given) (outs : OutsState) → WithinRow a x t u given b outs → Rests a b
+  at_open x t u given outs (WithinRow.stands s) = beside s.core s.leaves.follow
+  at_open x t u given outs (WithinRow.passes s) = beside s.core s.leaves.follow
+  at_open x t u given outs (WithinRow.drops s) = beside s.core s.leaves.follow
+  at_open x t u given outs (WithinRow.executes s) = executed x t u given outs s
+  at_open x t u given outs (WithinRow.closes s) = beside s.core s.follow
+
+  open_step : (x : LinkId) (t : Transaction) (u : List ℕ) (given : Given) (result : Result Step NodeFault) → WithinStep a x t u given b result → Rests a b
+  open_step x t u given (Ok outcome.Idle) s = same s.same
+  open_step x t u given (Ok (outcome.Done outs)) s = at_open x t u given outs s
+  open_step x t u given (Ok outcome.Closed) s = absurd s
+  open_step x t u given (Err fault.Memory) s = same s.1
+  open_step x t u given (Err fault.Stopped) s = stopped_no (ap (λ (z : NodeState). z.core.up) s.spent)
+  open_step x t u given (Err fault.NoLink) s = absurd s
+  open_step x t u given (Err fault.InputFull) s = absurd s
 
   -- at a replica's end
   at_replica : (x : LinkId) (u : List ℕ) (outs : OutsState) → ReplicaRow a x u b outs → Rests a b
@@ -121,6 +153,7 @@ module _ (a b : NodeState) (l : LinkId) (before : IsFollowing a l) (behind : IsF
   step_at : (x : LinkId) → x ≢ l → (given : Given) (fresh : List ℕ) (result : Result Step NodeFault) → Steps a x given fresh b result → (e : Option EndState) → end_of a x ≡ e → Rests a b
   step_at x other given fresh result s None is = same (s.absent before.up is).1
   step_at x other given fresh result s (Some (client u)) is = client_step x u given fresh result (s.at_client u (record { up = before.up; agrees = record { is = is } }))
+  step_at x other given fresh result s (Some (waiting t u)) is = open_step x t u given result (s.at_waiting t u (record { up = before.up; agrees = record { is = is } }))
   step_at x other given fresh result s (Some (replica u)) is = replica_step x u result (s.at_replica u (record { up = before.up; agrees = record { is = is } }))
   step_at x other given fresh result s (Some upstream) is = absurd (other (some_is x l (sym (before.sound.node.only x is) ∙ before.at)))
   step_at x other given fresh result s (Some shut) is = same (s.at_shut before.up (record { is = is })).1

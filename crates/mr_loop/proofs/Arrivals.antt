@@ -5,7 +5,7 @@ use Rattle.std.proofs.lemmas.List.{length-take-le}
 use Rattle.mr_links.specs.Links.{Links}
 use Rattle.mr_links.specs.declared.link_id.LinkId.{LinkId}
 use Rattle.mr_ends.specs.State.{EndState, full, serves, unread_in}
-use Rattle.mr_ends.specs.State.EndState.{client, replica, shut, upstream}
+use Rattle.mr_ends.specs.State.EndState.{client, waiting, replica, shut, upstream}
 use Rattle.mr_file.specs.LogFile.{Rose}
 use Rattle.mr_file.specs.declared.sync_mode.SyncMode.{SyncMode}
 use Rattle.mr_outs.specs.Outs.{OutsState, outs_of}
@@ -69,6 +69,7 @@ positive (suc n) some = omega arith
 -- an end that takes so many bytes isn't full
 too_much : (e : EndState) (count room : ℕ) → room_at (Some e) ≡ Some room → serves e ≡ true → full < length (unread_in e) + count → count ≤ room → 0 < count → ⊥
 too_much (client u) count room is served over fits some = let left : full - length u ≡ room = some_is (full - length u) room is in omega (arith, left, over, fits, some)
+too_much (waiting t u) count room is served over fits some = let left : full - length u ≡ room = some_is (full - length u) room is in omega (arith, left, over, fits, some)
 too_much (replica u) count room is served over fits some = let left : full - length u ≡ room = some_is (full - length u) room is in omega (arith, left, over, fits, some)
 too_much upstream count room is served over fits some = cc
 too_much shut count room is served over fits some = cc

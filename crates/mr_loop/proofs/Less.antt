@@ -15,7 +15,7 @@ use Rattle.mr_lines.specs.Lines.{IsMarked, IsPeerLine, Line}
 use Rattle.mr_course.specs.State.{CourseState, name_of}
 use Rattle.mr_course.specs.declared.upstream.UpstreamStep.{UpstreamStep}
 use Rattle.mr_course.specs.declared.upstream.UpstreamStep.TheVariants as outcome
-use Rattle.mr_ends.specs.State.{EndState}
+use Rattle.mr_ends.specs.State.{EndState, Transaction}
 use Rattle.mr_ends.specs.State.EndState.{upstream}
 use Rattle.mr_follow.specs.State.{AgreesBy, FollowState, Agrees as FollowAgrees}
 use Rattle.mr_follow.specs.Lines.{Begins}
@@ -26,15 +26,16 @@ use Rattle.mr_groups.specs.Groups.{IsGoodGroup, group_text}
 use Rattle.mr_groups.proofs.Runs.{some_text as some_in_group}
 use Rattle.mr_effect.specs.declared.effect.Effect.{Effect}
 use Rattle.mr_outs.specs.Outs.{OutState, OutsState, Output}
-use Rattle.mr_rows.specs.State.{IsNode, NodeState, Core, Agrees, MasterAgrees, ReplicaAgrees, end_of}
+use Rattle.mr_rows.specs.State.{IsNode, NodeState, Core, Agrees, AgreesWithin, MasterAgrees, ReplicaAgrees, end_of}
 use Rattle.mr_rows.specs.Telling.{Around}
-use Rattle.mr_rows.specs.Requests.{Asks}
+use Rattle.mr_rows.specs.Requests.{Asks, AsksNothing}
 use Rattle.mr_rows.specs.Served.{Served, request, nothing}
-use Rattle.mr_rows.specs.ClientRows.{ClientRow, serves, closes, halts, synchronizes, promotes, turns, demotes}
+use Rattle.mr_rows.specs.ClientRows.{ClientRow, serves, closes, halts, synchronizes, promotes, turns, demotes, begins}
+use Rattle.mr_rows.specs.Transactions.{WithinRow}
 use Rattle.mr_rows.specs.ReplicaRows.{IsExpected, ReplicaRow, acknowledgement, nothing as expects_nothing, notes, parts}
 use Rattle.mr_rows.specs.LinkRows.{closed_at, follow_without}
 use Rattle.mr_node.specs.Calls.{Agreeing}
-use Rattle.mr_node.specs.Calls.Agreeing.{client as of_client, replica as of_replica, master as of_master, shut as of_shut}
+use Rattle.mr_node.specs.Calls.Agreeing.{client as of_client, waiting as of_waiting, replica as of_replica, master as of_master, shut as of_shut}
 use Rattle.mr_node.specs.Steps.{Steps}
 use Rattle.mr_node.specs.declared.fault.NodeFault.{NodeFault}
 use Rattle.mr_node.specs.declared.step.Step.{Step}
@@ -66,13 +67,16 @@ shorter u text rest e some = omega (arith, ap length e, length-append text rest,
 asked_less : (u : List ℕ) (words : List (List ℕ)) (rest : List ℕ) → Asks u words rest → length rest < length u
 asked_less u words rest asks = shorter u asks.text rest asks.begins (some_text asks.text (inl (words, asks.request)))
 
+passed_less : (u rest : List ℕ) → AsksNothing u rest → length rest < length u
+passed_less u rest asks = shorter u asks.text rest asks.begins (some_text asks.text (inr asks.empty))
+
 served_less : (c d : Core) (around : Around) (u rest : List ℕ) (given : Given) (out : Output) → Served c around u given d rest out → length rest < length u
 served_less c d around u rest given out (request words asks answered) = asked_less u words rest asks
-served_less c d around u rest given out (nothing asks same none) = shorter u asks.text rest asks.begins (some_text asks.text (inr asks.empty))
+served_less c d around u rest given out (nothing asks same none) = passed_less u rest asks
 
 expected_less : (u rest : List ℕ) → IsExpected u rest → length rest < length u
 expected_less u rest (acknowledgement words offset asks ack) = asked_less u words rest asks
-expected_less u rest (expects_nothing asks) = shorter u asks.text rest asks.begins (some_text asks.text (inr asks.empty))
+expected_less u rest (expects_nothing asks) = passed_less u rest asks
 
 marked_some : (front : List ℕ) → IsMarked front → 0 < length front
 marked_some [] h = absurd h
@@ -102,6 +106,9 @@ less_by a b l n m here there less follow = omega (arith, here, there, less, foll
 client_left : {a : NodeState} {l : LinkId} {u : List ℕ} → Agrees a l u → left_in (end_of a l) ≡ 1 + length u
 client_left ag = ap left_in ag.is
 
+waiting_left : {a : NodeState} {l : LinkId} {t : Transaction} {u : List ℕ} → AgreesWithin a l t u → left_in (end_of a l) ≡ 1 + length u
+waiting_left ag = ap left_in ag.is
+
 replica_left : {a : NodeState} {l : LinkId} {u : List ℕ} → ReplicaAgrees a l u → left_in (end_of a l) ≡ 1 + length u
 replica_left ag = ap left_in ag.is
 
@@ -119,6 +126,14 @@ client_less a b l u given fresh outs ag (synchronizes s) = less_by a b l _ _ (cl
 client_less a b l u given fresh outs ag (promotes s) = less_by a b l _ _ (client_left ag) (ap left_in s.ends.is) (one_less _ _ (asked_less u s.words s.rest s.asks)) (nobody_left l a.follow b.follow s.follow)
 client_less a b l u given fresh outs ag (turns s) = less_by a b l _ _ (client_left ag) (ap left_in s.ends.is) (one_less _ _ (asked_less u s.words s.rest s.asks)) (nobody_left l a.follow b.follow s.follow)
 client_less a b l u given fresh outs ag (demotes s) = less_by a b l _ _ (client_left ag) (ap left_in s.ends.is) (one_less _ _ (asked_less u s.words s.rest s.asks)) (nobody_left l a.follow b.follow s.follow)
+client_less a b l u given fresh outs ag (begins s) = less_by a b l _ _ (client_left ag) (ap left_in s.leaves.is) (one_less _ _ (asked_less u s.words s.rest s.asks)) (same_left l a.follow b.follow s.leaves.follow)
+
+within_less : (a b : NodeState) (l : LinkId) (t : Transaction) (u : List ℕ) (given : Given) (outs : OutsState) → AgreesWithin a l t u → WithinRow a l t u given b outs → left_at b l < left_at a l
+within_less a b l t u given outs ag (WithinRow.stands s) = less_by a b l _ _ (waiting_left ag) (ap left_in s.leaves.is) (one_less _ _ (asked_less u s.words s.rest s.asks)) (same_left l a.follow b.follow s.leaves.follow)
+within_less a b l t u given outs ag (WithinRow.passes s) = less_by a b l _ _ (waiting_left ag) (ap left_in s.leaves.is) (one_less _ _ (passed_less u s.rest s.asks)) (same_left l a.follow b.follow s.leaves.follow)
+within_less a b l t u given outs ag (WithinRow.drops s) = less_by a b l _ _ (waiting_left ag) (ap left_in s.leaves.is) (one_less _ _ (asked_less u s.words s.rest s.asks)) (same_left l a.follow b.follow s.leaves.follow)
+within_less a b l t u given outs ag (WithinRow.executes s) = less_by a b l _ _ (waiting_left ag) (ap left_in s.leaves.is) (one_less _ _ (asked_less u s.words s.rest s.asks)) (same_left l a.follow b.follow s.leaves.follow)
+within_less a b l t u given outs ag (WithinRow.closes s) = less_by a b l _ _ (waiting_left ag) (ap left_in s.shut.is) (none_less (length u)) (same_left l a.follow b.follow s.follow)
 
 replica_less : (a b : NodeState) (l : LinkId) (u : List ℕ) (outs : OutsState) → ReplicaAgrees a l u → ReplicaRow a l u b outs → left_at b l < left_at a l
 replica_less a b l u outs ag (notes s) = less_by a b l _ _ (replica_left ag) (ap left_in s.leaves.is) (one_less _ _ (expected_less u s.rest s.expected)) (same_left l a.follow b.follow s.leaves.follow)
@@ -187,6 +202,7 @@ heard_agrees a b l u came h m = subst (λ f. FollowAgrees f u) (ap (λ (z : Link
 
 done_less_at : (a b : NodeState) (l : LinkId) (u : List ℕ) (given : Given) (fresh : List ℕ) (outs : OutsState) → IsNode a → a.core.up ≡ true → Agreeing a l u → Steps a l given fresh b (Ok (step.Done outs)) → left_at b l < left_at a l
 done_less_at a b l u given fresh outs node up (of_client agrees) row = client_less a b l u given fresh outs agrees (row.at_client u (record { up = up; agrees = agrees }))
+done_less_at a b l u given fresh outs node up (of_waiting t agrees) row = within_less a b l t u given outs agrees (row.at_waiting t u (record { up = up; agrees = agrees }))
 done_less_at a b l u given fresh outs node up (of_replica agrees) row = replica_less a b l u outs agrees (row.at_replica u (record { up = up; agrees = agrees }))
 done_less_at a b l u given fresh outs node up (of_master agrees) row =
     let h = row.at_master up (ap name_of agrees.found) in

@@ -5,17 +5,20 @@ use Rattle.mr_file.specs.declared.sync_mode.SyncMode.{SyncMode}
 use Rattle.mr_data.specs.declared.given.Given.{Given}
 use Rattle.mr_course.specs.declared.upstream.UpstreamStep.{UpstreamStep}
 use Rattle.mr_outs.specs.Outs.{OutsState, Output, outs_of}
+use Rattle.mr_ends.specs.State.{Transaction}
 use Rattle.mr_rows.specs.State.{NodeState, Core}
 use Rattle.mr_rows.specs.Telling.{Around}
 use Rattle.mr_rows.specs.Served.{Answered, Served, within, beyond, rewritten, tells as told_of, keeps_role, request, nothing}
-use Rattle.mr_rows.specs.ClientRows.{ClientRow, serves, closes as shuts, halts, synchronizes, promotes, turns, demotes}
+use Rattle.mr_rows.specs.ClientRows.{ClientRow, serves, closes as shuts, halts, synchronizes, promotes, turns, demotes, begins}
+use Rattle.mr_rows.specs.Transactions.{WithinRow}
 use Rattle.mr_rows.specs.ReplicaRows.{ReplicaRow, notes, parts}
 use Rattle.mr_rows.specs.UpstreamRows as master
 use Rattle.mr_rows.specs.TimeRows.{TickRow, deletes, rests}
 use Rattle.mr_course.specs.State.{name_of}
 use Rattle.mr_node.specs.Calls.{Agreeing}
-use Rattle.mr_node.specs.Calls.Agreeing.{client, replica, master as upstream, shut}
+use Rattle.mr_node.specs.Calls.Agreeing.{client, waiting, replica, master as upstream, shut}
 use Rattle.mr_node.specs.Steps.{ClientStep, MasterStep, ReplicaStep, Steps}
+use Rattle.mr_node.specs.Within.{WithinStep}
 use Rattle.mr_node.specs.declared.fault.NodeFault.{NodeFault}
 use Rattle.mr_node.specs.declared.fault.NodeFault.TheVariants as refusal
 use Rattle.mr_node.specs.declared.step.Step.{Step}
@@ -51,6 +54,14 @@ row_up a b l u given fresh outs (synchronizes s) = by_core s.core
 row_up a b l u given fresh outs (promotes s) = by_core s.core
 row_up a b l u given fresh outs (turns s) = by_core s.core
 row_up a b l u given fresh outs (demotes s) = by_core s.core
+row_up a b l u given fresh outs (begins s) = by_core s.core
+
+within_row_up : (a b : NodeState) (l : LinkId) (t : Transaction) (u : List ℕ) (given : Given) (outs : OutsState) → WithinRow a l t u given b outs → b.core.up ≡ a.core.up
+within_row_up a b l t u given outs (WithinRow.stands s) = by_core s.core
+within_row_up a b l t u given outs (WithinRow.passes s) = by_core s.core
+within_row_up a b l t u given outs (WithinRow.drops s) = by_core s.core
+within_row_up a b l t u given outs (WithinRow.executes s) = by_core s.core
+within_row_up a b l t u given outs (WithinRow.closes s) = by_core s.core
 
 replica_up : (a b : NodeState) (l : LinkId) (u : List ℕ) (outs : OutsState) → ReplicaRow a l u b outs → b.core.up ≡ a.core.up
 replica_up a b l u outs (notes s) = by_core s.core
@@ -79,6 +90,15 @@ client_up a b l u given fresh (Err refusal.Stopped) other row = absurd (other re
 client_up a b l u given fresh (Err refusal.NoLink) other row = absurd row
 client_up a b l u given fresh (Err refusal.InputFull) other row = absurd row
 
+within_up : (a b : NodeState) (l : LinkId) (t : Transaction) (u : List ℕ) (given : Given) (r : Result Step NodeFault) → r ≢ Err refusal.Stopped → WithinStep a l t u given b r → b.core.up ≡ a.core.up
+within_up a b l t u given (Ok step.Idle) other row = by_node row.same
+within_up a b l t u given (Ok (step.Done outs)) other row = within_row_up a b l t u given outs row
+within_up a b l t u given (Ok step.Closed) other row = absurd row
+within_up a b l t u given (Err refusal.Memory) other row = by_node row.1
+within_up a b l t u given (Err refusal.Stopped) other row = absurd (other refl)
+within_up a b l t u given (Err refusal.NoLink) other row = absurd row
+within_up a b l t u given (Err refusal.InputFull) other row = absurd row
+
 replicas_up : (a b : NodeState) (l : LinkId) (u : List ℕ) (r : Result Step NodeFault) → ReplicaStep a l u b r → b.core.up ≡ a.core.up
 replicas_up a b l u (Ok step.Idle) row = by_node row.same
 replicas_up a b l u (Ok (step.Done outs)) row = replica_up a b l u outs row
@@ -99,6 +119,7 @@ master_up a b l (Err refusal.InputFull) other row = absurd row
 
 agreeing_up : (a b : NodeState) (l : LinkId) (u : List ℕ) (given : Given) (fresh : List ℕ) (r : Result Step NodeFault) → r ≢ Err refusal.Stopped → a.core.up ≡ true → Agreeing a l u → Steps a l given fresh b r → b.core.up ≡ a.core.up
 agreeing_up a b l u given fresh r other up (client agrees) row = client_up a b l u given fresh r other (row.at_client u (record { up = up; agrees = agrees }))
+agreeing_up a b l u given fresh r other up (waiting t agrees) row = within_up a b l t u given r other (row.at_waiting t u (record { up = up; agrees = agrees }))
 agreeing_up a b l u given fresh r other up (replica agrees) row = replicas_up a b l u r (row.at_replica u (record { up = up; agrees = agrees }))
 agreeing_up a b l u given fresh r other up (upstream agrees) row = master_up a b l r other (row.at_master up (ap name_of agrees.found))
 agreeing_up a b l u given fresh r other up (shut is none) row = by_node (row.at_shut up is).1

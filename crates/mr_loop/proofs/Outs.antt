@@ -7,13 +7,15 @@ use Rattle.mr_file.specs.declared.sync_mode.SyncMode.{SyncMode}
 use Rattle.mr_follow.specs.State.{FollowState, Agrees as FollowAgrees}
 use Rattle.mr_course.specs.State.{CourseState, name_of}
 use Rattle.mr_connections.specs.State.{HasLink, parted, sent}
+use Rattle.mr_ends.specs.State.{Transaction}
 use Rattle.mr_outs.specs.Outs.{OutState, OutsState, append, close, outs_of, replace, send}
 use Rattle.mr_rows.specs.State.{MasterAgrees, NodeState, end_of}
 use Rattle.mr_rows.specs.LinkRows.{closed_at}
 use Rattle.mr_rows.specs.UpstreamRows as upstream
 use Rattle.mr_node.specs.Calls.{Agreeing}
-use Rattle.mr_node.specs.Calls.Agreeing.{client, replica, master, shut}
+use Rattle.mr_node.specs.Calls.Agreeing.{client, waiting, replica, master, shut}
 use Rattle.mr_node.specs.Steps.{ClientStep, MasterStep, ReplicaStep, Steps}
+use Rattle.mr_node.specs.Within.{WithinStep}
 use Rattle.mr_node.specs.declared.fault.NodeFault.{NodeFault}
 use Rattle.mr_node.specs.declared.fault.NodeFault.TheVariants as refusal
 use Rattle.mr_node.specs.declared.step.Step.{Step}
@@ -205,25 +207,26 @@ counts_call e old counting new goes_on no_tick call uses ids deaf h one same =
     (ap (λ (x : Turn). x.deaf) (same ∙ one) ∙ ap (λ k. raised k old.deaf) (sym deaf))
 
 -- where something is unread, a step isn't answered so
-never_at : (a b : NodeState) (l : LinkId) (u : List ℕ) (given : Given) (fresh : List ℕ) (r : Result Step NodeFault) → (ClientStep a l u given fresh b r → ⊥) → (ReplicaStep a l u b r → ⊥) → (MasterStep a l b r → ⊥)
+never_at : (a b : NodeState) (l : LinkId) (u : List ℕ) (given : Given) (fresh : List ℕ) (r : Result Step NodeFault) → (ClientStep a l u given fresh b r → ⊥) → ((t : Transaction) → WithinStep a l t u given b r → ⊥) → (ReplicaStep a l u b r → ⊥) → (MasterStep a l b r → ⊥)
     → a.core.up ≡ true → (u ≡ [] → ⊥) → Agreeing a l u → Steps a l given fresh b r → ⊥
-never_at a b l u given fresh r no_client no_replica no_master up some (client agrees) row = no_client (row.at_client u (record { up = up; agrees = agrees }))
-never_at a b l u given fresh r no_client no_replica no_master up some (replica agrees) row = no_replica (row.at_replica u (record { up = up; agrees = agrees }))
-never_at a b l u given fresh r no_client no_replica no_master up some (master agrees) row = no_master (row.at_master up (ap name_of agrees.found))
-never_at a b l u given fresh r no_client no_replica no_master up some (shut is none) row = some none
+never_at a b l u given fresh r no_client no_open no_replica no_master up some (client agrees) row = no_client (row.at_client u (record { up = up; agrees = agrees }))
+never_at a b l u given fresh r no_client no_open no_replica no_master up some (waiting t agrees) row = no_open t (row.at_waiting t u (record { up = up; agrees = agrees }))
+never_at a b l u given fresh r no_client no_open no_replica no_master up some (replica agrees) row = no_replica (row.at_replica u (record { up = up; agrees = agrees }))
+never_at a b l u given fresh r no_client no_open no_replica no_master up some (master agrees) row = no_master (row.at_master up (ap name_of agrees.found))
+never_at a b l u given fresh r no_client no_open no_replica no_master up some (shut is none) row = some none
 
 some_bytes : (a : NodeState) (l : LinkId) (i : HasInput a l) → i.unread.bytes ≡ [] → ⊥
 some_bytes a l i none = i.some (i.unread.counted ∙ ap length none)
 
 pub never_closed : (a b : NodeState) (l : LinkId) (given : Given) (fresh : List ℕ) → HasInput a l → Steps a l given fresh b (Ok step.Closed) → ⊥
-never_closed a b l given fresh i row = never_at a b l i.unread.bytes given fresh (Ok step.Closed) (λ x. x) (λ x. x) (λ x. x) i.unread.up (some_bytes a l i) i.unread.agree row
+never_closed a b l given fresh i row = never_at a b l i.unread.bytes given fresh (Ok step.Closed) (λ x. x) (λ t x. x) (λ x. x) (λ x. x) i.unread.up (some_bytes a l i) i.unread.agree row
 
 -- what refuses a step and stops no node is that memory is lacking
 pub lacks_memory : (a b : NodeState) (l : LinkId) (given : Given) (fresh : List ℕ) (e : NodeFault) → HasInput a l → (e ≡ refusal.Stopped → ⊥) → Steps a l given fresh b (Err e) → e ≡ refusal.Memory
 lacks_memory a b l given fresh refusal.Memory i other row = refl
 lacks_memory a b l given fresh refusal.Stopped i other row = absurd (other refl)
-lacks_memory a b l given fresh refusal.NoLink i other row = absurd (never_at a b l i.unread.bytes given fresh (Err refusal.NoLink) (λ x. x) (λ x. x) (λ x. x) i.unread.up (some_bytes a l i) i.unread.agree row)
-lacks_memory a b l given fresh refusal.InputFull i other row = absurd (never_at a b l i.unread.bytes given fresh (Err refusal.InputFull) (λ x. x) (λ x. x) (λ x. x) i.unread.up (some_bytes a l i) i.unread.agree row)
+lacks_memory a b l given fresh refusal.NoLink i other row = absurd (never_at a b l i.unread.bytes given fresh (Err refusal.NoLink) (λ x. x) (λ t x. x) (λ x. x) (λ x. x) i.unread.up (some_bytes a l i) i.unread.agree row)
+lacks_memory a b l given fresh refusal.InputFull i other row = absurd (never_at a b l i.unread.bytes given fresh (Err refusal.InputFull) (λ x. x) (λ t x. x) (λ x. x) (λ x. x) i.unread.up (some_bytes a l i) i.unread.agree row)
 
 -- where memory is lacking, what reads at the link to the master still does
 lacks_others : (a b : NodeState) (l : LinkId) (u : List ℕ) → MasterAgrees a l u → upstream.Lacks a l b → OthersWait a l → OthersWait b l
@@ -236,6 +239,7 @@ lacks_others a b l u m h q =
           let end : end_of b x ≡ end_of a x = ap (λ (z : NodeState). end_of z x) h.node in
           record {
             at_client = λ v ag. (q.each x ne).at_client v (record { is = sym end ∙ ag.is });
+            at_waiting = λ t v ag. (q.each x ne).at_waiting t v (record { is = sym end ∙ ag.is });
             at_replica = λ v ag. (q.each x ne).at_replica v (record { is = sym end ∙ ag.is });
             at_master = λ f e. absurd (ne (ap (λ (z : LinkId × FollowState). z.0) (some_is (x, f) (h.listens.name, h.listens.next) (sym e ∙ reads)) ∙ h.named));
           };
@@ -246,6 +250,7 @@ memory_closed e = cc
 
 memory_others : (a b : NodeState) (l : LinkId) (u : List ℕ) (given : Given) (fresh : List ℕ) → a.core.up ≡ true → Agreeing a l u → Steps a l given fresh b (Err refusal.Memory) → OthersWait a l → OthersWait b l
 memory_others a b l u given fresh up (client agrees) row q = others_is l (row.at_client u (record { up = up; agrees = agrees })).1 q
+memory_others a b l u given fresh up (waiting t agrees) row q = others_is l (row.at_waiting t u (record { up = up; agrees = agrees })).1 q
 memory_others a b l u given fresh up (replica agrees) row q = others_is l (row.at_replica u (record { up = up; agrees = agrees })).1 q
 memory_others a b l u given fresh up (master agrees) row q = lacks_others a b l u agrees (row.at_master up (ap name_of agrees.found)) q
 memory_others a b l u given fresh up (shut is none) row q = absurd (memory_closed (row.at_shut up is).0)

@@ -12,20 +12,21 @@ use Rattle.mr_course.specs.State.{CourseState, name_of}
 use Rattle.mr_course.specs.Rows.{Listens, UpstreamRow}
 use Rattle.mr_course.specs.declared.upstream.UpstreamStep.{UpstreamStep}
 use Rattle.mr_course.specs.declared.upstream.UpstreamStep.TheVariants as outcome
-use Rattle.mr_ends.specs.State.{EndState}
-use Rattle.mr_ends.specs.State.EndState.{client, replica, shut, upstream}
+use Rattle.mr_ends.specs.State.{EndState, Transaction}
+use Rattle.mr_ends.specs.State.EndState.{client, waiting, replica, shut, upstream}
 use Rattle.mr_ends.specs.Replicas.{is_named}
 use Rattle.mr_follow.specs.State.{FollowState, Agrees as FollowAgrees}
 use Rattle.mr_outs.specs.Outs.{OutsState}
 use Rattle.mr_follow.specs.Rows as follow
-use Rattle.mr_rows.specs.State.{FollowedAt, IsNode, NodeState, Agrees, IsShut, MasterAgrees, ReplicaAgrees, course_of, end_of}
+use Rattle.mr_rows.specs.State.{FollowedAt, IsNode, NodeState, Agrees, AgreesWithin, IsShut, MasterAgrees, ReplicaAgrees, course_of, end_of}
 use Rattle.mr_rows.specs.Ends.{Leaves, Settles}
 use Rattle.mr_rows.specs.Requests.{Waits}
-use Rattle.mr_rows.specs.ClientRows.{ClientRow, serves, closes, halts, synchronizes, promotes, turns, demotes}
+use Rattle.mr_rows.specs.ClientRows.{ClientRow, serves, closes, halts, synchronizes, promotes, turns, demotes, begins}
+use Rattle.mr_rows.specs.Transactions.{WithinRow}
 use Rattle.mr_rows.specs.ReplicaRows.{ReplicaRow, notes, parts}
 use Rattle.mr_rows.specs.UpstreamRows as master
 use Rattle.mr_node.specs.Calls.{Agreeing}
-use Rattle.mr_node.specs.Calls.Agreeing.{client as of_client, replica as of_replica, master as of_master, shut as of_shut}
+use Rattle.mr_node.specs.Calls.Agreeing.{client as of_client, waiting as of_waiting, replica as of_replica, master as of_master, shut as of_shut}
 use Rattle.mr_node.specs.Steps.{Steps}
 use Rattle.mr_node.specs.declared.fault.NodeFault.{NodeFault}
 use Rattle.mr_node.specs.declared.step.Step.{Step}
@@ -51,6 +52,7 @@ settled_still a b l e closed gone h none x ne s = elim (is_named closed x) as (�
   ends_only : end_of b x ≡ end_of a x → IsStill b x
   ends_only same = record {
     at_client = λ u ag. s.at_client u (record { is = sym same ∙ ag.is });
+    at_waiting = λ t u ag. s.at_waiting t u (record { is = sym same ∙ ag.is });
     at_replica = λ u ag. s.at_replica u (record { is = sym same ∙ ag.is });
     at_master = λ f e. absurd (followed_none b x none f e);
   }
@@ -72,6 +74,15 @@ client_others a b l u given fresh outs (synchronizes s) q = leaves_others a b l 
 client_others a b l u given fresh outs (promotes s) q = settled_others a b l _ _ _ s.ends s.follow q
 client_others a b l u given fresh outs (turns s) q = settled_others a b l _ _ _ s.ends s.follow q
 client_others a b l u given fresh outs (demotes s) q = settled_others a b l _ _ _ s.ends s.follow q
+client_others a b l u given fresh outs (begins s) q = leaves_others a b l _ s.leaves q
+
+-- .. where a transaction is open
+within_others : (a b : NodeState) (l : LinkId) (t : Transaction) (u : List ℕ) (given : Given) (outs : OutsState) → WithinRow a l t u given b outs → OthersWait a l → OthersWait b l
+within_others a b l t u given outs (WithinRow.stands s) q = leaves_others a b l _ s.leaves q
+within_others a b l t u given outs (WithinRow.passes s) q = leaves_others a b l _ s.leaves q
+within_others a b l t u given outs (WithinRow.drops s) q = leaves_others a b l _ s.leaves q
+within_others a b l t u given outs (WithinRow.executes s) q = leaves_others a b l _ s.leaves q
+within_others a b l t u given outs (WithinRow.closes s) q = others_stay s.others s.follow q
 
 -- ---- a replica's
 
@@ -158,6 +169,7 @@ heard_others a b l u came h q = record {
       let end : end_of b x ≡ end_of a x = ap (λ (z : Links EndState). get z.open_links x) h.ends ∙ behind_end came l x a.ends ne in
       record {
         at_client = λ v ag. (q.each x ne).at_client v (record { is = sym end ∙ ag.is });
+        at_waiting = λ t v ag. (q.each x ne).at_waiting t v (record { is = sym end ∙ ag.is });
         at_replica = λ v ag. (q.each x ne).at_replica v (record { is = sym end ∙ ag.is });
         at_master = λ f e. absurd (ne (reads_at (course_of a) a.core.held l h.reader u h.next came h.course b.core.held h.told h.row x f (sym h.follow ∙ e)));
       };
@@ -167,6 +179,7 @@ heard_others a b l u came h q = record {
 
 done_agreeing : (a b : NodeState) (l : LinkId) (u : List ℕ) (given : Given) (fresh : List ℕ) (outs : OutsState) → a.core.up ≡ true → Agreeing a l u → Steps a l given fresh b (Ok (step.Done outs)) → OthersWait a l → OthersWait b l
 done_agreeing a b l u given fresh outs up (of_client agrees) row q = client_others a b l u given fresh outs (row.at_client u (record { up = up; agrees = agrees })) q
+done_agreeing a b l u given fresh outs up (of_waiting t agrees) row q = within_others a b l t u given outs (row.at_waiting t u (record { up = up; agrees = agrees })) q
 done_agreeing a b l u given fresh outs up (of_replica agrees) row q = replica_others a b l u outs (row.at_replica u (record { up = up; agrees = agrees })) q
 done_agreeing a b l u given fresh outs up (of_master agrees) row q = let h = row.at_master up (ap name_of agrees.found) in heard_others a b l u h.0 (heard a b l u h.0 outs agrees h.2) q
 done_agreeing a b l u given fresh outs up (of_shut is none) row q = absurd (done_closed (row.at_shut up is).0) where
@@ -182,11 +195,23 @@ done_others a b l given fresh outs s q = done_agreeing a b l s.input.unread.byte
 client_one : (u v : List ℕ) → client u ≡ client v → u ≡ v
 client_one u v e = cc
 
+waiting_one : (s t : Transaction) (u v : List ℕ) → waiting s u ≡ waiting t v → u ≡ v
+waiting_one s t u v e = cc
+
 replica_one : (u v : List ℕ) → replica u ≡ replica v → u ≡ v
 replica_one u v e = cc
 
 client_replica : (u v : List ℕ) → client u ≡ replica v → ⊥
 client_replica u v e = cc
+
+client_waiting : (t : Transaction) (u v : List ℕ) → client u ≡ waiting t v → ⊥
+client_waiting t u v e = cc
+
+waiting_replica : (t : Transaction) (u v : List ℕ) → waiting t u ≡ replica v → ⊥
+waiting_replica t u v e = cc
+
+waiting_upstream : (t : Transaction) (u : List ℕ) → waiting t u ≡ upstream → ⊥
+waiting_upstream t u e = cc
 
 pub client_upstream : (u : List ℕ) → client u ≡ upstream → ⊥
 client_upstream u e = cc
@@ -204,13 +229,23 @@ followed_end a l f node found = let P : Option (LinkId × FollowState) → Type 
 pub client_still : (a : NodeState) (l : LinkId) (u : List ℕ) → IsNode a → Agrees a l u → Waits u → IsStill a l
 client_still a l u node ag w = record {
   at_client = λ v other. subst Waits (client_one u v (some_is (client u) (client v) (sym ag.is ∙ other.is))) w;
+  at_waiting = λ t v other. absurd (client_waiting t u v (some_is (client u) (waiting t v) (sym ag.is ∙ other.is)));
   at_replica = λ v other. absurd (client_replica u v (some_is (client u) (replica v) (sym ag.is ∙ other.is)));
   at_master = λ f found. absurd (client_upstream u (some_is (client u) upstream (sym ag.is ∙ followed_end a l f node found)));
+}
+
+pub waiting_still : (a : NodeState) (l : LinkId) (t : Transaction) (u : List ℕ) → IsNode a → AgreesWithin a l t u → Waits u → IsStill a l
+waiting_still a l t u node ag w = record {
+  at_client = λ v other. absurd (client_waiting t v u (some_is (client v) (waiting t u) (sym other.is ∙ ag.is)));
+  at_waiting = λ s v other. subst Waits (waiting_one t s u v (some_is (waiting t u) (waiting s v) (sym ag.is ∙ other.is))) w;
+  at_replica = λ v other. absurd (waiting_replica t u v (some_is (waiting t u) (replica v) (sym ag.is ∙ other.is)));
+  at_master = λ f found. absurd (waiting_upstream t u (some_is (waiting t u) upstream (sym ag.is ∙ followed_end a l f node found)));
 }
 
 pub replica_still : (a : NodeState) (l : LinkId) (u : List ℕ) → IsNode a → ReplicaAgrees a l u → Waits u → IsStill a l
 replica_still a l u node ag w = record {
   at_client = λ v other. absurd (client_replica v u (some_is (client v) (replica u) (sym other.is ∙ ag.is)));
+  at_waiting = λ t v other. absurd (waiting_replica t v u (some_is (waiting t v) (replica u) (sym other.is ∙ ag.is)));
   at_replica = λ v other. subst Waits (replica_one u v (some_is (replica u) (replica v) (sym ag.is ∙ other.is))) w;
   at_master = λ f found. absurd (replica_upstream u (some_is (replica u) upstream (sym ag.is ∙ followed_end a l f node found)));
 }
@@ -225,6 +260,7 @@ absent_still a l node none = still_none a l none (λ f found. none_some upstream
 pub master_still : (a : NodeState) (l : LinkId) → end_of a l ≡ Some upstream → ((f : FollowState) → a.follow ≡ Some (l, f) → Awaits f) → IsStill a l
 master_still a l is awaits = record {
   at_client = λ v ag. absurd (client_upstream v (some_is (client v) upstream (sym ag.is ∙ is)));
+  at_waiting = λ t v ag. absurd (waiting_upstream t v (some_is (waiting t v) upstream (sym ag.is ∙ is)));
   at_replica = λ v ag. absurd (replica_upstream v (some_is (replica v) upstream (sym ag.is ∙ is)));
   at_master = awaits;
 }
@@ -250,6 +286,9 @@ idle_agreeing : (a b : NodeState) (l : LinkId) (u : List ℕ) (given : Given) (f
 idle_agreeing a b l u given fresh node up (of_client agrees) row q =
     let idles = row.at_client u (record { up = up; agrees = agrees }) in
     all_is idles.same (all_of l q (client_still a l u node agrees idles.waits))
+idle_agreeing a b l u given fresh node up (of_waiting t agrees) row q =
+    let idles = row.at_waiting t u (record { up = up; agrees = agrees }) in
+    all_is idles.same (all_of l q (waiting_still a l t u node agrees idles.waits))
 idle_agreeing a b l u given fresh node up (of_replica agrees) row q =
     let idles = row.at_replica u (record { up = up; agrees = agrees }) in
     all_is idles.same (all_of l q (replica_still a l u node agrees idles.waits))

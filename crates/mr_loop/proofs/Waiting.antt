@@ -9,8 +9,8 @@ use Rattle.mr_links.specs.Links.{Links}
 use Rattle.mr_links.specs.declared.link_id.LinkId.{LinkId}
 use Rattle.mr_links.proofs.LinkRows.{ids_total, exact_ids}
 use Rattle.mr_course.specs.State.{name_of}
-use Rattle.mr_ends.specs.State.{EndState}
-use Rattle.mr_ends.specs.State.EndState.{client, replica, shut, upstream}
+use Rattle.mr_ends.specs.State.{EndState, Transaction}
+use Rattle.mr_ends.specs.State.EndState.{client, waiting, replica, shut, upstream}
 use Rattle.mr_follow.specs.State.{FollowState}
 use Rattle.mr_outs.specs.Outs.{OutState, OutsState}
 use Rattle.mr_rows.specs.State.{NodeState, OthersStay, end_of}
@@ -39,8 +39,14 @@ replica_is u v e = cc
 client_no_replica : (u v : List ℕ) → client u ≡ replica v → ⊥
 client_no_replica u v e = cc
 
-replica_no_client : (u v : List ℕ) → replica u ≡ client v → ⊥
-replica_no_client u v e = cc
+client_no_waiting : (t : Transaction) (u v : List ℕ) → client u ≡ waiting t v → ⊥
+client_no_waiting t u v e = cc
+
+upstream_no_waiting : (t : Transaction) (u : List ℕ) → upstream ≡ waiting t u → ⊥
+upstream_no_waiting t u e = cc
+
+shut_no_waiting : (t : Transaction) (u : List ℕ) → shut ≡ waiting t u → ⊥
+shut_no_waiting t u e = cc
 
 upstream_no_client : (u : List ℕ) → upstream ≡ client u → ⊥
 upstream_no_client u e = cc
@@ -72,14 +78,15 @@ by_name P x l one other = elim (eq_by_cmp id_cmp x l) as (λ v. eq_by_cmp id_cmp
 -- what it is by its end and by what reads at the link to the master
 pub record StillBy (end : Option EndState) (follow : Option (LinkId × FollowState)) (l : LinkId) : Type 0 where
   pub at_client : (u : List ℕ) → end ≡ Some (client u) → Waits u
+  pub at_waiting : (t : Transaction) (u : List ℕ) → end ≡ Some (waiting t u) → Waits u
   pub at_replica : (u : List ℕ) → end ≡ Some (replica u) → Waits u
   pub at_master : (f : FollowState) → follow ≡ Some (l, f) → Awaits f
 
 pub still_by : (a : NodeState) (l : LinkId) → StillBy (end_of a l) a.follow l → IsStill a l
-still_by a l s = record { at_client = λ u ag. s.at_client u ag.is; at_replica = λ u ag. s.at_replica u ag.is; at_master = s.at_master }
+still_by a l s = record { at_client = λ u ag. s.at_client u ag.is; at_waiting = λ t u ag. s.at_waiting t u ag.is; at_replica = λ u ag. s.at_replica u ag.is; at_master = s.at_master }
 
 pub by_still : (a : NodeState) (l : LinkId) → IsStill a l → StillBy (end_of a l) a.follow l
-by_still a l s = record { at_client = λ u e. s.at_client u (record { is = e }); at_replica = λ u e. s.at_replica u (record { is = e }); at_master = s.at_master }
+by_still a l s = record { at_client = λ u e. s.at_client u (record { is = e }); at_waiting = λ t u e. s.at_waiting t u (record { is = e }); at_replica = λ u e. s.at_replica u (record { is = e }); at_master = s.at_master }
 
 pub still_same : (a b : NodeState) (x : LinkId) → end_of b x ≡ end_of a x → b.follow ≡ a.follow → IsStill a x → IsStill b x
 still_same a b x end follow s = still_by b x (subst (λ e. StillBy e b.follow x) (sym end) (subst (λ f. StillBy (end_of a x) f x) (sym follow) (by_still a x s)))
@@ -88,6 +95,7 @@ still_same a b x end follow s = still_by b x (subst (λ e. StillBy e b.follow x)
 pub still_none : (b : NodeState) (x : LinkId) → end_of b x ≡ None → ((f : FollowState) → b.follow ≡ Some (x, f) → ⊥) → IsStill b x
 still_none b x end nobody = record {
   at_client = λ u ag. absurd (none_some (client u) (sym end ∙ ag.is));
+  at_waiting = λ t u ag. absurd (none_some (waiting t u) (sym end ∙ ag.is));
   at_replica = λ u ag. absurd (none_some (replica u) (sym end ∙ ag.is));
   at_master = λ f e. absurd (nobody f e);
 }
@@ -95,6 +103,7 @@ still_none b x end nobody = record {
 pub still_shut : (b : NodeState) (x : LinkId) → end_of b x ≡ Some shut → ((f : FollowState) → b.follow ≡ Some (x, f) → ⊥) → IsStill b x
 still_shut b x end nobody = record {
   at_client = λ u ag. absurd (shut_no_client u (some_is shut (client u) (sym end ∙ ag.is)));
+  at_waiting = λ t u ag. absurd (shut_no_waiting t u (some_is shut (waiting t u) (sym end ∙ ag.is)));
   at_replica = λ u ag. absurd (shut_no_replica u (some_is shut (replica u) (sym end ∙ ag.is)));
   at_master = λ f e. absurd (nobody f e);
 }
@@ -146,6 +155,7 @@ left_by l (Some g) f h = kept (eq_by_cmp id_cmp g.0 l) refl h where
 pub closed_still : (l : LinkId) (a : NodeState) (x : LinkId) → IsStill a x → IsStill (closed_at l a) x
 closed_still l a x s = record {
   at_client = λ u ag. s.at_client u (record { is = removed_end (eq_by_cmp id_cmp x l) (end_of a x) (client u) (sym (get-remove ids_total a.ends.open_links l x) ∙ ag.is) });
+  at_waiting = λ t u ag. s.at_waiting t u (record { is = removed_end (eq_by_cmp id_cmp x l) (end_of a x) (waiting t u) (sym (get-remove ids_total a.ends.open_links l x) ∙ ag.is) });
   at_replica = λ u ag. s.at_replica u (record { is = removed_end (eq_by_cmp id_cmp x l) (end_of a x) (replica u) (sym (get-remove ids_total a.ends.open_links l x) ∙ ag.is) });
   at_master = λ f e. s.at_master f (without_follows l x a.follow f e);
 }
@@ -185,6 +195,7 @@ opened_all {a} {b} {l} o q =
     record {
       each = λ x. record {
         at_client = λ u ag. put_end (eq_by_cmp id_cmp x l) (client []) (client u) (end_of a x) (sym (end x) ∙ ag.is) (Waits u) (λ e. subst Waits (client_is [] u e) waits_nothing) (λ e. (q.each x).at_client u (record { is = e }));
+        at_waiting = λ t u ag. put_end (eq_by_cmp id_cmp x l) (client []) (waiting t u) (end_of a x) (sym (end x) ∙ ag.is) (Waits u) (λ e. absurd (client_no_waiting t [] u e)) (λ e. (q.each x).at_waiting t u (record { is = e }));
         at_replica = λ u ag. put_end (eq_by_cmp id_cmp x l) (client []) (replica u) (end_of a x) (sym (end x) ∙ ag.is) (Waits u) (λ e. absurd (client_no_replica [] u e)) (λ e. (q.each x).at_replica u (record { is = e }));
         at_master = λ f e. (q.each x).at_master f (sym (ap (λ (z : NodeState). z.follow) o.node) ∙ e);
       };
@@ -199,6 +210,7 @@ dialled_all {a} {b} {l} {outs} d q =
     record {
       each = λ x. record {
         at_client = λ u ag. put_end (eq_by_cmp id_cmp x l) upstream (client u) (end_of a x) (sym (end x) ∙ ag.is) (Waits u) (λ e. absurd (upstream_no_client u e)) (λ e. (q.each x).at_client u (record { is = e }));
+        at_waiting = λ t u ag. put_end (eq_by_cmp id_cmp x l) upstream (waiting t u) (end_of a x) (sym (end x) ∙ ag.is) (Waits u) (λ e. absurd (upstream_no_waiting t u e)) (λ e. (q.each x).at_waiting t u (record { is = e }));
         at_replica = λ u ag. put_end (eq_by_cmp id_cmp x l) upstream (replica u) (end_of a x) (sym (end x) ∙ ag.is) (Waits u) (λ e. absurd (upstream_no_replica u e)) (λ e. (q.each x).at_replica u (record { is = e }));
         at_master = λ f e. subst Awaits (second_is l _ x f (some_is _ (x, f) (sym (ap (λ (z : NodeState). z.follow) d.node) ∙ e))) (awaits_first _ _);
       };
@@ -226,6 +238,7 @@ pub fed_others : (a b : NodeState) (l : LinkId) (bytes : List ℕ) → Fed a l b
 fed_others a b l bytes fed q = record {
   each = λ x ne. record {
     at_client = λ u ag. (q.each x).at_client u (record { is = sym (fed.feeds.others.stay x ne) ∙ ag.is });
+    at_waiting = λ t u ag. (q.each x).at_waiting t u (record { is = sym (fed.feeds.others.stay x ne) ∙ ag.is });
     at_replica = λ u ag. (q.each x).at_replica u (record { is = sym (fed.feeds.others.stay x ne) ∙ ag.is });
     at_master = λ f e. (q.each x).at_master f (fed_follow a b l x bytes f a.follow refl fed.feeds q ne e);
   };

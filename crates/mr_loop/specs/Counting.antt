@@ -84,8 +84,8 @@ pub record IsTickDue (now : ℤ) (a : NodeState) : Type 0 where
   pub master : a.core.master ≡ true
   pub some : deletions now a.core.held (room_in a.core) ≢ []
 
--- So many ticks are made in a turn in which so many steps used something: a step gives one key a deadline at most, and a tick deletes 64, so that ticks keep up
--- with any steps.
+-- So many ticks are made in a turn in which so many steps used something. A step gives one key a deadline at most, or EXEC's one for each request that waited,
+-- which took a step itself; and a tick deletes 64. So over turns ticks keep up with any steps.
 abbrev pub most_ticks : ℕ → ℕ
 most_ticks done = 16 + done / 64
 

@@ -3,12 +3,12 @@ use Rattle.std.specs.Prelude.{◌≡◌, ◌≢◌, ◌+◌, List, ℕ, Bool, tr
 use Rattle.std.specs.Ordering.{eq_by_cmp}
 use Rattle.mr_links.specs.LinkId.{id_cmp}
 use Rattle.mr_links.specs.declared.link_id.LinkId.{LinkId}
-use Rattle.mr_ends.specs.State.{EndState}
-use Rattle.mr_ends.specs.State.EndState.{client, replica, upstream, shut}
+use Rattle.mr_ends.specs.State.{EndState, Transaction}
+use Rattle.mr_ends.specs.State.EndState.{client, waiting, replica, upstream, shut}
 use Rattle.mr_follow.specs.State.{FollowState, Agrees as FollowAgrees}
 use Rattle.mr_follow.specs.Rows as follow
 use Rattle.mr_follow.specs.declared.taking.Taking.{Taking}
-use Rattle.mr_rows.specs.State.{NodeState, Agrees, ReplicaAgrees, end_of}
+use Rattle.mr_rows.specs.State.{NodeState, Agrees, AgreesWithin, ReplicaAgrees, end_of}
 use Rattle.mr_rows.specs.Requests.{Waits}
 
 -- What reads at the link to the master waits for more: bytes that can be unread there hold nothing whole.
@@ -20,6 +20,7 @@ pub record Awaits (f : FollowState) : Type 0 where
 -- A step at the node's end of this link would use nothing.
 pub record IsStill (a : NodeState) (l : LinkId) : Type 0 where
   pub at_client : (u : List ℕ) → Agrees a l u → Waits u
+  pub at_waiting : (t : Transaction) (u : List ℕ) → AgreesWithin a l t u → Waits u
   pub at_replica : (u : List ℕ) → ReplicaAgrees a l u → Waits u
   pub at_master : (f : FollowState) → a.follow ≡ Some (l, f) → Awaits f
 
@@ -47,6 +48,7 @@ WaitsBut (Some l) a = OthersWait a l
 abbrev pub left_in : Option EndState → ℕ
 left_in None = 0
 left_in (Some (client unread)) = 1 + length unread
+left_in (Some (waiting t unread)) = 1 + length unread
 left_in (Some (replica unread)) = 1 + length unread
 left_in (Some upstream) = 1
 left_in (Some shut) = 0

@@ -1,17 +1,24 @@
 -- The file of a pipe folds to the dataset of its node.
-use Rattle.std.proofs.Common.{◌≡◌, ◌⊎◌, inl, inr, ℕ, List, [], ◌∷◌, ◌++◌, Option, Some, IfSome, refl, sym, ap, subst, ◌∙◌, take, drop, take-append-drop}
+use Rattle.std.proofs.Common.{◌≡◌, ◌⊎◌, inl, inr, ℕ, List, [], ◌∷◌, ◌++◌, Bool, not, Option, Some, IfSome, refl, sym, ap, subst, ◌∙◌, take, drop, take-append-drop}
 use Rattle.std.specs.FinMap.{empty}
 use Rattle.mr_file.specs.LogFile.{AppendsSome, IsOldOrNew, IsSynced}
 use Rattle.mr_file.specs.declared.sync_mode.SyncMode.{SyncMode}
 use Rattle.mr_file.specs.declared.sync_mode.SyncMode.TheVariants.{Always}
+use Rattle.mr_resp.specs.Replies.{Tree}
 use Rattle.mr_effect.specs.Spelling.{texts}
+use Rattle.mr_effect.specs.declared.effect.Effect.{Effect}
 use Rattle.mr_entries.specs.Dataset.{Dataset}
 use Rattle.mr_data.specs.Rebuilding.{rebuilding}
 use Rattle.mr_data.specs.declared.given.Given.{Given}
+use Rattle.mr_groups.specs.Groups.{as_group, grown_text}
 use Rattle.mr_groups.specs.Folding.{LeadsByGroups, MakesByGroups}
 use Rattle.mr_groups.proofs.Runs.{leads_nowhere}
 use Rattle.mr_groups.proofs.Going.{leads_further}
 use Rattle.mr_groups.proofs.Singles.{leads_applied}
+use Rattle.mr_plan.specs.Transactions.{Frame, DoesAll}
+use Rattle.mr_language.proofs.GoodGroups.{good_effects, good_as_group, as_group_applied, as_group_texts}
+use Rattle.mr_language.proofs.Waited.{sound_all}
+use Rattle.mr_ends.specs.State.{Transaction}
 use Rattle.mr_outs.specs.Outs.{Output}
 use Rattle.mr_cmd_node.specs.declared.node_ask.NodeAsk.{NodeAsk}
 use Rattle.mr_rows.specs.State.{Core}
@@ -19,7 +26,7 @@ use Rattle.mr_rows.specs.Telling.{Around}
 use Rattle.mr_rows.specs.Served.{Served, Answered, IsQuiet}
 use Rattle.mr_pipe.specs.Outside.{Kept, Outside, Change, changed, followed, appends, replaces, Filed, HasHalf, IsTorn, IsCovered}
 use Rattle.mr_pipe.specs.State.{PipeState}
-use Rattle.mr_pipe.specs.Sessions.{Moment, AreServed, Gives, IsServed, TakesRole, alone, changes_of, all_changes}
+use Rattle.mr_pipe.specs.Sessions.{Moment, AreServed, Gives, IsServed, IsServedWithin, TakesRole, alone, changes_of, all_changes, frame_alone}
 use Rattle.mr_pipe.specs.Serving.{IsLeft, IsCutOff}
 use Rattle.mr_pipe.specs.Piped.{Answers}
 use Rattle.mr_pipe.specs.Folding.{FoldsTorn, FilesFold, FilesFoldTorn, FilesStaySynced}
@@ -49,6 +56,8 @@ quiet_leaves : (c : Core) (wish : NodeAsk) (out : Output) → IsQuiet c wish out
 quiet_leaves c wish out (IsQuiet.introduces told is gives) = ap changes_of gives
 quiet_leaves c wish out (IsQuiet.acknowledges offset is gives) = ap changes_of gives
 quiet_leaves c wish out (IsQuiet.refuses id wanted is replica gives) = ap changes_of gives
+quiet_leaves c wish out (IsQuiet.execs_nothing is gives) = ap changes_of gives
+quiet_leaves c wish out (IsQuiet.discards_nothing is gives) = ap changes_of gives
 quiet_leaves c wish out (IsQuiet.stays_master is master gives) = ap changes_of gives
 quiet_leaves c wish out (IsQuiet.stays_replica host port is replica followed gives) = ap changes_of gives
 
@@ -76,11 +85,41 @@ role_leaves s words t out (TakesRole.demotes address master wish is gives) = (ap
 same_folds : (cs : List Change) (m n : Dataset) (xs : List ℕ) → cs ≡ [] → n ≡ m → MakesByGroups xs m → MakesByGroups (followed cs xs) n
 same_folds cs m n xs none same f = subst (λ (z : List Change). MakesByGroups (followed z xs) n) (sym none) (subst (MakesByGroups xs) (sym same) f)
 
+-- where a transaction is open only EXEC changes either, by one group
+group_leads : (frame : Frame) (replica : Bool) (g : Given) (requests : List (List ℕ)) (m n : Dataset) (replies : List Tree) (effects : List Effect) → DoesAll frame replica g requests [] m replies effects n → LeadsByGroups (grown_text effects) m n
+group_leads frame replica g requests m n replies effects does =
+    let sound = sound_all frame replica g requests [] m n replies effects does in
+    record {
+      groups = as_group effects;
+      good = good_as_group effects sound.join (good_effects effects m n sound.leads sound.short);
+      are_texts = sym (as_group_texts effects);
+      applied = as_group_applied effects m n sound.leads;
+    }
+
+-- .. of the requests that waited
+pub executed_leads : (g : Given) (s : PipeState) (held : Transaction) (t : PipeState) (replies : List Tree) (effects : List Effect) (left : Dataset) → DoesAll (frame_alone s.core) (not s.core.master) g held.queued [] s.core.held replies effects left
+    → t.core.held ≡ left → LeadsByGroups (grown_text effects) s.core.held t.core.held
+executed_leads g s held t replies effects left does is =
+    subst (LeadsByGroups (grown_text effects) s.core.held) (sym is) (group_leads (frame_alone s.core) (not s.core.master) g held.queued s.core.held left replies effects does)
+
+within_folds : (g : Given) (s : PipeState) (held : Transaction) (u : List ℕ) (t : PipeState) (rest : List ℕ) (out : Output) → IsServedWithin g s held u t rest out → (xs : List ℕ) → MakesByGroups xs s.core.held
+    → MakesByGroups (followed (changes_of out) xs) t.core.held
+within_folds g s held u t rest out (IsServedWithin.stands words asks next reply h is gives) xs f = same_folds (changes_of out) s.core.held t.core.held xs (ap changes_of gives) (ap (λ (z : PipeState). z.core.held) is) f
+within_folds g s held u t rest out (IsServedWithin.passes asks is gives) xs f = same_folds (changes_of out) s.core.held t.core.held xs (ap changes_of gives) (ap (λ (z : PipeState). z.core.held) is) f
+within_folds g s held u t rest out (IsServedWithin.drops words asks reply h is gives) xs f = same_folds (changes_of out) s.core.held t.core.held xs (ap changes_of gives) (ap (λ (z : PipeState). z.core.held) is) f
+within_folds g s held u t rest out (IsServedWithin.executes words asks runs whole replies effects left does is gives) xs f =
+    let p = grown_text effects in
+    subst (λ (o : Output). MakesByGroups (followed (changes_of o) xs) t.core.held) (sym gives)
+    (subst (λ z. MakesByGroups z t.core.held) (sym (followed_texts p xs))
+    (leads_further xs p empty s.core.held t.core.held f (executed_leads g s held t replies effects left does (ap (λ (z : PipeState). z.core.held) is))))
+
 one_folds : (g : Given) (s : PipeState) (u : List ℕ) (t : PipeState) (rest : List ℕ) (out : Output) → IsServed g s u t rest out → (xs : List ℕ) → MakesByGroups xs s.core.held → MakesByGroups (followed (changes_of out) xs) t.core.held
-one_folds g s u t rest out (IsServed.serves k d h is) xs f = subst (λ (z : PipeState). MakesByGroups (followed (changes_of out) xs) z.core.held) (sym is) (served_folds s.core alone u g d rest out h xs f)
-one_folds g s u t rest out (IsServed.takes_role k words asks h) xs f =
+one_folds g s u t rest out (IsServed.serves k n d h is) xs f = subst (λ (z : PipeState). MakesByGroups (followed (changes_of out) xs) z.core.held) (sym is) (served_folds s.core alone u g d rest out h xs f)
+one_folds g s u t rest out (IsServed.takes_role k n words asks h) xs f =
     let same = role_leaves s words t out h in
     same_folds (changes_of out) s.core.held t.core.held xs same.0 same.1 f
+one_folds g s u t rest out (IsServed.begins k n words asks wish is gives) xs f = same_folds (changes_of out) s.core.held t.core.held xs (ap changes_of gives) (ap (λ (z : PipeState). z.core.held) is) f
+one_folds g s u t rest out (IsServed.goes_within k held n h) xs f = within_folds g s held u t rest out h xs f
 one_folds g s u t rest out (IsServed.notes k e is gives) xs f = same_folds (changes_of out) s.core.held t.core.held xs (ap changes_of gives) (ap (λ (z : PipeState). z.core.held) is) f
 
 all_fold : (g : Given) (s : PipeState) (u : List ℕ) (ms : List Moment) (t : PipeState) (rest said : List ℕ) → AreServed g s u ms t rest said → (xs : List ℕ) → MakesByGroups xs s.core.held → MakesByGroups (followed (all_changes ms) xs) t.core.held
@@ -110,7 +149,7 @@ abbrev behind_first : List Change → List Change
 behind_first [] = []
 behind_first (c ∷ cs) = cs
 
-none_is : (made : List Change) (c : Change) (others : List Change) → [] ≡ made ++ c ∷ others → ⊥
+pub none_is : (made : List Change) (c : Change) (others : List Change) → [] ≡ made ++ c ∷ others → ⊥
 none_is [] c others e = cc
 none_is (m ∷ made) c others e = cc
 
@@ -119,13 +158,13 @@ only_one x [] c others e = (refl, sym (ap (first_of x) e))
 only_one x (m ∷ made) c others e = absurd (none_is made c others (ap behind_first e))
 
 -- the change at which the file failed, where it was to be the only one
-half_of : (x : Change) (a b : Kept) → IsTorn a b (x ∷ []) → HasHalf x a.told b.told
+pub half_of : (x : Change) (a b : Kept) → IsTorn a b (x ∷ []) → HasHalf x a.told b.told
 half_of x a b t =
     let one = only_one x t.made t.change t.others t.are in
     let same : t.between ≡ a = subst (λ (z : List Change). Filed a t.between z) one.0 t.filed in
     subst (λ (k : Kept). HasHalf x k.told b.told) same (subst (λ (z : Change). HasHalf z t.between.told b.told) one.1 t.fails.told)
 
-torn_told : (a b : Option (List ℕ)) (bytes xs : List ℕ) → AppendsSome a b bytes → a ≡ Some xs → (n : ℕ) × (b ≡ Some (xs ++ take n bytes))
+pub torn_told : (a b : Option (List ℕ)) (bytes xs : List ℕ) → AppendsSome a b bytes → a ≡ Some xs → (n : ℕ) × (b ≡ Some (xs ++ take n bytes))
 torn_told a b bytes xs w h = let there = subst (λ o. AppendsSome o b bytes) h w in (there.0, there.1.1)
 
 torn_nothing : (cs : List Change) (a b : Kept) → cs ≡ [] → IsTorn a b cs → HasTorn b
@@ -171,9 +210,20 @@ served_torn c around u g d rest out a b xs (Served.request words asks (Answered.
 served_torn c around u g d rest out a b xs (Served.request words asks (Answered.keeps_role wish asked quiet d_is)) h f t = torn_nothing (changes_of out) a b (quiet_leaves c wish out quiet) t
 served_torn c around u g d rest out a b xs (Served.nothing asks d_is out_is) h f t = torn_nothing (changes_of out) a b (ap changes_of out_is) t
 
+within_torn : (g : Given) (s : PipeState) (held : Transaction) (u : List ℕ) (v : PipeState) (rest : List ℕ) (out : Output) (a b : Kept) (xs : List ℕ) → IsServedWithin g s held u v rest out → a.told ≡ Some xs → MakesByGroups xs s.core.held
+    → IsTorn a b (changes_of out) → HasTorn b
+within_torn g s held u v rest out a b xs (IsServedWithin.stands words asks next reply r is gives) h f t = torn_nothing (changes_of out) a b (ap changes_of gives) t
+within_torn g s held u v rest out a b xs (IsServedWithin.passes asks is gives) h f t = torn_nothing (changes_of out) a b (ap changes_of gives) t
+within_torn g s held u v rest out a b xs (IsServedWithin.drops words asks reply r is gives) h f t = torn_nothing (changes_of out) a b (ap changes_of gives) t
+within_torn g s held u v rest out a b xs (IsServedWithin.executes words asks runs whole replies effects left does is gives) h f t =
+    torn_texts (grown_text effects) a b s.core.held v.core.held xs h f (executed_leads g s held v replies effects left does (ap (λ (z : PipeState). z.core.held) is))
+    (subst (λ (o : Output). IsTorn a b (changes_of o)) gives t)
+
 gives_torn : (g : Given) (s : PipeState) (u : List ℕ) (out : Output) (a b : Kept) (xs : List ℕ) → Gives g s u out → a.told ≡ Some xs → MakesByGroups xs s.core.held → IsTorn a b (changes_of out) → HasTorn b
-gives_torn g s u out a b xs (Gives.serves v rest (IsServed.serves k d r is)) h f t = served_torn s.core alone u g d rest out a b xs r h f t
-gives_torn g s u out a b xs (Gives.serves v rest (IsServed.takes_role k words asks r)) h f t = torn_nothing (changes_of out) a b (role_leaves s words v out r).0 t
+gives_torn g s u out a b xs (Gives.serves v rest (IsServed.serves k n d r is)) h f t = served_torn s.core alone u g d rest out a b xs r h f t
+gives_torn g s u out a b xs (Gives.serves v rest (IsServed.takes_role k n words asks r)) h f t = torn_nothing (changes_of out) a b (role_leaves s words v out r).0 t
+gives_torn g s u out a b xs (Gives.serves v rest (IsServed.begins k n words asks wish is gives)) h f t = torn_nothing (changes_of out) a b (ap changes_of gives) t
+gives_torn g s u out a b xs (Gives.serves v rest (IsServed.goes_within k held n r)) h f t = within_torn g s held u v rest out a b xs r h f t
 gives_torn g s u out a b xs (Gives.serves v rest (IsServed.notes k e is gives)) h f t = torn_nothing (changes_of out) a b (ap changes_of gives) t
 gives_torn g s u out a b xs (Gives.ends last e out_is) h f t = torn_nothing (changes_of out) a b (ap changes_of out_is) t
 

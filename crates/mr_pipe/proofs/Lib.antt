@@ -6,3 +6,4 @@ pub mod Deliveries
 pub mod Relaying
 pub mod Folds
 pub mod Roles
+pub mod Transactions

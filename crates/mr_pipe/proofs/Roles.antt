@@ -6,14 +6,17 @@ use Rattle.mr_effect.specs.Spelling.{texts}
 use Rattle.mr_effect.specs.declared.effect.Effect.{Effect}
 use Rattle.mr_entries.specs.Dataset.{Dataset}
 use Rattle.mr_cmd_node.specs.declared.node_ask.NodeAsk.{NodeAsk}
+use Rattle.mr_groups.specs.Groups.{grown_text}
 use Rattle.mr_plan.proofs.Replicas.{none_on_replica}
+use Rattle.mr_plan.proofs.Doing.{do_nothing, have_none}
+use Rattle.mr_ends.specs.State.{Transaction}
 use Rattle.mr_outs.specs.Outs.{Output, no_output}
 use Rattle.mr_rows.specs.State.{Core}
 use Rattle.mr_rows.specs.Requests.{Asks}
 use Rattle.mr_rows.specs.Served.{Answered, Served, IsQuiet}
 use Rattle.mr_pipe.specs.Outside.{Change}
 use Rattle.mr_pipe.specs.State.{PipeState}
-use Rattle.mr_pipe.specs.Sessions.{IsLast, IsServed, TakesRole, alone, changes_of}
+use Rattle.mr_pipe.specs.Sessions.{IsLast, IsServed, IsServedWithin, TakesRole, alone, changes_of, frame_alone}
 use Rattle.mr_pipe.specs.Roles.{OnlyRewrites, ReplicaLinksAreSilent, ReplicaLinksEndSilently, ReplicasOnlyRewrite}
 
 -- ---- a node that is a replica
@@ -34,6 +37,8 @@ quiet : (c : Core) (wish : NodeAsk) (out : Output) → IsQuiet c wish out → Un
 quiet c wish out (IsQuiet.introduces told is gives) = only_said out _ gives
 quiet c wish out (IsQuiet.acknowledges offset is gives) = nothing_said out gives
 quiet c wish out (IsQuiet.refuses id wanted is replica gives) = only_said out _ gives
+quiet c wish out (IsQuiet.execs_nothing is gives) = only_said out _ gives
+quiet c wish out (IsQuiet.discards_nothing is gives) = only_said out _ gives
 quiet c wish out (IsQuiet.stays_master is master gives) = only_said out _ gives
 quiet c wish out (IsQuiet.stays_replica host port is replica followed gives) = only_said out _ gives
 
@@ -73,9 +78,22 @@ takes_role s u words t rest out (TakesRole.promotes replica wish is gives) = unt
 takes_role s u words t rest out (TakesRole.turns address replica wish another is gives) = untouched s u t rest out (held_as s t _ is refl) (only_said out _ gives)
 takes_role s u words t rest out (TakesRole.demotes address master wish is gives) = untouched s u t rest out (held_as s t _ is refl) (only_said out _ gives)
 
+-- what waited has no effects either
+within : (g : Given) (s : PipeState) (held : Transaction) (u : List ℕ) (t : PipeState) (rest : List ℕ) (out : Output) → s.core.master ≡ false → IsServedWithin g s held u t rest out → OnlyRewrites s u t rest out
+within g s held u t rest out k (IsServedWithin.stands words asks next reply h is gives) = untouched s u t rest out (held_as s t _ is refl) (only_said out _ gives)
+within g s held u t rest out k (IsServedWithin.passes asks is gives) = untouched s u t rest out (held_as s t s is refl) (nothing_said out gives)
+within g s held u t rest out k (IsServedWithin.drops words asks reply h is gives) = untouched s u t rest out (held_as s t _ is refl) (only_said out _ gives)
+within g s held u t rest out k (IsServedWithin.executes words asks runs whole replies effects left does is gives) =
+    let c = s.core in
+    let none : effects ≡ [] = have_none (frame_alone c) (not c.master) g held.queued [] c.held left replies effects (ap not k) does in
+    let same : left ≡ c.held = do_nothing (frame_alone c) (not c.master) g held.queued [] c.held left replies effects none does in
+    untouched s u t rest out (held_as s t _ is same) (ap (λ (o : Output). o.grown) gives ∙ ap grown_text none, (ap (λ (o : Output). o.appended) gives ∙ ap grown_text none, ap (λ (o : Output). o.replaced) gives))
+
 pub replicas_only_rewrite : ReplicasOnlyRewrite
-replicas_only_rewrite g s u t rest out (IsServed.serves k d h is) m = subst (λ (z : PipeState). OnlyRewrites s u z rest out) (sym is) (served s u d rest g out m h)
-replicas_only_rewrite g s u t rest out (IsServed.takes_role k words asks h) m = takes_role s u words t rest out h
+replicas_only_rewrite g s u t rest out (IsServed.serves k n d h is) m = subst (λ (z : PipeState). OnlyRewrites s u z rest out) (sym is) (served s u d rest g out m h)
+replicas_only_rewrite g s u t rest out (IsServed.takes_role k n words asks h) m = takes_role s u words t rest out h
+replicas_only_rewrite g s u t rest out (IsServed.begins k n words asks wish is gives) m = untouched s u t rest out (held_as s t _ is refl) (only_said out _ gives)
+replicas_only_rewrite g s u t rest out (IsServed.goes_within k held n h) m = within g s held u t rest out m h
 replicas_only_rewrite g s u t rest out (IsServed.notes k e is gives) m = untouched s u t rest out (held_as s t s is refl) (nothing_said out gives)
 
 -- ---- a link that is a replica's
@@ -83,8 +101,10 @@ both : {A : Type 0} (b : Bool) → b ≡ true → b ≡ false → A
 both b p q = let wrong : true ≡ false = sym p ∙ q in absurd (cc)
 
 one_silent : (g : Given) (s : PipeState) (u : List ℕ) (t : PipeState) (rest : List ℕ) (out : Output) → IsServed g s u t rest out → s.replica ≡ true → (t ≡ s) × (out ≡ no_output)
-one_silent g s u t rest out (IsServed.serves k d h is) r = both s.replica r k
-one_silent g s u t rest out (IsServed.takes_role k words asks h) r = both s.replica r k
+one_silent g s u t rest out (IsServed.serves k n d h is) r = both s.replica r k
+one_silent g s u t rest out (IsServed.takes_role k n words asks h) r = both s.replica r k
+one_silent g s u t rest out (IsServed.begins k n words asks wish is gives) r = both s.replica r k
+one_silent g s u t rest out (IsServed.goes_within k held n h) r = both s.replica r k
 one_silent g s u t rest out (IsServed.notes k e is gives) r = (is, gives)
 
 pub links_are_silent : ReplicaLinksAreSilent
@@ -100,5 +120,5 @@ links_are_silent g s u (m ∷ ms) t rest said h r =
 
 pub links_end_silently : ReplicaLinksEndSilently
 links_end_silently s u last (IsLast.closes k e) r = both s.replica r k
-links_end_silently s u last (IsLast.halts k rest asks none) r = both s.replica r k
+links_end_silently s u last (IsLast.halts k n rest asks none) r = both s.replica r k
 links_end_silently s u last (IsLast.parts k unwanted none) r = none

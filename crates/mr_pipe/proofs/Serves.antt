@@ -2,6 +2,7 @@
 use Rattle.std.proofs.Common.{◌≡◌, ℕ, List, [], ◌∷◌, ◌++◌, refl, sym, ap, subst, ◌∙◌, append_assoc}
 use Rattle.mr_data.specs.declared.given.Given.{Given}
 use Rattle.mr_outs.specs.Outs.{Output}
+use Rattle.mr_ends.specs.State.{Transaction}
 use Rattle.mr_rows.specs.State.{Core}
 use Rattle.mr_rows.specs.Requests.{Asks, AsksNothing}
 use Rattle.mr_rows.specs.Telling.{Around}
@@ -9,7 +10,7 @@ use Rattle.mr_rows.specs.Served.{Served}
 use Rattle.mr_rows.specs.ReplicaRows.{IsExpected}
 use Rattle.mr_pipe.specs.Outside.{Change}
 use Rattle.mr_pipe.specs.State.{PipeState}
-use Rattle.mr_pipe.specs.Sessions.{Moment, AreServed, IsServed, changes_of, all_changes}
+use Rattle.mr_pipe.specs.Sessions.{Moment, AreServed, IsServed, IsServedWithin, changes_of, all_changes}
 
 pub append_nil : {A : Type 0} (xs : List A) → xs ++ [] ≡ xs
 append_nil [] = refl
@@ -25,8 +26,8 @@ serves_then g s u [] t rest said e left out h r = (
 serves_then g s u (m ∷ ms) t rest said e left out h r =
     (h.0, (h.1.0 ++ out.said, serves_then g m.pipe m.left ms t rest h.1.0 e left out h.1.1 r, ap (λ z. z ++ out.said) h.1.2 ∙ append_assoc m.out.said h.1.0 out.said))
 
--- more bytes behind
-asks_more : (u m : List ℕ) (words : List (List ℕ)) (rest : List ℕ) → Asks u words rest → Asks (u ++ m) words (rest ++ m)
+-- more bytes behind: the request has the same text
+abbrev asks_more : (u m : List ℕ) (words : List (List ℕ)) (rest : List ℕ) → Asks u words rest → Asks (u ++ m) words (rest ++ m)
 asks_more u m words rest a = record { text = a.text; begins = ap (λ z. z ++ m) a.begins ∙ append_assoc a.text rest m; request = a.request }
 
 asks_nothing_more : (u m rest : List ℕ) → AsksNothing u rest → AsksNothing (u ++ m) (rest ++ m)
@@ -40,9 +41,18 @@ expected_more : (u m rest : List ℕ) → IsExpected u rest → IsExpected (u ++
 expected_more u m rest (IsExpected.acknowledgement words offset a w) = IsExpected.acknowledgement words offset (asks_more u m words rest a) w
 expected_more u m rest (IsExpected.nothing a) = IsExpected.nothing (asks_nothing_more u m rest a)
 
+within_more : (g : Given) (s : PipeState) (held : Transaction) (u m : List ℕ) (t : PipeState) (rest : List ℕ) (out : Output) → IsServedWithin g s held u t rest out → IsServedWithin g s held (u ++ m) t (rest ++ m) out
+within_more g s held u m t rest out (IsServedWithin.stands words a next reply h is o) = IsServedWithin.stands words (asks_more u m words rest a) next reply h is o
+within_more g s held u m t rest out (IsServedWithin.passes a is o) = IsServedWithin.passes (asks_nothing_more u m rest a) is o
+within_more g s held u m t rest out (IsServedWithin.drops words a reply h is o) = IsServedWithin.drops words (asks_more u m words rest a) reply h is o
+within_more g s held u m t rest out (IsServedWithin.executes words a runs whole replies effects left does is o) =
+    IsServedWithin.executes words (asks_more u m words rest a) runs whole replies effects left does is o
+
 one_more : (g : Given) (s : PipeState) (u m : List ℕ) (t : PipeState) (rest : List ℕ) (out : Output) → IsServed g s u t rest out → IsServed g s (u ++ m) t (rest ++ m) out
-one_more g s u m t rest out (IsServed.serves k d h is) = IsServed.serves k d (served_more s.core _ u m g d rest out h) is
-one_more g s u m t rest out (IsServed.takes_role k words a h) = IsServed.takes_role k words (asks_more u m words rest a) h
+one_more g s u m t rest out (IsServed.serves k n d h is) = IsServed.serves k n d (served_more s.core _ u m g d rest out h) is
+one_more g s u m t rest out (IsServed.takes_role k n words a h) = IsServed.takes_role k n words (asks_more u m words rest a) h
+one_more g s u m t rest out (IsServed.begins k n words a wish is o) = IsServed.begins k n words (asks_more u m words rest a) wish is o
+one_more g s u m t rest out (IsServed.goes_within k held n h) = IsServed.goes_within k held n (within_more g s held u m t rest out h)
 one_more g s u m t rest out (IsServed.notes k e is o) = IsServed.notes k (expected_more u m rest e) is o
 
 pub more_moments : List ℕ → List Moment → List Moment

@@ -7,3 +7,4 @@ pub mod Reading
 pub mod Faults
 pub mod Folding
 pub mod Roles
+pub mod Transactions

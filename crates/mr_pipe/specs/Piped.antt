@@ -18,7 +18,7 @@ use Rattle.mr_pipe.specs.declared.relay.Round.TheVariants as round
 
 -- a master under this id, with this dataset, at offset 0, and a client of it
 abbrev pub begun_with : List ℕ → Dataset → PipeState
-begun_with id held = record { core = (started false 0 1048576 id held).core; replica = false; used = 0 }
+begun_with id held = record { core = (started false 0 1048576 id held).core; replica = false; transaction = None; used = 0 }
 
 -- .. an empty one
 abbrev pub begun_empty : List ℕ → PipeState

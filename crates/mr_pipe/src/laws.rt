@@ -1,6 +1,7 @@
 // What holds of the definitions.
 ghost use Rattle.mr_pipe.specs.Folding.{FilesFold, FilesFoldTorn, FilesStaySynced};
 ghost use Rattle.mr_pipe.specs.Roles.{ReplicaLinksAreSilent, ReplicaLinksEndSilently, ReplicasOnlyRewrite};
+ghost use Rattle.mr_pipe.specs.Transactions.{OpenTransactionsWait, TransactionsLoadWhole};
 
 /// Where a file's bytes are the texts of groups that make the dataset with which a pipe begins, its bytes at the end are texts of
 /// groups that make the dataset of the pipe's node then, also where it was written anew. After a fault at most the texts of the last
@@ -25,4 +26,15 @@ pub fn replicas_only_rewrite()
 pub fn replica_links_are_silent()
     ensures steps { ReplicaLinksAreSilent }
     ensures ends { ReplicaLinksEndSilently }
+{}
+
+/// While a transaction is open, no request changes the node, its stream or its file: what waits is done at EXEC, or never.
+pub fn open_transactions_wait()
+    ensures { OpenTransactionsWait }
+{}
+
+/// Where the file failed at what was to be put there at EXEC, what is loaded of it is the dataset before EXEC or the one behind it: all
+/// that waited, or nothing.
+pub fn transactions_load_whole()
+    ensures { TransactionsLoadWhole }
 {}

@@ -12,5 +12,8 @@ mod serve;
 pub use config::PipeConfig;
 pub use fault::PipeFault;
 pub use keep::write_out;
-pub use laws::{files_fold, files_stay_synced, replica_links_are_silent, replicas_only_rewrite};
+pub use laws::{
+    files_fold, files_stay_synced, open_transactions_wait, replica_links_are_silent,
+    replicas_only_rewrite, transactions_load_whole,
+};
 pub use relay::{pipe, pipe_with, read_piece};

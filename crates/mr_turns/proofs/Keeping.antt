@@ -22,7 +22,7 @@ use Rattle.mr_node.specs.declared.step.Step.{Step}
 use Rattle.mr_node.specs.declared.step.Step.TheVariants as step
 use Rattle.mr_filing.specs.Filing.{DoesToFile, Files}
 use Rattle.mr_filing.proofs.Filing.{grows_leads, kept_stay, read_whole}
-use Rattle.mr_filing.proofs.Clients.{client_files, idle_keeps, replica_keeps}
+use Rattle.mr_filing.proofs.Clients.{client_files, idle_keeps, replica_keeps, within_files}
 use Rattle.mr_filing.proofs.Masters.{lacks_keep, master_files, waits_keep}
 use Rattle.mr_filing.proofs.Times.{ticks_file}
 use Rattle.mr_filing.proofs.Links.{dials_keep}
@@ -88,18 +88,21 @@ done_closed outs e = cc
 module _ (a b : NodeState) (l : LinkId) (given : Given) (fresh : List ℕ) (u : List ℕ) (up : a.core.up ≡ true) where
   idled : Agreeing a l u → Steps a l given fresh b (Ok step.Idle) → b.core.held ≡ a.core.held
   idled (Agreeing.client g) row = (idle_keeps a b u (row.at_client u (record { up = up; agrees = g }))).held
+  idled (Agreeing.waiting t g) row = (idle_keeps a b u (row.at_waiting t u (record { up = up; agrees = g }))).held
   idled (Agreeing.replica g) row = (idle_keeps a b u (row.at_replica u (record { up = up; agrees = g }))).held
   idled (Agreeing.master g) row = (waits_keep a b l u g (row.at_master up (ap name_of g.found))).held
   idled (Agreeing.shut is none) row = absurd (idle_closed (row.at_shut up is).0)
 
   refused : Agreeing a l u → Steps a l given fresh b (Err refusal.Memory) → b.core.held ≡ a.core.held
   refused (Agreeing.client g) row = ap (λ (z : NodeState). z.core.held) (row.at_client u (record { up = up; agrees = g })).1
+  refused (Agreeing.waiting t g) row = ap (λ (z : NodeState). z.core.held) (row.at_waiting t u (record { up = up; agrees = g })).1
   refused (Agreeing.replica g) row = ap (λ (z : NodeState). z.core.held) (row.at_replica u (record { up = up; agrees = g })).1
   refused (Agreeing.master g) row = (lacks_keep a b l u g (row.at_master up (ap name_of g.found))).held
   refused (Agreeing.shut is none) row = absurd (memory_closed (row.at_shut up is).0)
 
   filed : (outs : OutsState) → Agreeing a l u → Steps a l given fresh b (Ok (step.Done outs)) → Files a b outs
   filed outs (Agreeing.client g) row = client_files a b l u given fresh outs (row.at_client u (record { up = up; agrees = g }))
+  filed outs (Agreeing.waiting t g) row = within_files a b l t u given outs (row.at_waiting t u (record { up = up; agrees = g }))
   filed outs (Agreeing.replica g) row = (kept_stay a b outs [] (replica_keeps a b l u outs (row.at_replica u (record { up = up; agrees = g })))).0
   filed outs (Agreeing.master g) row = let r = row.at_master up (ap name_of g.found) in master_files a b l u r.0 outs g r.2
   filed outs (Agreeing.shut is none) row = absurd (done_closed outs (row.at_shut up is).0)

@@ -16,10 +16,10 @@ use Rattle.mr_follow.specs.declared.phase.Phase.{Phase}
 use Rattle.mr_follow.specs.declared.phase.Phase.TheVariants.{Ping, Port, Capabilities, Psync, Snapshot, Stream}
 use Rattle.mr_rows.specs.State.{Core, IsNode, NodeState, end_of, shown}
 use Rattle.mr_node.specs.Calls.{Agreeing, Unreads}
-use Rattle.mr_node.specs.Calls.Agreeing.{client, replica, master, shut}
+use Rattle.mr_node.specs.Calls.Agreeing.{client, waiting, replica, master, shut}
 use Rattle.mr_loop.specs.Quiet.{AllWait, Awaits, IsStill, OthersWait}
 use Rattle.mr_loop.proofs.Nothing.{line_nothing, waits_nothing}
-use Rattle.mr_loop.proofs.Stepped.{absent_still, client_still, followed_end, master_still, replica_still, shut_still}
+use Rattle.mr_loop.proofs.Stepped.{absent_still, client_still, followed_end, master_still, replica_still, shut_still, waiting_still}
 use Rattle.mr_loop.proofs.Waiting.{all_of, none_some, some_is}
 use Rattle.mr_loop.proofs.host.Host.has_unread.Goals as goal
 
@@ -56,6 +56,7 @@ reads_nothing f g l o one other agrees = subst Awaits (ap (λ (z : LinkId × Fol
 
 still_nothing : (a : NodeState) (l : LinkId) → IsNode a → Agreeing a l [] → IsStill a l
 still_nothing a l node (client agrees) = client_still a l [] node agrees waits_nothing
+still_nothing a l node (waiting t agrees) = waiting_still a l t [] node agrees waits_nothing
 still_nothing a l node (replica agrees) = replica_still a l [] node agrees waits_nothing
 still_nothing a l node (master agrees) = master_still a l (followed_end a l agrees.reader node agrees.found) (λ f found. reads_nothing agrees.reader f l a.follow agrees.found found agrees.agrees)
 still_nothing a l node (shut is none) = shut_still a l node is
