@@ -255,6 +255,21 @@ def ten_set(count):
     return write
 
 
+def tens(count, is_one):
+    """Ten SETs of ten keys, to two values in turn, as one transaction or each by itself."""
+
+    def write(file):
+        both = [b"".join(set_of(key(n), value) for n in range(10)) for value in (OTHER, VALUE)]
+        replies = 10 * OK
+        if is_one:
+            both = [request(b"MULTI") + it + request(b"EXEC") for it in both]
+            replies = OK + 10 * b"+QUEUED\r\n" + b"*10\r\n" + replies
+        repeated(file, b"".join(both), count // 2)
+        return count, count * len(replies)
+
+    return write
+
+
 def of_keys(name, reply, *last):
     """One request for each of a million keys."""
 
@@ -339,6 +354,8 @@ RUNS = [
     ("APPEND of 3 bytes", None, appended(200_000)),
     ("MSET of 10", None, ten_set(100_000)),
     ("MGET of 10", ten_set(2_000), ten_got(100_000)),
+    ("ten SETs", None, tens(40_000, False)),
+    ("MULTI, ten SETs, EXEC", None, tens(40_000, True)),
     ("SETEX of a million keys", None, NEW_UNTIL),
     ("SETEX over a million keys", NEW_UNTIL, of_keys(b"SETEX", OK, b"2000000", OTHER)),
     ("EXPIRE of a million keys", NEW, of_keys(b"EXPIRE", ONE, b"1000000")),

@@ -98,6 +98,10 @@ int main(int count, char **words)
             fail("pipelined", link_->errstr);
         freeReplyObject(reply);
     }
+    is_text("OK", "MULTI");
+    is_text("QUEUED", "SET one 1");
+    is_text("QUEUED", "GET one");
+    is_list("OK 1 ", "EXEC");
     puts("again");
     fflush(stdout);
     if (!fgets(line, sizeof line, stdin))
@@ -107,6 +111,7 @@ int main(int count, char **words)
     is_text("42", "GET count");
     is_list("998 999 ", "LRANGE numbers -2 -1");
     is_text("5", "HGET hash f");
+    is_text("1", "GET one");
     is_number(1, "SISMEMBER set m");
     is_text("4", "ZSCORE zset y");
     is_number(1, "DEL count none");

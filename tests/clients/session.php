@@ -43,6 +43,12 @@ for ($number = 0; $number < 1000; $number++) {
     $pipe->rPush('numbers', $number);
 }
 is_so($pipe->exec(), range(1, 1000));
+// a transaction, within which one command fails, and one that is discarded
+is_so($client->multi()->set('one', 1)->incr('one')->lPush('one', 'x')->get('one')->exec(), [true, 2, false, '2']);
+$client->multi();
+$client->set('two', 2);
+is_so($client->discard(), true);
+is_so($client->exists('one', 'two'), 1);
 is_so($client->lPush('text', 'x'), false);
 // some versions of phpredis keep a zero byte behind the text
 is_so(rtrim($client->getLastError(), "\0"), 'WRONGTYPE Operation against a key holding the wrong kind of value');
@@ -52,6 +58,7 @@ fgets(STDIN);
 is_so($client->get('count'), '42');
 is_so($client->lRange('numbers', -2, -1), ['998', '999']);
 is_so($client->hGet('hash', 'f'), '5');
+is_so($client->get('one'), '2');
 is_so($client->sIsMember('set', 'm'), true);
 is_so($client->zScore('zset', 'y'), 4.0);
 is_so($client->del('count', 'none'), 1);

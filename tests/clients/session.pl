@@ -34,6 +34,10 @@ my @lengths;
 $client->rpush('numbers', $_, sub { push @lengths, $_[0] }) for 0 .. 999;
 $client->wait_all_responses;
 is_so(\@lengths, join ' ', 1 .. 1000);
+# a transaction, and one that is discarded
+is_so([$client->multi, $client->set(one => 1), $client->incr('one'), $client->get('one')], 'OK QUEUED QUEUED QUEUED');
+is_so([$client->exec], 'OK 2 2');
+is_so([$client->multi, $client->set(two => 2), $client->discard, $client->exists('two')], 'OK QUEUED OK 0');
 is_so([eval { $client->lpush('text', 'x') } || $@ =~ /WRONGTYPE/], '1');
 
 print "again\n";
@@ -41,5 +45,5 @@ my $line = <STDIN>;
 is_so([$client->get('count')], '42');
 is_so([$client->lrange('numbers', -2, -1)], '998 999');
 is_so([$client->hget('hash', 'f'), $client->sismember('set', 'm'), $client->zscore('zset', 'y')], '5 1 4');
-is_so([$client->del('count', 'none')], '1');
+is_so([$client->get('one'), $client->del('count', 'none')], '2 1');
 print "done\n";

@@ -4,6 +4,7 @@ import sys
 
 import redis
 
+WRONG_KIND = "WRONGTYPE Operation against a key holding the wrong kind of value"
 client = redis.Redis(port=int(sys.argv[1]), decode_responses=True, socket_timeout=60)
 
 
@@ -42,11 +43,26 @@ pipe = client.pipeline(transaction=False)
 for number in range(1000):
     pipe.rpush("numbers", number)
 is_so(pipe.execute(), list(range(1, 1001)))
+# one that is a transaction, as pipelines are where nothing is said
+pipe = client.pipeline()
+pipe.set("one", 1).incr("one").get("one").lpush("one", "x").hset("two", mapping={"f": 2}).delete("none")
+found = pipe.execute(raise_on_error=False)
+is_so((found[:3], str(found[3]).partition(" of pipeline")[0], found[4:]), ([True, 2, "2"], WRONG_KIND, [1, 0]))
+is_so(client.pipeline().execute(), [])
+pipe.set("three", 3).execute_command("NOSUCH")
+try:
+    pipe.execute()
+    is_so("no error", "an error")
+except redis.ResponseError as error:
+    is_so("unknown command" in str(error), True)
+is_so(client.exists("three"), 0)
+pipe.set("three", 3).reset()
+is_so(client.exists("one", "two", "three"), 2)
 try:
     client.lpush("text", "x")
     is_so("no error", "an error")
 except redis.ResponseError as error:
-    is_so(str(error), "WRONGTYPE Operation against a key holding the wrong kind of value")
+    is_so(str(error), WRONG_KIND)
 
 print("again", flush=True)
 sys.stdin.readline()
@@ -58,6 +74,7 @@ except redis.ConnectionError:
 is_so(found, "42")
 is_so(client.lrange("numbers", -2, -1), ["998", "999"])
 is_so(client.hget("hash", "f"), "5")
+is_so((client.get("one"), client.hget("two", "f")), ("2", "2"))
 is_so(client.sismember("set", "m"), True)
 is_so(client.zscore("zset", "y"), 4.0)
 is_so(client.delete("count", "none"), 1)

@@ -12,7 +12,7 @@ from tests.support import server
 from tests.support.program import LATE, needs, request
 
 HERE = os.path.dirname(os.path.abspath(__file__))
-DEBIANS_PYTHON = "/usr/bin/python3"
+DEBIANS_PYTHON, DEBIANS_GO = "/usr/bin/python3", "/usr/share/gocode"
 BENCHES = ["ping", "set", "get", "incr", "lpush", "rpush", "lpop", "rpop", "sadd", "hset", "spop", "zadd", "zpopmin", "lrange", "mset"]
 # of so many requests, sixteen at a time
 BENCHED = 20_000
@@ -34,14 +34,20 @@ TOLD = [
     (["ZADD", "zset", "3", "x", "-1", "y"], "(integer) 2\n"),
     (["ZRANGE", "zset", "0", "-1", "WITHSCORES"], '1) "y"\n2) "-1"\n3) "x"\n4) "3"\n'),
     (["LPUSH", "text", "x"], "(error) WRONGTYPE Operation against a key holding the wrong kind of value\n"),
+    (["EXEC"], "(error) ERR EXEC without MULTI\n"),
     (["PEXPIREAT", "text", "4102444800000"], "(integer) 1\n"),
     (["PEXPIRETIME", "text"], "(integer) 4102444800000\n"),
     (["DBSIZE"], "(integer) 6\n"),
 ]
 
 
-def has_module(python):
-    return os.path.exists(python) and not subprocess.run([python, "-c", "import redis"], capture_output=True, timeout=LATE).returncode
+def has_module(python, name="redis"):
+    return os.path.exists(python) and not subprocess.run([python, "-c", "import " + name], capture_output=True, timeout=LATE).returncode
+
+
+def runs(*words, **how):
+    """Whether the command is there and ends well."""
+    return bool(shutil.which(words[0])) and not subprocess.run(words, capture_output=True, timeout=LATE, **how).returncode
 
 
 class Talking(unittest.TestCase):
@@ -67,9 +73,9 @@ class Talking(unittest.TestCase):
         self.assertEqual((ran.returncode, ran.stderr), (0, b""), ran.stdout)
         return ran.stdout.decode()
 
-    def plays(self, *words):
+    def plays(self, *words, **how):
         """A client's session: it says `again` when it wants a server that was started again, and `done` at its end."""
-        how = {"stdin": subprocess.PIPE, "stdout": subprocess.PIPE, "stderr": subprocess.PIPE}
+        how.update(stdin=subprocess.PIPE, stdout=subprocess.PIPE, stderr=subprocess.PIPE)
         with subprocess.Popen([*words, self.port], **how) as client:
             self.addCleanup(client.kill)
             said = client.stdout.readline()
@@ -97,6 +103,12 @@ class RedisTools(Talking):
         # redis-cli leaves an empty line behind an error there
         told = self.tells([*self.cli, "--no-raw"], lines.encode()).replace("\n\n", "\n")
         self.assertEqual(told, "".join(it for _, it in TOLD))
+
+    def test_redis_cli_within_a_transaction(self):
+        lines = b"MULTI\nSET one 1\nLPUSH one x\nGET one\nEXEC\nMULTI\nSET two 2\nDISCARD\nEXISTS one two\n"
+        told = self.tells([*self.cli, "--no-raw"], lines)
+        done = '1) OK\n2) (error) WRONGTYPE Operation against a key holding the wrong kind of value\n3) "1"\n'
+        self.assertEqual(told, "OK\nQUEUED\nQUEUED\nQUEUED\n" + done + "OK\nQUEUED\nOK\n(integer) 1\n")
 
     def test_redis_cli_scans(self):
         self.tells([*self.cli, "MSET", "b", "1", "a", "2", "c", "3"])
@@ -146,9 +158,29 @@ class Libraries(Talking):
         self.plays(program)
 
     def test_perl(self):
-        there = shutil.which("perl") and not subprocess.run(["perl", "-MRedis", "-e", "1"], capture_output=True, timeout=LATE).returncode
-        needs(self, there, "libredis-perl")
+        needs(self, runs("perl", "-MRedis", "-e", "1"), "libredis-perl")
         self.plays("perl", os.path.join(HERE, "session.pl"))
+
+    def test_ruby(self):
+        needs(self, runs("ruby", "-rredis", "-e", "1"), "ruby-redis")
+        self.plays("ruby", os.path.join(HERE, "session.rb"))
+
+    def test_node(self):
+        # where Debian has its modules, for a node that isn't Debian's
+        how = {"env": {**os.environ, "NODE_PATH": "/usr/share/nodejs"}}
+        needs(self, runs("node", "-e", "require('redis')", **how), "node-redis")
+        self.plays("node", os.path.join(HERE, "session.js"), **how)
+
+    def test_redigo(self):
+        needs(self, shutil.which("go"), "golang-go")
+        needs(self, os.path.isdir(os.path.join(DEBIANS_GO, "src/github.com/gomodule/redigo/redis")), "golang-github-gomodule-redigo-dev")
+        program, how = os.path.join(self.folder, "session"), {"GO111MODULE": "off", "GOPATH": DEBIANS_GO, "GOCACHE": os.path.join(self.folder, "go")}
+        subprocess.run(["go", "build", "-o", program, os.path.join(HERE, "session.go")], check=True, env={**os.environ, **how}, timeout=10 * LATE)
+        self.plays(program)
+
+    def test_django(self):
+        needs(self, has_module(DEBIANS_PYTHON, "django_redis"), "python3-django-redis")
+        self.plays(DEBIANS_PYTHON, os.path.join(HERE, "session_django.py"))
 
     def test_php(self):
         ran = subprocess.run(["php", "-m"], capture_output=True, timeout=LATE) if shutil.which("php") else None

@@ -8,12 +8,12 @@ import sys
 import unittest
 from unittest import mock
 
-from tests.commands import test_collections, test_sorted_sets, test_strings
+from tests.commands import test_collections, test_sorted_sets, test_strings, test_transactions
 from tests.support import differences, server
 from tests.support.program import ROOT, needs
 from tests.support.replies import OK, number, read
 
-CASES = [test_strings.Strings, test_collections.Collections, test_sorted_sets.SortedSets]
+CASES = [test_strings.Strings, test_collections.Collections, test_sorted_sets.SortedSets, test_transactions.Transactions]
 # commands whose replies list fields, members or keys in no order that Redis promises
 UNORDERED = {"HKEYS", "HVALS", "SMEMBERS", "SINTER", "SUNION", "SDIFF", "KEYS"}
 # commands that draw members

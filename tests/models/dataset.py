@@ -9,6 +9,7 @@ from tests.models.follower import Fault, effect_of
 from tests.models.request import Bad, Whole, next_command
 from tests.support.program import request
 from tests.support.replies import INTEGER, NIL, NO_LIST, OK, OVERFLOW, POSITIVE, SYNTAX, UNKNOWN, WRONG_KIND, arity, array, bulk, number
+from tests.support.requests import framed
 
 MOST_DEADLINE = 2**62
 MOST_AMOUNT = 2**61
@@ -148,6 +149,15 @@ class Group(NamedTuple):
 
     effects: list
     used: int
+
+
+def group_text(effects):
+    """The text of the group of these effects: of one its own."""
+    return text(*effects) if len(effects) == 1 else framed(*map(text, effects))
+
+
+def group_texts(groups):
+    return b"".join(map(group_text, groups))
 
 
 def is_effect(words):
@@ -439,7 +449,7 @@ OTHER_COMMANDS = """
     EXPIRETIME PEXPIRETIME PERSIST RENAME RENAMENX KEYS SCAN HSET HMSET HSETNX HGET HMGET HGETALL HKEYS HVALS HDEL HEXISTS HLEN HSTRLEN HINCRBY RPUSH LPUSHX
     RPUSHX RPOP LLEN LRANGE LINDEX LSET LINSERT LREM LTRIM LMOVE RPOPLPUSH SISMEMBER SMISMEMBER SMEMBERS SCARD SRANDMEMBER SMOVE SINTER SUNION SDIFF ZADD
     ZINCRBY ZREM ZCARD ZCOUNT ZSCORE ZMSCORE ZRANK ZREVRANK ZRANGE ZREVRANGE ZRANGEBYSCORE ZREVRANGEBYSCORE ZPOPMIN ZPOPMAX ZREMRANGEBYRANK ZREMRANGEBYSCORE
-    SELECT COMMAND CLIENT FLUSHDB MULTI EXEC DISCARD
+    SELECT COMMAND CLIENT FLUSHDB
 """.encode().split()
 
 
@@ -455,15 +465,20 @@ class Plan(NamedTuple):
     writes: bool
 
 
-def plan(held, words, given):
-    """The reply to a command on data and its effects on a master, those first that delete the named keys whose deadline has come."""
+def command_of(words):
+    """The command on data that the words are, and its options."""
     command = COMMANDS.get(words[0].upper())
     if words[0].upper() in OTHER_COMMANDS:
         raise NotImplementedError(words[0])
     if not command:
         raise AskFault(UNKNOWN)
     checked(words, command.least, command.most)
-    options = command.read(words)
+    return command, command.read(words)
+
+
+def plan(held, words, given):
+    """The reply to a command on data and its effects on a master, those first that delete the named keys whose deadline has come."""
+    command, options = command_of(words)
     gone = past(held, given.now)
     deleted = [(b"DEL", key) for key in dict.fromkeys(command.keys(words)) if key in gone]
     seen = {key: held[key] for key in held if key not in gone}

@@ -3,12 +3,14 @@
 A part of the slow, plain model in `world.py`. Memory is never short here, so a node stops only where its file failed, past its links, or at a
 group of its master's that can be applied in part."""
 
-from typing import NamedTuple
+from typing import NamedTuple, Optional
 
-from tests.models.dataset import PING, AskFault, Group, Undefined, apply, apply_all, checked, due, next_group, plan, rebuild, strict, texts
+from tests.models.dataset import PING, AskFault, Group, Undefined, apply, apply_all, checked, command_of, due, group_text, group_texts, next_group, plan, rebuild, strict
 from tests.models.request import MOST_OF_A_TEXT, Bad, More, Skip, Wanted, Whole, byte_at, next_command, next_request
 from tests.support.program import request
-from tests.support.replies import INTEGER, OK, READONLY, SYNTAX, array_of, bulk, number
+from tests.support.replies import (
+    ABORTED, DISCARD_ALONE, EXEC_ALONE, INTEGER, NESTED, NOT_ALLOWED, OK, QUEUED, READONLY, SYNTAX, UNKNOWN, arity, array_of, bulk, number,
+)
 
 MOST_OFFSET = 2**62
 MOST_LINKS = 2**62
@@ -19,6 +21,8 @@ MOST_OF_A_PEERS_LINE = 1_024
 STARTED = b"+Background append only file rewriting started\r\n"
 CHAINED = b"-ERR replicas are not chained\r\n"
 LIMIT = b"-ERR offset limit\r\n"
+# how the reply to too few or too many words begins
+NO_ARITY = arity("").partition(b"''")[0]
 
 # what an end of a link is to the node
 CLIENT, REPLICA, MASTER = "client", "replica", "master"
@@ -36,7 +40,8 @@ class NodeFault(Exception):
 
 
 class Grow(NamedTuple):
-    effects: list
+    # a list of effects each
+    groups: list
 
 
 class Append(NamedTuple):
@@ -140,6 +145,15 @@ class End:
         self.turn = 0
         # of a link to a master: of which line the answer is awaited, or else "snapshot" or "stream"; and what FULLRESYNC said
         self.phase, self.announced = "ping", None
+        # of a client's: what it has begun and not ended, if it has
+        self.transaction = None
+
+
+class Transaction:
+    """The requests that wait for the end, and whether nothing is done then."""
+
+    def __init__(self):
+        self.waiting, self.is_marked = [], False
 
 
 class Node:
@@ -274,11 +288,11 @@ class Node:
     def tick(self, given):
         """What it gives out as time passes. Where the offset's limit ends the deletions, the mark stays."""
         self.running()
-        effects, is_cut = ([], False) if self.is_replica else self.fitting(due(self.held, given.now))
+        groups, is_cut = ([], False) if self.is_replica else self.fitting([it] for it in due(self.held, given.now))
         beats = not is_cut and self.passes_mark(given.now)
-        if beats and not self.is_replica and self.fits([*effects, PING]):
-            effects.append(PING)
-        outs = self.extended(effects)
+        if beats and not self.is_replica and self.fits([*groups, [PING]]):
+            groups.append([PING])
+        outs = self.extended(groups)
         if beats and self.is_replica:
             outs.append(Send(self.master_end(), request("REPLCONF", "ACK", str(self.offset))))
         return outs
@@ -296,36 +310,37 @@ class Node:
 
     # ---- the stream
 
-    def fitting(self, effects):
-        """The effects before the first that would carry the offset past its limit, and whether there is such a one."""
+    def fitting(self, groups):
+        """The groups before the first that would carry the offset past its limit, and whether there is such a one."""
         taken = []
-        for effect in effects:
-            if not self.fits([*taken, effect]):
+        for group in groups:
+            if not self.fits([*taken, group]):
                 return taken, True
-            taken.append(effect)
+            taken.append(group)
         return taken, False
 
-    def fits(self, effects):
-        return self.offset + len(texts(effects)) <= self.limit
+    def fits(self, groups):
+        return self.offset + len(group_texts(groups)) <= self.limit
 
-    def take(self, effects):
-        """Applies the effects and adds their texts to the stream; what of it goes to the file is returned."""
-        self.held = apply_all(self.held, effects)
-        self.extend(texts(effects))
-        return texts(it for it in effects if it != PING)
+    def take(self, groups):
+        """Applies the groups and adds their texts to the stream; what of it goes to the file is returned."""
+        for group in groups:
+            self.held = apply_all(self.held, group)
+            self.extend(group_text(group))
+        return group_texts(it for it in groups if it != [PING])
 
     def extend(self, told):
         """Puts these bytes behind the stream."""
         self.offset += len(told)
         self.ring = (self.ring + told)[-self.capacity :]
 
-    def extended(self, effects):
-        """Takes a master's effects, and tells the book, the file and each replica of them."""
-        if not effects:
+    def extended(self, groups):
+        """Takes a master's groups, and tells the book, the file and each replica of them."""
+        if not groups:
             return []
-        filed = self.take(effects)
-        outs = [Grow(effects)] + ([Append(filed)] if filed else [])
-        return outs + [Send(link, texts(effects)) for link in self.replica_ends()]
+        filed = self.take(groups)
+        outs = [Grow(groups)] + ([Append(filed)] if filed else [])
+        return outs + [Send(link, group_texts(groups)) for link in self.replica_ends()]
 
     # ---- ends that it serves
 
@@ -347,7 +362,7 @@ class Node:
         if end.kind == REPLICA:
             return [] if self.acknowledges(end, read.words) else self.closing(link)
         try:
-            return self.answer(link, read.words, given, fresh)
+            return self.wait(link, end, read.words, given) if end.transaction else self.answer(link, read.words, given, fresh)
         except AskFault as fault:
             return [Send(link, *fault.args)]
 
@@ -361,15 +376,84 @@ class Node:
     def answer(self, link, words, given, fresh):
         name = words[0].upper()
         if name in SERVER:
-            does, least, most = SERVER[name]
-            checked(words, least, most)
-            return does(self, link, words, fresh)
-        told = plan(self.held, words, given)
-        if self.is_replica:
-            return [Send(link, READONLY if told.writes else told.reply)]
-        if not self.fits(told.effects):
+            wish = wish_of(words)
+            return wish.does(self, link, words, fresh)
+        reply, effects = self.planned(self.held, words, given)
+        groups = [[it] for it in effects]
+        if not self.fits(groups):
             return [Send(link, LIMIT)]
-        return self.extended(told.effects) + [Send(link, told.reply)]
+        return self.extended(groups) + [Send(link, reply)]
+
+    def planned(self, held, words, given):
+        """The reply to a command on data, and its effects here."""
+        told = plan(held, words, given)
+        if self.is_replica:
+            return READONLY if told.writes else told.reply, []
+        return told.reply, told.effects
+
+    # ---- transactions
+
+    def wait(self, link, end, words, given):
+        """A request where a transaction is open. What is refused at once marks it, but for a second MULTI."""
+        name, transaction = words[0].upper(), end.transaction
+        try:
+            writes = reads(words)
+            if name in (b"REPLICAOF", b"SLAVEOF", b"PSYNC", b"REPLCONF", b"SHUTDOWN", b"BGREWRITEAOF"):
+                raise AskFault(NOT_ALLOWED)
+            if writes and self.is_replica:
+                raise AskFault(READONLY)
+        except AskFault as fault:
+            (told,) = fault.args
+            if told in (NOT_ALLOWED, READONLY, UNKNOWN) or told.startswith(NO_ARITY):
+                transaction.is_marked = True
+                raise
+            # any other fault is told at the end
+        else:
+            if name == b"MULTI":
+                return [Send(link, NESTED)]
+            if name == b"QUIT":
+                return self.quit(link, words, None)
+            if name in (b"EXEC", b"DISCARD"):
+                end.transaction = None
+                return [Send(link, OK)] if name == b"DISCARD" else self.execute(link, transaction, given)
+        transaction.waiting.append(words)
+        return [Send(link, QUEUED)]
+
+    def execute(self, link, transaction, given):
+        """EXEC: what waited is done, each at the dataset that those before it left, and what they do is one group."""
+        if transaction.is_marked:
+            return [Send(link, ABORTED)]
+        held, group, replies = self.held, [], []
+        for words in transaction.waiting:
+            try:
+                reply, effects = self.done_at(held, link, words, given)
+            except AskFault as fault:
+                (reply,), effects = fault.args, []
+            if effects and not self.fits([[*group, *effects]]):
+                reply, effects = LIMIT, []
+            held = apply_all(held, effects)
+            group += effects
+            replies.append(reply)
+        return self.extended([group] if group else []) + [Send(link, array_of(*replies))]
+
+    def done_at(self, held, link, words, given):
+        """The reply to a request that waited, and its effects, at this dataset."""
+        if words[0].upper() not in SERVER:
+            return self.planned(held, words, given)
+        ((_, reply),) = wish_of(words).does(self, link, words, None)
+        return reply, []
+
+    def begin(self, link, words, fresh):
+        self.ends[link].transaction = Transaction()
+        return [Send(link, OK)]
+
+    def execute_alone(self, link, words, fresh):
+        return [Send(link, EXEC_ALONE)]
+
+    def discard_alone(self, link, words, fresh):
+        return [Send(link, DISCARD_ALONE)]
+
+    # ---- what is asked of the node
 
     def ping(self, link, words, fresh):
         return [Send(link, bulk(words[1]) if words[1:] else b"+PONG\r\n")]
@@ -391,18 +475,14 @@ class Node:
         return [Replace(rebuild(self.held)), Send(link, STARTED)]
 
     def shut_down(self, link, words, fresh):
-        if words[1:] and (len(words) > 2 or words[1].upper() not in (b"SAVE", b"NOSAVE")):
-            raise AskFault(SYNTAX)
         return [Halt()]
 
     def note(self, link, words, fresh):
         """REPLCONF."""
-        end, options = self.ends[link], [word.upper() for word in words[1::2]]
+        end = self.ends[link]
         if self.acknowledges(end, words):
             return []
-        if len(words) == 1 or len(words) % 2 == 0 or any(it not in (b"LISTENING-PORT", b"IP-ADDRESS", b"CAPA") for it in options):
-            raise AskFault(SYNTAX)
-        end.said.update(zip(options, words[2::2]))
+        end.said.update(zip(options_of(words), words[2::2]))
         return [Send(link, OK)]
 
     def continues(self, id, wanted):
@@ -412,8 +492,6 @@ class Node:
     def synchronize(self, link, words, fresh):
         """PSYNC."""
         wanted = strict(words[2])
-        if wanted is None:
-            raise AskFault(INTEGER)
         if self.is_replica:
             return [Send(link, CHAINED)]
         self.ends[link].kind, self.ends[link].turn = REPLICA, self.turns
@@ -427,11 +505,9 @@ class Node:
 
     def replicate(self, link, words, fresh):
         """REPLICAOF."""
-        if [word.upper() for word in words[1:]] == [b"NO", b"ONE"]:
+        if is_no_one(words):
             return [Send(link, OK), *self.promote(fresh)]
-        host, port = words[1], strict(words[2], 1, 65_535)
-        if port is None:
-            raise AskFault(INTEGER)
+        host, port = words[1], port_in(words)
         if self.is_replica and (host, port) == (self.host, self.host_port):
             return [Send(link, OK)]
         gone = self.open_ends(MASTER if self.is_replica else REPLICA)
@@ -531,16 +607,84 @@ class Node:
         return [Append(told)] if first != PING else []
 
 
+# ---- what is asked of a node
+
+
+def options_of(words):
+    """What REPLCONF names."""
+    return [word.upper() for word in words[1::2]]
+
+
+def is_no_one(words):
+    return [word.upper() for word in words[1:]] == [b"NO", b"ONE"]
+
+
+def port_in(words):
+    """The port that REPLICAOF names, if it is one."""
+    return strict(words[2], 1, 65_535)
+
+
+def read_saving(words):
+    if words[1:] and (len(words) > 2 or words[1].upper() not in (b"SAVE", b"NOSAVE")):
+        raise AskFault(SYNTAX)
+
+
+def read_options(words):
+    if options_of(words) == [b"ACK"] and len(words) == 3 and strict(words[2]) is not None:
+        return
+    if len(words) == 1 or len(words) % 2 == 0 or any(it not in (b"LISTENING-PORT", b"IP-ADDRESS", b"CAPA") for it in options_of(words)):
+        raise AskFault(SYNTAX)
+
+
+def read_offset(words):
+    if strict(words[2]) is None:
+        raise AskFault(INTEGER)
+
+
+def read_master(words):
+    if not is_no_one(words) and port_in(words) is None:
+        raise AskFault(INTEGER)
+
+
+class Wish(NamedTuple):
+    """What does it, how many words it takes, and what reads them."""
+
+    does: object
+    least: int
+    most: Optional[int]
+    reads: object = lambda words: None
+
+
 SERVER = {
-    b"PING": (Node.ping, 1, 2),
-    b"ECHO": (Node.echo, 2, 2),
-    b"QUIT": (Node.quit, 1, 1),
-    b"INFO": (Node.inform, 1, 2),
-    b"ROLE": (Node.tell_role, 1, 1),
-    b"REPLICAOF": (Node.replicate, 3, 3),
-    b"SLAVEOF": (Node.replicate, 3, 3),
-    b"REPLCONF": (Node.note, 1, None),
-    b"PSYNC": (Node.synchronize, 3, 3),
-    b"BGREWRITEAOF": (Node.rewrite, 1, 1),
-    b"SHUTDOWN": (Node.shut_down, 1, None),
+    b"PING": Wish(Node.ping, 1, 2),
+    b"ECHO": Wish(Node.echo, 2, 2),
+    b"QUIT": Wish(Node.quit, 1, 1),
+    b"INFO": Wish(Node.inform, 1, 2),
+    b"ROLE": Wish(Node.tell_role, 1, 1),
+    b"REPLICAOF": Wish(Node.replicate, 3, 3, read_master),
+    b"SLAVEOF": Wish(Node.replicate, 3, 3, read_master),
+    b"REPLCONF": Wish(Node.note, 1, None, read_options),
+    b"PSYNC": Wish(Node.synchronize, 3, 3, read_offset),
+    b"BGREWRITEAOF": Wish(Node.rewrite, 1, 1),
+    b"SHUTDOWN": Wish(Node.shut_down, 1, None, read_saving),
+    b"MULTI": Wish(Node.begin, 1, 1),
+    b"EXEC": Wish(Node.execute_alone, 1, 1),
+    b"DISCARD": Wish(Node.discard_alone, 1, 1),
 }
+
+
+def wish_of(words):
+    """What these words ask of the node, which is no command on data."""
+    wish = SERVER[words[0].upper()]
+    checked(words, wish.least, wish.most)
+    wish.reads(words)
+    return wish
+
+
+def reads(words):
+    """Whether the words, which are those of a command, write."""
+    if words[0].upper() in SERVER:
+        wish_of(words)
+        return False
+    command, _ = command_of(words)
+    return command.writes

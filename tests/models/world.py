@@ -6,7 +6,7 @@ Written from the description alone. `python3 -m tests.models.world [--backlog N]
 import sys
 from typing import NamedTuple
 
-from tests.models.dataset import Given, apply, load, strict, text
+from tests.models.dataset import Given, apply_all, group_text, load, strict
 from tests.models.node import CLOSED, IDLE, NO_ID, Append, Close, Grow, Node, NodeFault, Replace, Send, Used
 from tests.models.request import MOST_OF_A_LINE, Bad, Skip, next_request
 from tests.support.program import request
@@ -41,31 +41,31 @@ class Place:
 
 
 class History:
-    """What a replication id stood for: the dataset that it began with, and effects. `at` are the datasets at the ends of effects, by offset."""
+    """What a replication id stood for: the dataset that it began with, and groups of effects. `at` are the datasets at the ends of groups, by offset."""
 
-    def __init__(self, start, effects=()):
-        self.start, self.effects, self.offset, self.told, self.at = start, [], 0, b"", {0: start}
-        for effect in effects:
-            self.extend(effect)
+    def __init__(self, start, groups=()):
+        self.start, self.groups, self.offset, self.told, self.at = start, [], 0, b"", {0: start}
+        for group in groups:
+            self.extend(group)
 
-    def extend(self, effect):
-        held = apply(self.at[self.offset], effect)
-        self.effects.append(effect)
-        self.told += text(effect)
+    def extend(self, group):
+        held = apply_all(self.at[self.offset], group)
+        self.groups.append(group)
+        self.told += group_text(group)
         self.offset = len(self.told)
         self.at[self.offset] = held
 
     def cut(self, offset):
-        """The history up to an end of an effect."""
+        """The history up to an end of a group."""
         if offset not in self.at:
-            raise AssertionError("a history is cut inside of an effect")
-        ends, effects = 0, []
-        for effect in self.effects:
-            ends += len(text(effect))
+            raise AssertionError("a history is cut inside of a group")
+        ends, groups = 0, []
+        for group in self.groups:
+            ends += len(group_text(group))
             if ends > offset:
                 break
-            effects.append(effect)
-        return History(self.start, effects)
+            groups.append(group)
+        return History(self.start, groups)
 
 
 class World:
@@ -214,8 +214,8 @@ class World:
         ends = {end.name: end for pair in self.links for end in pair if end.node == number and end.is_open}
         for out in outs:
             if isinstance(out, Grow):
-                for effect in out.effects:
-                    self.book[place.node.id].extend(effect)
+                for group in out.groups:
+                    self.book[place.node.id].extend(group)
             elif isinstance(out, Append):
                 place.file += out.data
             elif isinstance(out, Replace):

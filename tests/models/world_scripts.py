@@ -1,7 +1,7 @@
 """Random scripts of a world: for each seed the same lines, chosen by what a model of the world shows at that point.
 
-`script(seed, count)` has the lines and what they are to be answered. They are made of starts, clients, requests, deliveries in any pieces, steps, ticks of clocks
-that differ and go back, dials, breaks, restarts with a beginning of the file, promotions on both sides of a split, returns, and events that are refused. Some
+`script(seed, count)` has the lines and what they are to be answered. They are made of starts, clients, requests, transactions, deliveries in any pieces, steps, ticks of
+clocks that differ and go back, dials, breaks, restarts with a beginning of the file, promotions on both sides of a split, returns, and events that are refused. Some
 seeds have effects of one size alone, so that offsets of different histories meet."""
 
 import itertools
@@ -133,6 +133,32 @@ class Scripter:
         yield from self.pumped(link, 1)
         if self.chance(0.3):
             yield b"got %d" % link
+
+    def transacts(self):
+        """A transaction, which mostly ends, and within which a node may change its role."""
+        node = self.random.choice(self.nodes("master") if self.nodes("master") and self.chance(0.8) else self.nodes())
+        link = self.any_of(self.clients(node))
+        if link is None:
+            yield b"client %d" % node
+            link = len(self.world.links) - 1
+        yield from self.within(link, [self.random.choice([b"MULTI", b"multi"])])
+        for _ in range(self.random.choice([0, 1, 1, 2, 2, 3, 5])):
+            # much else would mark it
+            yield from self.within(link, self.words() if self.chance(0.2) else self.words_on_data())
+        if self.chance(0.1):
+            yield from self.random.choice([self.returns, self.promotes, self.restarts, self.breaks, self.outlives])()
+        if self.chance(0.95):
+            yield from self.within(link, self.random.choice([[b"EXEC"]] * 8 + [[b"DISCARD"], [b"exec"], [b"EXEC", b"x"]]))
+            yield from self.pumped(link, 1)
+        if self.chance(0.3):
+            yield b"got %d" % link
+
+    def within(self, link, words):
+        """A request that may be answered at once, or as others are."""
+        if self.world.links[link][OPENER].is_open:
+            yield b"send %d %s" % (link, b" ".join(map(quoted, words)))
+            if self.chance(0.6):
+                yield from self.pumped(link, 1)
 
     def delivers(self):
         held = self.ends(lambda end, other: end.taken < len(other.sent))
@@ -300,6 +326,9 @@ class Scripter:
             return self.to_the_node()
         if kind < 0.12:
             return self.to_synchronize()
+        return self.words_on_data()
+
+    def words_on_data(self):
         key, value = bytes([self.random.choice(b"kl")]), bytes([self.random.choice(b"vwx")])
         if self.is_even:
             return [b"SET", key, value] if self.chance(0.9) else [b"GET", key]
@@ -323,6 +352,10 @@ class Scripter:
             [b"REPLICAOF", b"NO", b"ONE"],
             [b"REPLICAOF", b"h", b"1"],
             [b"REPLICAOF", b"no"],
+            [b"EXEC"],
+            [b"discard"],
+            [b"EXEC", b"x"],
+            [b"MULTI", b"x"],
         ])
 
     def to_synchronize(self):
@@ -375,6 +408,7 @@ WEIGHTS = {
     Scripter.joins: 2,
     Scripter.asks: 14,
     Scripter.sends: 6,
+    Scripter.transacts: 5,
     Scripter.delivers: 10,
     Scripter.steps: 10,
     Scripter.pumps: 12,

@@ -51,7 +51,7 @@ class Watch:
         for id, history in book.items():
             start, told = self.told.get(id, (history.start, b""))
             self.holds(history.start is start, "a history begins anew")
-            self.holds(history.told is told or history.told.startswith(told), "a history lost an effect")
+            self.holds(history.told is told or history.told.startswith(told), "a history lost a group")
             self.told[id] = (start, history.told)
 
     def look_at_node(self, number, place):
@@ -60,7 +60,7 @@ class Watch:
         if all(it is was for it, was in zip(now, self.good.get(number, [None]))):
             return
         history = self.world.book[node.id]
-        self.holds(node.offset in history.at, "an offset inside of an effect is shown")
+        self.holds(node.offset in history.at, "an offset inside of a group is shown")
         self.holds(node.held == history.at[node.offset], "a node's dataset isn't that of its id and offset")
         self.holds(self.shown.setdefault(node.shows(), node.held) == node.held, "two datasets under one id and offset")
         self.holds(history.told[: node.offset].endswith(node.ring) and len(node.ring) <= node.capacity, "a backlog has other bytes than the stream's last")
@@ -120,6 +120,7 @@ def watched(seed, count):
         watch.look()
     watch.counts["histories"] += len(world.book)
     watch.counts["branches"] += world.branches
+    watch.counts["larger groups"] += sum(len(group) > 1 for history in world.book.values() for group in history.groups)
     return watch.counts
 
 

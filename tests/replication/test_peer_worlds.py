@@ -14,7 +14,7 @@ import sys
 import time
 from collections import Counter
 
-from tests.models.dataset import Given, load, texts
+from tests.models.dataset import Given, group_texts, load
 from tests.models.node import LIMIT, MASTER, MOST_OFFSET, REPLICA, UNDECODABLE, Append, Close, Follow, Grow, Halt, Node, NodeFault, Refused, Replace, Send, Used
 from tests.models.request import Wanted
 from tests.models.world import Place, World, answer
@@ -56,7 +56,7 @@ def plain(outs):
 
 
 OUTS = {
-    Grow: lambda effects: ("grow", texts(effects)),
+    Grow: lambda groups: ("grow", group_texts(groups)),
     Append: lambda data: ("append", data),
     Replace: lambda data: ("replace", data),
     Send: lambda link, data: ("send", link - 1, data),
@@ -120,6 +120,8 @@ class Pair(Node):
         self.look_at(link)
         for out in done if isinstance(done, list) else []:
             self.counts["offset limit" if out == Send(link, LIMIT) else type(out).__name__] += 1
+            if isinstance(out, Grow):
+                self.counts["larger groups"] += len(out.groups[0]) > 1
         return done
 
     def stepped(self, link, given, fresh):
@@ -419,7 +421,7 @@ class WorldRows(Rows, Playing):
 class Worlds(Playing):
     def test_each_call_comes_to_what_the_model_says(self):
         counts = looks(self.program, SECONDS, 0)
-        for what in ("Grow", "Append", "Replace", "Send", "Close", "Used", "Follow", "Halt", "beats", "deletes", "offset limit", "step: no such link", "step: stopped", "feed: stopped"):
+        for what in ("Grow", "larger groups", "Append", "Replace", "Send", "Close", "Used", "Follow", "Halt", "beats", "deletes", "offset limit", "step: no such link", "step: stopped", "feed: stopped"):
             self.assertGreater(counts[what], 0, what)
 
 

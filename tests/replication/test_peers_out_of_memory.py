@@ -9,7 +9,7 @@ import unittest
 from tests.support.handshake import GREETED, announces
 from tests.support.peers import Ended, PeerFault, Playing, Program, closes, sent
 from tests.support.program import LATE, request, shim
-from tests.support.replies import bulk
+from tests.support.replies import OK, array_of, bulk
 from tests.support.requests import PAIR, SET
 
 LACKS, STOPPED = "out of memory", "stopped"
@@ -47,7 +47,7 @@ class Lacking(Playing):
         self.lacked, self.stopped = set(), set()
 
     def course(self):
-        """A course of two nodes: writes, a snapshot, the stream, time, a promotion, and a return. And a third takes a group."""
+        """A course of two nodes: writes, a snapshot, the stream, time, a promotion, transactions, and a return. And a third takes a group."""
         # one whose first outs are those of its dial
         self.dialled(self.replica("d"))
         first, second = self.master("a"), self.replica("b")
@@ -72,6 +72,14 @@ class Lacking(Playing):
         second.asks(far, request("SET", "k", "v"))
         self.follow(first, second)
         self.shown(first, "c", 159)
+        other = second.open()
+        for line in ("MULTI", "SET a 1 NX XX", "SET b 2", "DBSIZE", "GET", "EXEC", "MULTI", "GET k", "DISCARD", "MULTI", "EXEC", "MULTI", "INFO", "SET k v", "GET k", "EXEC", "EXEC"):
+            second.asks(other, line + "\r\n")
+        self.shown(second, "c", 159)
+        for line in ("MULTI", "SET a 1", "GET a", "SET b 2"):
+            second.asks(other, line + "\r\n")
+        self.assertEqual(second.answers(other, "EXEC\r\n"), array_of(OK, bulk("1"), OK))
+        self.shown(second, "c", 242)
         self.assertEqual(first.answers(near, "GET k\r\n"), bulk("v"))
         first.asks(near, "REPLICAOF h 3\r\n")
         first.asks(near, "QUIT\r\n")

@@ -7,7 +7,7 @@ import subprocess
 import unittest
 
 from tests.support.program import LATE, LAUNCHER, run
-from tests.support.replies import READONLY
+from tests.support.replies import ABORTED, QUEUED, READONLY, array, number
 
 # what the program says last of a node
 ENDING = re.compile(rb"([123]) (master|slave) ([0-9a-f]{40}) (\d+)")
@@ -53,6 +53,15 @@ class Rows(Trio):
         answers, ends = self.plays(script)
         self.assertEqual(answers, [OK, OK, b"$1\\x0d\\x0av\\x0d\\x0a", OK, OK, OK, b"$1\\x0d\\x0aw\\x0d\\x0a", b"$-1\\x0d\\x0a"])
         self.assertEqual(ends, [(b"slave", drawn(4), 54), (b"master", drawn(4), 54), (b"master", drawn(3), 0)])
+
+    def test_a_transaction(self):
+        """It waits on the node's one link while others are asked, and is done as one; the replica has it then, and refuses what writes at once."""
+        script = b"2 REPLICAOF node 1\n1 MULTI\n1 SET a 1\n2 DBSIZE\n1 SET b 2\n1 EXEC\n2 DBSIZE\n2 MULTI\n2 GET b\n2 SET b 3\n2 EXEC\n2 MULTI\n2 GET b\n2 EXEC\n"
+        answers, ends = self.plays(script)
+        done = shown(b"*2\r\n+OK\r\n+OK\r\n")
+        self.assertEqual(answers[:7], [OK, OK, shown(QUEUED), shown(number(0)), shown(QUEUED), done, shown(number(2))])
+        self.assertEqual(answers[7:], [OK, *map(shown, (QUEUED, READONLY, ABORTED)), OK, shown(QUEUED), shown(array("2"))])
+        self.assertEqual(ends, [(b"master", drawn(1), 83), (b"slave", drawn(1), 83), (b"master", drawn(3), 0)])
 
     def test_no_lines(self):
         answers, ends = self.plays(b"")

@@ -8,13 +8,13 @@ from collections import Counter
 from itertools import islice
 
 from tests.models.dataset import Given, rebuild
-from tests.models.node import CLOSED, IDLE, Append, Close, Grow, Halt, Node, NodeFault, Replace, Send, Used
+from tests.models.node import CLOSED, IDLE, LIMIT, Append, Close, Grow, Halt, Node, NodeFault, Replace, Send, Used
 from tests.models.world import World, answer, answers
 from tests.models.world_scripts import Scripter, script, shortened
 from tests.models.world_watch import EVENTS_OF_A_WORLD, watched
 from tests.support.handshake import ANSWERS
 from tests.support.program import LATE, ROOT, USUAL_BACKLOG, request
-from tests.support.replies import OK, bulk
+from tests.support.replies import OK, QUEUED, array_of, bulk
 from tests.support.requests import EXEC, MULTI, PAIR, PING, SET, SET_A, SET_B, framed
 from tests.support.world_rows import Rows, info, started
 
@@ -207,7 +207,7 @@ class Serving(unittest.TestCase):
 
     def test_what_is_given_out_stands_in_order(self):
         first, second = self.replica(), self.replica()
-        wanted = [Grow([(b"SET", b"k", b"v")]), Append(SET), Send(first, SET), Send(second, SET), Send(self.link, OK)]
+        wanted = [Grow([[(b"SET", b"k", b"v")]]), Append(SET), Send(first, SET), Send(second, SET), Send(self.link, OK)]
         self.assertEqual(self.asks(self.link, "SET", "k", "v"), wanted)
         self.assertEqual(self.asks(self.link, "BGREWRITEAOF")[0], Replace(SET))
         self.assertEqual(self.asks(self.link, "SHUTDOWN"), [Halt()])
@@ -215,6 +215,25 @@ class Serving(unittest.TestCase):
         self.assertEqual(ends[:3], [Send(self.link, OK), Close(first), Close(second)])
         self.assertTrue(self.node.waits())
         self.assertEqual(self.asks(self.link, "REPLICAOF", "no", "one"), [Send(self.link, OK), Used(FRESH)])
+
+    def test_what_a_transaction_gives_out(self):
+        """Nothing but answers until its end, and then one group."""
+        replica = self.replica()
+        for words, told in (("MULTI",), OK), (("SET", "a", "1"), QUEUED), (("GET", "a"), QUEUED), (("SET", "b", "2"), QUEUED):
+            self.assertEqual(self.asks(self.link, *words), [Send(self.link, told)])
+        wanted = [Grow([[(b"SET", b"a", b"1"), (b"SET", b"b", b"2")]]), Append(PAIR), Send(replica, PAIR), Send(self.link, array_of(OK, bulk("1"), OK))]
+        self.assertEqual(self.asks(self.link, "EXEC"), wanted)
+        self.assertEqual((self.node.offset, self.node.ring), (83, PAIR))
+
+    def test_a_group_at_the_offsets_limit(self):
+        """What doesn't fit with its frame does nothing, and the others are done."""
+        for room, told, size in ((83, [OK, OK], 83), (82, [OK, LIMIT], 27), (26, [LIMIT, LIMIT], 0)):
+            self.setUp()
+            self.node.limit = room
+            for words in (("MULTI",), ("SET", "a", "1"), ("SET", "b", "2")):
+                self.asks(self.link, *words)
+            self.assertEqual(self.asks(self.link, "EXEC")[-1], Send(self.link, array_of(*told)))
+            self.assertEqual(self.node.offset, size)
 
     def test_what_is_told_of_replication(self):
         self.asks(self.link, "SET", "k", "v")
@@ -241,14 +260,14 @@ class Serving(unittest.TestCase):
             for line in lines:
                 self.assertEqual(self.asks(self.link, *line.split(), given=Given(5)), [Send(self.link, limit)])
         self.assertEqual((self.node.held, self.node.offset), (before, 88))
-        self.assertEqual(self.asks(self.link, "GET", "k", given=Given(5))[0], Grow([(b"DEL", b"k")]))
+        self.assertEqual(self.asks(self.link, "GET", "k", given=Given(5))[0], Grow([[(b"DEL", b"k")]]))
 
     def test_a_tick_ends_at_the_offsets_limit(self):
         for key in ("k", "l"):
             self.asks(self.link, "SET", key, "1", "PX", "5")
         self.replica()
         self.node.limit = 88 + 39
-        self.assertEqual(self.node.tick(Given(5))[0], Grow([(b"DEL", b"k")]))
+        self.assertEqual(self.node.tick(Given(5))[0], Grow([[(b"DEL", b"k")]]))
         self.assertEqual((self.node.offset, self.node.mark), (108, None))
 
     def test_a_heartbeat_that_doesnt_fit(self):
@@ -274,7 +293,7 @@ class Serving(unittest.TestCase):
 class Refusals(unittest.TestCase):
     def test_a_refused_event_changes_nothing(self):
         refused = Counter()
-        for seed in range(6):
+        for seed in range(8):
             scripter = Scripter(seed)
             for line in islice(scripter.lines(), 500):
                 before = pickle.dumps(scripter.world)
@@ -336,7 +355,7 @@ class RandomWorlds(unittest.TestCase):
         seen = watched(0, EVENTS_OF_A_WORLD)
         for seed in range(1, 10):
             seen += watched(seed, EVENTS_OF_A_WORLD)
-        for what, least in (("caught up", 1000), ("branches", 20), ("refused 1", 20), ("refused 2", 20), ("refused 3", 5), ("restart", 10), ("corrupted file", 20)):
+        for what, least in (("caught up", 1000), ("branches", 20), ("larger groups", 50), ("refused 1", 20), ("refused 2", 20), ("refused 3", 5), ("restart", 10), ("corrupted file", 20)):
             self.assertGreater(seen[what], least, what)
 
     def test_a_seed_has_its_script(self):
@@ -348,7 +367,7 @@ class RandomWorlds(unittest.TestCase):
 
     def test_a_script_is_shortened(self):
         """To what it takes of it to have a node show an id and offset."""
-        lines = [line.encode() for line, _ in started().rows] + script(3, 400).script.split(b"\n")[:-1]
+        lines = [line.encode() for line, _ in started().rows] + script(1, 400).script.split(b"\n")[:-1]
         wanted = b"0 " + b"a" * 40 + b" 27"
 
         def shows(rest):

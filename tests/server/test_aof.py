@@ -14,7 +14,7 @@ import unittest
 from tests.support.files import InFolder
 from tests.support.program import LATE, LAUNCHER, PROGRAM, needs, notices, request, run, shim
 from tests.support.random_keys import RandomKeys
-from tests.support.replies import NIL, OK, PONG, STARTED, array, bulk
+from tests.support.replies import ABORTED, INTEGER, NIL, OK, PONG, QUEUED, STARTED, arity, array, array_of, bulk
 from tests.support.requests import EXEC, FAR, GET, MULTI, PAIR, PING, SET, SET_A, SET_B, SET_W, SET_X, framed
 
 TORN = b"*3\r\n$3\r\nSE"
@@ -221,6 +221,72 @@ class Grouped(OfFile):
             self.assertTrue(self.bytes() == whole)
         self.answers(self.ASKED, self.BOTH)
         self.assertTrue(self.bytes() == whole)
+
+
+class Transacting(OfFile):
+    """What a transaction does stands in the file as one group, and is loaded whole or not at all."""
+
+    def transacted(self, *texts):
+        """The requests of a transaction with these."""
+        return MULTI + b"".join(texts) + EXEC
+
+    def told(self, *replies):
+        return OK + len(replies) * QUEUED + array_of(*replies)
+
+    def test_two_effects_are_a_group_of_the_file(self):
+        self.answers(SET + self.transacted(SET_A, SET_B), OK + self.told(OK, OK))
+        self.assertEqual(self.bytes(), SET + PAIR)
+        self.answers(request("MGET", "a", "b", "k"), array("1", "2", "v"))
+        self.assertEqual(self.bytes(), SET + PAIR)
+
+    def test_one_effect_stands_alone_and_none_isnt_there(self):
+        self.answers(self.transacted(SET, request("INCR", "k"), GET), self.told(OK, INTEGER, bulk("v")))
+        self.assertEqual(self.bytes(), SET)
+        self.answers(self.transacted(SET, GET) + self.transacted(), self.told(OK, bulk("v")) + self.told())
+        self.assertEqual(self.bytes(), SET)
+
+    def test_what_is_not_done_is_not_in_it(self):
+        for asked, told in ((request("DISCARD"), OK), (request("GET") + EXEC, arity("get") + ABORTED), (request("QUIT"), OK), (b"", b"")):
+            self.answers(MULTI + SET_A + asked, OK + QUEUED + told)
+            self.assertEqual(self.bytes(), b"")
+
+    def test_a_group_without_its_last_byte(self):
+        """The file of a SET and a transaction of two, which is cut off by a byte, has the SET alone."""
+        self.asked(SET + self.transacted(SET_A, SET_B))
+        self.assertEqual(len(self.bytes()), 27 + 83)
+        self.write(self.bytes()[:-1])
+        self.answers(request("MGET", "a", "b", "k"), array(None, None, "v"), cut=PAIR[:-1])
+        self.assertEqual(self.bytes(), SET)
+        self.answers(self.transacted(SET_B, SET_W), self.told(OK, OK))
+        self.assertEqual(self.bytes(), SET + framed(SET_B, SET_W))
+
+    def test_deletions_of_expired_keys_are_in_the_group(self):
+        expired = request("SET", "k", "v", "PX", "5")
+        self.answers(expired, OK, "--now", "1000")
+        was = self.bytes()
+        self.answers(self.transacted(SET_A, GET, request("SET", "k", "w", "PX", "7")), self.told(OK, NIL, OK), "--now", "1005")
+        self.assertEqual(self.bytes(), was + framed(SET_A, request("DEL", "k"), request("SET", "k", "w", "PXAT", "1012")))
+
+    def test_a_file_is_written_anew_behind_one(self):
+        self.answers(self.transacted(SET, SET_A, SET_B, SET_W) + REWRITE, self.told(OK, OK, OK, OK) + STARTED)
+        self.assertEqual(self.bytes(), SET_A + SET_B + SET_W)
+
+    def test_a_large_one(self):
+        count = 10_000
+        effects = [request("RPUSH", "l", "%d" % at) for at in range(count)]
+        self.answers(self.transacted(*effects), OK + count * QUEUED + array(*range(1, count + 1)))
+        self.assertTrue(self.bytes() == framed(*effects))
+        self.answers(request("LLEN", "l"), b":%d\r\n" % count)
+
+    def test_a_file_that_cannot_take_all_of_it(self):
+        """The client isn't told that it was done, and the next start has nothing of it."""
+        for room in (27, 28, 27 + 15, 27 + 42, 27 + 82):
+            with self.subTest(room=room):
+                self.write(b"")
+                ran = self.asked(SET + self.transacted(SET_A, SET_B) + GET, preexec_fn=may_grow_to(room))
+                self.fails(ran, OK + OK + QUEUED + QUEUED)
+                self.answers(request("MGET", "a", "b", "k"), array(None, None, "v"), cut=PAIR[: room - 27] or None)
+                self.assertEqual(self.bytes(), SET)
 
 
 class Rewriting(OfFile):

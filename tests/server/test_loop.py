@@ -5,8 +5,8 @@ import unittest
 
 from tests.support.handshake import GREETED, GREETS, NOTHING_TO_CONTINUE, announces, asks_from, continues
 from tests.support.program import request
-from tests.support.replies import BULK_LENGTH, CHAINED, COUNT, OK, PONG, QUOTES, READONLY, STARTED, array, bulk, no_dollar, number
-from tests.support.requests import GET, LEAD, PAIR, PING, SET, SET_A, SET_B, SET_W, SET_X, framed
+from tests.support.replies import BULK_LENGTH, CHAINED, COUNT, OK, PONG, QUEUED, QUOTES, READONLY, STARTED, array, array_of, bulk, no_dollar, number
+from tests.support.requests import EXEC, GET, LEAD, MULTI, PAIR, PING, SET, SET_A, SET_B, SET_W, SET_X, framed
 from tests.support.server import UNREAD
 from tests.support.turns import ADDRESS, ALL, ENDS, FAILED, FAILS, NOT_READY, OBEY, Peer, Playing, counts, peer
 
@@ -83,6 +83,16 @@ class Deaf(Playing):
         done, deaf, link = self.left(GREATEST - 15, takes=[])
         self.assertEqual((done, deaf, link.state), (6, 0, "open"))
 
+    def test_the_end_of_a_transaction_is_one_step(self):
+        """More may come of it at once than a client may leave unread; in place of the next step who takes nothing of it is closed."""
+        size = 5 + 5 + 5 * len(QUEUED) + len(array(*(5 * [GREATEST * b"x"])))
+        self.assertGreater(size, UNREAD)
+        for more, takes, done, deaf, state in ((b"", [], 8, 0, "open"), (PING, [], 8, 1, "closed"), (PING, 30, 9, 0, "open")):
+            turns, _ = self.plays(LONG, accepts=[peer(request("SET", "k", GREATEST * b"x"), MULTI + 5 * GET + EXEC + more, takes=takes)])
+            link = turns[-1].links.accepted[0]
+            self.assertEqual((counts(turns)[0], counts(turns)[2], link.state), (done, deaf, state))
+            self.assertEqual(len(link.written), 0 if takes == [] else size + len(PONG))
+
     def test_a_replica_that_reads_nothing_is_kept(self):
         """More waits for it than a client may leave unread, and what it says goes on to be used."""
         sets = b"".join(request("SETRANGE", "k%d" % it, str(GREATEST - 1), "x") for it in range(5))
@@ -127,6 +137,24 @@ class Files(Playing):
         turns, file, written = self.ends(short=1, fails=1 + 27 + 1 + 10)
         self.assertEqual((turns[1].told, turns[1].shows, written), ("fault: file failed", None, OK))
         self.assertEqual((file.held, file.used), (SET + SET_W[:9], 27))
+
+    def test_a_transaction_is_one_append(self):
+        """Nothing is in the file before its end. Each client gets what it asked for in that turn behind the sync."""
+        turns, loop = self.plays(3, accepts=[peer(SET, MULTI + SET_A, SET_B + EXEC), peer(None, GET, request("DBSIZE"))])
+        told = [OK, OK + OK + QUEUED, OK + OK + QUEUED + QUEUED + array_of(OK, OK)]
+        self.assertEqual([it.links.accepted[0].written for it in turns], told)
+        self.assertEqual((loop.file().held, loop.file().synced), (SET + PAIR, 27 + 83))
+        for turn, offset in zip(turns, (27, 27, 110)):
+            self.shown(turn, "a", offset)
+        self.assertEqual(turns[-1].links.accepted[1].written, bulk("v") + number(3))
+
+    def test_a_write_of_a_transaction_fails_in_its_middle(self):
+        """A byte a write. What was written of it isn't read any more, and nobody is told that it was done; also where the sync fails behind all of it."""
+        for count in range(84):
+            turns, loop = self.plays(3, accepts=[peer(SET, MULTI + SET_A + SET_B, EXEC + GET)], short=1, fails=1 + 27 + 1 + count + 1)
+            self.assertEqual((turns[2].told, turns[2].shows), ("fault: file failed", None))
+            self.assertEqual(turns[2].links.accepted[0].written, OK + OK + QUEUED + QUEUED)
+            self.assertEqual((loop.file().held, loop.file().used), (SET + PAIR[:count], 110 if count == 83 else 27))
 
     def test_the_first_read_fails(self):
         loop = self.loop()

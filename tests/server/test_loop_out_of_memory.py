@@ -11,8 +11,8 @@ from tests.support.handshake import GREETED, GREETS, NOTHING_TO_CONTINUE, announ
 from tests.support.peers import Ended
 from tests.support.program import LATE, request
 from tests.support.refusing import Refusing
-from tests.support.replies import COUNT, OK, STARTED
-from tests.support.requests import LEAD, PING, SET, SET_W, SET_X
+from tests.support.replies import COUNT, OK, QUEUED, STARTED, array_of
+from tests.support.requests import LEAD, PING, SET, SET_W, SET_X, framed
 from tests.support.turns import ENDS, NOT_READY, OBEY, File, Links, Loop, peer
 
 EXPIRES, EXPIRED, DELETED = request("SET", "e", "v", "PX", "5"), request("SET", "e", "v", "PXAT", "5"), request("DEL", "e")
@@ -22,8 +22,10 @@ SET_B, SET_C, SET_D = (request("SET", it, "v") for it in "bcd")
 ACK = request("REPLCONF", "ACK", "71")
 REWRITES, QUIT, SHUTDOWN = request("BGREWRITEAOF"), request("QUIT"), request("SHUTDOWN")
 FAULTS = {"fault: out of memory", "fault: file failed"}
+# a transaction of a client, and the group that comes of it
+PAIR = framed(SET, SET_X)
 # in each turn one thing happens: what comes of the client that writes, from the first turn on
-CLIENT = [EXPIRES, SET, None, SET_W, None, None, None, SET_X, None, REWRITES, None, OBEY, None, None, None, LEAD, SET_D, None, QUIT]
+CLIENT = [EXPIRES, SET, None, SET_W, None, None, None, PAIR, None, REWRITES, None, OBEY, None, None, None, LEAD, SET_D, None, QUIT]
 # who comes in which turn: the client, a replica that ends, one that goes on from where it was, who is refused, who looks at the end, and who ends all
 COMES = {
     1: peer(*CLIENT),
@@ -78,13 +80,13 @@ class Lacking(Refusing):
         last = states[-1]
         self.assertEqual([it.told.split(" ")[0] for it in states], ["", *["turned"] * (TURNS - 1), "halted"])
         writer, first, second, bad, looker, _ = [it.written for it in last.links.accepted]
-        self.assertEqual(writer, 4 * OK + STARTED + 4 * OK)
+        self.assertEqual(writer, 3 * OK + OK + 2 * QUEUED + array_of(OK, OK) + STARTED + 4 * OK)
         self.assertEqual(first, GREETED + announces("a", 71, COPIED + SET) + SET_W + DELETED)
-        self.assertEqual(second, continues("a") + SET_W + DELETED + SET_X + PING)
+        self.assertEqual(second, continues("a") + SET_W + DELETED + PAIR + PING)
         self.assertEqual(bad, COUNT)
-        self.assertEqual(last.links.dialled[0].written, GREETS + asks_from("a", 160) + request("REPLCONF", "ACK", "54"))
+        self.assertEqual(last.links.dialled[0].written, GREETS + asks_from("a", 216) + request("REPLCONF", "ACK", "54"))
         self.assertEqual([it.state for it in last.links.accepted], ["closed", "closed", "closed", "closed", "open", "open"])
-        held = [EXPIRED, EXPIRED + SET, EXPIRED + SET + SET_W, EXPIRED + SET + SET_W + DELETED, EXPIRED + SET + SET_W + DELETED + SET_X]
+        held = [EXPIRED, EXPIRED + SET, EXPIRED + SET + SET_W, EXPIRED + SET + SET_W + DELETED, EXPIRED + SET + SET_W + DELETED + PAIR]
         held += [SET_X, SET_B, SET_B + SET_C, SET_B + SET_C + SET_D]
         for turn, wanted in zip([1, 2, 4, 5, 8, 10, 13, 14, 17], held):
             self.assertEqual(states[turn].file.held, wanted, turn)

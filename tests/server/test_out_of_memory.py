@@ -10,8 +10,11 @@ from tests.commands.test_strings import KEYS, STRINGS
 from tests.support.program import LATE, PROGRAM, built, request, run
 from tests.support.refusing import Refusing
 from tests.support.rehearsal import asked as asking, effect, holding
-from tests.support.replies import NIL, NONE, OK, STARTED, array, asked, bulk, number
-from tests.support.requests import SET, SET_W, SET_X, framed
+from tests.support.replies import (
+    ABORTED, DISCARD_ALONE, EXEC_ALONE, NESTED, NIL, NONE, NOT_ALLOWED, OK, QUEUED, STARTED, SYNTAX, WRONG_KIND, arity, array, array_of, asked, bulk, information,
+    number, role_of_master,
+)
+from tests.support.requests import EXEC, MULTI, PAIR, SET, SET_A, SET_B, SET_W, SET_X, framed
 
 ASKED = b"".join(
     [
@@ -65,6 +68,15 @@ DEADLINES = [
     ("FLUSHALL", OK),
 ]
 
+# transactions: of two effects, of one, of none, one that is refused, and one that is dropped
+TRANSACTIONS = [
+    ("MULTI", OK), ("SET a 1", QUEUED), ("SET b 2", QUEUED), ("MGET a b", QUEUED), ("EXEC", array_of(OK, OK, array("1", "2"))),
+    ("MULTI", OK), ("INCR a", QUEUED), ("SET b 2 NX XX", QUEUED), ("LPUSH a x", QUEUED), ("EXEC", array_of(number(2), SYNTAX, WRONG_KIND)),
+    ("MULTI", OK), ("MULTI", NESTED), ("INFO", QUEUED), ("ROLE", QUEUED), ("EXEC", array_of(bulk(information(83 + 30)), role_of_master(83 + 30))),
+    ("MULTI", OK), ("SET c 3", QUEUED), ("GET", arity("get")), ("SHUTDOWN", NOT_ALLOWED), ("EXEC", ABORTED), ("EXEC", EXEC_ALONE),
+    ("MULTI", OK), ("SET c 3", QUEUED), ("DISCARD", OK), ("DISCARD", DISCARD_ALONE), ("DBSIZE", number(2)),
+]
+
 REFUSAL = b"refused: out of memory"
 
 # a dataset with more expired keys than a tick deletes, and others
@@ -102,9 +114,19 @@ class Memory(Refusing):
         rows = [("SADD s " + " ".join(names), number(66)), ("ZADD z " + pairs, number(66)), ("SCARD s", number(66)), ("ZRANK z 65", number(65))]
         self.beginnings(asked(line for line, _ in rows), b"".join(reply for _, reply in rows))
 
+    def test_replies_to_transactions_are_too(self):
+        self.beginnings(asked(line for line, _ in TRANSACTIONS), b"".join(reply for _, reply in TRANSACTIONS))
+
     def test_a_file_has_what_was_answered_and_at_most_what_comes_next(self):
         # each request, its reply, and the file behind it
-        rows = [(SET, OK, SET), (SET_W, OK, SET + SET_W), (request("BGREWRITEAOF"), STARTED, SET_W), (SET_X, OK, SET_W + SET_X)]
+        rewritten = [(SET, OK, SET), (SET_W, OK, SET + SET_W), (request("BGREWRITEAOF"), STARTED, SET_W), (SET_X, OK, SET_W + SET_X)]
+        waits = [(MULTI, OK, SET), (SET_A, QUEUED, SET), (SET_B, QUEUED, SET)]
+        transacted = [(SET, OK, SET), *waits, (EXEC, array_of(OK, OK), SET + PAIR), (SET_W, OK, SET + PAIR + SET_W)]
+        for rows in (rewritten, transacted):
+            self.files_grow(rows)
+
+    def files_grow(self, rows):
+        """Whichever allocation is refused, the file is one that stands behind a row, and what was answered is in it."""
         replies = b"".join(reply for _, reply, _ in rows)
         files = [b"", *(file for _, _, file in rows)]
         path = os.path.join(self.room.name, "data.aof")
@@ -113,11 +135,11 @@ class Memory(Refusing):
             with open(path, "rb") as file:
                 held = file.read()
             os.truncate(path, 0)
-            answered = next(count for count in range(5) if len(b"".join(reply for _, reply, _ in rows[:count])) >= len(ran.stdout))
+            answered = next(count for count in range(len(rows) + 1) if len(b"".join(reply for _, reply, _ in rows[:count])) >= len(ran.stdout))
             self.assertEqual(ran.stdout, replies[: len(ran.stdout)])
             self.assertIn(held, files[answered : answered + 2])
             if ran.returncode == 0:
-                self.assertEqual((answered, ran.stderr), (4, b""))
+                self.assertEqual((answered, ran.stderr), (len(rows), b""))
             else:
                 self.assertTrue(was_refused)
                 self.assertEqual(ran.returncode, 3)

@@ -34,6 +34,7 @@ NO_LIMIT = b"-ERR syntax error, LIMIT is only supported in combination with eith
 NO_SETINFO = b"-ERR unknown subcommand 'SETINFO'. Try CLIENT HELP.\r\n"
 NO_DATABASE = b"-ERR DB index is out of range\r\n"
 NO_SUM = b"-ERR resulting score is out of range\r\n"
+NO_EXEC = b"-EXECABORT Transaction discarded because of: wrong number of arguments for 'exec' command\r\n"
 
 WINDOW = "a last place in front of the first one is no place; the text is `hello`"
 TWICE = "an option stands at most once"
@@ -51,6 +52,7 @@ ROWS = [
     Row("CLIENT SETINFO lib-name me", NO_SETINFO, OK, "later versions of Redis have it, and clients ask for it"),
     Row("COMMAND", None, NONE, "it is answered for clients that ask it at their start", shown="what it knows of each command"),
     Row("COMMAND DOCS get set", None, NONE, "it is answered for clients that ask it at their start", shown="what it knows of both"),
+    Row("EXEC x", NO_EXEC, arity("exec"), "a transaction that is open stays so, and is marked; Redis ends it"),
     Row("GETRANGE k -100 -100", bulk("h"), bulk(""), WINDOW),
     Row("GETRANGE k 0 -6", bulk("h"), bulk(""), WINDOW),
     Row("LINDEX x a", NIL, INTEGER, FIRST),

@@ -271,10 +271,10 @@ class Fake:
 
 class Played:
     """What a `Fake` does as a master that the test plays: it answers each handshake, by going on from what is asked for under `a` or else with
-    all at 27, and then says what the test has it say. It keeps the links, and the last line of each handshake."""
+    the snapshot, and then says what the test has it say. It keeps the links, and the last line of each handshake."""
 
-    def __init__(self):
-        self.links, self.asked = [], []
+    def __init__(self, snapshot=announces("a", 27, SET)):
+        self.links, self.asked, self.snapshot = [], [], snapshot
 
     def __call__(self, link):
         # else small pieces would come together
@@ -287,7 +287,7 @@ class Played:
         if not piece:
             return
         self.asked.append(last[0])
-        link.sendall(continues("a") if b"a" * 40 in last[0] else announces("a", 27, SET))
+        link.sendall(continues("a") if b"a" * 40 in last[0] else self.snapshot)
         self.links.append(link)
         while link.recv(PIECE):
             pass

@@ -19,6 +19,12 @@ NO_KEY = b"-ERR no such key\r\n"
 READONLY = b"-READONLY You can't write against a read only replica.\r\n"
 CHAINED = b"-ERR replicas are not chained\r\n"
 OVERFLOW = b"-ERR increment or decrement would overflow\r\n"
+# of transactions
+QUEUED = b"+QUEUED\r\n"
+NESTED = b"-ERR MULTI calls can not be nested\r\n"
+EXEC_ALONE, DISCARD_ALONE = b"-ERR EXEC without MULTI\r\n", b"-ERR DISCARD without MULTI\r\n"
+ABORTED = b"-EXECABORT Transaction discarded because of previous errors.\r\n"
+NOT_ALLOWED = b"-ERR not allowed in a transaction\r\n"
 # to BGREWRITEAOF
 STARTED = b"+Background append only file rewriting started\r\n"
 

@@ -3,8 +3,11 @@
 A test case that takes `Rows` in defines `answers_to(script, backlog)`, which returns what each line of the script is answered."""
 
 from tests.support.program import USUAL_BACKLOG, request
-from tests.support.replies import BULK_LENGTH, CHAINED, COUNT, NIL, OK, PONG, READONLY, STARTED, array_of, bulk, information, number
-from tests.support.requests import SET
+from tests.support.replies import (
+    ABORTED, BULK_LENGTH, CHAINED, COUNT, DISCARD_ALONE, EXEC_ALONE, INTEGER, NESTED, NIL, NOT_ALLOWED, OK, PONG, QUEUED, READONLY, STARTED, SYNTAX, UNKNOWN,
+    WRONG_KIND, arity, array, array_of, bulk, information, number,
+)
+from tests.support.requests import PAIR, SET, SET_B
 
 # what a replica without anything to go on from says, and what it is answered by a master with one key: in bytes
 SAID = (14, 46, 59, 30)
@@ -12,6 +15,8 @@ HEARD = (7, 5, 5, 57 + 5 + 27)
 FULLRESYNC, CONTINUE = 57, 52
 # PSYNC with an id, and with an offset of two digits
 OFFERED = 70
+# of one digit less, and what an empty master answers at offset 0
+OFFERED_AT_1, HEARD_OF_NOTHING = 69, 56 + 4
 
 
 def digits(id):
@@ -76,6 +81,16 @@ class Script:
         self.step(link, "b", now, word, fresh)
         self.takes(link, reply)
 
+    def begins(self, link, *lines):
+        """A client's transaction, with requests that wait."""
+        self.asks(link, "MULTI", OK)
+        for line in lines:
+            self.asks(link, line, QUEUED)
+
+    def ends(self, link, *replies, **how):
+        """EXEC, and the replies to what waited."""
+        self.asks(link, "EXEC", array_of(*replies), **how)
+
     def takes(self, link, reply):
         self.deliver(link, "a", len(reply))
         self.took[link] = self.took.get(link, b"") + reply
@@ -128,6 +143,17 @@ def followed(*ids):
     return script
 
 
+def empty_replica():
+    """A master that holds nothing with a client, and a replica of it at (A, 0). Their link is 1."""
+    script = Script()
+    script.line("start a", "node 0")
+    script.client(0)
+    script.line("replica b", "node 1")
+    script.synchronizes(1, 0, answer=HEARD_OF_NOTHING)
+    script.shows(1, "a", 0)
+    return script
+
+
 def split():
     """A master at (A, 54), a promoted replica at (B, 54) whose second id is A up to 27, and a replica that still is at (A, 27). Links 3 and 4 are clients of the
     second and the third node."""
@@ -144,7 +170,8 @@ def split():
 
 
 def every_event():
-    """A split and a return, heartbeats and acknowledgements, a file written anew and a restart: each kind of event, each kind of answer, and each kind of out."""
+    """A split and a return, heartbeats and acknowledgements, a transaction, a file written anew and a restart: each kind of event, each kind of answer, and each kind
+    of out."""
     script, p, _ = split()
     script.line("break 2 a")
     links = [(2, script.synchronizes(2, 1, last=OFFERED, answer=CONTINUE + 27))]
@@ -162,6 +189,9 @@ def every_event():
         script.step(link, "b")
     role = array_of(bulk(""), bulk("0"), bulk("68"))
     script.asks(p, "ROLE", array_of(bulk("master"), number(68), array_of(role, role)))
+    script.begins(p, "SET a 1", "GET k", "SET b 2")
+    script.ends(p, OK, bulk("w"), OK)
+    script.shows(1, "b", 68 + 83)
     script.asks(p, "BGREWRITEAOF", STARTED)
     script.asks(p, "SHUTDOWN", b"")
     script.line("raw %d %s" % (p, typed(b"PING\r\n*x")))
@@ -634,6 +664,294 @@ class Rows:
         # it waits once more, and still has something to go on from
         script.synchronizes(2, 0, last=OFFERED, answer=CONTINUE, steps=1)
         script.shows(2, "a", 27)
+        self.plays(script)
+
+    # ---- transactions
+
+    def test_two_effects_are_a_group(self):
+        script = Script()
+        script.line("start a", "node 0")
+        script.client(0)
+        script.begins(0, "SET a 1", "SET b 2")
+        script.shows(0, "a", 0)
+        script.ends(0, OK, OK)
+        script.shows(0, "a", 83)
+        script.asks(0, "INFO", info("master", "a", 83, 1))
+        self.assertEqual(len(PAIR), 83)
+        script.asks(0, "PSYNC %s 1" % digits("a"), b"+CONTINUE %s\r\n" % (b"a" * 40) + PAIR)
+        self.plays(script)
+
+    def test_one_effect_is_no_larger_group(self):
+        script = Script()
+        script.line("start a", "node 0")
+        script.client(0)
+        script.begins(0, "SET k v", "INCR k", "GET k")
+        script.ends(0, OK, INTEGER, bulk("v"))
+        script.shows(0, "a", 27)
+        script.begins(0, "GET k", "SET k v", "DEL none", "LPUSH k x")
+        script.ends(0, bulk("v"), OK, number(0), WRONG_KIND)
+        script.shows(0, "a", 27)
+        script.begins(0)
+        script.ends(0)
+        script.asks(0, "PSYNC %s 1" % digits("a"), b"+CONTINUE %s\r\n" % (b"a" * 40) + SET)
+        self.plays(script)
+
+    def test_a_marked_transaction_does_nothing(self):
+        refused = {"GET": arity("get"), "NOPE": UNKNOWN, "EXEC x": arity("exec"), "DISCARD x": arity("discard"), "MULTI x": arity("multi")}
+        for line in ("REPLICAOF h 1", "slaveof no one", "PSYNC ? -1", "REPLCONF capa eof", "REPLCONF ACK 1", "SHUTDOWN", "BGREWRITEAOF"):
+            refused[line] = NOT_ALLOWED
+        for line, told in refused.items():
+            script = Script()
+            script.line("start a", "node 0")
+            script.client(0)
+            script.begins(0, "SET a 1")
+            script.asks(0, line, told)
+            script.asks(0, "SET b 2", QUEUED)
+            script.asks(0, "EXEC", ABORTED)
+            script.shows(0, "a", 0)
+            script.asks(0, "EXEC", EXEC_ALONE)
+            script.asks(0, "DBSIZE", number(0))
+            self.plays(script)
+
+    def test_other_faults_are_told_at_the_end(self):
+        script = started()
+        lines = {"SET a 1 NX XX": SYNTAX, "LPOP q x": INTEGER, "LPUSH k x": WRONG_KIND, "REPLICAOF h 0": INTEGER, "PSYNC ? x": INTEGER, "REPLCONF": SYNTAX}
+        lines["SHUTDOWN NOW"] = SYNTAX
+        script.begins(0, *lines, "SET b 2")
+        script.ends(0, *lines.values(), OK)
+        script.shows(0, "a", 54)
+        self.plays(script)
+
+    def test_a_transaction_within_one_is_refused_and_it_goes_on(self):
+        script = Script()
+        script.line("start a", "node 0")
+        script.client(0)
+        script.begins(0, "SET a 1")
+        script.asks(0, "MULTI", NESTED)
+        script.asks(0, "SET b 2", QUEUED)
+        script.ends(0, OK, OK)
+        script.shows(0, "a", 83)
+        self.plays(script)
+
+    def test_what_is_discarded_is_not_done(self):
+        script = started()
+        script.asks(0, "DISCARD", DISCARD_ALONE)
+        script.begins(0, "SET k w")
+        script.asks(0, "DISCARD", OK)
+        script.asks(0, "EXEC", EXEC_ALONE)
+        script.begins(0)
+        script.asks(0, "NOPE", UNKNOWN)
+        script.asks(0, "DISCARD", OK)
+        script.begins(0, "GET k")
+        script.ends(0, bulk("v"))
+        script.shows(0, "a", 27)
+        self.plays(script)
+
+    def test_a_link_that_ends_takes_what_waits_along(self):
+        for last in ("break 0 a", "break 0 b"):
+            script = started()
+            script.begins(0, "SET k w")
+            script.line(last)
+            link = script.client(0)
+            script.asks(link, "EXEC", EXEC_ALONE)
+            script.asks(link, "GET k", bulk("v"))
+            script.shows(0, "a", 27)
+            self.plays(script)
+
+    def test_the_end_of_a_link_within_a_transaction(self):
+        script = started()
+        script.begins(0, "SET k w")
+        script.line("raw 0 %s" % typed(b"QUIT\r\nEXEC\r\n"))
+        script.deliver(0, "b", 12)
+        script.step(0, "b")
+        script.takes(0, OK)
+        script.line("step 0 b 0 0 1", "refused 2")
+        script.asks(script.client(0), "GET k", bulk("v"))
+        script.shows(0, "a", 27)
+        self.plays(script)
+
+    def test_others_see_all_of_it_or_nothing(self):
+        script = started()
+        other = script.client(0)
+        script.begins(0, "SET k w", "SET a 1")
+        script.asks(other, "GET k", bulk("v"))
+        script.begins(other, "DBSIZE", "GET k")
+        script.asks(other, "MULTI", NESTED)
+        script.ends(0, OK, OK)
+        # what waits here is done at what the other has left
+        script.ends(other, number(2), bulk("w"))
+        script.shows(0, "a", 27 + 83)
+        self.plays(script)
+
+    def test_one_moment_and_one_word(self):
+        script = Script()
+        script.line("start a", "node 0")
+        script.client(0)
+        script.asks(0, "SADD s a b c d e", number(5))
+        script.begins(0, "SET k v PX 5", "PTTL k", "SPOP s 2", "SPOP s 2", "PTTL k", "GET k")
+        # the third of five members and the one behind it, and then the second of three
+        script.ends(0, OK, number(5), array("c", "d"), array("b", "e"), number(5), bulk("v"), now=1000, word=7)
+        script.asks(script.client(0), "PTTL k", number(4), now=1001)
+        self.plays(script)
+
+    def test_a_deadline_that_has_come_is_deleted_once(self):
+        script = Script()
+        script.line("start a", "node 0")
+        script.client(0)
+        script.asks(0, "SET k v PX 5", OK)
+        script.shows(0, "a", 44)
+        script.begins(0, "GET k", "GET k", "DBSIZE")
+        script.ends(0, NIL, NIL, number(0), now=5)
+        script.shows(0, "a", 64)
+        self.plays(script)
+
+    def test_requests_on_lines_and_empty_ones(self):
+        script = Script()
+        script.line("start a", "node 0")
+        script.client(0)
+        told = [(b"multi\r\n", OK), (b"*0\r\n", b""), (b"set 'a' \"1\"\n", QUEUED), (b"\r\n", b""), (SET_B, QUEUED), (b"Exec\r\n", array_of(OK, OK))]
+        for data, reply in told:
+            script.line("raw 0 %s" % typed(data))
+            script.deliver(0, "b", len(data))
+            script.step(0, "b")
+            script.takes(0, reply)
+        script.shows(0, "a", 83)
+        self.plays(script)
+
+    def test_bytes_that_are_no_request_end_a_transaction_and_its_link(self):
+        script = started()
+        script.begins(0, "SET k w")
+        script.line("raw 0 %s" % typed(b"*x"))
+        script.deliver(0, "b", 2)
+        script.step(0, "b")
+        script.takes(0, COUNT)
+        script.line("step 0 b 0 0 1", "refused 2")
+        script.asks(script.client(0), "GET k", bulk("v"))
+        self.plays(script)
+
+    def test_a_replica_within_a_transaction(self):
+        """It refuses writes at once, and answers what is read."""
+        script = followed("b")
+        link = script.client(1)
+        script.begins(link, "GET k", "DBSIZE")
+        script.ends(link, bulk("v"), number(1))
+        script.begins(link, "GET k")
+        script.asks(link, "SET k w", READONLY)
+        script.asks(link, "EXEC", ABORTED)
+        # one that can't be read for its options is told so at the end
+        script.begins(link, "SET k w NO")
+        script.ends(link, SYNTAX)
+        script.begins(link)
+        script.asks(link, "DEL k", READONLY)
+        script.asks(link, "DISCARD", OK)
+        script.shows(1, "a", 27)
+        self.plays(script)
+
+    def test_a_master_that_obeys_before_the_end_writes_nothing(self):
+        script = started()
+        other = script.client(0)
+        script.begins(0, "SET k w", "GET k", "SET a 1")
+        script.asks(other, "REPLICAOF h 1", OK)
+        script.ends(0, READONLY, bulk("v"), READONLY)
+        script.shows(0, "a", 27)
+        self.plays(script)
+
+    def test_a_replica_that_leads_before_the_end(self):
+        script = followed("b")
+        first, second, other = (script.client(1) for _ in range(3))
+        script.begins(first, "GET k")
+        script.begins(second, "GET k")
+        script.asks(second, "SET k w", READONLY)
+        script.asks(other, "REPLICAOF NO ONE", OK, fresh="c")
+        script.asks(first, "SET k x", QUEUED)
+        script.ends(first, bulk("v"), OK)
+        script.asks(second, "EXEC", ABORTED)
+        script.asks(other, "GET k", bulk("x"))
+        script.shows(1, "c", 54)
+        self.plays(script)
+
+    def test_a_restart_takes_what_waits_along(self):
+        script = started()
+        script.begins(0, "SET k w")
+        script.line("restart 0 27 b")
+        script.line("send 0 EXEC")
+        script.line("deliver 0 b 1", "refused 2")
+        script.asks(script.client(0), "GET k", bulk("v"))
+        self.plays(script)
+
+    def test_no_part_of_a_group_is_in_a_file(self):
+        """Each beginning of a file that ends in one."""
+        for kept in range(27, 27 + 83 + 1):
+            script = started()
+            script.begins(0, "SET a 1", "SET b 2")
+            script.ends(0, OK, OK)
+            script.shows(0, "a", 27 + 83)
+            script.line("restart 0 %d b" % kept)
+            link = script.client(0)
+            script.asks(link, "DBSIZE", number(3 if kept == 110 else 1))
+            script.asks(link, "BGREWRITEAOF", STARTED)
+            self.plays(script)
+
+    def test_no_part_of_a_group_is_shown_by_a_replica(self):
+        """It shows the offset before, however many of its bytes came, and asks for all of them again."""
+        for count in range(83):
+            script = empty_replica()
+            script.begins(0, "SET a 1", "SET b 2")
+            script.ends(0, OK, OK)
+            script.deliver(1, "a", count, is_all=False)
+            script.step(1, "a")
+            script.shows(1, "a", 0)
+            script.line("break 1 a")
+            script.shows(1, "a", 0)
+            # the last line asks for what is behind offset 0
+            link = script.synchronizes(1, 0, last=OFFERED_AT_1, answer=CONTINUE + 83)
+            script.shows(1, "a", 83)
+            script.asks(script.client(1), "DBSIZE", number(2))
+            self.plays(script)
+
+    def test_a_group_one_byte_at_a_time(self):
+        script = empty_replica()
+        script.begins(0, "SET a 1", "SET b 2")
+        script.ends(0, OK, OK)
+        for _ in range(82):
+            script.line("deliver 1 a 1")
+            script.step(1, "a")
+            script.shows(1, "a", 0)
+        script.deliver(1, "a", 1)
+        script.step(1, "a")
+        script.shows(1, "a", 83)
+        script.asks(script.client(1), "GET b", bulk("2"))
+        self.plays(script)
+
+    def test_a_group_is_cut_out_of_a_backlog_or_not(self):
+        """A backlog that reaches back to a group's beginning, and one that has all but its first byte."""
+        for backlog, answer in ((83, CONTINUE + 83), (82, FULLRESYNC + 5 + 54)):
+            script = empty_replica()
+            script.line("break 1 a")
+            script.begins(0, "SET a 1", "SET b 2")
+            script.ends(0, OK, OK)
+            script.synchronizes(1, 0, last=OFFERED_AT_1, answer=answer)
+            script.shows(1, "a", 83)
+            self.plays(script, backlog=backlog)
+
+    def test_two_replicas_are_cut_at_different_groups(self):
+        """The one that is promoted goes on from the end of the group that it has, and the other takes the rest from it."""
+        script = followed("d", "e")
+        script.begins(0, "SET k w", "SET a 1")
+        script.ends(0, OK, OK)
+        script.deliver(1, "a", 83)
+        script.step(1, "a")
+        script.deliver(2, "a", 82, is_all=False)
+        script.step(2, "a")
+        script.shows(1, "a", 110)
+        script.shows(2, "a", 27)
+        p, q = script.client(1), script.client(2)
+        script.asks(p, "REPLICAOF NO ONE", OK, fresh="b")
+        script.shows(1, "b", 110)
+        script.line("break 2 a")
+        script.synchronizes(2, 1, last=OFFERED, answer=CONTINUE + 83)
+        script.shows(2, "b", 110)
+        script.asks(q, "GET k", bulk("w"))
         self.plays(script)
 
     # ---- time
