@@ -67,7 +67,8 @@ pub record IsUnread (a : NodeState) (l : LinkId) (count : Option ℕ) : Type 0 w
   pub at_master : (u : List ℕ) → a.core.up ≡ true → MasterAgrees a l u → count ≡ Some (length u)
   pub at_shut : a.core.up ≡ true → IsShut a l → count ≡ Some 0
 
--- The end agrees with these bytes: as a client's, with a transaction open or without, as a replica's, as that of the link to the master, or as one that the node closed.
+-- The end agrees with these bytes: as a client's, with a transaction open or without, as a replica's, as that of the link to the master, or as one that
+-- the node closed.
 pub data Agreeing (a : NodeState) (l : LinkId) (bytes : List ℕ) : Type 0 where
   client : Agrees a l bytes → Agreeing a l bytes
   waiting : (t : Transaction) → AgreesWithin a l t bytes → Agreeing a l bytes
